@@ -1,36 +1,20 @@
 -- What checking a table file leaves of files, step by step.
 use Rattle.std.proofs.Common.{◌≡◌, ◌⊎◌, ◌∙◌, ℕ, false, List, Result, Ok, Err, IfOk, inl, inr, ap, subst, sym}
 use Rattle.std.specs.Prelude.{IfErr, OnOk}
-use Rattle.ub_files.specs.Files.{FilesFacts, IsLent, OpensFile, PutsBack}
 use Rattle.ub_script.specs.Output.{OutFacts}
-use Rattle.ub_shell.specs.Checked.{ChecksStore, IsCheckOf, IsChecked, IsIll, IsIllFault, IsWellStore, PassesSound}
+use Rattle.ub_shell.specs.Checked.{IsChecked, IsIll, IsIllFault, IsWellStore, PassesSound}
 use Rattle.ub_shell.specs.Commands.{IsTreeOf, loaded_line}
 use Rattle.ub_shell.specs.Ending.{Tells}
 use Rattle.ub_shell.specs.Status.{tree_fault_status, tree_fault_text}
 use Rattle.ub_shell.specs.declared.making.Counts.{Counts}
 use Rattle.ub_shell.specs.declared.status.Status.{Status}
 use Rattle.ub_shell.specs.declared.status.Status.TheVariants.{Done}
-use Rattle.ub_shell.proofs.FileFacts.{put_after}
 use Rattle.ub_store.specs.Facts.{StoreFacts, IsHonest}
 use Rattle.ub_tree.specs.Checking.{IsCheckFault, IsWell}
 use Rattle.ub_tree.specs.Effects.{read_store}
 use Rattle.ub_tree.specs.Opened.{IsPassing}
 use Rattle.ub_tree.specs.View.{TreeView, IsSound, region_count}
 use Rattle.ub_tree.specs.declared.fault.TreeFault.{TreeFault}
-
--- the store in the table file was lent and put back
-pub check_of : {A : Type 0} (table : List ℕ) (old lent new : FilesFacts) (out out_now : OutFacts) (status : Status) (a : A) (store : StoreFacts)
-    → IsLent old table store → OpensFile table old lent (Ok a) → ChecksStore (λ left. PutsBack table lent new left) store out out_now status
-    → IsCheckOf table old new out out_now status
-check_of {A} table old lent new out out_now status a from is opens checks = record {
-  store = from;
-  lent = is;
-  checks = record {
-    left = checks.left;
-    back = put_after table old lent new a checks.left opens.lends checks.back;
-    ended = checks.ended;
-  };
-}
 
 -- ---- an opened tree that was checked
 
@@ -92,24 +76,22 @@ still_open t now store same unchanged working =
 
 -- ---- what was told
 
-pub told_counts : (r : Result Counts TreeFault) (counts : Counts) (from left : StoreFacts) (bytes : List ℕ) (out out_now : OutFacts) (status : Status) → r ≡ Ok counts
-    → IfOk r (λ c. IsWellStore from c.rows c.regions) → left ≡ read_store r from → bytes ≡ loaded_line counts.rows counts.regions → Tells out out_now bytes Done status
-    → IsChecked from left out out_now status
-told_counts r counts from left bytes out out_now status is well kept same tells = record {
+pub told_counts : (r : Result Counts TreeFault) (counts : Counts) (from : StoreFacts) (bytes : List ℕ) (out out_now : OutFacts) (status : Status) → r ≡ Ok counts
+    → IfOk r (λ c. IsWellStore from c.rows c.regions) → bytes ≡ loaded_line counts.rows counts.regions → Tells out out_now bytes Done status
+    → IsChecked from out out_now status
+told_counts r counts from bytes out out_now status is well same tells = record {
   rows = counts.rows;
   regions = counts.regions;
   is = subst (λ (q : Result Counts TreeFault). IfOk q (λ c. IsWellStore from c.rows c.regions)) is well;
-  left_is = kept ∙ ap (λ (q : Result Counts TreeFault). read_store q from) is;
   tells = subst (λ (b : List ℕ). Tells out out_now b Done status) same tells;
 }
 
-pub told_ill : (r : Result Counts TreeFault) (fault : TreeFault) (from left : StoreFacts) (out out_now : OutFacts) (status : Status) → r ≡ Err fault
-    → IfErr r (IsIllFault from) → IfErr r (PassesSound from) → left ≡ read_store r from → Tells out out_now (tree_fault_text fault) (tree_fault_status fault) status
-    → IsIll from left out out_now status
-told_ill r fault from left out out_now status is ill passing kept tells = record {
+pub told_ill : (r : Result Counts TreeFault) (fault : TreeFault) (from : StoreFacts) (out out_now : OutFacts) (status : Status) → r ≡ Err fault
+    → IfErr r (IsIllFault from) → IfErr r (PassesSound from) → Tells out out_now (tree_fault_text fault) (tree_fault_status fault) status
+    → IsIll from out out_now status
+told_ill r fault from out out_now status is ill passing tells = record {
   fault = fault;
   is = subst (λ (q : Result Counts TreeFault). IfErr q (IsIllFault from)) is ill;
   passing = subst (λ (q : Result Counts TreeFault). IfErr q (PassesSound from)) is passing;
-  left_is = kept ∙ ap (λ (q : Result Counts TreeFault). read_store q from) is;
   tells = tells;
 }

@@ -4,15 +4,13 @@ use Rattle.std.proofs.lemmas.List.{flat_map_more, map-id}
 use Rattle.std.proofs.lemmas.List.FromFn.{map-range_with_len_more}
 use Rattle.std.specs.List.{flat_map, range_with_len}
 use Rattle.std.specs.Prelude.{IfErr, IsErrAnd, OnOk}
-use Rattle.ub_files.specs.Files.{FilesFacts, IsLent, OpensFile, PutsBack}
 use Rattle.ub_page.specs.declared.header.Header.{Header}
 use Rattle.ub_script.specs.Output.{OutFacts}
-use Rattle.ub_shell.specs.Described.{Description, count_lines, levels_word, number_line, DescribesStore, IsDescribeFault, IsUndescribed, IsDescribed, IsDescriptionOf, IsOldFault, IsOldText, IsTextOf, described, described_old, description_text, fact_line, of_old_format}
+use Rattle.ub_shell.specs.Described.{Description, count_lines, levels_word, number_line, IsDescribeFault, IsUndescribed, IsDescribed, IsOldFault, IsOldText, IsTextOf, described, described_old, description_text, fact_line, of_old_format}
 use Rattle.ub_shell.specs.Ending.{Tells}
 use Rattle.ub_shell.specs.Status.{tree_fault_status, tree_fault_text}
 use Rattle.ub_shell.specs.declared.status.Status.{Status}
 use Rattle.ub_shell.specs.declared.status.Status.TheVariants.{Done}
-use Rattle.ub_shell.proofs.FileFacts.{put_after}
 use Rattle.ub_store.specs.Facts.{StoreFacts, IsHonest}
 use Rattle.ub_store.specs.declared.fault.StoreFault.TheVariants as store
 use Rattle.ub_tree.specs.Effects.{raised_by, read_store}
@@ -81,20 +79,6 @@ description_put (Ok a) d page_rows version word start one two three four five ne
     (last ∙ ap (λ (n : ℕ). five ++ number_line (codes "format") n) version_is)
 description_put (Err e) d page_rows version word start one two three four five new rows_are levels_are version_is first second third fourth fifth last = tt
 
--- the store in the table file was lent and put back
-pub description_of : {A : Type 0} (table : List ℕ) (old lent new : FilesFacts) (out out_now : OutFacts) (status : Status) (a : A) (store : StoreFacts)
-    → IsLent old table store → OpensFile table old lent (Ok a) → DescribesStore (λ left. PutsBack table lent new left) store out out_now status
-    → IsDescriptionOf table old new out out_now status
-description_of {A} table old lent new out out_now status a from is opens describes = record {
-  store = from;
-  lent = is;
-  describes = record {
-    left = describes.left;
-    back = put_after table old lent new a describes.left opens.lends describes.back;
-    ended = describes.ended;
-  };
-}
-
 -- the text of what an opened tree tells
 pub tree_told : {T : Type 0} (r : Result T TreeFault) (items : T → List ℕ) (from : StoreFacts) (t : TreeView) → IsOpened from t
     → IfOk r (λ text. items text ≡ description_text (described t)) → IfOk r (λ text. IsTextOf from (items text))
@@ -114,14 +98,13 @@ old_told (Ok text) items from left fault kept is told =
 old_told (Err refused) items from left fault kept is told = tt
 
 -- it was written
-pub told_well : {T : Type 0} (r : Result T TreeFault) (items : T → List ℕ) (text : T) (from left : StoreFacts) (bytes : List ℕ) (out out_now : OutFacts) (status : Status) → r ≡ Ok text
-    → IfOk r (λ t. IsTextOf from (items t)) → left ≡ read_store r from → bytes ≡ items text → Tells out out_now bytes Done status → IsDescribed from left out out_now status
-told_well r items text from left bytes out out_now status is told kept same tells =
+pub told_well : {T : Type 0} (r : Result T TreeFault) (items : T → List ℕ) (text : T) (from : StoreFacts) (bytes : List ℕ) (out out_now : OutFacts) (status : Status) → r ≡ Ok text
+    → IfOk r (λ t. IsTextOf from (items t)) → bytes ≡ items text → Tells out out_now bytes Done status → IsDescribed from out out_now status
+told_well r items text from bytes out out_now status is told same tells =
     let of_text : IsTextOf from (items text) = subst (λ q. IfOk q (λ t. IsTextOf from (items t))) is told in
     record {
       description = of_text.0;
       is = of_text.1;
-      left_is = kept ∙ ap (λ q. read_store q from) is;
       tells = subst (λ (b : List ℕ). Tells out out_now b Done status) (same ∙ of_text.2) tells;
     }
 
@@ -166,13 +149,12 @@ never_old fault is (inl memory) = cc
 never_old fault is (inr device) = cc
 
 -- and why was written
-pub told_fault : {T : Type 0} (r : Result T TreeFault) (fault : TreeFault) (from left : StoreFacts) (out out_now : OutFacts) (status : Status) → r ≡ Err fault
-    → IfErr r (IsDescribeFault from) → ((header : Header) → IsHonest from → IsRooted from.pages header → IfErr r IsPassing) → left ≡ read_store r from
-    → Tells out out_now (tree_fault_text fault) (tree_fault_status fault) status → IsUndescribed from left out out_now status
-told_fault {T} r fault from left out out_now status is refused passing kept tells = record {
+pub told_fault : {T : Type 0} (r : Result T TreeFault) (fault : TreeFault) (from : StoreFacts) (out out_now : OutFacts) (status : Status) → r ≡ Err fault
+    → IfErr r (IsDescribeFault from) → ((header : Header) → IsHonest from → IsRooted from.pages header → IfErr r IsPassing)
+    → Tells out out_now (tree_fault_text fault) (tree_fault_status fault) status → IsUndescribed from out out_now status
+told_fault {T} r fault from out out_now status is refused passing tells = record {
   fault = fault;
   is = subst (λ (q : Result T TreeFault). IfErr q (IsDescribeFault from)) is refused;
   passing = λ header honest rooted. subst (λ (q : Result T TreeFault). IfErr q IsPassing) is (passing header honest rooted);
-  left_is = kept ∙ ap (λ (q : Result T TreeFault). read_store q from) is;
   tells = tells;
 }

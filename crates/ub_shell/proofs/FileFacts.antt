@@ -1,26 +1,25 @@
 -- What the commands that read and write files leave of them, step by step.
 use Rattle.std.proofs.lemmas.Bool.{cases_Bool, false≢true}
 use Rattle.std.specs.Prelude.{IfErr, IfOk, IsErrAnd, IsErrOf, IsTrue}
-use Rattle.std.proofs.Common.{◌≡◌, ◌⊎◌, ◌∙◌, ℕ, Bool, List, codes, Result, Ok, Err, inl, inr, ap, false, refl, subst, sym}
+use Rattle.std.proofs.Common.{◌≡◌, ◌⊎◌, ◌↔◌, ◌∙◌, ℕ, Bool, List, codes, Result, Ok, Err, inl, inr, ap, false, true, refl, subst, sym}
 use Rattle.ub_script.specs.Faults.{counted}
 use Rattle.ub_script.specs.Output.{OutFacts}
-use Rattle.ub_script.specs.Script.{OnlyAsks}
-use Rattle.ub_store.specs.Facts.{StoreFacts, IsHonest, memory_facts}
+use Rattle.ub_script.specs.Script.{HasChangeWord, OnlyAsks}
+use Rattle.ub_store.specs.Facts.{StoreFacts, memory_facts}
 use Rattle.ub_store.specs.declared.fault.StoreFault.{StoreFault}
 use Rattle.ub_store.specs.declared.fault.StoreFault.TheVariants as store
-use Rattle.ub_tree.specs.Stored.{AreSoundPages}
 use Rattle.ub_tree.specs.Effects.{written_store}
-use Rattle.ub_tree.specs.Faults.{tree_fault}
+use Rattle.ub_script.specs.declared.fault.RunFault.{RunFault}
+use Rattle.ub_script.specs.declared.fault.RunFault.TheVariants as stop
 use Rattle.ub_tree.specs.Opened.{IsOpened}
 use Rattle.ub_load.specs.LoadedTree.{IsLoadedTree}
 use Rattle.ub_load.specs.Loading.{IsAtWork}
-use Rattle.ub_load.specs.Refusals.{fault_of_tree}
-use Rattle.ub_load.specs.declared.fault.LoadFault.{LoadFault}
 use Rattle.ub_tree.specs.Closing.{IsCloseFault}
 use Rattle.ub_tree.specs.View.{TreeView}
 use Rattle.ub_tree.specs.declared.fault.TreeFault.{TreeFault}
 use Rattle.ub_tree.specs.declared.fault.TreeFault.TheVariants as tree
 use Rattle.ub_table.specs.declared.axes.Axes.{Axes}
+use Rattle.ub_table.specs.declared.schema.Schema.{Schema}
 use Rattle.ub_words.specs.Asked.{AreLines, IsAskedBy}
 use Rattle.ub_words.specs.CommandLine.{AsksHelp, AsksNothing}
 use Rattle.ub_words.specs.declared.given.CheckWords.{CheckWords}
@@ -32,16 +31,17 @@ use Rattle.ub_words.specs.declared.given.TryWords.{TryWords}
 use Rattle.ub_words.specs.declared.given.UpgradeWords.{UpgradeWords}
 use Rattle.ub_words.specs.declared.words.Asked.{Asked}
 use Rattle.ub_words.specs.declared.words.Asked.TheVariants as asked
-use Rattle.ub_shell.specs.Commands.{AsksStore, HasRead, HasRunTree, IsAskedOf, IsCopied, IsFileOf, IsTable, IsUnkept, IsUnloaded, IsUnopened, IsUnread, LoadsFile, RunsFile, TriesFiles, WritesFile, axes_asked}
-use Rattle.ub_files.specs.Copying.{Copies}
+use Rattle.ub_shell.specs.Commands.{HasRead, HasRunTree, IsKept, IsUnopened, IsUnread, IsUnready, IsWeighed, LoadsFile, OpensFor, RunsFile, TellsRan, TriesFiles, axes_asked, status_after}
+use Rattle.ub_files.specs.declared.fault.OpenFault.{OpenFault}
+use Rattle.ub_files.specs.declared.fault.OpenFault.TheVariants as opening
 use Rattle.ub_shell.specs.Checked.{ChecksFile}
 use Rattle.ub_shell.specs.Described.{DescribesFile}
 use Rattle.ub_shell.specs.Ending.{Tells}
-use Rattle.ub_files.specs.Files.{FilesFacts, IsLent, IsText, IsTorn, LendsFile, OpensFile, PutsBack, ReadsFile, Returns, raised_by}
+use Rattle.ub_files.specs.Files.{FilesFacts, ChangesFile, IsText, KeepsFile, IsTorn, OpensFile, ReadsFile}
 use Rattle.ub_next.specs.Next.{IsNextAnswer, answer_text}
 use Rattle.ub_shell.specs.Ran.{HasEnded}
 use Rattle.ub_shell.specs.Upgrading.{UpgradesFile}
-use Rattle.ub_shell.specs.Status.{answer_status, store_fault_status, store_fault_text}
+use Rattle.ub_shell.specs.Status.{answer_status, open_fault_status, open_fault_text, store_fault_status, store_fault_text}
 use Rattle.ub_next.specs.declared.next.Neighbours.{Neighbours}
 use Rattle.ub_next.specs.declared.next.NextFault.{NextFault}
 use Rattle.ub_shell.specs.declared.status.Status.{Status}
@@ -70,117 +70,7 @@ not_read path old new fault out out_now status is h told = record {
 pub not_so : (answer : Bool) (P : Type 0) → (P → IsTrue answer) → answer ≡ false → P → ⊥
 not_so answer P told is p = false≢true (sym is ∙ told p)
 
--- a store that was lent is put back
-pub put_after : {A : Type 0} (path : List ℕ) (old lent new : FilesFacts) (a : A) (store : StoreFacts) → LendsFile path old lent (Ok a)
-    → PutsBack path lent new store → Returns path old new store
-put_after path old lent new a store lends back = record {
-  same = back.same ∙ ap (λ (f : FilesFacts). record f { holds = new.holds }) lends.same;
-  others = λ other ne. back.others other ne ∙ lends.others other ne;
-  held = back.held lends.away;
-}
-
-left_honest : {A : Type 0} (pages : List (List ℕ)) (made left : StoreFacts) (r : Result A StoreFault) → Copies pages made left r → IsHonest made → IsHonest left
-left_honest pages made left r is honest = rw (ap (λ (f : StoreFacts). f.honest) is.frame) honest
-
-pub never_both : {A E : Type 0} (a : A) (e : E) (r : Result A E) (P : Type 0) → r ≡ Ok a → r ≡ Err e → P
-never_both a e r P h k = cc
-
--- a table whose pages were copied into the table file stands there
-file_written : (table text name : List ℕ) (axes : Axes) (page_rows rows regions : ℕ) (pages : List (List ℕ)) (old new : FilesFacts) (r : Result (Unit {0}) StoreFault) (w : IsCopied table pages old new r)
-    → IsTable text name axes page_rows rows regions pages → (w.left.synced ≡ w.left.pages) → (IsHonest w.made → w.left.pages ≡ pages) → IsFileOf table text name axes page_rows rows regions old new
-file_written table text name axes page_rows rows regions pages old new r w is synced copied = record {
-  tree = is.tree;
-  made = w.made;
-  left = w.left;
-  made_is = w.made_is;
-  loaded = is.loaded;
-  closed = λ honest. (
-    left_honest pages w.made w.left r w.copies honest,
-    subst (λ (ps : List (List ℕ)). AreSoundPages ps is.tree.schema is.tree.placed is.tree.next) (sym (copied honest)) is.closed,
-  );
-  synced = synced;
-  back = w.back;
-  rows_are = is.rows_are;
-  regions_are = is.regions_are;
-}
-
-pub file_kept : (table text name : List ℕ) (axes : Axes) (page_rows rows regions : ℕ) (pages : List (List ℕ)) (old new : FilesFacts) (u : Unit {0})
-    → IsTable text name axes page_rows rows regions pages → WritesFile table pages old new (Ok u) → IsFileOf table text name axes page_rows rows regions old new
-file_kept table text name axes page_rows rows regions pages old new u is = elim [
-  | inl w ↦ file_written table text name axes page_rows rows regions pages old new (Ok u) w is w.copies.synced w.copies.copied
-  | inr unmade ↦ never_both u store.Device (Ok u) (IsFileOf table text name axes page_rows rows regions old new) refl unmade.0
-]
-
-abbrev failed_with : StoreFault → Result (Unit {0}) StoreFault
-failed_with fault = Err fault
-
-pub one_fault : (a b : StoreFault) → failed_with a ≡ failed_with b → a ≡ b
-one_fault a b e = cc
-
--- a table whose pages weren't copied into the table file isn't kept there
-pub not_kept : (table text name : List ℕ) (axes : Axes) (page_rows rows regions : ℕ) (pages : List (List ℕ)) (old new : FilesFacts) (of_store : StoreFault) (fault : LoadFault)
-    → IsTable text name axes page_rows rows regions pages → (of_store ≡ store.Device) ⊎ (of_store ≡ store.Memory) → WritesFile table pages old new (Err of_store)
-    → fault ≡ fault_of_tree (tree_fault of_store) → IsUnkept table text name axes page_rows old new fault
-not_kept table text name axes page_rows rows regions pages old new of_store fault is faults (inl copied) why =
-    let failed : new.failed_tables ≡ old.failed_tables = ap (λ (f : FilesFacts). f.failed_tables) copied.back.same in
-    record {
-      why = inr (inr (
-        record {
-          rows = rows;
-          regions = regions;
-          pages = pages;
-          of_store = of_store;
-          table_is = is;
-          refused = faults;
-          copied = copied;
-          fault_is = why;
-        },
-        failed,
-      ));
-      uses = record {
-        same = copied.back.same ∙ ap (λ (n : ℕ). record old { holds = new.holds; failed_tables = n }) (sym failed);
-        others = copied.back.others;
-      };
-    }
-not_kept table text name axes page_rows rows regions pages old new of_store fault is faults (inr unmade) why =
-    let device = one_fault of_store store.Device unmade.0 in
-    let raised_so = ap (λ (f : FilesFacts). f.failed_tables) unmade.1.same in
-    record {
-      why = inr (inl (
-        record {
-          rows = rows;
-          regions = regions;
-          pages = pages;
-          table_is = is;
-          fault_is = why ∙ ap (λ (e : StoreFault). fault_of_tree (tree_fault e)) device;
-        },
-        raised_so ∙ ap (λ (e : StoreFault). raised_by e old.failed_tables) device,
-      ));
-      uses = record {
-        same = unmade.1.same ∙ ap (λ (n : ℕ). record old { holds = new.holds; failed_tables = n }) (sym raised_so);
-        others = unmade.1.others;
-      };
-    }
-
--- a file that can't be made
-pub unmade_fault : {A : Type 0} (r : Result A StoreFault) (fault : StoreFault) → IsErrAnd r (λ e. e ≡ fault) → fault ≡ store.Device
-    → IfErr r (λ e. (e ≡ store.Device) ⊎ (e ≡ store.Memory))
-unmade_fault (Ok a) fault is device = absurd is
-unmade_fault (Err e) fault is device = inl (is ∙ device)
-
-pub not_made : {A : Type 0} (table : List ℕ) (pages : List (List ℕ)) (old new : FilesFacts) (r : Result (Unit {0}) StoreFault) (fault : StoreFault) → IsErrAnd r (λ e. e ≡ fault)
-    → fault ≡ store.Device → LendsFile {A = A} table old new (Err fault) → WritesFile table pages old new r
-not_made {A} table pages old new (Ok done) fault is device lends = absurd is
-not_made {A} table pages old new (Err e) fault is device lends = inr (
-  ap (λ (f : StoreFault). failed_with f) (is ∙ device),
-  record {
-    same = lends.same ∙ ap (λ (f : StoreFault). record old { holds = new.holds; failed_tables = raised_by f old.failed_tables }) (sym is);
-    others = lends.others;
-    away = tt;
-  },
-)
-
--- a text that wasn't loaded
+-- nothing is said where a call was refused
 pub none_kept : {A E : Type 0} (P : A → Type 0) (r : Result A E) (fault : E) → IsErrAnd r (λ e. e ≡ fault) → IfOk r P
 none_kept P (Ok a) fault is = absurd is
 none_kept P (Err e) fault is = tt
@@ -188,14 +78,6 @@ none_kept P (Err e) fault is = tt
 pub refused_by : {A E : Type 0} (P : E → Type 0) (r : Result A E) (fault : E) → IsErrAnd r (λ e. e ≡ fault) → P fault → IfErr r P
 refused_by P (Ok a) fault is so = absurd is
 refused_by P (Err e) fault is so = subst P (sym is) so
-
-pub not_loaded : {A : Type 0} (table text name : List ℕ) (axes : Axes) (page_rows : ℕ) (files : FilesFacts) (r : Result A LoadFault) (fault : LoadFault) → IsErrAnd r (λ e. e ≡ fault)
-    → IsUnloaded text name axes fault → IfErr r (IsUnkept table text name axes page_rows files files)
-not_loaded table text name axes page_rows files (Ok a) fault is unloaded = absurd is
-not_loaded table text name axes page_rows files (Err e) fault is unloaded = record {
-  why = inl (subst (λ (f : LoadFault). IsUnloaded text name axes f) (sym is) unloaded, refl);
-  uses = record { same = refl; others = λ other ne. refl };
-}
 
 -- ---- a table in memory
 
@@ -215,17 +97,71 @@ never_unclosed held t loaded work (tree.Page page fault) h = h
 
 -- a table file was not opened
 pub not_opened : {A : Type 0} (table : List ℕ) (old new : FilesFacts) (fault : StoreFault) (out out_now : OutFacts) (status : Status)
-    → (fault ≡ store.Device) ⊎ (fault ≡ store.BadSize) → (IsErrOf {T = A} (Err fault) store.BadSize → IsTorn (old.holds table)) → OpensFile {A = A} table old new (Err fault)
-    → Tells out out_now (store_fault_text fault) (store_fault_status fault) status → IsUnopened table old new out out_now status
+    → (fault ≡ store.Device) ⊎ ((fault ≡ store.BadSize) ⊎ (fault ≡ store.Memory)) → (IsErrOf {T = A} (Err fault) store.BadSize → IsTorn (old.holds table))
+    → OpensFile {A = A} old new (Err fault) → Tells out out_now (store_fault_text fault) (store_fault_status fault) status
+    → IsUnopened table old new out out_now status
 not_opened {A} table old new fault out out_now status faults torn opens told = record {
   fault = fault;
   is = elim faults [
     | inl device ↦ inl device
-    | inr size ↦ inr (size, torn (ap (λ (f : StoreFault). Err f) size))
+    | inr others ↦ elim others [
+      | inl size ↦ inr (inl (size, torn (ap (λ (f : StoreFault). Err f) size)))
+      | inr memory ↦ inr (inr memory)
+    ]
   ];
-  files = record { lends = record { same = opens.lends.same; others = opens.lends.others; away = tt }; kept = opens.kept };
+  files = opens;
   tells = told;
 }
+
+-- nor to be changed
+pub not_ready : {A : Type 0} (table : List ℕ) (old new : FilesFacts) (fault : OpenFault) (out out_now : OutFacts) (status : Status)
+    → (fault ≡ opening.BadJournal) ⊎ ((fault ≡ opening.Store store.Device) ⊎ ((fault ≡ opening.Store store.BadSize) ⊎ (fault ≡ opening.Store store.Memory)))
+    → (IsErrOf {T = A} (Err fault) (opening.Store store.BadSize) → IsTorn (old.holds table))
+    → ChangesFile {A = A} table old new (Err fault) → Tells out out_now (open_fault_text fault) (open_fault_status fault) status
+    → IsUnready table old new out out_now status
+not_ready {A} table old new fault out out_now status faults torn opens told = record {
+  fault = fault;
+  is = elim faults [
+    | inl journal ↦ inl journal
+    | inr some ↦ elim some [
+      | inl device ↦ inr (inl device)
+      | inr others ↦ elim others [
+        | inl size ↦ inr (inr (inl (size, torn (ap (λ (f : OpenFault). Err f) size))))
+        | inr memory ↦ inr (inr (inr memory))
+      ]
+    ]
+  ];
+  files = record { same = opens.same; others = opens.others };
+  tells = told;
+}
+
+-- a table file was opened: to be changed, or to be asked
+pub opened_to_change : {A : Type 0} (path : List ℕ) (old new : FilesFacts) (a : A) → ChangesFile path old new (Ok a) → OpensFor true path old new
+opened_to_change path old new a opens = record { same = opens.same; others = opens.others }
+
+pub opened_to_ask : {A : Type 0} (path : List ℕ) (old new : FilesFacts) (a : A) → OpensFile {A = A} old new (Ok a) → OpensFor false path old new
+opened_to_ask path old new a opens = opens
+
+-- whether a script may change the table, where that was answered
+pub weighed_as : (script : List ℕ) (may changes : Bool) → may ≡ changes → (IsTrue may ↔ HasChangeWord script) → (may ≡ false → (schema : Schema) → OnlyAsks schema script)
+    → IsWeighed script changes
+weighed_as script may changes is exact asks = subst (λ (b : Bool). IsWeighed script b) is (record { exact = exact; asks = asks })
+
+-- a line that was told, with the status that a closing leaves of that which it had
+told_by : (closed : Result (Unit {0}) TreeFault) (out out_now : OutFacts) (bytes : List ℕ) (wanted status : Status) → Tells out out_now bytes wanted status
+    → Tells out out_now bytes (status_after closed wanted) (status_after closed status)
+told_by (Ok done) out out_now bytes wanted status told = told
+told_by (Err fault) out out_now bytes wanted status (inl told) = inl (refl, told.1)
+told_by (Err fault) out out_now bytes wanted status (inr broken) = inr (refl, broken.1)
+
+-- what a fault of a run ends with, where what was done before it isn't kept
+pub told_after_fault : (fault : RunFault) (closed : Result (Unit {0}) TreeFault) (out out_now : OutFacts) (status : Status) → TellsRan (Err fault) (Ok tt) out out_now status
+    → TellsRan (Err fault) closed out out_now (status_after closed status)
+told_after_fault stop.Memory closed out out_now status told = told_by closed out out_now _ _ status told
+told_after_fault stop.Write (Ok done) out out_now status told = told
+told_after_fault stop.Write (Err fault) out out_now status told = (refl, told.1)
+told_after_fault (stop.Load fault) closed out out_now status told = told_by closed out out_now _ _ status told
+told_after_fault (stop.Tree fault) closed out out_now status told = told_by closed out out_now _ _ status told
 
 -- what is left of the store of a tree that was opened, only asked and closed
 pub store_left : {script : List ℕ} {left : StoreFacts} {out out_now : OutFacts} {status : Status} (store : StoreFacts) (t : TreeView) → IsOpened store t
@@ -251,19 +187,21 @@ store_closed a t left saved unchanged working = elim (cases_Bool t.is_changed) [
   ]
 ]
 
--- the store of a table file was asked that was opened
-pub file_asked : {A : Type 0} (table words : List ℕ) (mid lent new : FilesFacts) (out out_now : OutFacts) (status : Status) (a : A) (store : StoreFacts)
-    → IsLent mid table store → OpensFile table mid lent (Ok a)
-    → AsksStore (λ left. PutsBack table lent new left) words store out out_now status → IsAskedOf table words mid new out out_now status
-file_asked {A} table words mid lent new out out_now status a store from opens asks = record {
-  store = store;
-  lent = from;
-  asks = record {
-    left = asks.left;
-    back = put_after table mid lent new a asks.left opens.lends asks.back;
-    asked = asks.asked;
-  };
-}
+-- what is left was kept where that was to be done, and else it wasn't
+pub kept_where : (changes : Bool) (path : List ℕ) (left : List (List ℕ)) (keeping : Result (Unit {0}) StoreFault) (old new : FilesFacts) → changes ≡ true
+    → KeepsFile path left old new keeping → IsKept changes path left (Ok tt) keeping old new
+kept_where true path left keeping old new is h = h
+kept_where false path left keeping old new is h = cc
+
+pub unkept_where : (changes : Bool) (path : List ℕ) (left : List (List ℕ)) (closing : Result (Unit {0}) TreeFault) (old new : FilesFacts) → changes ≡ false → new ≡ old
+    → IsKept changes path left closing (Ok tt) old new
+unkept_where false path left closing old new is same = (refl, same)
+unkept_where true path left closing old new is same = cc
+
+pub unkept_closing : (changes : Bool) (path : List ℕ) (left : List (List ℕ)) (fault : TreeFault) (old new : FilesFacts) → new ≡ old
+    → IsKept changes path left (Err fault) (Ok tt) old new
+unkept_closing true path left fault old new same = (refl, same)
+unkept_closing false path left fault old new same = (refl, same)
 
 -- ---- what the words ask for
 

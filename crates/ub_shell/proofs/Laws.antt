@@ -1,30 +1,37 @@
 -- The laws of how a command ends, as specs/Laws.antt states them.
-use Rattle.std.proofs.Common.{◌≡◌, ◌≢◌, ◌⊎◌, ◌∙◌, ℕ, Bool, true, false, List, Err, inl, inr, ap, arith, length, refl, subst, sym}
-use Rattle.std.proofs.lemmas.Bool.{cases_Bool}
+use Rattle.std.proofs.Common.{◌≡◌, ◌≢◌, ◌⊎◌, ◌∙◌, ℕ, Bool, true, false, List, Ok, Err, inl, inr, ap, arith, length, refl, subst, sym}
+use Rattle.std.proofs.lemmas.Bool.{cases_Bool, false≢true}
 use Rattle.std.proofs.lemmas.Slice.Eq.{bytes_eq-Decides}
 use Rattle.std.specs.Str.{bytes_eq}
 use Rattle.std.specs.Prelude.{IsOk, IsTrue, Result}
 use Rattle.ub_store.specs.Facts.{StoreFacts, IsHonest}
 use Rattle.ub_store.specs.declared.fault.StoreFault.{StoreFault}
 use Rattle.ub_store.specs.declared.fault.StoreFault.TheVariants as store
-use Rattle.ub_files.specs.Files.{FilesFacts, Held, IsPutBack, IsStored, IsTorn, ReadsFile, absent, bytes, lent_out, pages, torn, untold}
+use Rattle.ub_files.specs.Files.{standard_input, FilesFacts, HasPages, Held, IsEmpty, IsStored, IsTorn, MakesFile, ReadsFile, absent, bytes, pages, torn, untold}
+use Rattle.ub_files.specs.declared.fault.OpenFault.{OpenFault}
+use Rattle.ub_files.specs.declared.fault.OpenFault.TheVariants as opening
 use Rattle.ub_words.proofs.Laws.{no_help_taken}
 use Rattle.ub_words.specs.CommandLine.{AsksHelpAlone, AsksNext}
-use Rattle.ub_shell.specs.Commands.{IsRunOn, IsUnopened, IsUntold, RunsFile, loaded_line}
+use Rattle.ub_shell.specs.Commands.{IsKept, IsUnlent, IsUnopened, IsUnready, MakesTable, OpensFor, RunsFile, TellsMade, TellsRan, both_ended, loaded_line}
 use Rattle.ub_shell.proofs.LeftFacts.{full_stays, run_leaves, run_stays, where_ok}
-use Rattle.ub_shell.specs.Laws.{AreBothInput, AskingLeavesTheTable, CheckedTablesAreRunAsSound, CheckedTablesAreSound, CheckingLeavesTheTable, DescribingLeavesTheTable, FullTablesAreLeft, IsClosedTable, IsHeldStill, IsHeldTable, IsOldIfTold, IsOldTable, IsRunOfTable, IsSoundTable, OnlyHelpIsWritten, OnlySoundTablesAreUpgraded, SoundTablesPass, TellsPassing, UnchangedTablesAreLeft, UpgradedTablesAreTheSame, UpgradingLeavesTheOldTable, WhatWasDoneStands, WrongWordsAreTold, row_count}
-use Rattle.ub_shell.specs.Checked.{ChecksFile, IsChecked, IsIll}
-use Rattle.ub_shell.specs.Described.{IsDescribed, IsUndescribed}
+use Rattle.ub_shell.specs.Laws.{AreBothInput, AskingLeavesTheTable, CheckedTablesAreRunAsSound, CheckedTablesAreSound, CheckingLeavesTheTable, CrashesLeaveATable, DescribingLeavesTheTable, FailedRunsLoseNothing, FullTablesAreLeft, IsClosedTable, IsHeldStill, IsHeldTable, IsOldIfTold, IsOldTable, IsRunOfTable, IsSoundTable, KeptRunsLast, LoadsLoseNoTable, OldTablesAreNotLost, OnlyHelpIsWritten, OnlySoundTablesAreUpgraded, SaysKept, SoundTablesPass, TellsBadJournal, TellsPassing, UnchangedTablesAreLeft, UpgradedTablesAreTheSame, UpgradesLoseNoTable, UpgradingLeavesTheOldTable, WhatWasDoneStands, WrongWordsAreTold, row_count}
+use Rattle.ub_shell.specs.Checked.{ChecksFile, IsChecked}
+use Rattle.ub_shell.specs.Crashes.{HoldsRun}
 use Rattle.ub_shell.specs.Ending.{Tells}
-use Rattle.ub_shell.specs.Status.{store_fault_status, store_fault_text, tree_fault_status, tree_fault_text}
-use Rattle.ub_shell.specs.Upgrading.{IsFileAnew, IsMadeAnew, IsRefusedAnew, KeepsAnew}
+use Rattle.ub_shell.proofs.UpgradeFacts.{some_page}
+use Rattle.ub_shell.specs.Status.{open_fault_status, open_fault_text, store_fault_status, store_fault_text, tree_fault_status, tree_fault_text}
+use Rattle.ub_shell.specs.Upgrading.{IsFileAnew}
 use Rattle.ub_shell.specs.declared.status.Status.{Status}
+use Rattle.ub_shell.specs.declared.status.Status.TheVariants as ended
 use Rattle.ub_shell.specs.declared.status.Status.TheVariants.{Done}
 use Rattle.ub_exec.proofs.Laws.{sound_trees_stand}
 use Rattle.ub_script.specs.Output.{OutFacts}
-use Rattle.ub_script.specs.Script.{OnlyAsks}
+use Rattle.ub_script.specs.declared.fault.RunFault.{RunFault}
+use Rattle.ub_script.specs.declared.fault.RunFault.TheVariants as stop
+use Rattle.ub_script.specs.declared.script.Summary.{Summary}
 use Rattle.ub_table.specs.declared.schema.Schema.{Schema}
 use Rattle.ub_tree.proofs.Laws.{well_pages_are_sound}
+use Rattle.ub_tree.specs.Faults.{tree_fault}
 use Rattle.ub_tree.specs.declared.fault.TreeFault.{TreeFault}
 use Rattle.ub_tree.specs.declared.fault.TreeFault.TheVariants as tree
 use Rattle.ub_tree.specs.declared.fault.TreeFault.TheVariants.{Failed}
@@ -62,7 +69,7 @@ wrong_words_are_told words old new out out_now status nothing no_help (inr (inr 
 wrong_words_are_told words old new out out_now status nothing no_help (inr (inr (inr (inr (inr (inr (inr (inr (inl wrong))))))))) = inl wrong
 wrong_words_are_told words old new out out_now status nothing no_help (inr (inr (inr (inr (inr (inr (inr (inr (inr memory))))))))) = inr memory
 
--- ---- a table file that was only asked
+-- ---- a table file on which a script was run
 
 still : (held : Held) → IsHeldStill held held
 still untold = tt
@@ -70,10 +77,13 @@ still absent = refl
 still (bytes text) = refl
 still (pages all) = refl
 still torn = refl
-still lent_out = refl
 
 still_same : (a b : Held) → b ≡ a → IsHeldStill a b
 still_same a b same = subst (λ (held : Held). IsHeldStill a held) (sym same) (still a)
+
+-- a path holds what it did where the files are as they were
+held_same : (path : List ℕ) (old new : FilesFacts) → new ≡ old → new.holds path ≡ old.holds path
+held_same path old new same = ap (λ (f : FilesFacts). f.holds path) same
 
 -- reading a text leaves each file but standard input
 left_by_reading : {A : Type 0} (path table : List ℕ) (old new : FilesFacts) (r : Result A StoreFault) → ¬ (AreBothInput table path) → ReadsFile path old new r
@@ -81,99 +91,106 @@ left_by_reading : {A : Type 0} (path table : List ℕ) (old new : FilesFacts) (r
 left_by_reading path table old new r other h = elim (cases_Bool (bytes_eq table path)) [
   | inl same ↦
       let is : table ≡ path = (bytes_eq-Decides table path).0 same in
-      ap (λ holds. holds table) (h.kept (λ input. other (is ∙ input, input)))
-  | inr apart ↦ h.others table (λ is. let same = (bytes_eq-Decides table path).1 is in cc)
+      ap (λ holds. holds table) (h.kept (λ input. other (is ∙ input, input))).0
+  | inr apart ↦ (h.others table (λ is. let same = (bytes_eq-Decides table path).1 is in cc)).0
 ]
 
--- what is put back with the pages that it had, and no write of which has failed
-put_back_same : (before after : Held) (from left : StoreFacts) → IsStored before from → IsPutBack after left → left.pages ≡ from.pages → left.failed_writes ≡ 0 → IsHeldStill before after
-put_back_same untold after from left stored back same well = tt
-put_back_same (pages all) untold from left stored back same well = tt
-put_back_same (pages all) (pages now) from left stored back same well = ap pages (sym back ∙ same ∙ stored)
-put_back_same (pages all) torn from left stored back same well = absurd (let failed = back.1 in omega arith)
-put_back_same (pages all) absent from left stored back same well = absurd back
-put_back_same (pages all) (bytes text) from left stored back same well = absurd back
-put_back_same (pages all) lent_out from left stored back same well = absurd back
-put_back_same absent after from left stored back same well = absurd stored
-put_back_same (bytes text) after from left stored back same well = absurd stored
-put_back_same torn after from left stored back same well = absurd stored
-put_back_same lent_out after from left stored back same well = absurd stored
+-- so does its opening
+left_by_opening : (changes : Bool) (table : List ℕ) (old new : FilesFacts) → OpensFor changes table old new → new.holds table ≡ old.holds table
+left_by_opening true table old new opens = ap (λ (f : FilesFacts). f.holds table) opens.same
+left_by_opening false table old new opens = held_same table old new opens
 
--- the store that is left of a table that was only asked
-asked_left : {script : List ℕ} {out out_now : OutFacts} {status : Status} (from left : StoreFacts) → ((schema : Schema) → OnlyAsks schema script) → IsRunOn from script left out out_now status ⊎ IsUntold from left out out_now status
-    → (left.pages ≡ from.pages) × (left.failed_writes ≡ from.failed_writes)
-asked_left from left asks (inl run) =
-    let same = run.left_is (asks run.tree.schema) in
-    (ap (λ (s : StoreFacts). s.pages) same, ap (λ (s : StoreFacts). s.failed_writes) same)
-asked_left from left asks (inr told) = (ap (λ (s : StoreFacts). s.pages) told.left_is, ap (λ (s : StoreFacts). s.failed_writes) told.left_is)
+left_unlent : (changes : Bool) (table : List ℕ) (old new : FilesFacts) (out out_now : OutFacts) (status : Status) → IsUnlent changes table old new out out_now status
+    → new.holds table ≡ old.holds table
+left_unlent true table old new out out_now status unready = ap (λ (f : FilesFacts). f.holds table) unready.files.same
+left_unlent false table old new out out_now status unopened = ap (λ (f : FilesFacts). f.holds table) unopened.files
+
+-- and where pages were to be kept it holds what it did, or them
+kept_either : (changes : Bool) (table : List ℕ) (left : List (List ℕ)) (closing : Result (Unit {0}) TreeFault) (keeping : Result (Unit {0}) StoreFault) (old new : FilesFacts)
+    → IsKept changes table left closing keeping old new → (new.holds table ≡ old.holds table) ⊎ (IsOk closing × HasPages (new.holds table) left)
+kept_either true table left (Ok done) (Ok kept) old new h = inr (refl, h.kept.0)
+kept_either true table left (Ok done) (Err fault) old new h = elim h.either [
+  | inl same ↦ inl same
+  | inr held ↦ inr (refl, held)
+]
+kept_either true table left (Err fault) keeping old new h = inl (held_same table old new h.1)
+kept_either false table left closing keeping old new h = inl (held_same table old new h.1)
+
+pub failed_runs_lose_nothing : FailedRunsLoseNothing
+failed_runs_lose_nothing table script old new out out_now status other (inr unread) = inl (left_by_reading script table old new _ other unread.reads)
+failed_runs_lose_nothing table script old new out out_now status other (inl run) =
+    let mid : run.mid.holds table ≡ old.holds table = left_by_reading script table old run.mid _ other run.read.reads in
+    elim run.ran [
+      | inl unweighed ↦ inl (held_same table run.mid new unweighed.files ∙ mid)
+      | inr weighed ↦ elim weighed.2 [
+        | inl asked ↦
+            let opened = left_by_opening weighed.0 table run.mid asked.mid asked.opens in
+            elim asked.asks [
+              | inl kept ↦ elim (kept_either weighed.0 table kept.left.pages kept.run.ran.closing kept.run.ran.keeping asked.mid new kept.kept) [
+                | inl same ↦ inl (same ∙ opened ∙ mid)
+                | inr held ↦ inr (record {
+                  asked = run.asked;
+                  mid = run.mid;
+                  store = asked.store;
+                  left = kept.left;
+                  read = run.read;
+                  lent = asked.lent;
+                  run = kept.run;
+                  closed = held.0;
+                  holds = held.1;
+                })
+              ]
+              | inr none ↦ inl (held_same table asked.mid new none.1 ∙ opened ∙ mid)
+            ]
+        | inr unlent ↦ inl (left_unlent weighed.0 table run.mid new out out_now status unlent ∙ mid)
+      ]
+    ]
+
+-- what is kept with the pages that were there
+kept_same : (before after : Held) (held left : List (List ℕ)) → HasPages before held → HasPages after left → left ≡ held → IsHeldStill before after
+kept_same untold after held left stored kept same = tt
+kept_same (pages all) untold held left stored kept same = tt
+kept_same (pages all) (pages now) held left stored kept same = ap pages (sym kept ∙ same ∙ stored)
+kept_same (pages all) torn held left stored kept same = absurd kept
+kept_same (pages all) absent held left stored kept same = absurd kept
+kept_same (pages all) (bytes text) held left stored kept same = absurd kept
+kept_same absent after held left stored kept same = absurd stored
+kept_same (bytes text) after held left stored kept same = absurd stored
+kept_same torn after held left stored kept same = absurd stored
 
 pub asking_leaves_the_table : AskingLeavesTheTable
-asking_leaves_the_table table script old new out out_now status other asks (inr unread) =
-    still_same (old.holds table) (new.holds table) (left_by_reading script table old new _ other unread.reads)
-asking_leaves_the_table table script old new out out_now status other asks (inl run) =
-    let mid : run.mid.holds table ≡ old.holds table = left_by_reading script table old run.mid _ other run.read.reads in
-    subst (λ (held : Held). IsHeldStill held (new.holds table)) mid (elim run.ran [
-      | inl asked ↦
-          let same = asked_left asked.store asked.asks.left (λ schema. asks run.asked schema run.read.text_is) asked.asks.asked in
-          put_back_same (run.mid.holds table) (new.holds table) asked.store asked.asks.left asked.lent.stored asked.asks.back.held same.0 (same.1 ∙ asked.lent.lent.unfailed)
-      | inr unopened ↦ still_same (run.mid.holds table) (new.holds table) unopened.files.kept
-    ])
+asking_leaves_the_table table script old new out out_now status other asks ran =
+    elim (failed_runs_lose_nothing table script old new out out_now status other ran) [
+      | inl same ↦ still_same (old.holds table) (new.holds table) same
+      | inr held ↦
+          let mid : held.mid.holds table ≡ old.holds table = left_by_reading script table old held.mid _ other held.read.reads in
+          let left = held.run.left_is (asks held.asked held.run.tree.schema held.read.text_is) in
+          subst (λ (h : Held). IsHeldStill h (new.holds table)) mid (kept_same (held.mid.holds table) (new.holds table) held.store.pages held.left.pages held.lent.stored held.holds
+          (ap (λ (s : StoreFacts). s.pages) left))
+    ]
 
--- ---- a table file that was described
-
-described_left : {out out_now : OutFacts} {status : Status} (from left : StoreFacts) → IsDescribed from left out out_now status ⊎ IsUndescribed from left out out_now status
-    → (left.pages ≡ from.pages) × (left.failed_writes ≡ from.failed_writes)
-described_left from left (inl told) = (ap (λ (s : StoreFacts). s.pages) told.left_is, ap (λ (s : StoreFacts). s.failed_writes) told.left_is)
-described_left from left (inr told) = (ap (λ (s : StoreFacts). s.pages) told.left_is, ap (λ (s : StoreFacts). s.failed_writes) told.left_is)
+-- ---- a table file that was described, or checked
 
 pub describing_leaves_the_table : DescribingLeavesTheTable
-describing_leaves_the_table table old new out out_now status (inl told) =
-    let same = described_left told.store told.describes.left told.describes.ended in
-    put_back_same (old.holds table) (new.holds table) told.store told.describes.left told.lent.stored told.describes.back.held same.0 (same.1 ∙ told.lent.lent.unfailed)
-describing_leaves_the_table table old new out out_now status (inr unopened) = still_same (old.holds table) (new.holds table) unopened.files.kept
-
--- ---- a table file that was checked
-
-checked_left : {out out_now : OutFacts} {status : Status} (from left : StoreFacts) → IsChecked from left out out_now status ⊎ IsIll from left out out_now status
-    → (left.pages ≡ from.pages) × (left.failed_writes ≡ from.failed_writes)
-checked_left from left (inl told) = (ap (λ (s : StoreFacts). s.pages) told.left_is, ap (λ (s : StoreFacts). s.failed_writes) told.left_is)
-checked_left from left (inr told) = (ap (λ (s : StoreFacts). s.pages) told.left_is, ap (λ (s : StoreFacts). s.failed_writes) told.left_is)
+describing_leaves_the_table table old new out out_now status (inl told) = still_same (old.holds table) (new.holds table) (held_same table old new told.files)
+describing_leaves_the_table table old new out out_now status (inr unopened) =
+    still_same (old.holds table) (new.holds table) (ap (λ (f : FilesFacts). f.holds table) unopened.files)
 
 pub checking_leaves_the_table : CheckingLeavesTheTable
-checking_leaves_the_table table old new out out_now status (inl told) =
-    let same = checked_left told.store told.checks.left told.checks.ended in
-    put_back_same (old.holds table) (new.holds table) told.store told.checks.left told.lent.stored told.checks.back.held same.0 (same.1 ∙ told.lent.lent.unfailed)
-checking_leaves_the_table table old new out out_now status (inr unopened) = still_same (old.holds table) (new.holds table) unopened.files.kept
+checking_leaves_the_table table old new out out_now status (inl told) = still_same (old.holds table) (new.holds table) (held_same table old new told.files)
+checking_leaves_the_table table old new out out_now status (inr unopened) =
+    still_same (old.holds table) (new.holds table) (ap (λ (f : FilesFacts). f.holds table) unopened.files)
 
 -- ---- a table file of an older version that was made anew
 
--- the store that is left of it
-anew_left : {out out_now : OutFacts} {status : Status} (table : List ℕ) (from left : StoreFacts) (old new : FilesFacts)
-    → IsMadeAnew table from left old new out out_now status ⊎ IsRefusedAnew from left old new out out_now status
-    → (left.pages ≡ from.pages) × (left.failed_writes ≡ from.failed_writes)
-anew_left table from left old new (inl made) = (ap (λ (s : StoreFacts). s.pages) made.left_is, ap (λ (s : StoreFacts). s.failed_writes) made.left_is)
-anew_left table from left old new (inr none) = (ap (λ (s : StoreFacts). s.pages) none.left_is, ap (λ (s : StoreFacts). s.failed_writes) none.left_is)
-
--- what was kept of it leaves each other file
-kept_others : {out out_now : OutFacts} {status : Status} (source table : List ℕ) (from : StoreFacts) (old new : FilesFacts) → source ≢ table
-    → KeepsAnew table from old new out out_now status → new.holds source ≡ old.holds source
-kept_others source table from old new apart (inl (rows, regions, file, told)) = file.copied.back.others source apart
-kept_others source table from old new apart (inr (fault, unkept, told)) = unkept.uses.others source apart
-
-anew_others : {out out_now : OutFacts} {status : Status} (source table : List ℕ) (from left : StoreFacts) (old new : FilesFacts) → source ≢ table
-    → IsMadeAnew table from left old new out out_now status ⊎ IsRefusedAnew from left old new out out_now status → new.holds source ≡ old.holds source
-anew_others source table from left old new apart (inl made) = kept_others source table from old new apart made.ended
-anew_others source table from left old new apart (inr none) = ap (λ (f : FilesFacts). f.holds source) none.files
-
 pub upgrading_leaves_the_old_table : UpgradingLeavesTheOldTable
 upgrading_leaves_the_old_table source table old new out out_now status apart (inl same) = absurd (apart same.same)
-upgrading_leaves_the_old_table source table old new out out_now status apart (inr (ne, inl anew)) =
-    let ends = anew.upgrades in
-    let same = anew_left table anew.store ends.left ends.mid new ends.ended in
-    let mid = put_back_same (old.holds source) (ends.mid.holds source) anew.store ends.left anew.lent.stored ends.back.held same.0 (same.1 ∙ anew.lent.lent.unfailed) in
-    subst (λ (now : Held). IsHeldStill (old.holds source) now) (sym (anew_others source table anew.store ends.left ends.mid new apart ends.ended)) mid
+upgrading_leaves_the_old_table source table old new out out_now status apart (inr (ne, inl anew)) = elim anew.upgrades [
+  | inl file ↦ still_same (old.holds source) (new.holds source) (file.makes.makes.others source apart).0
+  | inr none ↦ still_same (old.holds source) (new.holds source) (held_same source old new none.files)
+]
 upgrading_leaves_the_old_table source table old new out out_now status apart (inr (ne, inr unopened)) =
-    still_same (old.holds source) (new.holds source) unopened.files.kept
+    still_same (old.holds source) (new.holds source) (ap (λ (f : FilesFacts). f.holds source) unopened.files)
 
 -- a fault never ends as all that was to be done
 told_done : (out out_now : OutFacts) (text : List ℕ) (wanted : Status) → Tells out out_now text wanted Done → Done ≡ wanted
@@ -193,6 +210,20 @@ tree_not_done (tree.Store fault) e = store_not_done fault e
 tree_not_done tree.Full e = let bad = e in cc
 tree_not_done (tree.Page page fault) e = let bad = e in cc
 
+-- nor as one of which a statement was refused
+store_not_refused : (fault : StoreFault) → ended.Refused ≡ store_fault_status fault → ⊥
+store_not_refused store.NoPage e = let bad = e in cc
+store_not_refused store.BadSize e = let bad = e in cc
+store_not_refused store.Device e = let bad = e in cc
+store_not_refused store.Memory e = let bad = e in cc
+
+tree_not_refused : (fault : TreeFault) → ended.Refused ≡ tree_fault_status fault → ⊥
+tree_not_refused tree.Memory e = let bad = e in cc
+tree_not_refused Failed e = let bad = e in cc
+tree_not_refused (tree.Store fault) e = store_not_refused fault e
+tree_not_refused tree.Full e = let bad = e in cc
+tree_not_refused (tree.Page page fault) e = let bad = e in cc
+
 -- the pages of a closed table of an older version are those of the store that was lent
 module _ (version next : ℕ) (schema : Schema) (placed : List Placed) where
   old_pages : (held : Held) (from : StoreFacts) → IsStored held from → IsOldTable held version schema placed next → AreOldPages version from.pages schema placed next
@@ -201,43 +232,43 @@ module _ (version next : ℕ) (schema : Schema) (placed : List Placed) where
   old_pages absent from stored is = absurd is
   old_pages (bytes text) from stored is = absurd is
   old_pages torn from stored is = absurd is
-  old_pages lent_out from stored is = absurd is
 
--- and what is put back, no write of which has failed, is told so
-closed_table : (held : Held) (left : StoreFacts) (schema : Schema) (placed : List Placed) (regions : List Region) (next : ℕ) → IsPutBack held left → left.failed_writes ≡ 0
-    → AreSoundPages left.pages schema placed next → regions_in placed ≡ regions → IsClosedTable held schema regions next
-closed_table untold left schema placed regions next back well sound same = tt
-closed_table (pages all) left schema placed regions next back well sound same =
-    (placed, subst (λ (ps : List (List ℕ)). AreSoundPages ps schema placed next) back sound, same)
-closed_table torn left schema placed regions next back well sound same = absurd (let failed = back.1 in omega arith)
-closed_table absent left schema placed regions next back well sound same = absurd back
-closed_table (bytes text) left schema placed regions next back well sound same = absurd back
-closed_table lent_out left schema placed regions next back well sound same = absurd back
+-- a table file that holds the pages of a closed table is told so
+closed_table : (held : Held) (left : List (List ℕ)) (schema : Schema) (placed : List Placed) (regions : List Region) (next : ℕ) → HasPages held left
+    → AreSoundPages left schema placed next → regions_in placed ≡ regions → IsClosedTable held schema regions next
+closed_table untold left schema placed regions next holds sound same = tt
+closed_table (pages all) left schema placed regions next holds sound same =
+    (placed, subst (λ (ps : List (List ℕ)). AreSoundPages ps schema placed next) holds sound, same)
+closed_table torn left schema placed regions next holds sound same = absurd holds
+closed_table absent left schema placed regions next holds sound same = absurd holds
+closed_table (bytes text) left schema placed regions next holds sound same = absurd holds
+
+-- a table file was made where all was done
+made_done : (rows regions : ℕ) (r : Result (Unit {0}) OpenFault) (out out_now : OutFacts) → TellsMade rows regions r out out_now Done → IsOk r
+made_done rows regions (Ok made) out out_now told = refl
+made_done rows regions (Err (opening.Store fault)) out out_now told = absurd (store_not_done fault (told_done out out_now _ _ told))
+made_done rows regions (Err opening.BadJournal) out out_now told = let bad = told_done out out_now _ _ told in cc
+
+made_pages : (table : List ℕ) (all : List (List ℕ)) (rows regions : ℕ) (old new : FilesFacts) (out out_now : OutFacts) → MakesTable table all rows regions old new out out_now Done
+    → HasPages (new.holds table) all
+made_pages table all rows regions old new out out_now m = (where_ok m.result (made_done rows regions m.result out out_now m.tells) m.makes.made).0
 
 -- a table file that was made anew of a closed table
-file_anew : (table : List ℕ) (from : StoreFacts) (rows regions version next : ℕ) (schema : Schema) (placed : List Placed) (old new : FilesFacts) → IsTrue old.honest
-    → IsHonest from → AreOldPages version from.pages schema placed next → IsFileAnew table from rows regions old new → IsClosedTable (new.holds table) schema (regions_in placed) next
-file_anew table from rows regions version next schema placed old new honest from_honest sound file =
+file_anew : (table : List ℕ) (from : StoreFacts) (version next : ℕ) (schema : Schema) (placed : List Placed) (old new : FilesFacts) (out out_now : OutFacts)
+    → IsHonest from → AreOldPages version from.pages schema placed next → IsFileAnew table from old new out out_now Done → IsClosedTable (new.holds table) schema (regions_in placed) next
+file_anew table from version next schema placed old new out out_now from_honest sound file =
     let has = file.table_is.upgrade.made version next schema placed from_honest sound in
     let t = file.table_is.tree in
-    let w = file.copied in
-    let here = w.copies.copied (w.made_is.lent.honest honest) in
-    let as_made = subst (λ (ps : List (List ℕ)). AreSoundPages ps t.schema t.placed t.next) (sym here) file.table_is.closed in
-    let of_schema = subst (λ (s : Schema). AreSoundPages w.left.pages s t.placed t.next) has.schema_is as_made in
-    let of_next = subst (λ (n : ℕ). AreSoundPages w.left.pages schema t.placed n) has.next_is of_schema in
-    let well = ap (λ (s : StoreFacts). s.failed_writes) w.copies.frame ∙ w.made_is.lent.unfailed in
-    closed_table (new.holds table) w.left schema t.placed (regions_in placed) next w.back.held well of_next has.regions_are
+    let of_schema = subst (λ (s : Schema). AreSoundPages file.pages s t.placed t.next) has.schema_is file.table_is.closed in
+    let of_next = subst (λ (n : ℕ). AreSoundPages file.pages schema t.placed n) has.next_is of_schema in
+    closed_table (new.holds table) file.pages schema t.placed (regions_in placed) next (made_pages table file.pages file.rows file.regions old new out out_now file.makes) of_next has.regions_are
 
 -- the new table file is a closed table, of the regions of the tree that was made
-file_sound : (table : List ℕ) (from : StoreFacts) (rows regions : ℕ) (old new : FilesFacts) → IsTrue old.honest → (file : IsFileAnew table from rows regions old new)
+file_sound : (table : List ℕ) (from : StoreFacts) (old new : FilesFacts) (out out_now : OutFacts) → (file : IsFileAnew table from old new out out_now Done)
     → IsClosedTable (new.holds table) file.table_is.tree.schema (regions_in file.table_is.tree.placed) file.table_is.tree.next
-file_sound table from rows regions old new honest file =
+file_sound table from old new out out_now file =
     let t = file.table_is.tree in
-    let w = file.copied in
-    let here = w.copies.copied (w.made_is.lent.honest honest) in
-    let as_made = subst (λ (ps : List (List ℕ)). AreSoundPages ps t.schema t.placed t.next) (sym here) file.table_is.closed in
-    let well = ap (λ (s : StoreFacts). s.failed_writes) w.copies.frame ∙ w.made_is.lent.unfailed in
-    closed_table (new.holds table) w.left t.schema t.placed (regions_in t.placed) t.next w.back.held well as_made refl
+    closed_table (new.holds table) file.pages t.schema t.placed (regions_in t.placed) t.next (made_pages table file.pages file.rows file.regions old new out out_now file.makes) file.table_is.closed refl
 
 -- and the old one was a closed table of them
 was_old : (version next : ℕ) (schema : Schema) (placed : List Placed) (held : Held) (from : StoreFacts) → IsStored held from → AreOldPages version from.pages schema placed next
@@ -247,34 +278,26 @@ was_old version next schema placed (pages all) from stored sound = subst (λ (ps
 was_old version next schema placed absent from stored sound = absurd stored
 was_old version next schema placed (bytes text) from stored sound = absurd stored
 was_old version next schema placed torn from stored sound = absurd stored
-was_old version next schema placed lent_out from stored sound = absurd stored
 
 pub only_sound_tables_are_upgraded : OnlySoundTablesAreUpgraded
 only_sound_tables_are_upgraded source table old new out out_now honest (inl same) =
     let bad = told_done _ _ _ _ same.tells in cc
 only_sound_tables_are_upgraded source table old new out out_now honest (inr (ne, inr unopened)) =
     absurd (store_not_done unopened.fault (told_done _ _ _ _ unopened.tells))
-only_sound_tables_are_upgraded source table old new out out_now honest (inr (ne, inl anew)) =
-    let ends = anew.upgrades in
-    elim ends.ended [
-      | inl made ↦
-          let mid_honest : IsTrue ends.mid.honest = rw (ap (λ (f : FilesFacts). f.honest) ends.back.same) honest in
-          elim made.ended [
-            | inl kept ↦
-                let t = kept.2.table_is.tree in
-                let upgraded = kept.2.table_is.upgrade.upgraded in
-                let was = upgraded.old_pages (anew.lent.lent.honest honest) refl in (
-                  upgraded.head.version,
-                  t.schema,
-                  t.placed,
-                  t.next,
-                  was_old upgraded.head.version t.next t.schema t.placed (old.holds source) anew.store anew.lent.stored was,
-                  file_sound table anew.store kept.0 kept.1 ends.mid new mid_honest kept.2,
-                )
-            | inr unkept ↦ absurd (tree_not_done unkept.0 (told_done _ _ _ _ unkept.2))
-          ]
-      | inr none ↦ absurd (tree_not_done none.fault (told_done _ _ _ _ none.tells))
-    ]
+only_sound_tables_are_upgraded source table old new out out_now honest (inr (ne, inl anew)) = elim anew.upgrades [
+  | inl file ↦
+      let t = file.table_is.tree in
+      let upgraded = file.table_is.upgrade.upgraded in
+      let was = upgraded.old_pages (anew.lent.lent.honest honest) refl in (
+        upgraded.head.version,
+        t.schema,
+        t.placed,
+        t.next,
+        was_old upgraded.head.version t.next t.schema t.placed (old.holds source) anew.store anew.lent.stored was,
+        file_sound table anew.store old new out out_now file,
+      )
+  | inr none ↦ absurd (tree_not_done none.fault (told_done _ _ _ _ none.tells))
+]
 
 pub upgraded_tables_are_the_same : UpgradedTablesAreTheSame
 upgraded_tables_are_the_same source table old new out out_now version next schema placed honest sound (inl same) =
@@ -282,21 +305,15 @@ upgraded_tables_are_the_same source table old new out out_now version next schem
 upgraded_tables_are_the_same source table old new out out_now version next schema placed honest sound (inr (ne, inr unopened)) =
     absurd (store_not_done unopened.fault (told_done _ _ _ _ unopened.tells))
 upgraded_tables_are_the_same source table old new out out_now version next schema placed honest sound (inr (ne, inl anew)) =
-    let ends = anew.upgrades in
-    elim ends.ended [
-      | inl made ↦
-          let mid_honest : IsTrue ends.mid.honest = rw (ap (λ (f : FilesFacts). f.honest) ends.back.same) honest in
-          let here = old_pages version next schema placed (old.holds source) anew.store anew.lent.stored sound in
-          elim made.ended [
-            | inl kept ↦ file_anew table anew.store kept.0 kept.1 version next schema placed ends.mid new mid_honest (anew.lent.lent.honest honest) here kept.2
-            | inr unkept ↦ absurd (tree_not_done unkept.0 (told_done _ _ _ _ unkept.2))
-          ]
+    let here = old_pages version next schema placed (old.holds source) anew.store anew.lent.stored sound in
+    elim anew.upgrades [
+      | inl file ↦ file_anew table anew.store version next schema placed old new out out_now (anew.lent.lent.honest honest) here file
       | inr none ↦ absurd (tree_not_done none.fault (told_done _ _ _ _ none.tells))
     ]
 
 -- ---- a table file that was checked, with nothing wrong
 
-sound_table : (held : Held) (from : StoreFacts) (schema : Schema) (placed : List Placed) (next : ℕ) → IsStored held from → AreSoundPages from.pages schema placed next
+sound_table : (held : Held) (from : List (List ℕ)) (schema : Schema) (placed : List Placed) (next : ℕ) → HasPages held from → AreSoundPages from schema placed next
     → IsSoundTable held
 sound_table untold from schema placed next stored sound = tt
 sound_table (pages all) from schema placed next stored sound =
@@ -304,12 +321,11 @@ sound_table (pages all) from schema placed next stored sound =
 sound_table absent from schema placed next stored sound = absurd stored
 sound_table (bytes text) from schema placed next stored sound = absurd stored
 sound_table torn from schema placed next stored sound = absurd stored
-sound_table lent_out from schema placed next stored sound = absurd stored
 
 -- a store that was checked, with nothing wrong
-well_store : {out out_now : OutFacts} {status : Status} (from left : StoreFacts) → IsHonest from → (well : IsChecked from left out out_now status)
+well_store : {out out_now : OutFacts} {status : Status} (from : StoreFacts) → IsHonest from → (well : IsChecked from out out_now status)
     → AreSoundPages from.pages well.is.tree.schema well.is.tree.placed well.is.tree.next
-well_store from left honest well =
+well_store from honest well =
     let opened = well.is.tree_is.opened in
     let there : IsHonest well.is.tree.store = subst (λ (s : StoreFacts). IsHonest s) (sym opened.store_is) honest in
     (well_pages_are_sound from well.is.tree honest opened (well.is.well there)).0
@@ -317,11 +333,11 @@ well_store from left honest well =
 pub checked_tables_are_sound : CheckedTablesAreSound
 checked_tables_are_sound table old new out out_now honest (inr unopened) =
     absurd (store_not_done unopened.fault (told_done _ _ _ _ unopened.tells))
-checked_tables_are_sound table old new out out_now honest (inl told) = elim told.checks.ended [
+checked_tables_are_sound table old new out out_now honest (inl told) = elim told.checks [
   | inl well ↦
       let t = well.is.tree in
-      let sound = well_store told.store told.checks.left (told.lent.lent.honest honest) well in
-      sound_table (old.holds table) told.store t.schema t.placed t.next told.lent.stored sound
+      let sound = well_store told.store (told.lent.lent.honest honest) well in
+      sound_table (old.holds table) told.store.pages t.schema t.placed t.next told.lent.stored sound
   | inr ill ↦ absurd (tree_not_done ill.fault (told_done _ _ _ _ ill.tells))
 ]
 
@@ -335,17 +351,14 @@ module _ (schema : Schema) (placed : List Placed) (next : ℕ) where
   held_pages absent from stored is = absurd is
   held_pages (bytes text) from stored is = absurd is
   held_pages torn from stored is = absurd is
-  held_pages lent_out from stored is = absurd is
 
-  -- and those of the store that is put back, no write of which has failed
-  back_pages : (held : Held) (left : StoreFacts) → IsPutBack held left → left.failed_writes ≡ 0 → AreSoundPages left.pages schema placed next → held ≢ untold
-      → IsHeldTable held schema placed next
-  back_pages (pages all) left back well sound told = subst (λ (ps : List (List ℕ)). AreSoundPages ps schema placed next) back sound
-  back_pages untold left back well sound told = absurd (told refl)
-  back_pages torn left back well sound told = absurd (let failed = back.1 in omega arith)
-  back_pages absent left back well sound told = absurd back
-  back_pages (bytes text) left back well sound told = absurd back
-  back_pages lent_out left back well sound told = absurd back
+  -- and where it is told what the path holds, it is that table
+  told_pages : (held : Held) (all : List (List ℕ)) → HasPages held all → AreSoundPages all schema placed next → held ≢ untold → IsHeldTable held schema placed next
+  told_pages (pages now) all holds sound told = subst (λ (ps : List (List ℕ)). AreSoundPages ps schema placed next) holds sound
+  told_pages untold all holds sound told = absurd (told refl)
+  told_pages torn all holds sound told = absurd holds
+  told_pages absent all holds sound told = absurd holds
+  told_pages (bytes text) all holds sound told = absurd holds
 
   -- it is a whole number of pages
   never_torn : (held : Held) → IsHeldTable held schema placed next → IsTorn held → ⊥
@@ -354,14 +367,30 @@ module _ (schema : Schema) (placed : List Placed) (next : ℕ) where
   never_torn torn is bad = is
   never_torn absent is bad = is
   never_torn (bytes text) is bad = is
-  never_torn lent_out is bad = is
 
-  -- so it isn't opened only where the device failed
-  device_alone : {out out_now : OutFacts} {status : Status} (table : List ℕ) (old new : FilesFacts) → IsHeldTable (old.holds table) schema placed next
-      → (unopened : IsUnopened table old new out out_now status) → unopened.fault ≡ store.Device
-  device_alone table old new held unopened = elim unopened.is [
-    | inl device ↦ device
-    | inr size ↦ absurd (never_torn (old.holds table) held size.1)
+  -- so it isn't opened only where the device failed, or memory was refused
+  passing_alone : {out out_now : OutFacts} {status : Status} (table : List ℕ) (old new : FilesFacts) → IsHeldTable (old.holds table) schema placed next
+      → (unopened : IsUnopened table old new out out_now status) → (unopened.fault ≡ store.Device) ⊎ (unopened.fault ≡ store.Memory)
+  passing_alone table old new held unopened = elim unopened.is [
+    | inl device ↦ inl device
+    | inr others ↦ elim others [
+      | inl size ↦ absurd (never_torn (old.holds table) held size.1)
+      | inr memory ↦ inr memory
+    ]
+  ]
+
+  -- nor to be changed only there, or where a journal stands beside it
+  unready_told : (out out_now : OutFacts) (status : Status) (table : List ℕ) (old new : FilesFacts) → IsHeldTable (old.holds table) schema placed next
+      → IsUnready table old new out out_now status → TellsPassing out out_now status ⊎ TellsBadJournal out out_now status
+  unready_told out out_now status table old new held unready = elim unready.is [
+    | inl journal ↦ inr (subst (λ (f : OpenFault). Tells out out_now (open_fault_text f) (open_fault_status f) status) journal unready.tells)
+    | inr some ↦ elim some [
+      | inl device ↦ inl (inl (subst (λ (f : OpenFault). Tells out out_now (open_fault_text f) (open_fault_status f) status) device unready.tells))
+      | inr others ↦ elim others [
+        | inl size ↦ absurd (never_torn (old.holds table) held size.1)
+        | inr memory ↦ inl (inr (subst (λ (f : OpenFault). Tells out out_now (open_fault_text f) (open_fault_status f) status) memory unready.tells))
+      ]
+    ]
   ]
 
 passing_told : (out out_now : OutFacts) (status : Status) (fault : TreeFault) → IsPassing fault → Tells out out_now (tree_fault_text fault) (tree_fault_status fault) status
@@ -382,12 +411,11 @@ same_line out out_now status rows regions some others is are told =
 
 pub sound_tables_pass : SoundTablesPass
 sound_tables_pass table old new out out_now status schema placed next honest held (inr unopened) =
-    let device = device_alone schema placed next table old new held unopened in
-    inr (store_passing_told out out_now status unopened.fault (inl device) unopened.tells)
+    inr (store_passing_told out out_now status unopened.fault (passing_alone schema placed next table old new held unopened) unopened.tells)
 sound_tables_pass table old new out out_now status schema placed next honest held (inl told) =
     let from_honest = told.lent.lent.honest honest in
     let here = held_pages schema placed next (old.holds table) told.store told.lent.stored held in
-    elim told.checks.ended [
+    elim told.checks [
       | inl well ↦
           let (sound, of_schema, of_placed, of_next) = well.is.tree_is.sound schema placed next from_honest here in
           let rows = well.is.rows_are ∙ sound.rows_are ∙ ap (λ (p : List Placed). row_count p) of_placed in
@@ -402,53 +430,64 @@ sound_tables_pass table old new out out_now status schema placed next honest hel
 checked_held : (table : List ℕ) (old new : FilesFacts) (out out_now : OutFacts) → IsTrue old.honest → ChecksFile table old new out out_now Done → new.holds table ≢ untold
     → (schema : Schema) × (placed : List Placed) × (next : ℕ) × IsHeldTable (new.holds table) schema placed next
 checked_held table old new out out_now honest (inr unopened) told = absurd (store_not_done unopened.fault (told_done _ _ _ _ unopened.tells))
-checked_held table old new out out_now honest (inl check) told = elim check.checks.ended [
+checked_held table old new out out_now honest (inl check) told = elim check.checks [
   | inl well ↦
       let t = well.is.tree in
-      let sound = well_store check.store check.checks.left (check.lent.lent.honest honest) well in
-      let there = subst (λ (s : StoreFacts). AreSoundPages s.pages t.schema t.placed t.next) (sym well.left_is) sound in
-      let unfailed = ap (λ (s : StoreFacts). s.failed_writes) well.left_is ∙ check.lent.lent.unfailed in
-      (t.schema, t.placed, t.next, back_pages t.schema t.placed t.next (new.holds table) check.checks.left check.checks.back.held unfailed there told)
+      let sound = well_store check.store (check.lent.lent.honest honest) well in
+      let holds = subst (λ (f : FilesFacts). HasPages (f.holds table) check.store.pages) (sym check.files) check.lent.stored in
+      (t.schema, t.placed, t.next, told_pages t.schema t.placed t.next (new.holds table) check.store.pages holds sound told)
   | inr ill ↦ absurd (tree_not_done ill.fault (told_done _ _ _ _ ill.tells))
 ]
 
+-- a table file that wasn't opened for a script
+unlent_told : (schema : Schema) (placed : List Placed) (next : ℕ) (changes : Bool) (table : List ℕ) (old new : FilesFacts) (out out_now : OutFacts) (status : Status)
+    → IsHeldTable (old.holds table) schema placed next → IsUnlent changes table old new out out_now status → TellsPassing out out_now status ⊎ TellsBadJournal out out_now status
+unlent_told schema placed next true table old new out out_now status held unready = unready_told schema placed next out out_now status table old new held unready
+unlent_told schema placed next false table old new out out_now status held unopened =
+    inl (store_passing_told out out_now status unopened.fault (passing_alone schema placed next table old new held unopened) unopened.tells)
+
 run_of_table : (table script : List ℕ) (schema : Schema) (placed : List Placed) (next : ℕ) (old new : FilesFacts) (out out_now : OutFacts) (status : Status)
     → IsTrue old.honest → IsHeldTable (old.holds table) schema placed next → ¬ (AreBothInput table script) → RunsFile table script old new out out_now status
-    → IsRunOfTable table script schema placed next old new out out_now status ⊎ TellsPassing out out_now status
+    → IsRunOfTable table script schema placed next old new out out_now status ⊎ (TellsPassing out out_now status ⊎ TellsBadJournal out out_now status)
 run_of_table table script schema placed next old new out out_now status honest held apart (inr unread) =
-    inr (store_passing_told out out_now status unread.fault unread.is unread.tells)
+    inr (inl (store_passing_told out out_now status unread.fault unread.is unread.tells))
 run_of_table table script schema placed next old new out out_now status honest held apart (inl run) =
     let mid = left_by_reading script table old run.mid _ apart run.read.reads in
     let there = subst (λ (h : Held). IsHeldTable h schema placed next) (sym mid) held in
     let mid_honest : IsTrue run.mid.honest = rw (ap (λ (f : FilesFacts). f.honest) run.read.reads.same) honest in
     elim run.ran [
-      | inl asked ↦
-          let from_honest = asked.lent.lent.honest mid_honest in
-          let here = held_pages schema placed next (run.mid.holds table) asked.store asked.lent.stored there in
-          elim asked.asks.asked [
-            | inl ran ↦
-                let (sound, of_schema, of_placed, of_next) = ran.tree_is.sound schema placed next from_honest here in
-                inl (record {
-                  asked = run.asked;
-                  mid = run.mid;
-                  store = asked.store;
-                  left = asked.asks.left;
-                  read = run.read;
-                  lent = asked.lent;
-                  honest = from_honest;
-                  pages_are = here;
-                  back = asked.asks.back;
-                  run = ran;
-                  sound = sound;
-                  schema_is = of_schema;
-                  placed_is = of_placed;
-                  next_is = of_next;
-                })
-            | inr none ↦ inr (passing_told out out_now status none.fault (none.passing schema placed next from_honest here) none.tells)
-          ]
-      | inr unopened ↦
-          let device = device_alone schema placed next table run.mid new there unopened in
-          inr (store_passing_told out out_now status unopened.fault (inl device) unopened.tells)
+      | inl unweighed ↦ inr (inl (inr unweighed.tells))
+      | inr weighed ↦ elim weighed.2 [
+        | inl asked ↦
+            let from_honest = asked.lent.lent.honest mid_honest in
+            let here = held_pages schema placed next (run.mid.holds table) asked.store asked.lent.stored there in
+            elim asked.asks [
+              | inl kept ↦
+                  let (sound, of_schema, of_placed, of_next) = kept.run.tree_is.sound schema placed next from_honest here in
+                  inl (record {
+                    asked = run.asked;
+                    mid = run.mid;
+                    store = asked.store;
+                    left = kept.left;
+                    changes = weighed.0;
+                    opened = asked.mid;
+                    read = run.read;
+                    weighed = weighed.1;
+                    lent = asked.lent;
+                    opens = asked.opens;
+                    honest = from_honest;
+                    pages_are = here;
+                    run = kept.run;
+                    kept = kept.kept;
+                    sound = sound;
+                    schema_is = of_schema;
+                    placed_is = of_placed;
+                    next_is = of_next;
+                  })
+              | inr none ↦ inr (inl (passing_told out out_now status none.0.fault (none.0.passing schema placed next from_honest here) none.0.tells))
+            ]
+        | inr unlent ↦ inr (unlent_told schema placed next weighed.0 table run.mid new out out_now status there unlent)
+      ]
     ]
 
 pub checked_tables_are_run_as_sound : CheckedTablesAreRunAsSound
@@ -482,3 +521,139 @@ pub full_tables_are_left : FullTablesAreLeft
 full_tables_are_left store left script out out_now status run full =
     let ran = run.ran in
     full_stays store left run.tree ran.now script ran.result ran.closing out ran.mid run.tree_is.opened ran.closes ran.ran full
+
+-- ---- what a run that may change the table has kept
+
+-- a line that ends with the status of a file that failed
+device_told : (out out_now : OutFacts) (line : List ℕ) (status : Status) → Tells out out_now line ended.Device status → status ≡ ended.Device
+device_told out out_now line status (inl told) = told.0
+device_told out out_now line status (inr broken) = broken.0
+
+-- a fault after a run to the end isn't told with the status of one that has kept
+fault_not_kept : (out out_now : OutFacts) (status : Status) (fault : TreeFault) → Tells out out_now (tree_fault_text fault) (tree_fault_status fault) status
+    → (status ≡ Done) ⊎ (status ≡ ended.Refused) → ⊥
+fault_not_kept out out_now status fault (inl told) (inl done) = tree_not_done fault (sym done ∙ told.0)
+fault_not_kept out out_now status fault (inl told) (inr refused) = tree_not_refused fault (sym refused ∙ told.0)
+fault_not_kept out out_now status fault (inr broken) (inl done) = let bad = sym done ∙ broken.0 in cc
+fault_not_kept out out_now status fault (inr broken) (inr refused) = let bad = sym refused ∙ broken.0 in cc
+
+-- so a refused closing or keeping isn't
+never_says : (result : Result Summary RunFault) (fault : TreeFault) (out out_now : OutFacts) (status : Status) → TellsRan result (Err fault) out out_now status → SaysKept result status → ⊥
+never_says (Ok summary) fault out out_now status told says = fault_not_kept out out_now status fault told says
+never_says (Err stop.Memory) fault out out_now status told says = says (device_told out out_now _ status told)
+never_says (Err stop.Write) fault out out_now status told says = says told.0
+never_says (Err (stop.Load of_load)) fault out out_now status told says = says (device_told out out_now _ status told)
+never_says (Err (stop.Tree of_tree)) fault out out_now status told says = says (device_told out out_now _ status told)
+
+says_done : (result : Result Summary RunFault) (closing : Result (Unit {0}) TreeFault) (keeping : Result (Unit {0}) StoreFault) (out out_now : OutFacts) (status : Status)
+    → TellsRan result (both_ended closing keeping) out out_now status → SaysKept result status → IsOk closing × IsOk keeping
+says_done result (Ok done) (Ok kept) out out_now status told says = (refl, refl)
+says_done result (Ok done) (Err fault) out out_now status told says = absurd (never_says result (tree_fault fault) out out_now status told says)
+says_done result (Err fault) keeping out out_now status told says = absurd (never_says result fault out out_now status told says)
+
+kept_pages : (table : List ℕ) (left : List (List ℕ)) (closing : Result (Unit {0}) TreeFault) (keeping : Result (Unit {0}) StoreFault) (old new : FilesFacts)
+    → IsOk closing → IsOk keeping → IsKept true table left closing keeping old new → HasPages (new.holds table) left × HasPages (new.lasts table) left
+kept_pages table left (Ok done) (Ok kept) old new closed also h = h.kept
+kept_pages table left (Ok done) (Err fault) old new closed also h = absurd (false≢true also)
+kept_pages table left (Err fault) keeping old new closed also h = absurd (false≢true closed)
+
+pub kept_runs_last : KeptRunsLast
+kept_runs_last table script store old new out out_now status kept says =
+    let ran = kept.run.ran in
+    let done = says_done ran.result ran.closing ran.keeping ran.mid out_now status ran.tells says in
+    let there = kept_pages table kept.left.pages ran.closing ran.keeping old new done.0 done.1 kept.kept in
+    (done.0, there.0, there.1)
+
+-- ---- a table that was there before a load or an upgrade
+
+-- where a table file was to be made, the path holds what it did, or the new pages; or there was none, and it holds a part of them
+made_either : (table : List ℕ) (all : List (List ℕ)) (old new : FilesFacts) (r : Result (Unit {0}) OpenFault) → ¬ (IsEmpty (old.holds table)) → MakesFile table all old new r
+    → (new.holds table ≡ old.holds table) ⊎ HasPages (new.holds table) all
+made_either table all old new (Ok made) some h = inr h.made.0
+made_either table all old new (Err fault) some h = elim h.either [
+  | inl same ↦ inl same
+  | inr others ↦ elim others [
+    | inl held ↦ inr held
+    | inr part ↦ absurd (some part.0)
+  ]
+]
+
+loads_lose_no_table : LoadsLoseNoTable
+loads_lose_no_table source table name axes page_rows old new out out_now status some (inl bad) = inl (held_same table old new bad.files)
+loads_lose_no_table source table name axes page_rows old new out out_now status some (inr (mask, inl same)) = inl (held_same table old new same.files)
+loads_lose_no_table source table name axes page_rows old new out out_now status some (inr (mask, inr (ne, inr unread))) =
+    inl (unread.reads.others table (λ is. ne (sym is))).0
+loads_lose_no_table source table name axes page_rows old new out out_now status some (inr (mask, inr (ne, inl load))) =
+    let mid = (load.read.reads.others table (λ is. ne (sym is))).0 in
+    elim load.ended [
+      | inl file ↦
+          let there : ¬ (IsEmpty (load.mid.holds table)) = subst (λ (h : Held). ¬ (IsEmpty h)) (sym mid) some in
+          elim (made_either table file.pages load.mid new file.makes.result there file.makes.makes) [
+            | inl same ↦ inl (same ∙ mid)
+            | inr held ↦ inr (record { text = load.text; text_is = load.read.text_is; table = (file.rows, file.regions, file.pages, file.table_is, held) })
+          ]
+      | inr none ↦ inl (held_same table load.mid new none.files ∙ mid)
+    ]
+
+upgrades_lose_no_table : UpgradesLoseNoTable
+upgrades_lose_no_table source table old new out out_now status some (inl same) = inl (held_same table old new same.files)
+upgrades_lose_no_table source table old new out out_now status some (inr (ne, inr unopened)) = inl (ap (λ (f : FilesFacts). f.holds table) unopened.files)
+upgrades_lose_no_table source table old new out out_now status some (inr (ne, inl anew)) = elim anew.upgrades [
+  | inl file ↦ elim (made_either table file.pages old new file.makes.result some file.makes.makes) [
+    | inl same ↦ inl same
+    | inr held ↦ inr (record { from = anew.store; lent = anew.lent; table = (file.rows, file.regions, file.pages, file.table_is, held) })
+  ]
+  | inr none ↦ inl (held_same table old new none.files)
+]
+
+pub old_tables_are_not_lost : OldTablesAreNotLost
+old_tables_are_not_lost = (loads_lose_no_table, upgrades_lose_no_table)
+
+-- ---- a crash while a command works
+
+-- a closed table has a page
+never_empty : (schema : Schema) (placed : List Placed) (next : ℕ) (held : Held) → IsHeldTable held schema placed next → IsEmpty held → ⊥
+never_empty schema placed next (pages all) is none =
+    let some = some_page all _ is.spelled in
+    let zero = ap (λ (ps : List (List ℕ)). length ps) none in
+    omega arith
+never_empty schema placed next untold is none = is
+never_empty schema placed next absent is none = is
+never_empty schema placed next (bytes text) is none = is
+never_empty schema placed next torn is none = is
+
+-- what is left of a run on a closed table is one
+run_sound : (schema : Schema) (placed : List Placed) (next : ℕ) (table script : List ℕ) (old : FilesFacts) (out out_now : OutFacts) (status : Status) (held : Held) → IsTrue old.honest
+    → table ≢ standard_input → IsHeldTable (old.holds table) schema placed next → HoldsRun table script old out out_now status held → IsSoundTable held
+run_sound schema placed next table script old out out_now status held honest told was h =
+    let mid : h.mid.holds table ≡ old.holds table = left_by_reading script table old h.mid _ (λ both. told both.0) h.read.reads in
+    let there = subst (λ (x : Held). IsHeldTable x schema placed next) (sym mid) was in
+    let mid_honest : IsTrue h.mid.honest = rw (ap (λ (f : FilesFacts). f.honest) h.read.reads.same) honest in
+    let from_honest = h.lent.lent.honest mid_honest in
+    let here = held_pages schema placed next (h.mid.holds table) h.store h.lent.stored there in
+    let (s, now, stands, has, is, left_honest, sound) = what_was_done_stands h.store h.left schema placed next h.asked out out_now status from_honest here h.run h.closed in
+    sound_table held h.left.pages h.run.ran.now.schema h.run.ran.now.placed h.run.ran.now.next h.holds sound
+
+pub crashes_leave_a_table : CrashesLeaveATable
+crashes_leave_a_table words table old out out_now status before after schema placed next honest told was sound step = elim (step table told) [
+  | inl same ↦ subst (λ (h : Held). IsSoundTable h) (sym same) sound
+  | inr kept ↦ elim kept [
+    | inl ran ↦ run_sound schema placed next table ran.0 old out out_now status (after table) honest told was ran.2
+    | inr made ↦ elim made [
+      | inl load ↦
+          let (source, name, axes, page_rows, asks, has) = load in
+          let (rows, regions, all, is, stands) = has.table in
+          elim stands [
+            | inl holds ↦ sound_table (after table) all is.tree.schema is.tree.placed is.tree.next holds is.closed
+            | inr part ↦ absurd (never_empty schema placed next (old.holds table) was part.0)
+          ]
+      | inr anew ↦
+          let (source, asks, has) = anew in
+          let (rows, regions, all, is, stands) = has.table in
+          elim stands [
+            | inl holds ↦ sound_table (after table) all is.tree.schema is.tree.placed is.tree.next holds is.closed
+            | inr part ↦ absurd (never_empty schema placed next (old.holds table) was part.0)
+          ]
+    ]
+  ]
+]

@@ -1,5 +1,7 @@
 pub mod EndFacts
 pub mod FileFacts
+pub mod GoesFacts
+pub mod CrashFacts
 pub mod LeftFacts
 pub mod UpgradeFacts
 pub mod DescribeFacts

@@ -1,6 +1,6 @@
 -- What checking each page of a table file leaves of it, and what is told.
-use Rattle.std.specs.Prelude.{◌≡◌, ◌⊎◌, ℕ, List, Err}
-use Rattle.ub_files.specs.Files.{FilesFacts, IsLent, Returns}
+use Rattle.std.specs.Prelude.{◌≡◌, ◌⊎◌, ℕ, List}
+use Rattle.ub_files.specs.Files.{FilesFacts, IsLent}
 use Rattle.ub_script.specs.Output.{OutFacts}
 use Rattle.ub_shell.specs.Commands.{IsTreeOf, IsUnopened, loaded_line}
 use Rattle.ub_shell.specs.Ending.{Tells}
@@ -10,7 +10,6 @@ use Rattle.ub_shell.specs.declared.status.Status.TheVariants.{Done}
 use Rattle.ub_store.specs.Facts.{StoreFacts, IsHonest}
 use Rattle.ub_table.specs.declared.schema.Schema.{Schema}
 use Rattle.ub_tree.specs.Checking.{IsCheckFault, IsWell}
-use Rattle.ub_tree.specs.Effects.{read_store}
 use Rattle.ub_tree.specs.Opened.{IsOpenFault, IsPassing}
 use Rattle.ub_tree.specs.Placed.{Placed}
 use Rattle.ub_tree.specs.Stored.{AreSoundPages}
@@ -42,33 +41,30 @@ abbrev pub PassesSound : StoreFacts → TreeFault → Type 0
 PassesSound store fault =
     (schema : Schema) (placed : List Placed) (next : ℕ) → IsHonest store → AreSoundPages store.pages schema placed next → IsPassing fault
 
--- a store was checked, and it was told how many rows and regions it has; it is left as it was
-pub record IsChecked (store left : StoreFacts) (out out_now : OutFacts) (status : Status) : Type 0 where
+-- a store was checked, and it was told how many rows and regions it has
+pub record IsChecked (store : StoreFacts) (out out_now : OutFacts) (status : Status) : Type 0 where
   pub rows : ℕ
   pub regions : ℕ
   pub is : IsWellStore store rows regions
-  pub left_is : left ≡ store
   pub tells : Tells out out_now (loaded_line rows regions) Done status
 
--- or it was told why it isn't well; it is left as it was, but for a read that may have failed
-pub record IsIll (store left : StoreFacts) (out out_now : OutFacts) (status : Status) : Type 0 where
+-- or it was told why it isn't well
+pub record IsIll (store : StoreFacts) (out out_now : OutFacts) (status : Status) : Type 0 where
   pub fault : TreeFault
   pub is : IsIllFault store fault
   pub passing : PassesSound store fault
-  pub left_is : left ≡ read_store {A = StoreFacts} (Err fault) store
   pub tells : Tells out out_now (tree_fault_text fault) (tree_fault_status fault) status
 
--- that was done, and what is left of the store was put back
-pub record ChecksStore (Back : StoreFacts → Type 0) (store : StoreFacts) (out out_now : OutFacts) (status : Status) : Type 0 where
-  pub left : StoreFacts
-  pub back : Back left
-  pub ended : IsChecked store left out out_now status ⊎ IsIll store left out out_now status
+-- that was done
+abbrev pub ChecksStore : StoreFacts → OutFacts → OutFacts → Status → Type 0
+ChecksStore store out out_now status = IsChecked store out out_now status ⊎ IsIll store out out_now status
 
--- the store in the table file was checked
+-- the store in the table file was checked, and the files are as they were
 pub record IsCheckOf (table : List ℕ) (old new : FilesFacts) (out out_now : OutFacts) (status : Status) : Type 0 where
   pub store : StoreFacts
   pub lent : IsLent old table store
-  pub checks : ChecksStore (λ left. Returns table old new left) store out out_now status
+  pub files : new ≡ old
+  pub checks : ChecksStore store out out_now status
 
 -- the table file of this path was checked, or it was told that it can't be opened
 abbrev pub ChecksFile : List ℕ → FilesFacts → FilesFacts → OutFacts → OutFacts → Status → Type 0

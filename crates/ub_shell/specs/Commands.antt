@@ -1,38 +1,38 @@
 -- What the commands that read and write files leave of them, and what they tell.
-use Rattle.std.specs.Prelude.{◌≡◌, ◌≢◌, ◌⊎◌, ◌++◌, ℕ, List, [], Result, Ok, Err, codes, decimal, false, IfErr, IsTrue, OnErr, OnOk, IsOk}
+use Rattle.std.specs.Prelude.{◌≡◌, ◌≢◌, ◌⊎◌, ◌↔◌, ◌++◌, ℕ, Bool, List, [], Result, Ok, Err, codes, decimal, false, true, IfErr, IsTrue, OnErr, OnOk, IsOk}
 use Rattle.ub_load.specs.LoadedTree.{IsLoadedTree}
 use Rattle.ub_load.specs.Loading.{IsLoadFault}
-use Rattle.ub_load.specs.Refusals.{fault_of_tree}
 use Rattle.ub_load.specs.declared.fault.LoadFault.{LoadFault}
-use Rattle.ub_load.specs.declared.fault.LoadFault.TheVariants.{Tree}
 use Rattle.ub_script.specs.Output.{OutFacts}
 use Rattle.ub_script.specs.Faults.{counted}
 use Rattle.ub_script.specs.Run.{IsRun}
-use Rattle.ub_script.specs.Script.{OnlyAsks}
+use Rattle.ub_script.specs.Script.{HasChangeWord, OnlyAsks}
 use Rattle.ub_script.specs.declared.fault.RunFault.{RunFault}
 use Rattle.ub_script.specs.declared.fault.RunFault.TheVariants as ran
 use Rattle.ub_script.specs.declared.script.Summary.{Summary}
-use Rattle.ub_store.specs.Facts.{StoreFacts, IsHonest, memory_facts, raised}
+use Rattle.ub_store.specs.Facts.{StoreFacts, IsHonest, memory_facts}
 use Rattle.ub_store.specs.declared.fault.StoreFault.{StoreFault}
 use Rattle.ub_store.specs.declared.fault.StoreFault.TheVariants as store
 use Rattle.ub_table.specs.Schema.{IsMask}
 use Rattle.ub_table.specs.declared.axes.Axes.{Axes}
 use Rattle.ub_table.specs.declared.schema.Schema.{Schema}
 use Rattle.ub_tree.specs.Closing.{IsCloseFault, header_of}
-use Rattle.ub_tree.specs.Effects.{read_store, written_store}
+use Rattle.ub_tree.specs.Effects.{written_store}
 use Rattle.ub_tree.specs.Faults.{tree_fault}
 use Rattle.ub_tree.specs.Opened.{IsOpened, IsOpenFault, IsPassing}
 use Rattle.ub_tree.specs.Placed.{Placed}
 use Rattle.ub_tree.specs.Stored.{AreSoundPages}
 use Rattle.ub_tree.specs.View.{TreeView, IsSound, region_count}
 use Rattle.ub_tree.specs.declared.fault.TreeFault.{TreeFault}
-use Rattle.ub_tree.specs.declared.fault.TreeFault.TheVariants.{Failed, Store}
+use Rattle.ub_tree.specs.declared.fault.TreeFault.TheVariants.{Failed}
 use Rattle.ub_writing.specs.Closing.{IsClosed, IsSaved, IsUnclosed}
-use Rattle.ub_files.specs.Copying.{Copies}
 use Rattle.ub_words.specs.declared.given.DataWords.{DataWords}
 use Rattle.ub_shell.specs.Ending.{HasTried, Tells, trial}
-use Rattle.ub_files.specs.Files.{FilesFacts, HoldsBut, IsLent, IsMade, IsText, IsTorn, LendsFile, OpensFile, PutsBack, ReadsFile, Returns}
-use Rattle.ub_shell.specs.Status.{load_fault_status, load_fault_text, store_fault_status, store_fault_text, summary_status, tree_fault_status, tree_fault_text}
+use Rattle.ub_files.specs.Clock.{FolderClock, IsSameBut, Runs}
+use Rattle.ub_files.specs.Files.{FilesFacts, ChangesFile, HasPages, IsLent, IsText, IsTorn, KeepsFile, MakesFile, OpensFile, ReadsFile}
+use Rattle.ub_files.specs.declared.fault.OpenFault.{OpenFault}
+use Rattle.ub_files.specs.declared.fault.OpenFault.TheVariants as opening
+use Rattle.ub_shell.specs.Status.{load_fault_status, load_fault_text, open_fault_status, open_fault_text, store_fault_status, store_fault_text, summary_status, tree_fault_status, tree_fault_text}
 use Rattle.ub_shell.specs.declared.status.Status.{Status}
 use Rattle.ub_shell.specs.declared.status.Status.TheVariants.{Done, CommandLine, Device, Memory}
 
@@ -88,7 +88,7 @@ TriesFiles source script name axes page_rows old new out out_now status =
     ⊎ (IsMask axes.dims axes.signed × (IsTrialOf source script name axes page_rows old new out out_now status
     ⊎ (IsUnread source old new out out_now status ⊎ IsHalfRead source script old new out out_now status)))
 
--- ---- closing a table file
+-- ---- closing a tree, and keeping its table
 
 -- a tree was closed, and its store is left so: that of a sound tree is a closed table; that of one that was changed, sound or not, has
 -- as many pages as before, which all last, and, where it is honest, a clean header with the tree's counts on the first, and each other as
@@ -103,17 +103,53 @@ pub record Closes {A : Type 0} (t : TreeView) (left : StoreFacts) (result : Resu
   pub unclosed : IsHonest t.store → OnErr result (IsUnclosed t.store left)
   pub refused : IfErr result (IsCloseFault t)
 
--- and its store was put back at this path
-pub record ClosesFile {A : Type 0} (path : List ℕ) (old new : FilesFacts) (t : TreeView) (result : Result A TreeFault) : Type 0 where
+-- what became of the pages that are left after a closing: they were kept in the table file of this path, where that was to be done and
+-- the closing wasn't refused; else no file was changed
+abbrev pub IsKept : Bool → List ℕ → List (List ℕ) → Result (Unit {0}) TreeFault → Result (Unit {0}) StoreFault → FilesFacts → FilesFacts → Type 0
+IsKept true path left (Ok done) keeping old new = KeepsFile path left old new keeping
+IsKept true path left (Err fault) keeping old new = (keeping ≡ Ok tt) × (new ≡ old)
+IsKept false path left closing keeping old new = (keeping ≡ Ok tt) × (new ≡ old)
+
+-- how a closing and the keeping after it have ended together
+abbrev pub both_ended : Result (Unit {0}) TreeFault → Result (Unit {0}) StoreFault → Result (Unit {0}) TreeFault
+both_ended (Err fault) keeping = Err fault
+both_ended (Ok done) (Err fault) = Err (tree_fault fault)
+both_ended (Ok done) (Ok kept) = Ok kept
+
+-- a tree was closed, and what is left was kept at this path, or not; a crash leaves the path to hold what it held, or, where the closing was
+-- done, what is left
+pub record ClosesFile (changes : Bool) (path : List ℕ) (old new : FilesFacts) (was now : FolderClock) (t : TreeView) (result : Result (Unit {0}) TreeFault) : Type 0 where
   pub left : StoreFacts
-  pub back : PutsBack path old new left
-  pub closes : Closes t left result
+  pub closing : Result (Unit {0}) TreeFault
+  pub keeping : Result (Unit {0}) StoreFault
+  pub closes : Closes t left closing
+  pub kept : IsKept changes path left.pages closing keeping old new
+  pub ended : result ≡ both_ended closing keeping
+  pub crash : Runs (IsSameBut path (λ held. IsOk closing × HasPages held left.pages)) old was now
 
--- ---- a table file of a CSV text
+-- ---- a table file that is made
 
--- the line for a table that was loaded: how many rows and regions it has
+-- the line for a table that was made: how many rows and regions it has
 abbrev pub loaded_line : ℕ → ℕ → List ℕ
 loaded_line rows regions = codes "-- rows " ++ (decimal rows ++ (codes ", regions " ++ (decimal regions ++ codes "\n")))
+
+-- why a table file isn't made
+abbrev pub IsMakeFault : OpenFault → Type 0
+IsMakeFault fault = (fault ≡ opening.BadJournal) ⊎ ((fault ≡ opening.Store store.Device) ⊎ (fault ≡ opening.Store store.Memory))
+
+-- what is told of a table file that was to be made, by how that has ended
+abbrev pub TellsMade : ℕ → ℕ → Result (Unit {0}) OpenFault → OutFacts → OutFacts → Status → Type 0
+TellsMade rows regions (Ok made) out out_now status = Tells out out_now (loaded_line rows regions) Done status
+TellsMade rows regions (Err fault) out out_now status = Tells out out_now (open_fault_text fault) (open_fault_status fault) status
+
+-- a table file of these pages was made at this path, and it was told how many rows and regions it has; or it wasn't made, and why was told
+pub record MakesTable (table : List ℕ) (pages : List (List ℕ)) (rows regions : ℕ) (old new : FilesFacts) (out out_now : OutFacts) (status : Status) : Type 0 where
+  pub result : Result (Unit {0}) OpenFault
+  pub makes : MakesFile table pages old new result
+  pub faults : IfErr result IsMakeFault
+  pub tells : TellsMade rows regions result out out_now status
+
+-- ---- a table file of a CSV text
 
 -- a table in a store in memory, closed: the one of this text, with so many rows and regions
 pub record IsTable (text name : List ℕ) (axes : Axes) (page_rows rows regions : ℕ) (pages : List (List ℕ)) : Type 0 where
@@ -123,74 +159,29 @@ pub record IsTable (text name : List ℕ) (axes : Axes) (page_rows rows regions 
   pub rows_are : rows ≡ tree.rows
   pub regions_are : regions ≡ region_count tree
 
--- a table file was made at this path, and a copying of these pages into it has ended so
-pub record IsCopied (table : List ℕ) (pages : List (List ℕ)) (old new : FilesFacts) (result : Result (Unit {0}) StoreFault) : Type 0 where
-  pub made : StoreFacts
-  pub left : StoreFacts
-  pub made_is : IsMade old made
-  pub copies : Copies pages made left result
-  pub back : Returns table old new left
-
--- that is so, or the table file can't be made
-abbrev pub WritesFile : List ℕ → List (List ℕ) → FilesFacts → FilesFacts → Result (Unit {0}) StoreFault → Type 0
-WritesFile table pages old new result =
-    IsCopied table pages old new result ⊎ ((result ≡ Err store.Device) × LendsFile table old new result)
-
--- the table file of this path is a closed table, the one of this text, with so many rows and regions; all its pages last
-pub record IsFileOf (table text name : List ℕ) (axes : Axes) (page_rows rows regions : ℕ) (old new : FilesFacts) : Type 0 where
-  pub tree : TreeView
-  pub made : StoreFacts
-  pub left : StoreFacts
-  pub made_is : IsMade old made
-  pub loaded : IsLoadedTree text axes page_rows name tree
-  pub closed : IsHonest made → IsHonest left × AreSoundPages left.pages tree.schema tree.placed tree.next
-  pub synced : left.synced ≡ left.pages
-  pub back : Returns table old new left
-  pub rows_are : rows ≡ tree.rows
-  pub regions_are : regions ≡ region_count tree
+-- the table of this text was closed in memory, and a table file of its pages was made at this path; or it was told why not
+pub record IsFileOf (table text name : List ℕ) (axes : Axes) (page_rows : ℕ) (old new : FilesFacts) (out out_now : OutFacts) (status : Status) : Type 0 where
+  pub rows : ℕ
+  pub regions : ℕ
+  pub pages : List (List ℕ)
+  pub table_is : IsTable text name axes page_rows rows regions pages
+  pub makes : MakesTable table pages rows regions old new out out_now status
 
 -- the text isn't loaded into memory
 abbrev pub IsUnloaded : List ℕ → List ℕ → Axes → LoadFault → Type 0
 IsUnloaded text name axes fault = IsLoadFault axes name text (memory_facts []) fault
 
--- the table of the text stands in memory, and the table file can't be made
-pub record IsUnmade (text name : List ℕ) (axes : Axes) (page_rows : ℕ) (fault : LoadFault) : Type 0 where
-  pub rows : ℕ
-  pub regions : ℕ
-  pub pages : List (List ℕ)
-  pub table_is : IsTable text name axes page_rows rows regions pages
-  pub fault_is : fault ≡ Tree (Store store.Device)
+-- and that was told; the files hold what they did
+pub record IsNoTable (text name : List ℕ) (axes : Axes) (old new : FilesFacts) (out out_now : OutFacts) (status : Status) : Type 0 where
+  pub fault : LoadFault
+  pub is : IsUnloaded text name axes fault
+  pub files : new ≡ old
+  pub tells : Tells out out_now (load_fault_text fault) (load_fault_status fault) status
 
--- the table's pages aren't copied into the table file that was made
-pub record IsUnwritten (table text name : List ℕ) (axes : Axes) (page_rows : ℕ) (old new : FilesFacts) (fault : LoadFault) : Type 0 where
-  pub rows : ℕ
-  pub regions : ℕ
-  pub pages : List (List ℕ)
-  pub of_store : StoreFault
-  pub table_is : IsTable text name axes page_rows rows regions pages
-  pub refused : (of_store ≡ store.Device) ⊎ (of_store ≡ store.Memory)
-  pub copied : IsCopied table pages old new (Err of_store)
-  pub fault_is : fault ≡ fault_of_tree (tree_fault of_store)
-
--- the files after a call that used one table file: what it holds is not said; and how often that can't be opened or made
-pub record Uses (table : List ℕ) (old new : FilesFacts) : Type 0 where
-  pub same : new ≡ record old { holds = new.holds; failed_tables = new.failed_tables }
-  pub others : HoldsBut table old new
-
--- a text isn't kept in the table file of this path for this reason; where it holds no table the files hold what they did
-pub record IsUnkept (table text name : List ℕ) (axes : Axes) (page_rows : ℕ) (old new : FilesFacts) (fault : LoadFault) : Type 0 where
-  pub why : (IsUnloaded text name axes fault × (new ≡ old))
-      ⊎ ((IsUnmade text name axes page_rows fault × (new.failed_tables ≡ raised old.failed_tables 1))
-      ⊎ (IsUnwritten table text name axes page_rows old new fault × (new.failed_tables ≡ old.failed_tables)))
-  pub uses : Uses table old new
-
--- a text was kept in the table file of this path, and it was told how many rows and regions it has; or why it wasn't kept
+-- a text was loaded, and a table file made of it; or it was told why not
 abbrev pub KeepsText : List ℕ → List ℕ → List ℕ → Axes → ℕ → FilesFacts → FilesFacts → OutFacts → OutFacts → Status → Type 0
 KeepsText table text name axes page_rows old new out out_now status =
-    ((rows regions : ℕ) × IsFileOf table text name axes page_rows rows regions old new
-    × Tells out out_now (loaded_line rows regions) Done status)
-    ⊎ ((fault : LoadFault) × IsUnkept table text name axes page_rows old new fault
-    × Tells out out_now (load_fault_text fault) (load_fault_status fault) status)
+    IsFileOf table text name axes page_rows old new out out_now status ⊎ IsNoTable text name axes old new out out_now status
 
 -- the text of a file was read, and kept in the table file; or it was told why not
 pub record IsLoadOf (source table name : List ℕ) (axes : Axes) (page_rows : ℕ) (old new : FilesFacts) (out out_now : OutFacts) (status : Status) : Type 0 where
@@ -219,28 +210,34 @@ abbrev pub TellsClosed : Summary → Result (Unit {0}) TreeFault → OutFacts �
 TellsClosed summary (Ok done) out out_now status = (status ≡ summary_status summary) × (out_now ≡ out)
 TellsClosed summary (Err fault) out out_now status = Tells out out_now (tree_fault_text fault) (tree_fault_status fault) status
 
--- what is told after a run, by how it and the closing have ended: nothing after a write that failed
+-- how a run has ended after a fault: with the fault's status where the closing, and the keeping after it, were done; else with `Device`, so that
+-- any other status says that what was done before the fault is kept
+abbrev pub status_after : Result (Unit {0}) TreeFault → Status → Status
+status_after (Ok done) status = status
+status_after (Err fault) status = Device
+
+-- what is told after a run, by how it, and the closing with the keeping after it, have ended: nothing after a write that failed
 abbrev pub TellsRan : Result Summary RunFault → Result (Unit {0}) TreeFault → OutFacts → OutFacts → Status → Type 0
 TellsRan (Ok summary) closed out out_now status = TellsClosed summary closed out out_now status
-TellsRan (Err ran.Memory) closed out out_now status = Tells out out_now (codes "! Memory\n") Memory status
+TellsRan (Err ran.Memory) closed out out_now status = Tells out out_now (codes "! Memory\n") (status_after closed Memory) status
 TellsRan (Err ran.Write) closed out out_now status = (status ≡ Device) × (out_now ≡ out)
 TellsRan (Err (ran.Load fault)) closed out out_now status =
-    Tells out out_now (load_fault_text fault) (load_fault_status fault) status
+    Tells out out_now (load_fault_text fault) (status_after closed (load_fault_status fault)) status
 TellsRan (Err (ran.Tree fault)) closed out out_now status =
-    Tells out out_now (tree_fault_text fault) (tree_fault_status fault) status
+    Tells out out_now (tree_fault_text fault) (status_after closed (tree_fault_status fault)) status
 
--- a script was run on a tree, which was then closed, also after a fault, with this store left of it; and it was told how both have
--- ended. `ran` says what the statements made of the tree, and `closes` what of that is in the store: where the closing isn't refused,
--- all of it, as a closed table. A tree that has failed isn't closed: its store is as the run left it, and where the tree has changed,
--- its first page says so (`marked` of `Runs`)
+-- a script was run on a tree, which was then closed, also after a fault, with this store left of it, which may have been kept; and it was
+-- told how all that has ended. `ran` says what the statements made of the tree, and `closes` what of that is in the store: where the
+-- closing isn't refused, all of it, as a closed table. A tree that has failed isn't closed: its store is as the run left it
 pub record HasRunTree (t : TreeView) (script : List ℕ) (left : StoreFacts) (out out_now : OutFacts) (status : Status) : Type 0 where
   pub now : TreeView
   pub result : Result Summary RunFault
   pub closing : Result (Unit {0}) TreeFault
+  pub keeping : Result (Unit {0}) StoreFault
   pub mid : OutFacts
   pub ran : IsRun t now script result out mid
   pub closes : Closes now left closing
-  pub tells : TellsRan result closing mid out_now status
+  pub tells : TellsRan result (both_ended closing keeping) mid out_now status
 
 -- the tree of these pages: where they are a closed table it is sound, with that table's regions
 pub record IsTreeOf (store : StoreFacts) (t : TreeView) : Type 0 where
@@ -256,40 +253,82 @@ pub record IsRunOn (store : StoreFacts) (script : List ℕ) (left : StoreFacts) 
   pub ran : HasRunTree tree script left out out_now status
   pub left_is : OnlyAsks tree.schema script → left ≡ record store { failed_reads = counted ran.result store.failed_reads }
 
--- no tree was opened in a store, of which this is left, and that was told
-pub record IsUntold (store left : StoreFacts) (out out_now : OutFacts) (status : Status) : Type 0 where
+-- no tree was opened in a store, and that was told
+pub record IsUntold (store : StoreFacts) (out out_now : OutFacts) (status : Status) : Type 0 where
   pub fault : TreeFault
   pub is : IsOpenFault store fault
   pub passing : (schema : Schema) (placed : List Placed) (next : ℕ) → IsHonest store → AreSoundPages store.pages schema placed next
       → IsPassing fault
-  pub left_is : left ≡ read_store {A = StoreFacts} (Err fault) store
   pub tells : Tells out out_now (tree_fault_text fault) (tree_fault_status fault) status
 
--- a script was run on the table in a store, and what is left of the store was put back
-pub record AsksStore (Back : StoreFacts → Type 0) (script : List ℕ) (store : StoreFacts) (out out_now : OutFacts) (status : Status) : Type 0 where
+-- a script was run on the table in a store, of which this is left, and the table file at this path keeps what is left, where that was to
+-- be done and the closing wasn't refused; else no file was changed
+pub record IsKeptRun (changes : Bool) (table script : List ℕ) (store : StoreFacts) (old new : FilesFacts) (out out_now : OutFacts) (status : Status) : Type 0 where
   pub left : StoreFacts
-  pub back : Back left
-  pub asked : IsRunOn store script left out out_now status ⊎ IsUntold store left out out_now status
+  pub run : IsRunOn store script left out out_now status
+  pub kept : IsKept changes table left.pages run.ran.closing run.ran.keeping old new
+
+-- that is so, or no tree was opened in the store, and then no file was changed
+abbrev pub AsksStore : Bool → List ℕ → List ℕ → StoreFacts → FilesFacts → FilesFacts → OutFacts → OutFacts → Status → Type 0
+AsksStore changes table script store old new out out_now status =
+    IsKeptRun changes table script store old new out out_now status ⊎ (IsUntold store out out_now status × (new ≡ old))
 
 -- the table file wasn't opened, and that was told; the files hold what they did
 pub record IsUnopened (table : List ℕ) (old new : FilesFacts) (out out_now : OutFacts) (status : Status) : Type 0 where
   pub fault : StoreFault
-  pub is : (fault ≡ store.Device) ⊎ ((fault ≡ store.BadSize) × IsTorn (old.holds table))
-  pub files : OpensFile {A = OutFacts} table old new (Err fault)
+  pub is : (fault ≡ store.Device) ⊎ (((fault ≡ store.BadSize) × IsTorn (old.holds table)) ⊎ (fault ≡ store.Memory))
+  pub files : OpensFile {A = OutFacts} old new (Err fault)
   pub tells : Tells out out_now (store_fault_text fault) (store_fault_status fault) status
 
--- a script was run on the store in the table file
-pub record IsAskedOf (table script : List ℕ) (old new : FilesFacts) (out out_now : OutFacts) (status : Status) : Type 0 where
-  pub store : StoreFacts
-  pub lent : IsLent old table store
-  pub asks : AsksStore (λ left. Returns table old new left) script store out out_now status
+-- it wasn't opened to be changed, also for a journal that stands beside it, and that was told; the files hold what they did
+pub record IsUnready (table : List ℕ) (old new : FilesFacts) (out out_now : OutFacts) (status : Status) : Type 0 where
+  pub fault : OpenFault
+  pub is : (fault ≡ opening.BadJournal) ⊎ ((fault ≡ opening.Store store.Device)
+      ⊎ (((fault ≡ opening.Store store.BadSize) × IsTorn (old.holds table)) ⊎ (fault ≡ opening.Store store.Memory)))
+  pub files : ChangesFile {A = OutFacts} table old new (Err fault)
+  pub tells : Tells out out_now (open_fault_text fault) (open_fault_status fault) status
 
--- the script of a file was read, and then run on the table file; or it was told that this one wasn't opened
+-- it wasn't opened for a script: for one that may change it, or for one that only asks
+abbrev pub IsUnlent : Bool → List ℕ → FilesFacts → FilesFacts → OutFacts → OutFacts → Status → Type 0
+IsUnlent true table old new out out_now status = IsUnready table old new out out_now status
+IsUnlent false table old new out out_now status = IsUnopened table old new out out_now status
+
+-- it was opened: to be changed, or to be asked, which leaves the files as they are
+abbrev pub OpensFor : Bool → List ℕ → FilesFacts → FilesFacts → Type 0
+OpensFor true table old new = ChangesFile {A = Unit {0}} table old new (Ok tt)
+OpensFor false table old new = new ≡ old
+
+-- a script was run on the store that the table file lent
+pub record IsAskedOf (changes : Bool) (table script : List ℕ) (old new : FilesFacts) (out out_now : OutFacts) (status : Status) : Type 0 where
+  pub store : StoreFacts
+  pub mid : FilesFacts
+  pub lent : IsLent old table store
+  pub opens : OpensFor changes table old mid
+  pub asks : AsksStore changes table script store mid new out out_now status
+
+-- whether a script may change the table: just where it has a word with which such a statement begins; else it only asks
+pub record IsWeighed (script : List ℕ) (changes : Bool) : Type 0 where
+  pub exact : IsTrue changes ↔ HasChangeWord script
+  pub asks : changes ≡ false → (schema : Schema) → OnlyAsks schema script
+
+-- memory was refused before the table file was opened, and that was told; the files hold what they did
+pub record IsUnweighed (old new : FilesFacts) (out out_now : OutFacts) (status : Status) : Type 0 where
+  pub files : new ≡ old
+  pub tells : Tells out out_now (codes "! Memory\n") Memory status
+
+-- a script was run on the table file, which was opened to be changed just where the script may change it; or it was told what kept it from that
+abbrev pub RunsScript : List ℕ → List ℕ → FilesFacts → FilesFacts → OutFacts → OutFacts → Status → Type 0
+RunsScript table script old new out out_now status =
+    IsUnweighed old new out out_now status
+    ⊎ ((changes : Bool) × IsWeighed script changes
+    × (IsAskedOf changes table script old new out out_now status ⊎ IsUnlent changes table old new out out_now status))
+
+-- the script of a file was read, and then run on the table file
 pub record IsRunOf (table script : List ℕ) (old new : FilesFacts) (out out_now : OutFacts) (status : Status) : Type 0 where
   pub asked : List ℕ
   pub mid : FilesFacts
   pub read : HasRead script asked old mid
-  pub ran : IsAskedOf table asked mid new out out_now status ⊎ IsUnopened table mid new out out_now status
+  pub ran : RunsScript table asked mid new out out_now status
 
 -- the script that the second path holds was run on the table file of the first one; or it was told what kept it from that
 abbrev pub RunsFile : List ℕ → List ℕ → FilesFacts → FilesFacts → OutFacts → OutFacts → Status → Type 0

@@ -1,7 +1,7 @@
 -- What a table file tells by its header, as `ubq describe` writes it; and what is told where it can't be opened.
-use Rattle.std.specs.Prelude.{◌≡◌, ◌≢◌, ◌⊎◌, ◌==◌, ◌++◌, ℕ, nat_lt, if◌then◌else◌, List, [], Err, codes, decimal, length}
+use Rattle.std.specs.Prelude.{◌≡◌, ◌≢◌, ◌⊎◌, ◌==◌, ◌++◌, ℕ, nat_lt, if◌then◌else◌, List, [], codes, decimal, length}
 use Rattle.std.specs.List.{flat_map, range_with_len, slice_index_or}
-use Rattle.ub_files.specs.Files.{FilesFacts, IsLent, Returns}
+use Rattle.ub_files.specs.Files.{FilesFacts, IsLent}
 use Rattle.ub_page.specs.declared.header.Header.{Header}
 use Rattle.ub_page.specs.declared.header.OldHeader.{OldHeader}
 use Rattle.ub_page.specs.declared.header.TheConstants.{VERSION}
@@ -16,7 +16,6 @@ use Rattle.ub_store.specs.Facts.{StoreFacts, IsHonest}
 use Rattle.ub_table.specs.Value.{is_signed}
 use Rattle.ub_table.specs.declared.fault.PageFault.TheVariants.{OldFormat}
 use Rattle.ub_table.specs.declared.schema.Schema.{Schema}
-use Rattle.ub_tree.specs.Effects.{read_store}
 use Rattle.ub_tree.specs.Faults.{upgrade_fault}
 use Rattle.ub_tree.specs.Opened.{IsOpened, IsOpenFault, IsPassing, IsRooted}
 use Rattle.ub_tree.specs.View.{TreeView, level_count, region_count}
@@ -129,33 +128,29 @@ IsDescribeFault store fault =
     ((fault ≢ of_old_format) × IsOpenFault store fault)
     ⊎ (IsOpenFault store of_old_format × IsOldFault store fault)
 
--- a store told this, which was written, and it is left as it was
-pub record IsDescribed (store left : StoreFacts) (out out_now : OutFacts) (status : Status) : Type 0 where
+-- a store told this, which was written
+pub record IsDescribed (store : StoreFacts) (out out_now : OutFacts) (status : Status) : Type 0 where
   pub description : Description
   pub is : IsToldBy store description
-  pub left_is : left ≡ store
   pub tells : Tells out out_now (description_text description) Done status
 
--- it told nothing, and why was written; where a table can be opened, that was for want of memory, or as the store failed; it is left as
--- it was, but for a read that may have failed
-pub record IsUndescribed (store left : StoreFacts) (out out_now : OutFacts) (status : Status) : Type 0 where
+-- it told nothing, and why was written; where a table can be opened, that was for want of memory, or as the store failed
+pub record IsUndescribed (store : StoreFacts) (out out_now : OutFacts) (status : Status) : Type 0 where
   pub fault : TreeFault
   pub is : IsDescribeFault store fault
   pub passing : (header : Header) → IsHonest store → IsRooted store.pages header → IsPassing fault
-  pub left_is : left ≡ read_store {A = Description} (Err fault) store
   pub tells : Tells out out_now (tree_fault_text fault) (tree_fault_status fault) status
 
--- what a store tells was written, or why it tells nothing, and what is left of it was put back
-pub record DescribesStore (Back : StoreFacts → Type 0) (store : StoreFacts) (out out_now : OutFacts) (status : Status) : Type 0 where
-  pub left : StoreFacts
-  pub back : Back left
-  pub ended : IsDescribed store left out out_now status ⊎ IsUndescribed store left out out_now status
+-- what a store tells was written, or why it tells nothing
+abbrev pub DescribesStore : StoreFacts → OutFacts → OutFacts → Status → Type 0
+DescribesStore store out out_now status = IsDescribed store out out_now status ⊎ IsUndescribed store out out_now status
 
--- that is so of the store in the table file
+-- that is so of the store in the table file, and the files are as they were
 pub record IsDescriptionOf (table : List ℕ) (old new : FilesFacts) (out out_now : OutFacts) (status : Status) : Type 0 where
   pub store : StoreFacts
   pub lent : IsLent old table store
-  pub describes : DescribesStore (λ left. Returns table old new left) store out out_now status
+  pub files : new ≡ old
+  pub describes : DescribesStore store out out_now status
 
 -- what the table file of this path tells was written, or why it tells nothing
 abbrev pub DescribesFile : List ℕ → FilesFacts → FilesFacts → OutFacts → OutFacts → Status → Type 0

@@ -1,5 +1,5 @@
 -- The laws of how a command ends. Each is what the function of its name in `law` ensures, and is proved in proofs/Laws.antt.
-use Rattle.std.specs.Prelude.{◌≡◌, ◌≢◌, ◌⊎◌, ◌++◌, ℕ, true, false, List, [], ◌∷◌, Result, Ok, Err, IsOk, IsTrue, codes, length}
+use Rattle.std.specs.Prelude.{◌≡◌, ◌≢◌, ◌⊎◌, ◌++◌, ℕ, Bool, true, false, List, [], ◌∷◌, Result, Ok, Err, IsOk, IsTrue, codes, length}
 use Rattle.std.specs.List.{flat_map}
 use Rattle.ub_exec.specs.Stand.{Stand, IsStandOf}
 use Rattle.ub_words.specs.CommandLine.{AsksHelp, AsksHelpAlone, AsksNothing}
@@ -12,6 +12,7 @@ use Rattle.ub_script.specs.declared.fault.RunFault.{RunFault}
 use Rattle.ub_script.specs.declared.fault.RunFault.TheVariants.{Memory, Tree, Write}
 use Rattle.ub_script.specs.declared.script.Summary.{Summary}
 use Rattle.ub_store.specs.Facts.{StoreFacts, IsHonest}
+use Rattle.ub_table.specs.declared.axes.Axes.{Axes}
 use Rattle.ub_table.specs.declared.schema.Schema.{Schema}
 use Rattle.ub_table.specs.Region.{Region}
 use Rattle.ub_tree.specs.Old.{AreOldPages}
@@ -19,9 +20,11 @@ use Rattle.ub_tree.specs.Placed.{Placed, regions_in}
 use Rattle.ub_tree.specs.Stored.{AreSoundPages}
 use Rattle.ub_tree.specs.View.{IsSound}
 use Rattle.ub_tree.specs.declared.fault.TreeFault.TheVariants.{Full}
-use Rattle.ub_files.specs.Files.{FilesFacts, Held, IsLent, IsText, Returns, pages, standard_input, untold}
-use Rattle.ub_shell.specs.Commands.{HasRead, IsRunOn, RunsFile, loaded_line}
+use Rattle.ub_files.specs.Clock.{Folder}
+use Rattle.ub_files.specs.Files.{FilesFacts, HasPages, Held, IsEmpty, IsLent, IsText, pages, standard_input, untold}
+use Rattle.ub_shell.specs.Commands.{HasRead, IsKept, IsKeptRun, IsRunOn, IsWeighed, LoadsFile, OpensFor, RunsFile, loaded_line}
 use Rattle.ub_shell.specs.Checked.{ChecksFile}
+use Rattle.ub_shell.specs.Crashes.{HasLoaded, HasUpgraded, HoldsRun, IsBeforeOrAfter}
 use Rattle.ub_shell.specs.Described.{DescribesFile}
 use Rattle.ub_shell.specs.Ending.{Tells}
 use Rattle.ub_shell.specs.Ran.{HasEnded, HasHelped, HasNoMemory, HasRefused}
@@ -118,19 +121,28 @@ pub record IsRunOfTable (table script : List ℕ) (schema : Schema) (placed : Li
   pub mid : FilesFacts
   pub store : StoreFacts
   pub left : StoreFacts
+  pub changes : Bool
+  pub opened : FilesFacts
   pub read : HasRead script asked old mid
+  pub weighed : IsWeighed asked changes
   pub lent : IsLent mid table store
+  pub opens : OpensFor changes table mid opened
   pub honest : IsHonest store
   pub pages_are : AreSoundPages store.pages schema placed next
-  pub back : Returns table mid new left
   pub run : IsRunOn store asked left out out_now status
+  pub kept : IsKept changes table left.pages run.ran.closing run.ran.keeping opened new
   pub sound : IsSound run.tree
   pub schema_is : run.tree.schema ≡ schema
   pub placed_is : run.tree.placed ≡ placed
   pub next_is : run.tree.next ≡ next
 
+-- a journal stands beside a table file that is damaged, or another table's, and that was told
+abbrev pub TellsBadJournal : OutFacts → OutFacts → Status → Type 0
+TellsBadJournal out out_now status = Tells out out_now (codes "! BadJournal\n") ended.Data status
+
 -- where a table file was checked, with nothing wrong, and holds still what it did then, it is a closed table, and each script that is run
--- on it is run on this table, by a sound tree; unless a file failed or memory was refused, which is told
+-- on it is run on this table, by a sound tree; unless a file failed or memory was refused, or a journal stands there that is damaged or
+-- another table's, which is told
 abbrev pub CheckedTablesAreRunAsSound : Type 0
 CheckedTablesAreRunAsSound =
     (table script : List ℕ) (old mid later new : FilesFacts) (out out_mid out_later out_now : OutFacts) (status : Status)
@@ -138,7 +150,8 @@ CheckedTablesAreRunAsSound =
     → IsTrue later.honest → later.holds table ≡ mid.holds table → later.holds table ≢ untold → ¬ (AreBothInput table script)
     → RunsFile table script later new out_later out_now status
     → (schema : Schema) × (placed : List Placed) × (next : ℕ) × IsHeldTable (later.holds table) schema placed next
-    × (IsRunOfTable table script schema placed next later new out_later out_now status ⊎ TellsPassing out_later out_now status)
+    × (IsRunOfTable table script schema placed next later new out_later out_now status
+    ⊎ (TellsPassing out_later out_now status ⊎ TellsBadJournal out_later out_now status))
 
 -- what a path holds is the pages of a closed table of this older version
 abbrev pub IsOldTable : Held → ℕ → Schema → List Placed → ℕ → Type 0
@@ -214,3 +227,53 @@ FullTablesAreLeft =
     → (replies : List Reply) × (rest : ℕ) × (pages : ℕ) × (now : Basis)
     × EndedOver (over_any run.tree) script (Tree Full) replies rest pages now
     × HasTaken (texts_of replies) false out run.ran.mid × (changed_by replies ≡ 0 → left ≡ store)
+
+-- ---- what a table file holds after a run, a load or an upgrade
+
+-- however a run has ended on a table file, that holds what it held, or the pages that were left once the run was closed, and nothing else
+abbrev pub FailedRunsLoseNothing : Type 0
+FailedRunsLoseNothing =
+    (table script : List ℕ) (old new : FilesFacts) (out out_now : OutFacts) (status : Status) → ¬ (AreBothInput table script)
+    → RunsFile table script old new out out_now status
+    → (new.holds table ≡ old.holds table) ⊎ HoldsRun table script old out out_now status (new.holds table)
+
+-- the status with which a run of this result ended says that what it did is kept: all was done, or a statement was refused; or a fault ended
+-- a statement, and the status isn't that of a file that failed
+abbrev pub SaysKept : Result Summary RunFault → Status → Type 0
+SaysKept (Ok summary) status = (status ≡ Done) ⊎ (status ≡ ended.Refused)
+SaysKept (Err fault) status = status ≢ ended.Device
+
+-- where a script was run that may change the table, and the status says that what it did is kept, the closing was done, the table file holds
+-- the pages that it left, and each crash leaves them there
+abbrev pub KeptRunsLast : Type 0
+KeptRunsLast =
+    (table script : List ℕ) (store : StoreFacts) (old new : FilesFacts) (out out_now : OutFacts) (status : Status)
+    → (kept : IsKeptRun true table script store old new out out_now status) → SaysKept kept.run.ran.result status
+    → IsOk kept.run.ran.closing × HasPages (new.holds table) kept.left.pages × HasPages (new.lasts table) kept.left.pages
+
+-- however a load has ended into a path that held pages, that holds what it held, or the pages of the new table
+abbrev pub LoadsLoseNoTable : Type 0
+LoadsLoseNoTable =
+    (source table name : List ℕ) (axes : Axes) (page_rows : ℕ) (old new : FilesFacts) (out out_now : OutFacts) (status : Status)
+    → ¬ (IsEmpty (old.holds table)) → LoadsFile source table name axes page_rows old new out out_now status
+    → (new.holds table ≡ old.holds table) ⊎ HasLoaded source name axes page_rows old (HasPages (new.holds table))
+
+-- the same of an upgrade
+abbrev pub UpgradesLoseNoTable : Type 0
+UpgradesLoseNoTable =
+    (source table : List ℕ) (old new : FilesFacts) (out out_now : OutFacts) (status : Status)
+    → ¬ (IsEmpty (old.holds table)) → UpgradesFile source table old new out out_now status
+    → (new.holds table ≡ old.holds table) ⊎ HasUpgraded source old (HasPages (new.holds table))
+
+-- however a load or an upgrade has ended into a path that held pages, that holds what it held, or the pages of the new table
+abbrev pub OldTablesAreNotLost : Type 0
+OldTablesAreNotLost = LoadsLoseNoTable × UpgradesLoseNoTable
+
+-- where a path holds a closed table, and a crash before a command would have left one there, each crash while the command works, and after it,
+-- leaves one there, where that is told: the same, or the one that a whole run of the command leaves
+abbrev pub CrashesLeaveATable : Type 0
+CrashesLeaveATable =
+    (words : List (List ℕ)) (table : List ℕ) (old : FilesFacts) (out out_now : OutFacts) (status : Status) (before after : Folder)
+    (schema : Schema) (placed : List Placed) (next : ℕ) → IsTrue old.honest → table ≢ standard_input
+    → IsHeldTable (old.holds table) schema placed next → IsSoundTable (before table)
+    → IsBeforeOrAfter words old out out_now status before after → IsSoundTable (after table)

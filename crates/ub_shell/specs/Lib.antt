@@ -2,6 +2,7 @@ pub mod Status
 pub mod Ending
 pub mod Commands
 pub mod Upgrading
+pub mod Crashes
 pub mod Described
 pub mod Checked
 pub mod Ran

@@ -3,6 +3,8 @@ use Rattle.std.specs.Prelude.{ℕ, ◌==◌, if◌then◌else◌, List, ◌++◌
 use Rattle.ub_load.specs.declared.fault.LoadFault.{LoadFault}
 use Rattle.ub_load.specs.declared.fault.LoadFault.TheVariants.{NoHeader, BadName, ColumnCount, BadNumber, OutOfRange, Csv, Tree}
 use Rattle.ub_load.specs.declared.fault.LoadFault.TheVariants as load
+use Rattle.ub_files.specs.declared.fault.OpenFault.{OpenFault}
+use Rattle.ub_files.specs.declared.fault.OpenFault.TheVariants as opening
 use Rattle.ub_store.specs.declared.fault.StoreFault.{StoreFault}
 use Rattle.ub_store.specs.declared.fault.StoreFault.TheVariants as store
 use Rattle.ub_tree.specs.declared.fault.TreeFault.{TreeFault}
@@ -34,6 +36,11 @@ abbrev pub store_fault_status : StoreFault → Status
 store_fault_status store.Memory = Memory
 store_fault_status store.Device = Device
 store_fault_status fault = Data
+
+-- how a command ends whose table file can't be opened to be changed, or can't be made
+abbrev pub open_fault_status : OpenFault → Status
+open_fault_status (opening.Store fault) = store_fault_status fault
+open_fault_status opening.BadJournal = Data
 
 -- how a run ends whose tree refused
 abbrev pub tree_fault_status : TreeFault → Status
@@ -75,6 +82,11 @@ store_fault_text store.NoPage = codes "! NoPage\n"
 store_fault_text store.BadSize = codes "! BadSize\n"
 store_fault_text store.Device = codes "! Device\n"
 store_fault_text store.Memory = codes "! Memory\n"
+
+-- the last line after a table file couldn't be opened to be changed, or couldn't be made
+abbrev pub open_fault_text : OpenFault → List ℕ
+open_fault_text (opening.Store fault) = store_fault_text fault
+open_fault_text opening.BadJournal = codes "! BadJournal\n"
 
 -- the last line after a tree refused
 abbrev pub tree_fault_text : TreeFault → List ℕ

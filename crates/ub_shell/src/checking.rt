@@ -1,5 +1,5 @@
 ghost use Rattle.std.specs.Prelude.{◌≡◌, false, IfOk, IfErr, OnOk};
-ghost use Rattle.ub_files.specs.Files.{PutsBack};
+ghost use Rattle.ub_files.specs.Clock.{IsSameFolder, Runs};
 ghost use Rattle.ub_shell.specs.Checked.{ChecksFile, ChecksStore, IsIllFault, IsWellStore, PassesSound};
 ghost use Rattle.ub_store.specs.Facts.{IsHonest};
 ghost use Rattle.ub_tree.specs.Checking.{IsCheckFault, IsWell};
@@ -24,8 +24,9 @@ pub fn check_file<F: Files, W: Out>(
     asked: CheckWords<'_>,
     out: &mut W,
 ) -> Status
-    ensures { ChecksFile asked.entry.table.now (F.facts files.old) (F.facts files.new)
+    ensures checks { ChecksFile asked.entry.table.now (F.facts files.old) (F.facts files.new)
         (W.facts out.old) (W.facts out.new) result }
+    ensures crash { Runs IsSameFolder (F.facts files.old) (F.clock files.old) (F.clock files.new) }
 {
     match files.open(asked.table) {
         Ok(store) => check_store(alloc, files, asked.table, store, out),
@@ -41,8 +42,9 @@ fn check_store<F: Files, W: Out>(
     store: F::Store,
     out: &mut W,
 ) -> Status
-    ensures { ChecksStore (λ left. PutsBack path.now (F.facts files.old) (F.facts files.new) left)
-        (F.Store.facts store) (W.facts out.old) (W.facts out.new) result }
+    ensures files { F.facts files.new ≡ F.facts files.old }
+    ensures checks { ChecksStore (F.Store.facts store) (W.facts out.old) (W.facts out.new) result }
+    ensures crash { Runs IsSameFolder (F.facts files.old) (F.clock files.old) (F.clock files.new) }
 {
     let (left, checked) = checked_in(alloc, store);
     files.put_back(path, left);

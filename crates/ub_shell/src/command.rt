@@ -1,4 +1,6 @@
 ghost use Rattle.std.specs.Prelude.{◌≡◌, map, string_bytes};
+ghost use Rattle.ub_files.specs.Clock.{Runs};
+ghost use Rattle.ub_shell.specs.Crashes.{IsBeforeOrAfter};
 ghost use Rattle.ub_shell.specs.Ran.{HasEnded};
 ghost use Rattle.ub_shell.specs.Status.{status_code};
 ghost use Rattle.ub_shell.specs.declared.status.Status.{Status};
@@ -20,11 +22,15 @@ use ub_words::{Asked, read_words};
 /// `out`. The result is the status with which the program ends: 0 all was done, 1 a statement was refused, 2 the
 /// command line was, 3 the data were, 4 a file or the output failed, 5 memory was refused. After a fault the last line
 /// tells it, but for a failed write, after which nothing is written. Where the words ask for the help, only the help is
-/// written. A table file that was opened or made is put back, and none is made before its table stands in memory.
+/// written. A table file is changed whole or not at all, and none is made before its table stands in memory.
 pub fn command<F: Files, W: Out>(alloc: Global, files: &mut F, words: &[String], out: &mut W) -> u8
-    ensures { (status : Status) × (result ≡ status_code status)
+    ensures ended { (status : Status) × (result ≡ status_code status)
         × HasEnded (map string_bytes words.now) (F.facts files.old) (F.facts files.new)
         (W.facts out.old) (W.facts out.new) status }
+    ensures crash { (status : Status) × (result ≡ status_code status)
+        × Runs (IsBeforeOrAfter (map string_bytes words.now) (F.facts files.old)
+        (W.facts out.old) (W.facts out.new) status)
+        (F.facts files.old) (F.clock files.old) (F.clock files.new) }
 {
     run_words(alloc, files, words, out).code()
 }
@@ -36,8 +42,11 @@ fn run_words<F: Files, W: Out>(
     words: &[String],
     out: &mut W,
 ) -> Status
-    ensures { HasEnded (map string_bytes words.now) (F.facts files.old) (F.facts files.new)
+    ensures ended { HasEnded (map string_bytes words.now) (F.facts files.old) (F.facts files.new)
         (W.facts out.old) (W.facts out.new) result }
+    ensures crash { Runs (IsBeforeOrAfter (map string_bytes words.now) (F.facts files.old)
+        (W.facts out.old) (W.facts out.new) result)
+        (F.facts files.old) (F.clock files.old) (F.clock files.new) }
 {
     match read_words(alloc, words) {
         Ok(Asked::Load(asked)) => load_file(alloc, files, asked, out),

@@ -1,5 +1,5 @@
 ghost use Rattle.std.specs.Prelude.{◌≡◌, ◌↔◌, false, IsTrue, IfOk, IfErr};
-ghost use Rattle.ub_files.specs.Files.{PutsBack};
+ghost use Rattle.ub_files.specs.Clock.{IsSameFolder, Runs};
 ghost use Rattle.ub_page.specs.declared.header.Header as spec;
 ghost use Rattle.ub_shell.specs.Described.{description_text, described, described_old, of_old_format, DescribesFile, DescribesStore, IsDescribeFault, IsOldFault, IsOldText, IsTextOf};
 ghost use Rattle.ub_store.specs.Facts.{IsHonest};
@@ -27,8 +27,9 @@ pub fn describe_file<F: Files, W: Out>(
     asked: DescribeWords<'_>,
     out: &mut W,
 ) -> Status
-    ensures { DescribesFile asked.entry.table.now (F.facts files.old) (F.facts files.new)
+    ensures describes { DescribesFile asked.entry.table.now (F.facts files.old) (F.facts files.new)
         (W.facts out.old) (W.facts out.new) result }
+    ensures crash { Runs IsSameFolder (F.facts files.old) (F.clock files.old) (F.clock files.new) }
 {
     match files.open(asked.table) {
         Ok(store) => describe_store(alloc, files, asked.table, store, out),
@@ -44,8 +45,10 @@ fn describe_store<F: Files, W: Out>(
     store: F::Store,
     out: &mut W,
 ) -> Status
-    ensures { DescribesStore (λ left. PutsBack path.now (F.facts files.old) (F.facts files.new) left)
-        (F.Store.facts store) (W.facts out.old) (W.facts out.new) result }
+    ensures files { F.facts files.new ≡ F.facts files.old }
+    ensures describes { DescribesStore (F.Store.facts store)
+        (W.facts out.old) (W.facts out.new) result }
+    ensures crash { Runs IsSameFolder (F.facts files.old) (F.clock files.old) (F.clock files.new) }
 {
     let (left, told) = told_by(alloc, store);
     files.put_back(path, left);

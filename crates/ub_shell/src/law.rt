@@ -1,4 +1,4 @@
-ghost use Rattle.ub_shell.specs.Laws.{AskingLeavesTheTable, CheckedTablesAreRunAsSound, CheckedTablesAreSound, CheckingLeavesTheTable, DescribingLeavesTheTable, FullTablesAreLeft, OnlyHelpIsWritten, OnlySoundTablesAreUpgraded, SoundTablesPass, UnchangedTablesAreLeft, UpgradedTablesAreTheSame, UpgradingLeavesTheOldTable, WhatWasDoneStands, WrongWordsAreTold};
+ghost use Rattle.ub_shell.specs.Laws.{AskingLeavesTheTable, CheckedTablesAreRunAsSound, CheckedTablesAreSound, CheckingLeavesTheTable, CrashesLeaveATable, DescribingLeavesTheTable, FailedRunsLoseNothing, FullTablesAreLeft, KeptRunsLast, OldTablesAreNotLost, OnlyHelpIsWritten, OnlySoundTablesAreUpgraded, SoundTablesPass, UnchangedTablesAreLeft, UpgradedTablesAreTheSame, UpgradingLeavesTheOldTable, WhatWasDoneStands, WrongWordsAreTold};
 
 // Each function here does nothing, and its clause is a law of the definitions in specs/.
 
@@ -40,7 +40,8 @@ pub fn sound_tables_pass()
 {}
 
 /// Where a table file was checked, with nothing wrong, and holds still what it did then, it is a closed table, and each script that
-/// is run on it is run on this table, by a sound tree; unless a file failed or memory was refused, which is told.
+/// is run on it is run on this table, by a sound tree; unless a file failed or memory was refused, or a journal stands beside it that
+/// is damaged or another table's, which is told.
 pub fn checked_tables_are_run_as_sound()
     ensures { CheckedTablesAreRunAsSound }
 {}
@@ -78,4 +79,27 @@ pub fn unchanged_tables_are_left()
 /// So does one that ended at an INSERT which found no number left, or no room in the index, after such replies.
 pub fn full_tables_are_left()
     ensures { FullTablesAreLeft }
+{}
+
+/// However a run has ended on a table file, that holds what it held, or the pages that were left once the run was closed, and
+/// nothing else.
+pub fn failed_runs_lose_nothing()
+    ensures { FailedRunsLoseNothing }
+{}
+
+/// Where a script was run that may change the table, and the status is `Done`, `Refused`, or that of a statement's fault, what was
+/// done is kept: the table file holds the pages that the closed run left, and each crash leaves them there.
+pub fn kept_runs_last()
+    ensures { KeptRunsLast }
+{}
+
+/// However a load or an upgrade has ended into a path that held pages, that holds what it held, or the pages of the new table.
+pub fn old_tables_are_not_lost()
+    ensures { OldTablesAreNotLost }
+{}
+
+/// Where a path holds a closed table, and a crash before a command would have left one there, each crash while the command works, and
+/// after it, leaves one there: the same, or the one that a whole run of the command leaves.
+pub fn crashes_leave_a_table()
+    ensures { CrashesLeaveATable }
 {}

@@ -3,7 +3,7 @@
 // `command` runs what the command line asks for: `load` makes a table file (`loading`), `run` runs a script on one, which it may
 // change (`running`), `try` runs one on a table in memory (`trial`), `upgrade` makes one of an older version anew (`upgrading`),
 // `describe` tells what one holds (`describing`, and `description` for the text), `check` whether each page of
-// one is well (`checking`), and `next` tells the addresses of a box. `closing` puts a table file back, and `making` makes one of pages in memory. `status` is how a command ends, and `line` the lines that it tells. `program` is the last step, over any writer. What
+// one is well (`checking`), and `next` tells the addresses of a box. `closing` keeps what a run left of a table file, and `making` makes one of pages in memory. `status` is how a command ends, and `line` the lines that it tells. `program` is the last step, over any writer. What
 // words ask for is read by `ub_words`, files come from a source of `ub_files`, the neighbours of an address from `ub_next`, and
 // scripts belong to `ub_script`; names of these that a program needs are passed on here.
 #![tactic(auto)]
@@ -25,5 +25,5 @@ pub mod trial;
 pub mod upgrading;
 
 pub use program::{WordsFault, program_words, run_program};
-pub use ub_files::{Files, HostFiles, MemFiles};
+pub use ub_files::Files;
 pub use ub_script::{Out, OutFault, Over, RunFault, Summary, put_all, run, try_text};

@@ -1,16 +1,17 @@
 ghost use Rattle.std.specs.Prelude.{IfOk, IfErr};
-ghost use Rattle.ub_shell.specs.Commands.{axes_asked, IsFileOf, IsTable, IsUnkept, IsUnloaded, KeepsText, LoadsFile};
+ghost use Rattle.ub_files.specs.Clock.{IsSameBut, Runs};
+ghost use Rattle.ub_shell.specs.Commands.{axes_asked, IsTable, IsUnloaded, KeepsText, LoadsFile};
+ghost use Rattle.ub_shell.specs.Crashes.{HasTable, LoadsSafely, MayStand};
 ghost use Rattle.ub_table.specs.Schema.{AreTableNumbers, IsMask};
 
-use crate::making::{Counts, counts_line, is_same, write_pages};
-use crate::status::{Status, tell, tell_line, tell_load_fault, tell_store_fault};
+use crate::making::{Counts, is_same, make_table};
+use crate::status::{Status, tell, tell_load_fault, tell_store_fault};
 use std::alloc::Global;
 use ub_files::Files;
 use ub_load::{LoadFault, load};
 use ub_script::Out;
 use ub_store::MemStore;
 use ub_table::schema::is_mask;
-use ub_tree::TreeFault;
 use ub_words::LoadWords;
 
 // A table that was loaded, closed in memory.
@@ -23,9 +24,9 @@ struct Loaded {
 /// Reads a CSV file, once, loads the text's table into memory, makes the table file anew with its pages, and tells how many rows
 /// and regions it has. The table file is not touched before the table stands in memory: not where a dimension is to be signed that
 /// isn't there, nor where both paths are equal (also where both are `-`, though the first is standard input and the second a file),
-/// nor where the CSV file can't be read or holds no table; in the first two cases no file is. After a fault of the table file it
-/// holds no table that can be opened, unless it is the old one, or the new one with its first page or its last sync failed. Where
-/// the table file was made nothing is told but that, or nothing where the write fails.
+/// nor where the CSV file can't be read or holds no table; in the first two cases no file is. A load that is stopped at any moment,
+/// or whose table file fails, leaves a path that held a table with that table or the new one, and one that held none with none or
+/// the new one. Where the table file was made nothing is told but that, or nothing where the write fails.
 pub fn load_file<F: Files, W: Out>(
     alloc: Global,
     files: &mut F,
@@ -33,9 +34,12 @@ pub fn load_file<F: Files, W: Out>(
     out: &mut W,
 ) -> Status
     requires numbers { AreTableNumbers asked.source.dims asked.source.page_rows }
-    ensures { LoadsFile asked.entry.source.path.now asked.entry.table.now
+    ensures loads { LoadsFile asked.entry.source.path.now asked.entry.table.now
         asked.entry.source.name.now (axes_asked asked.entry.source) asked.entry.source.page_rows
         (F.facts files.old) (F.facts files.new) (W.facts out.old) (W.facts out.new) result }
+    ensures crash { Runs (LoadsSafely asked.entry.source.path.now asked.entry.table.now
+        asked.entry.source.name.now (axes_asked asked.entry.source) asked.entry.source.page_rows
+        (F.facts files.old)) (F.facts files.old) (F.clock files.old) (F.clock files.new) }
 {
     if !is_mask(asked.source.dims, asked.source.signed) {
         return tell(out, b"! BadMask\n", Status::CommandLine);
@@ -49,7 +53,7 @@ pub fn load_file<F: Files, W: Out>(
     }
 }
 
-// Keeps the table of a text in the table file, and tells how many rows and regions it has, or why it isn't kept.
+// Loads the text's table into memory, makes the table file of it, and tells how many rows and regions it has, or why it isn't made.
 fn keep_text<F: Files, W: Out>(
     alloc: Global,
     files: &mut F,
@@ -59,37 +63,19 @@ fn keep_text<F: Files, W: Out>(
 ) -> Status
     requires numbers { AreTableNumbers asked.source.dims asked.source.page_rows }
     requires mask { IsMask asked.source.dims asked.source.signed }
-    ensures { KeepsText asked.entry.table.now text.now asked.entry.source.name.now
+    ensures keeps { KeepsText asked.entry.table.now text.now asked.entry.source.name.now
         (axes_asked asked.entry.source) asked.entry.source.page_rows
         (F.facts files.old) (F.facts files.new)
         (W.facts out.old) (W.facts out.new) result }
+    ensures crash { Runs (IsSameBut asked.entry.table.now (λ held.
+        HasTable text.now asked.entry.source.name.now (axes_asked asked.entry.source)
+        asked.entry.source.page_rows
+        (MayStand asked.entry.table.now (F.facts files.old) held)))
+        (F.facts files.old) (F.clock files.old) (F.clock files.new) }
 {
-    match load_text(alloc, files, text, asked) {
-        Ok(counts) => tell_line(&counts_line(counts), Status::Done, out),
+    match load_pages(alloc, text, asked) {
+        Ok(loaded) => make_table(files, asked.table, &loaded.store, loaded.counts, out),
         Err(fault) => tell_load_fault(fault, out),
-    }
-}
-
-// Loads the text's table into memory, makes the table file anew and copies the table's pages into it.
-fn load_text<F: Files>(
-    alloc: Global,
-    files: &mut F,
-    text: &[u8],
-    asked: LoadWords<'_>,
-) -> Result<Counts, LoadFault>
-    requires numbers { AreTableNumbers asked.source.dims asked.source.page_rows }
-    requires mask { IsMask asked.source.dims asked.source.signed }
-    ensures kept { IfOk result (λ counts. IsFileOf asked.entry.table.now text.now
-        asked.entry.source.name.now (axes_asked asked.entry.source) asked.entry.source.page_rows
-        counts.rows counts.regions (F.facts files.old) (F.facts files.new)) }
-    ensures refused { IfErr result (IsUnkept asked.entry.table.now text.now
-        asked.entry.source.name.now (axes_asked asked.entry.source) asked.entry.source.page_rows
-        (F.facts files.old) (F.facts files.new)) }
-{
-    let Loaded { mut store, counts } = load_pages(alloc, text, asked)?;
-    match write_pages(files, asked.table, &mut store) {
-        Ok(()) => Ok(counts),
-        Err(fault) => Err(LoadFault::from(TreeFault::from(fault))),
     }
 }
 

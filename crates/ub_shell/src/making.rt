@@ -1,9 +1,12 @@
-ghost use Rattle.std.specs.Prelude.{◌≡◌, ◌≤◌, ◌↔◌, ◌⊎◌, length, IsTrue, IfErr};
-ghost use Rattle.ub_shell.specs.Commands.{WritesFile, loaded_line};
+ghost use Rattle.std.specs.Prelude.{◌≡◌, ◌≤◌, ◌↔◌, length, IsTrue};
+ghost use Rattle.ub_files.specs.Clock.{MayBecome, Runs};
+ghost use Rattle.ub_shell.specs.Commands.{MakesTable, loaded_line};
 
 use crate::line::{Line, twice_numbered_line};
-use ub_files::{Files, copy_pages};
-use ub_store::{MemStore, StoreFault};
+use crate::status::{Status, tell_line, tell_open_fault};
+use ub_files::Files;
+use ub_script::Out;
+use ub_store::MemStore;
 
 /// What is told of a table that stands in a new table file.
 #[derive(Clone, Copy, PartialEq, Eq, Debug)]
@@ -19,21 +22,24 @@ pub fn is_same(path: &str, other: &str) -> bool
     path == other
 }
 
-/// Makes the table file anew, with these pages.
-pub fn write_pages<F: Files>(
+/// Makes the table file of these pages in the place of what is there, and tells how many rows and regions it has, or why it isn't made.
+pub fn make_table<F: Files, W: Out>(
     files: &mut F,
     path: &str,
-    pages: &mut MemStore,
-) -> Result<(), StoreFault>
-    requires some { 1 ≤ length pages.old }
-    ensures faults { IfErr result (λ fault.
-        (fault ≡ StoreFault.Device) ⊎ (fault ≡ StoreFault.Memory)) }
-    ensures effect { WritesFile path.now pages.old (F.facts files.old) (F.facts files.new) result }
+    pages: &MemStore,
+    counts: Counts,
+    out: &mut W,
+) -> Status
+    requires some { 1 ≤ length pages.now }
+    ensures makes { MakesTable path.now pages.now counts.rows counts.regions
+        (F.facts files.old) (F.facts files.new) (W.facts out.old) (W.facts out.new) result }
+    ensures crash { Runs (MayBecome path.now pages.now (F.facts files.old))
+        (F.facts files.old) (F.clock files.old) (F.clock files.new) }
 {
-    let mut store = files.create(path)?;
-    let copied = copy_pages(pages, &mut store);
-    files.put_back(path, store);
-    copied
+    match files.make(path, pages) {
+        Ok(()) => tell_line(&counts_line(counts), Status::Done, out),
+        Err(fault) => tell_open_fault(fault, out),
+    }
 }
 
 /// The line for a table that stands in a new table file.

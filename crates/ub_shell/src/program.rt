@@ -1,5 +1,7 @@
 ghost use Rattle.std.specs.Prelude.{◌≡◌, ℕ, MatchResult, map, string_bytes};
+ghost use Rattle.ub_files.specs.Clock.{IsSameFolder, Runs};
 ghost use Rattle.ub_script.specs.Output.{out_facts};
+ghost use Rattle.ub_shell.specs.Crashes.{IsBeforeOrAfter};
 ghost use Rattle.ub_shell.specs.Ending.{words_fault_status, words_fault_text, Tells};
 ghost use Rattle.ub_shell.specs.Ran.{HasEnded, HasNotRead};
 ghost use Rattle.ub_shell.specs.Status.{status_code};
@@ -45,12 +47,19 @@ pub fn run_program<F: Files, W: Write>(
     words: Result<Vec<String>, WordsFault>,
     to: W,
 ) -> (u8, W)
-    ensures { (status : Status) × (failures : ℕ) × (result.0 ≡ status_code status)
+    ensures ended { (status : Status) × (failures : ℕ) × (result.0 ≡ status_code status)
         × MatchResult words
         (λ all. HasEnded (map string_bytes all.items) (F.facts files.old) (F.facts files.new)
         (out_facts (W.contents to) 0) (out_facts (W.contents result.1) failures) status)
         (λ fault. HasNotRead fault (F.facts files.old) (F.facts files.new)
         (out_facts (W.contents to) 0) (out_facts (W.contents result.1) failures) status) }
+    ensures crash { (status : Status) × (failures : ℕ) × (result.0 ≡ status_code status)
+        × MatchResult words
+        (λ all. Runs (IsBeforeOrAfter (map string_bytes all.items) (F.facts files.old)
+        (out_facts (W.contents to) 0) (out_facts (W.contents result.1) failures) status)
+        (F.facts files.old) (F.clock files.old) (F.clock files.new))
+        (λ fault. Runs IsSameFolder
+        (F.facts files.old) (F.clock files.old) (F.clock files.new)) }
 {
     let mut out = Over::new(to);
     let code = run_or_tell(alloc, files, words, &mut out);
@@ -64,12 +73,19 @@ fn run_or_tell<F: Files, W: Out>(
     words: Result<Vec<String>, WordsFault>,
     out: &mut W,
 ) -> u8
-    ensures { (status : Status) × (result ≡ status_code status)
+    ensures ended { (status : Status) × (result ≡ status_code status)
         × MatchResult words
         (λ all. HasEnded (map string_bytes all.items) (F.facts files.old) (F.facts files.new)
         (W.facts out.old) (W.facts out.new) status)
         (λ fault. HasNotRead fault (F.facts files.old) (F.facts files.new)
         (W.facts out.old) (W.facts out.new) status) }
+    ensures crash { (status : Status) × (result ≡ status_code status)
+        × MatchResult words
+        (λ all. Runs (IsBeforeOrAfter (map string_bytes all.items) (F.facts files.old)
+        (W.facts out.old) (W.facts out.new) status)
+        (F.facts files.old) (F.clock files.old) (F.clock files.new))
+        (λ fault. Runs IsSameFolder
+        (F.facts files.old) (F.clock files.old) (F.clock files.new)) }
 {
     match words {
         Ok(words) => command(alloc, files, words.as_slice(), out),

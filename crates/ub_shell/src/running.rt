@@ -1,55 +1,128 @@
-ghost use Rattle.ub_shell.specs.Commands.{AsksStore, HasRunTree, RunsFile, TellsClosed, TellsRan};
-ghost use Rattle.ub_files.specs.Files.{PutsBack};
+ghost use Rattle.std.specs.Prelude.{◌≡◌, ◌⊎◌, Ok, Err, IsOk, true, false};
+ghost use Rattle.ub_files.specs.Clock.{IsSameBut, Runs};
+ghost use Rattle.ub_files.specs.Files.{HasPages};
+ghost use Rattle.ub_shell.specs.Commands.{AsksStore, HasRunTree, IsAskedOf, IsKept, IsUnlent, RunsFile, RunsScript, TellsClosed, TellsRan, status_after};
+ghost use Rattle.ub_shell.specs.Crashes.{HoldsAsked, HoldsLeft, RunsSafely};
 ghost use Rattle.ub_store.specs.Facts.{StoreFacts};
 
 use crate::closing::close_table;
 use crate::status::{
-    Status, summary_status, tell_load_fault, tell_memory, tell_store_fault, tell_tree_fault,
+    Status, summary_status, tell_load_fault, tell_memory, tell_open_fault, tell_store_fault,
+    tell_tree_fault,
 };
 use std::alloc::Global;
 use ub_files::Files;
-use ub_script::{Out, RunFault, Summary, run};
+use ub_script::{Out, RunFault, Summary, may_change, run};
 use ub_tree::{Tree, TreeFault};
 use ub_words::RunWords;
 
 /// Reads a script, once, opens the table file, runs the script on its table and closes it, also after a fault. The script's text
-/// is written as `run` writes it; a fault is told on a last line. A table file that was only asked is left as it was, page for page.
-/// One that the script changed is closed, so that what was done stands, also after a fault of the run. Where its store failed in a
-/// change, or the closing fails, it isn't closed: it may then be marked as changed, and such a one isn't opened again.
+/// is written as `run` writes it; a fault is told on a last line. A script that has no INSERT or DELETE only asks: the table file is
+/// opened to be asked, and is left as it was. Else it is opened to be changed, and what the script does stays in memory until the table
+/// is closed; then it is kept in the file, all of it, also where a fault ended a statement. A run that is stopped at any moment, or whose
+/// file fails, leaves the table as it was, or as it is after all that was done. The status says which, but for `Device`: `Done`,
+/// `Refused` and those of a statement's fault come where all that was done is kept. Where a closing is refused nothing is kept.
 pub fn run_file<F: Files, W: Out>(
     alloc: Global,
     files: &mut F,
     asked: RunWords<'_>,
     out: &mut W,
 ) -> Status
-    ensures { RunsFile asked.entry.table.now asked.entry.script.now
+    ensures runs { RunsFile asked.entry.table.now asked.entry.script.now
         (F.facts files.old) (F.facts files.new) (W.facts out.old) (W.facts out.new) result }
+    ensures crash { Runs (RunsSafely asked.entry.table.now asked.entry.script.now
+        (F.facts files.old) (W.facts out.old) (W.facts out.new) result)
+        (F.facts files.old) (F.clock files.old) (F.clock files.new) }
 {
-    let script = match files.read(asked.script) {
-        Ok(script) => script,
-        Err(fault) => return tell_store_fault(fault, out),
-    };
-    let store = match files.open(asked.table) {
-        Ok(store) => store,
-        Err(fault) => return tell_store_fault(fault, out),
-    };
-    run_store(alloc, files, asked.table, store, script.as_slice(), out)
+    match files.read(asked.script) {
+        Ok(script) => run_script(alloc, files, asked.table, script.as_slice(), out),
+        Err(fault) => tell_store_fault(fault, out),
+    }
 }
 
-// Runs a script on the table in the store of a table file, and puts the store back.
+// Runs a script on a table file, which is opened to be changed where the script may change it.
+fn run_script<F: Files, W: Out>(
+    alloc: Global,
+    files: &mut F,
+    path: &str,
+    script: &[u8],
+    out: &mut W,
+) -> Status
+    ensures runs { RunsScript path.now script.now
+        (F.facts files.old) (F.facts files.new) (W.facts out.old) (W.facts out.new) result }
+    ensures crash { Runs (IsSameBut path.now (HoldsAsked path.now script.now (F.facts files.old)
+        (W.facts out.old) (W.facts out.new) result))
+        (F.facts files.old) (F.clock files.old) (F.clock files.new) }
+{
+    match may_change(alloc, script) {
+        Ok(true) => change_table(alloc, files, path, script, out),
+        Ok(false) => ask_table(alloc, files, path, script, out),
+        Err(_) => tell_memory(out),
+    }
+}
+
+// Runs a script that may change the table on a table file.
+fn change_table<F: Files, W: Out>(
+    alloc: Global,
+    files: &mut F,
+    path: &str,
+    script: &[u8],
+    out: &mut W,
+) -> Status
+    ensures runs { IsAskedOf true path.now script.now
+        (F.facts files.old) (F.facts files.new) (W.facts out.old) (W.facts out.new) result
+        ⊎ IsUnlent true path.now
+        (F.facts files.old) (F.facts files.new) (W.facts out.old) (W.facts out.new) result }
+    ensures crash { Runs (IsSameBut path.now (HoldsAsked path.now script.now (F.facts files.old)
+        (W.facts out.old) (W.facts out.new) result))
+        (F.facts files.old) (F.clock files.old) (F.clock files.new) }
+{
+    match files.change(path) {
+        Ok(store) => run_store(alloc, files, path, true, store, script, out),
+        Err(fault) => tell_open_fault(fault, out),
+    }
+}
+
+// Runs a script that only asks on a table file.
+fn ask_table<F: Files, W: Out>(
+    alloc: Global,
+    files: &mut F,
+    path: &str,
+    script: &[u8],
+    out: &mut W,
+) -> Status
+    ensures runs { IsAskedOf false path.now script.now
+        (F.facts files.old) (F.facts files.new) (W.facts out.old) (W.facts out.new) result
+        ⊎ IsUnlent false path.now
+        (F.facts files.old) (F.facts files.new) (W.facts out.old) (W.facts out.new) result }
+    ensures crash { Runs (IsSameBut path.now (HoldsAsked path.now script.now (F.facts files.old)
+        (W.facts out.old) (W.facts out.new) result))
+        (F.facts files.old) (F.clock files.old) (F.clock files.new) }
+{
+    match files.open(path) {
+        Ok(store) => run_store(alloc, files, path, false, store, script, out),
+        Err(fault) => tell_store_fault(fault, out),
+    }
+}
+
+// Runs a script on the table in the store of a table file, and keeps the store, or puts it back.
 fn run_store<F: Files, W: Out>(
     alloc: Global,
     files: &mut F,
     path: &str,
+    changes: bool,
     store: F::Store,
     script: &[u8],
     out: &mut W,
 ) -> Status
-    ensures { AsksStore (λ left. PutsBack path.now (F.facts files.old) (F.facts files.new) left)
-        script.now (F.Store.facts store) (W.facts out.old) (W.facts out.new) result }
+    ensures asks { AsksStore changes path.now script.now (F.Store.facts store)
+        (F.facts files.old) (F.facts files.new) (W.facts out.old) (W.facts out.new) result }
+    ensures crash { Runs (IsSameBut path.now (HoldsLeft (F.Store.facts store) script.now
+        (W.facts out.old) (W.facts out.new) result))
+        (F.facts files.old) (F.clock files.old) (F.clock files.new) }
 {
     match Tree::open(alloc, store) {
-        Ok(tree) => run_tree(alloc, files, path, tree, script, out),
+        Ok(tree) => run_tree(alloc, files, path, changes, tree, script, out),
         Err(refused) => {
             files.put_back(path, refused.store);
             tell_tree_fault(refused.fault, out)
@@ -62,20 +135,24 @@ fn run_tree<F: Files, W: Out>(
     alloc: Global,
     files: &mut F,
     path: &str,
+    changes: bool,
     mut tree: Tree<F::Store>,
     script: &[u8],
     out: &mut W,
 ) -> Status
     ensures { (left : StoreFacts)
-        × PutsBack path.now (F.facts files.old) (F.facts files.new) left
-        × HasRunTree tree script.now left (W.facts out.old) (W.facts out.new) result }
+        × (ran : HasRunTree tree script.now left (W.facts out.old) (W.facts out.new) result)
+        × IsKept changes path.now left.pages ran.closing ran.keeping
+        (F.facts files.old) (F.facts files.new)
+        × Runs (IsSameBut path.now (λ held. IsOk ran.closing × HasPages held left.pages))
+        (F.facts files.old) (F.clock files.old) (F.clock files.new) }
 {
     let ran = run(alloc, &mut tree, script, out);
-    let closed = close_table(files, path, tree);
+    let closed = close_table(files, path, changes, tree);
     tell_ran(ran, closed, out)
 }
 
-// Tells how a run has ended, and then the closing.
+// Tells how a run has ended, and then the closing with the keeping after it.
 fn tell_ran<W: Out>(
     ran: Result<Summary, RunFault>,
     closed: Result<(), TreeFault>,
@@ -85,10 +162,32 @@ fn tell_ran<W: Out>(
 {
     match ran {
         Ok(summary) => tell_closed(summary, closed, out),
-        Err(RunFault::Memory) => tell_memory(out),
-        Err(RunFault::Write) => Status::Device,
-        Err(RunFault::Load(fault)) => tell_load_fault(fault, out),
-        Err(RunFault::Tree(fault)) => tell_tree_fault(fault, out),
+        Err(fault) => {
+            let status = tell_run_fault(fault, out);
+            status_after(closed, status)
+        }
+    }
+}
+
+// How a run ends after a fault: as the fault does where the table was closed and kept, and else as a file that failed.
+fn status_after(closed: Result<(), TreeFault>, status: Status) -> Status
+    ensures { result ≡ status_after closed status }
+{
+    match closed {
+        Ok(()) => status,
+        Err(_) => Status::Device,
+    }
+}
+
+// Tells the fault of a run.
+fn tell_run_fault<W: Out>(fault: RunFault, out: &mut W) -> Status
+    ensures { TellsRan (Err fault) (Ok tt) (W.facts out.old) (W.facts out.new) result }
+{
+    match fault {
+        RunFault::Memory => tell_memory(out),
+        RunFault::Write => Status::Device,
+        RunFault::Load(fault) => tell_load_fault(fault, out),
+        RunFault::Tree(fault) => tell_tree_fault(fault, out),
     }
 }
 

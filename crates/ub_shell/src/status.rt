@@ -1,8 +1,9 @@
 ghost use Rattle.std.specs.Prelude.{◌≡◌, ◌≤◌, ◌++◌, length, codes};
 ghost use Rattle.ub_shell.specs.Ending.{Tells};
-ghost use Rattle.ub_shell.specs.Status.{status_code, summary_status, load_fault_status, load_fault_text, page_fault_word, store_fault_status, store_fault_text, tree_fault_status, tree_fault_text};
+ghost use Rattle.ub_shell.specs.Status.{status_code, summary_status, load_fault_status, load_fault_text, open_fault_status, open_fault_text, page_fault_word, store_fault_status, store_fault_text, tree_fault_status, tree_fault_text};
 
 use crate::line::{Line, line, numbered_line, twice_numbered_line};
+use ub_files::OpenFault;
 use ub_load::LoadFault;
 use ub_script::{Out, Summary, put_all};
 use ub_store::StoreFault;
@@ -64,6 +65,17 @@ pub fn store_fault_status(fault: StoreFault) -> Status
     }
 }
 
+/// How a command ends whose table file can't be opened to be changed, or can't be made: by the data where a journal stands beside it that
+/// is damaged or another table's, else as its store refused.
+pub fn open_fault_status(fault: OpenFault) -> Status
+    ensures { result ≡ open_fault_status fault }
+{
+    match fault {
+        OpenFault::Store(fault) => store_fault_status(fault),
+        OpenFault::BadJournal => Status::Data,
+    }
+}
+
 /// How a run ends whose tree refused: by the data, also where no number or no room is left for a row, unless its store failed or
 /// memory was refused.
 pub fn tree_fault_status(fault: TreeFault) -> Status
@@ -115,6 +127,16 @@ fn store_fault_line(fault: StoreFault) -> Line
         StoreFault::BadSize => line("! BadSize\n"),
         StoreFault::Device => line("! Device\n"),
         StoreFault::Memory => line("! Memory\n"),
+    }
+}
+
+// The line for a table file that can't be opened to be changed, or can't be made.
+fn open_fault_line(fault: OpenFault) -> Line
+    ensures { result.bytes ≡ open_fault_text fault }
+{
+    match fault {
+        OpenFault::Store(fault) => store_fault_line(fault),
+        OpenFault::BadJournal => line("! BadJournal\n"),
     }
 }
 
@@ -182,6 +204,14 @@ pub fn tell_store_fault<W: Out>(fault: StoreFault, out: &mut W) -> Status
         (store_fault_text fault) (store_fault_status fault) result }
 {
     tell_line(&store_fault_line(fault), store_fault_status(fault), out)
+}
+
+/// Writes the line for a table file that can't be opened to be changed, or can't be made.
+pub fn tell_open_fault<W: Out>(fault: OpenFault, out: &mut W) -> Status
+    ensures { Tells (W.facts out.old) (W.facts out.new)
+        (open_fault_text fault) (open_fault_status fault) result }
+{
+    tell_line(&open_fault_line(fault), open_fault_status(fault), out)
 }
 
 /// Writes the line for a table that was refused.

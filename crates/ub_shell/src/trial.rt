@@ -1,3 +1,4 @@
+ghost use Rattle.ub_files.specs.Clock.{IsSameFolder, Runs};
 ghost use Rattle.ub_load.specs.LoadedTable.{axes_with};
 ghost use Rattle.ub_shell.specs.Commands.{axes_asked, TriesFiles};
 ghost use Rattle.ub_shell.specs.Ending.{trial, HasTried};
@@ -22,9 +23,10 @@ pub fn try_files<F: Files, W: Out>(
     out: &mut W,
 ) -> Status
     requires numbers { AreTableNumbers asked.source.dims asked.source.page_rows }
-    ensures { TriesFiles asked.entry.source.path.now asked.entry.script.now
+    ensures tries { TriesFiles asked.entry.source.path.now asked.entry.script.now
         asked.entry.source.name.now (axes_asked asked.entry.source) asked.entry.source.page_rows
         (F.facts files.old) (F.facts files.new) (W.facts out.old) (W.facts out.new) result }
+    ensures crash { Runs IsSameFolder (F.facts files.old) (F.clock files.old) (F.clock files.new) }
 {
     if !is_mask(asked.source.dims, asked.source.signed) {
         return tell(out, b"! BadMask\n", Status::CommandLine);

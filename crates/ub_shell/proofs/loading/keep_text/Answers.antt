@@ -1,14 +1,34 @@
-use Rattle.std.proofs.Common.{inl, inr}
+use Rattle.std.proofs.Common.{inl, inr, refl}
+use Rattle.ub_shell.specs.Commands.{axes_asked}
+use Rattle.ub_shell.proofs.CrashFacts.{table_stands, table_still}
+use Rattle.ub_shell.proofs.UpgradeFacts.{some_page}
 use Rattle.ub_shell.proofs.loading.keep_text.Goals as goal
 
-pub load_text-requires-clause-numbers : goal.load_text-requires-clause-numbers
-load_text-requires-clause-numbers g c = c.requires.numbers
+pub load_pages-requires-clause-numbers : goal.load_pages-requires-clause-numbers
+load_pages-requires-clause-numbers g c = c.requires.numbers
 
-pub load_text-requires-clause-mask : goal.load_text-requires-clause-mask
-load_text-requires-clause-mask g c = c.requires.mask
+pub load_pages-requires-clause-mask : goal.load_pages-requires-clause-mask
+load_pages-requires-clause-mask g c = c.requires.mask
 
-pub returns-in-Ok : goal.returns-in-Ok
-returns-in-Ok g c = inl (c.in-Ok.counts.rows, c.in-Ok.counts.regions, c.in-Ok.ensures.kept, rw c.counts_line.ensures at c.tell_line.ensures)
+pub make_table-requires : goal.make_table-requires
+make_table-requires g c = record { some = some_page c.in-Ok.loaded.store _ c.in-Ok.ensures.loaded.closed.spelled }
 
-pub returns-in-Err : goal.returns-in-Err
-returns-in-Err g c = inr (c.in-Err.fault, c.in-Err.ensures.refused, c.tell_load_fault.ensures)
+pub returns-in-Ok-clause-keeps : goal.returns-in-Ok-clause-keeps
+returns-in-Ok-clause-keeps g c = inl (record {
+  rows = c.in-Ok.loaded.counts.rows;
+  regions = c.in-Ok.loaded.counts.regions;
+  pages = c.in-Ok.loaded.store;
+  table_is = c.in-Ok.ensures.loaded;
+  makes = c.make_table.ensures.makes;
+})
+
+pub returns-in-Err-clause-keeps : goal.returns-in-Err-clause-keeps
+returns-in-Err-clause-keeps g c = inr (record { fault = c.in-Err.fault; is = c.in-Err.ensures.refused; files = refl; tells = c.tell_load_fault.ensures })
+
+pub returns-in-Ok-clause-crash : goal.returns-in-Ok-clause-crash
+returns-in-Ok-clause-crash g c =
+    table_stands c.args.asked.table.now c.args.text.now c.args.asked.source.name.now (axes_asked c.args.asked.source) c.args.asked.source.page_rows (g.F.Files.facts c.args.files.now) _ _
+    c.in-Ok.loaded.counts.rows c.in-Ok.loaded.counts.regions c.in-Ok.loaded.store c.in-Ok.ensures.loaded c.make_table.ensures.crash
+
+pub returns-in-Err-clause-crash : goal.returns-in-Err-clause-crash
+returns-in-Err-clause-crash g c = table_still c.args.asked.table.now c.args.text.now c.args.asked.source.name.now (axes_asked c.args.asked.source) c.args.asked.source.page_rows (g.F.Files.facts c.args.files.now) _

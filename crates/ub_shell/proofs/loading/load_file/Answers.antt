@@ -1,9 +1,11 @@
 use Rattle.std.proofs.Common.{inl, inr, refl}
+use Rattle.ub_shell.specs.Commands.{axes_asked}
+use Rattle.ub_shell.proofs.CrashFacts.{load_same, load_still, loaded_safely}
 use Rattle.ub_shell.proofs.FileFacts.{has_read, not_read, not_so}
 use Rattle.ub_shell.proofs.loading.load_file.Goals as goal
 
-pub returns-in-Ok : goal.returns-in-Ok
-returns-in-Ok g c = inr (
+pub returns-in-Ok-clause-loads : goal.returns-in-Ok-clause-loads
+returns-in-Ok-clause-loads g c = inr (
   c.is_mask.ensures.0 c.if-not-is_mask.false,
   inr (
     not_so c.is_same.result _ c.is_same.ensures.1 c.if-is_same.false,
@@ -11,22 +13,22 @@ returns-in-Ok g c = inr (
       text = c.as_slice.result.now;
       mid = g.F.Files.facts c.read.new.self;
       read = has_read _ c.as_slice.result.now _ _ _ (rw c.as_slice.ensures.value c.in-Ok.ensures.text) c.in-Ok.ensures.effect;
-      ended = c.keep_text.ensures;
+      ended = c.keep_text.ensures.keeps;
     }),
   ),
 )
 
-pub returns-then-not-is_mask : goal.returns-then-not-is_mask
-returns-then-not-is_mask g c = inl (record { bad = not_so c.is_mask.result _ c.is_mask.ensures.1 c.if-not-is_mask.true; files = refl; tells = c.tell.ensures })
+pub returns-then-not-is_mask-clause-loads : goal.returns-then-not-is_mask-clause-loads
+returns-then-not-is_mask-clause-loads g c = inl (record { bad = not_so c.is_mask.result _ c.is_mask.ensures.1 c.if-not-is_mask.true; files = refl; tells = c.tell.ensures })
 
-pub returns-then-is_same : goal.returns-then-is_same
-returns-then-is_same g c = inr (
+pub returns-then-is_same-clause-loads : goal.returns-then-is_same-clause-loads
+returns-then-is_same-clause-loads g c = inr (
   c.is_mask.ensures.0 c.if-not-is_mask.false,
   inl (record { same = c.is_same.ensures.0 c.if-is_same.true; files = refl; tells = c.tell-then-is_same.ensures }),
 )
 
-pub returns-in-Err : goal.returns-in-Err
-returns-in-Err g c = inr (
+pub returns-in-Err-clause-loads : goal.returns-in-Err-clause-loads
+returns-in-Err-clause-loads g c = inr (
   c.is_mask.ensures.0 c.if-not-is_mask.false,
   inr (
     not_so c.is_same.result _ c.is_same.ensures.1 c.if-is_same.false,
@@ -39,3 +41,20 @@ keep_text-requires-clause-numbers g c = c.requires.numbers
 
 pub keep_text-requires-clause-mask : goal.keep_text-requires-clause-mask
 keep_text-requires-clause-mask g c = c.is_mask.ensures.0 c.if-not-is_mask.false
+
+pub returns-in-Ok-clause-crash : goal.returns-in-Ok-clause-crash
+returns-in-Ok-clause-crash g c =
+    loaded_safely c.args.asked.source.path.now c.args.asked.table.now c.as_slice.result.now c.args.asked.source.name.now (axes_asked c.args.asked.source) c.args.asked.source.page_rows
+    (g.F.Files.facts c.args.files.now) (g.F.Files.facts c.read.new.self) _ _ _
+    (not_so c.is_same.result _ c.is_same.ensures.1 c.if-is_same.false)
+    (has_read _ c.as_slice.result.now _ _ _ (rw c.as_slice.ensures.value c.in-Ok.ensures.text) c.in-Ok.ensures.effect)
+    c.in-Ok.ensures.crash c.keep_text.ensures.crash
+
+pub returns-then-not-is_mask-clause-crash : goal.returns-then-not-is_mask-clause-crash
+returns-then-not-is_mask-clause-crash g c = load_still c.args.asked.source.path.now c.args.asked.table.now c.args.asked.source.name.now (axes_asked c.args.asked.source) c.args.asked.source.page_rows (g.F.Files.facts c.args.files.now) _
+
+pub returns-then-is_same-clause-crash : goal.returns-then-is_same-clause-crash
+returns-then-is_same-clause-crash g c = load_still c.args.asked.source.path.now c.args.asked.table.now c.args.asked.source.name.now (axes_asked c.args.asked.source) c.args.asked.source.page_rows (g.F.Files.facts c.args.files.now) _
+
+pub returns-in-Err-clause-crash : goal.returns-in-Err-clause-crash
+returns-in-Err-clause-crash g c = load_same c.args.asked.source.path.now c.args.asked.table.now c.args.asked.source.name.now (axes_asked c.args.asked.source) c.args.asked.source.page_rows (g.F.Files.facts c.args.files.now) _ _ c.in-Err.ensures.crash

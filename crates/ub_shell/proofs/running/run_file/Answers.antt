@@ -1,22 +1,24 @@
 use Rattle.std.proofs.Common.{inl, inr}
-use Rattle.ub_shell.proofs.FileFacts.{file_asked, has_read, not_opened, not_read}
+use Rattle.ub_shell.proofs.CrashFacts.{ran_safely, run_same}
+use Rattle.ub_shell.proofs.FileFacts.{has_read, not_read}
 use Rattle.ub_shell.proofs.running.run_file.Goals as goal
 
-pub returns : goal.returns
-returns g c = inl (record {
+pub returns-in-Ok-clause-runs : goal.returns-in-Ok-clause-runs
+returns-in-Ok-clause-runs g c = inl (record {
   asked = c.as_slice.result.now;
   mid = g.F.Files.facts c.read.new.self;
   read = has_read _ c.as_slice.result.now _ _ _ (rw c.as_slice.ensures.value c.in-Ok.ensures.text) c.in-Ok.ensures.effect;
-  ran = inl (file_asked _ _ _ _ _ _ _ _ _ _ c.in-Ok-open.ensures.lent c.in-Ok-open.ensures.effect c.run_store.ensures);
+  ran = c.run_script.ensures.runs;
 })
 
-pub returns-in-Err-open : goal.returns-in-Err-open
-returns-in-Err-open g c = inl (record {
-  asked = c.in-Ok.script.items;
-  mid = g.F.Files.facts c.read.new.self;
-  read = has_read _ c.in-Ok.script.items _ _ _ c.in-Ok.ensures.text c.in-Ok.ensures.effect;
-  ran = inr (not_opened _ _ _ c.in-Err-open.fault _ _ _ c.in-Err-open.ensures.faults (λ e. c.in-Err-open.ensures.torn e) c.in-Err-open.ensures.effect c.tell_store_fault-in-Err-open.ensures);
-})
+pub returns-in-Err-clause-runs : goal.returns-in-Err-clause-runs
+returns-in-Err-clause-runs g c = inr (not_read _ _ _ c.in-Err.fault _ _ _ c.in-Err.ensures.faults c.in-Err.ensures.effect c.tell_store_fault.ensures)
 
-pub returns-in-Err : goal.returns-in-Err
-returns-in-Err g c = inr (not_read _ _ _ c.in-Err.fault _ _ _ c.in-Err.ensures.faults c.in-Err.ensures.effect c.tell_store_fault.ensures)
+pub returns-in-Ok-clause-crash : goal.returns-in-Ok-clause-crash
+returns-in-Ok-clause-crash g c =
+    ran_safely c.args.asked.table.now c.args.asked.script.now c.as_slice.result.now (g.F.Files.facts c.args.files.now) (g.F.Files.facts c.read.new.self) _ _ _ (g.W.Out.facts c.args.out.now) (g.W.Out.facts c.run_script.new.out) c.run_script.result
+    (has_read _ c.as_slice.result.now _ _ _ (rw c.as_slice.ensures.value c.in-Ok.ensures.text) c.in-Ok.ensures.effect)
+    c.in-Ok.ensures.crash c.run_script.ensures.crash
+
+pub returns-in-Err-clause-crash : goal.returns-in-Err-clause-crash
+returns-in-Err-clause-crash g c = run_same c.args.asked.table.now c.args.asked.script.now (g.F.Files.facts c.args.files.now) _ _ (g.W.Out.facts c.args.out.now) (g.W.Out.facts c.tell_store_fault.new.out) c.tell_store_fault.result c.in-Err.ensures.crash

@@ -1,31 +1,49 @@
 use Rattle.std.proofs.Common.{inl, inr}
 use Rattle.ub_shell.proofs.FileFacts.{store_left}
+use Rattle.ub_shell.proofs.CrashFacts.{left_safely, left_same}
 use Rattle.ub_shell.proofs.running.run_store.Goals as goal
 
-pub returns-in-Ok : goal.returns-in-Ok
-returns-in-Ok g c =
+pub returns-in-Ok-clause-asks : goal.returns-in-Ok-clause-asks
+returns-in-Ok-clause-asks g c =
     let ran = c.run_tree.ensures in
     let opened = c.in-Ok.ensures.opened in
-    record {
+    inl (record {
       left = ran.0;
-      back = ran.1;
-      asked = inl (record {
+      run = record {
         tree = c.in-Ok.tree;
         tree_is = record { opened = opened; sound = c.in-Ok.ensures.sound };
-        ran = ran.2;
-        left_is = store_left {out_now = g.W.Out.facts c.run_tree.new.out} (g.F.Store.PageStore.facts c.args.store) c.in-Ok.tree opened ran.2;
-      });
-    }
+        ran = ran.1;
+        left_is = store_left {out_now = g.W.Out.facts c.run_tree.new.out} (g.F.Store.PageStore.facts c.args.store) c.in-Ok.tree opened ran.1;
+      };
+      kept = ran.2;
+    })
 
-pub returns-in-Err : goal.returns-in-Err
-returns-in-Err g c = record {
-  left = g.F.Store.PageStore.facts c.in-Err.refused.store;
-  back = c.put_back.ensures;
-  asked = inr (record {
+pub returns-in-Err-clause-asks : goal.returns-in-Err-clause-asks
+returns-in-Err-clause-asks g c = inr (
+  record {
     fault = c.in-Err.refused.fault;
     is = c.in-Err.ensures.refused;
     passing = c.in-Err.ensures.sound;
-    left_is = c.in-Err.ensures.kept;
     tells = c.tell_tree_fault.ensures;
-  });
-}
+  },
+  c.put_back.ensures.kept,
+)
+
+pub returns-in-Ok-clause-crash : goal.returns-in-Ok-clause-crash
+returns-in-Ok-clause-crash g c =
+    let ran = c.run_tree.ensures in
+    let opened = c.in-Ok.ensures.opened in
+    left_safely c.args.path.now c.args.script.now (g.F.Store.PageStore.facts c.args.store) ran.0 (g.F.Files.facts c.args.files.now) _ _
+    (g.W.Out.facts c.args.out.now) (g.W.Out.facts c.run_tree.new.out) c.run_tree.result
+    (record {
+      tree = c.in-Ok.tree;
+      tree_is = record { opened = opened; sound = c.in-Ok.ensures.sound };
+      ran = ran.1;
+      left_is = store_left {out_now = g.W.Out.facts c.run_tree.new.out} (g.F.Store.PageStore.facts c.args.store) c.in-Ok.tree opened ran.1;
+    })
+    ran.3
+
+pub returns-in-Err-clause-crash : goal.returns-in-Err-clause-crash
+returns-in-Err-clause-crash g c =
+    left_same c.args.path.now c.args.script.now (g.F.Store.PageStore.facts c.args.store) (g.F.Files.facts c.args.files.now) _ _
+    (g.W.Out.facts c.args.out.now) (g.W.Out.facts c.tell_tree_fault.new.out) c.tell_tree_fault.result c.put_back.ensures.crash

@@ -4,14 +4,16 @@ pub returns : goal.returns
 returns g c =
     let closed = c.close_table-closed.ensures in (
       closed.left,
-      closed.back,
       record {
         now = c.run-ran.new.tree;
         result = c.run-ran.result;
-        closing = c.close_table-closed.result;
+        closing = closed.closing;
+        keeping = closed.keeping;
         mid = g.W.Out.facts c.run-ran.new.out;
         ran = c.run-ran.ensures;
         closes = closed.closes;
-        tells = c.tell_ran.ensures;
+        tells = rw closed.ended at c.tell_ran.ensures;
       },
+      closed.kept,
+      closed.crash,
     )

@@ -1,8 +1,27 @@
-use Rattle.std.proofs.Common.{inl, inr}
+use Rattle.ub_shell.proofs.CrashFacts.{anew_stands}
+use Rattle.ub_shell.proofs.UpgradeFacts.{always_closed, closed_anew, some_page}
 use Rattle.ub_shell.proofs.upgrading.keep_tree.Goals as goal
 
-pub returns-in-Ok : goal.returns-in-Ok
-returns-in-Ok g c = λ from is. inl (c.in-Ok.counts.rows, c.in-Ok.counts.regions, c.in-Ok.ensures.kept from is, rw c.counts_line.ensures at c.tell_line.ensures)
+pub make_table-requires : goal.make_table-requires
+make_table-requires g c =
+    record { some = some_page c.in-Ok.pages _ ((c.in-Ok.ensures.table c.requires.afoot.changed).1 c.requires.afoot.honest).spelled }
 
-pub returns-in-Err : goal.returns-in-Err
-returns-in-Err g c = λ from is. inr (c.in-Err.fault, c.in-Err.ensures.refused from is, c.tell_tree_fault.ensures)
+pub returns-in-Ok-clause-makes : goal.returns-in-Ok-clause-makes
+returns-in-Ok-clause-makes g c = λ from is. record {
+  rows = c.rows.result;
+  regions = c.regions.result;
+  pages = c.in-Ok.pages;
+  table_is = closed_anew from c.args.tree c.in-Ok.pages c.rows.result c.regions.result is c.requires.afoot c.in-Ok.ensures.table c.in-Ok.ensures.closed c.rows.ensures c.regions.ensures.count;
+  makes = c.make_table.ensures.makes;
+}
+
+pub returns-in-Err-clause-makes : goal.returns-in-Err-clause-makes
+returns-in-Err-clause-makes g c = λ from is. absurd (always_closed from c.args.tree c.in-Err.refused.fault is c.requires.afoot c.in-Err.ensures.refused)
+
+pub returns-in-Ok-clause-crash : goal.returns-in-Ok-clause-crash
+returns-in-Ok-clause-crash g c = λ from is.
+    let table = closed_anew from c.args.tree c.in-Ok.pages c.rows.result c.regions.result is c.requires.afoot c.in-Ok.ensures.table c.in-Ok.ensures.closed c.rows.ensures c.regions.ensures.count in
+    anew_stands c.args.path.now from (g.F.Files.facts c.args.files.now) _ _ c.rows.result c.regions.result c.in-Ok.pages table c.make_table.ensures.crash
+
+pub returns-in-Err-clause-crash : goal.returns-in-Err-clause-crash
+returns-in-Err-clause-crash g c = λ from is. absurd (always_closed from c.args.tree c.in-Err.refused.fault is c.requires.afoot c.in-Err.ensures.refused)

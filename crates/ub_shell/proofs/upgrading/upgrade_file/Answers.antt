@@ -1,19 +1,34 @@
 use Rattle.std.proofs.Common.{inl, inr, refl}
 use Rattle.ub_shell.proofs.FileFacts.{not_opened, not_so}
-use Rattle.ub_shell.proofs.UpgradeFacts.{anew_of}
+use Rattle.ub_shell.proofs.CrashFacts.{upgrade_same, upgrade_still, upgraded_safely}
 use Rattle.ub_shell.proofs.upgrading.upgrade_file.Goals as goal
 
-pub returns-in-Ok : goal.returns-in-Ok
-returns-in-Ok g c = inr (
+pub returns-in-Ok-clause-upgrades : goal.returns-in-Ok-clause-upgrades
+returns-in-Ok-clause-upgrades g c = inr (
   not_so c.is_same.result _ c.is_same.ensures.1 c.if-is_same.false,
-  inl (anew_of _ _ _ _ _ _ _ _ _ _ c.in-Ok.ensures.lent c.in-Ok.ensures.effect c.upgrade_store.ensures),
+  inl (record {
+    store = g.F.Store.PageStore.facts c.in-Ok.store;
+    lent = c.in-Ok.ensures.lent;
+    upgrades = rw c.in-Ok.ensures.effect at c.upgrade_store.ensures.upgrades;
+  }),
 )
 
-pub returns-in-Err : goal.returns-in-Err
-returns-in-Err g c = inr (
+pub returns-in-Err-clause-upgrades : goal.returns-in-Err-clause-upgrades
+returns-in-Err-clause-upgrades g c = inr (
   not_so c.is_same.result _ c.is_same.ensures.1 c.if-is_same.false,
   inr (not_opened _ _ _ c.in-Err.fault _ _ _ c.in-Err.ensures.faults (λ e. c.in-Err.ensures.torn e) c.in-Err.ensures.effect c.tell_store_fault.ensures),
 )
 
-pub returns-then-is_same : goal.returns-then-is_same
-returns-then-is_same g c = inl (record { same = c.is_same.ensures.0 c.if-is_same.true; files = refl; tells = c.tell.ensures })
+pub returns-then-is_same-clause-upgrades : goal.returns-then-is_same-clause-upgrades
+returns-then-is_same-clause-upgrades g c = inl (record { same = c.is_same.ensures.0 c.if-is_same.true; files = refl; tells = c.tell.ensures })
+
+pub returns-in-Ok-clause-crash : goal.returns-in-Ok-clause-crash
+returns-in-Ok-clause-crash g c =
+    upgraded_safely c.args.asked.old.now c.args.asked.new.now (g.F.Store.PageStore.facts c.in-Ok.store) (g.F.Files.facts c.args.files.now) _ _ _ c.in-Ok.ensures.lent c.in-Ok.ensures.crash
+    (rw c.in-Ok.ensures.effect at c.upgrade_store.ensures.crash)
+
+pub returns-in-Err-clause-crash : goal.returns-in-Err-clause-crash
+returns-in-Err-clause-crash g c = upgrade_same c.args.asked.old.now c.args.asked.new.now (g.F.Files.facts c.args.files.now) _ _ c.in-Err.ensures.crash
+
+pub returns-then-is_same-clause-crash : goal.returns-then-is_same-clause-crash
+returns-then-is_same-clause-crash g c = upgrade_still c.args.asked.old.now c.args.asked.new.now (g.F.Files.facts c.args.files.now) _

@@ -1,39 +1,35 @@
 use Rattle.std.proofs.Common.{inl, inr, refl}
-use Rattle.ub_shell.proofs.UpgradeFacts.{afoot, old_left}
+use Rattle.ub_shell.proofs.CrashFacts.{anew_same, anew_then}
+use Rattle.ub_shell.proofs.UpgradeFacts.{afoot}
 use Rattle.ub_shell.proofs.upgrading.upgrade_store.Goals as goal
 
 pub keep_tree-requires : goal.keep_tree-requires
 keep_tree-requires g c = record { afoot = afoot _ _ _ c.in-Ok.tree c.in-Ok.ensures.begun c.in-Ok.ensures.effect }
 
-pub returns-in-Ok : goal.returns-in-Ok
-returns-in-Ok g c = record {
-  left = g.F.Store.PageStore.facts c.upgrade.new.old;
-  mid = g.F.Files.facts c.put_back.new.self;
-  back = c.put_back.ensures;
-  ended = inl (record {
-    left_is = c.in-Ok.ensures.effect.old_is;
-    ended = c.keep_tree.ensures (g.F.Store.PageStore.facts c.args.store) (record {
+pub returns-in-Ok-clause-upgrades : goal.returns-in-Ok-clause-upgrades
+returns-in-Ok-clause-upgrades g c = inl (rw c.put_back.ensures.kept at (c.keep_tree.ensures.makes (g.F.Store.PageStore.facts c.args.store) (record {
+  upgraded = rw c.new.ensures.pages at c.in-Ok.ensures.begun;
+  made = λ version next schema placed honest old. c.in-Ok.ensures.made version next schema placed honest refl old;
+})))
+
+pub returns-in-Err-clause-upgrades : goal.returns-in-Err-clause-upgrades
+returns-in-Err-clause-upgrades g c = inr (record {
+  fault = c.in-Err.refused.fault;
+  is = record {
+    is = rw c.new.ensures.pages at c.in-Err.ensures.refused;
+    passing = λ version next schema placed honest old. c.in-Err.ensures.made version next schema placed honest refl old;
+  };
+  files = c.put_back-in-Err.ensures.kept;
+  tells = c.tell_tree_fault.ensures;
+})
+
+pub returns-in-Ok-clause-crash : goal.returns-in-Ok-clause-crash
+returns-in-Ok-clause-crash g c =
+    anew_then c.args.asked.new.now (g.F.Store.PageStore.facts c.args.store) (g.F.Files.facts c.args.files.now) _ _ _ c.put_back.ensures.crash
+    (rw c.put_back.ensures.kept at (c.keep_tree.ensures.crash (g.F.Store.PageStore.facts c.args.store) (record {
       upgraded = rw c.new.ensures.pages at c.in-Ok.ensures.begun;
       made = λ version next schema placed honest old. c.in-Ok.ensures.made version next schema placed honest refl old;
-    });
-  });
-}
+    })))
 
-pub returns-in-Err : goal.returns-in-Err
-returns-in-Err g c =
-    let refused = rw c.new.ensures.pages at c.in-Err.ensures.refused in
-    record {
-      left = g.F.Store.PageStore.facts c.upgrade.new.old;
-      mid = g.F.Files.facts c.put_back-in-Err.new.self;
-      back = c.put_back-in-Err.ensures;
-      ended = inr (record {
-        fault = c.in-Err.refused.fault;
-        is = record {
-          is = refused;
-          passing = λ version next schema placed honest old. c.in-Err.ensures.made version next schema placed honest refl old;
-        };
-        left_is = old_left c.in-Err.refused.fault (g.F.Store.PageStore.facts c.args.store) (g.F.Store.PageStore.facts c.upgrade.new.old) c.new.result c.in-Err.refused.store c.in-Err.ensures.effect;
-        files = refl;
-        tells = c.tell_tree_fault.ensures;
-      });
-    }
+pub returns-in-Err-clause-crash : goal.returns-in-Err-clause-crash
+returns-in-Err-clause-crash g c = anew_same c.args.asked.new.now (g.F.Store.PageStore.facts c.args.store) (g.F.Files.facts c.args.files.now) _ _ c.put_back-in-Err.ensures.crash

@@ -1,0 +1,84 @@
+-- What a crash leaves of files at any moment of a command: each path is found as before, or it is the table that the command names, and holds
+-- what a whole run of the command leaves there.
+use Rattle.std.specs.Prelude.{◌≡◌, ◌≢◌, ◌⊎◌, ℕ, List, IsOk}
+use Rattle.ub_files.specs.Clock.{Folder, IsSameBut}
+use Rattle.ub_files.specs.Files.{FilesFacts, HasPages, Held, IsEmpty, IsLent, IsPart, IsText, standard_input}
+use Rattle.ub_script.specs.Output.{OutFacts}
+use Rattle.ub_shell.specs.Commands.{HasRead, IsRunOn, IsTable}
+use Rattle.ub_shell.specs.Upgrading.{IsTableAnew}
+use Rattle.ub_shell.specs.declared.status.Status.{Status}
+use Rattle.ub_store.specs.Facts.{StoreFacts}
+use Rattle.ub_table.specs.declared.axes.Axes.{Axes}
+use Rattle.ub_words.specs.CommandLine.{AsksLoad, AsksRun, AsksUpgrade}
+
+-- where it is told, this is the pages that were left of the store of a table file by a run of the script that the other path holds, once that
+-- was closed
+pub record HoldsRun (table script : List ℕ) (old : FilesFacts) (out out_now : OutFacts) (status : Status) (held : Held) : Type 0 where
+  pub asked : List ℕ
+  pub mid : FilesFacts
+  pub store : StoreFacts
+  pub left : StoreFacts
+  pub read : HasRead script asked old mid
+  pub lent : IsLent mid table store
+  pub run : IsRunOn store asked left out out_now status
+  pub closed : IsOk run.ran.closing
+  pub holds : HasPages held left.pages
+
+-- the same of a run on a store that was lent
+abbrev pub HoldsLeft : StoreFacts → List ℕ → OutFacts → OutFacts → Status → Held → Type 0
+HoldsLeft store script out out_now status held =
+    (left : StoreFacts) × (run : IsRunOn store script left out out_now status) × IsOk run.ran.closing × HasPages held left.pages
+
+-- and of a run on the table file
+abbrev pub HoldsAsked : List ℕ → List ℕ → FilesFacts → OutFacts → OutFacts → Status → Held → Type 0
+HoldsAsked table script old out out_now status held = (store : StoreFacts) × IsLent old table store × HoldsLeft store script out out_now status held
+
+-- where it is told, this is these pages; or, where the path had no page, a part of them, which is no table
+abbrev pub MayStand : List ℕ → FilesFacts → Held → List (List ℕ) → Type 0
+MayStand table old held all = HasPages held all ⊎ (IsEmpty (old.holds table) × IsPart held all)
+
+-- this is so of the pages of the table of a text
+abbrev pub HasTable : List ℕ → List ℕ → Axes → ℕ → (List (List ℕ) → Type 0) → Type 0
+HasTable text name axes page_rows Is =
+    (rows : ℕ) × (regions : ℕ) × (all : List (List ℕ)) × IsTable text name axes page_rows rows regions all × Is all
+
+-- of the text that a path holds
+pub record HasLoaded (source name : List ℕ) (axes : Axes) (page_rows : ℕ) (old : FilesFacts) (Is : List (List ℕ) → Type 0) : Type 0 where
+  pub text : List ℕ
+  pub text_is : IsText (old.holds source) text
+  pub table : HasTable text name axes page_rows Is
+
+-- of the table of a store that was made anew
+abbrev pub HasAnew : StoreFacts → (List (List ℕ) → Type 0) → Type 0
+HasAnew from Is = (rows : ℕ) × (regions : ℕ) × (all : List (List ℕ)) × IsTableAnew from rows regions all × Is all
+
+-- of the one that a path holds
+pub record HasUpgraded (source : List ℕ) (old : FilesFacts) (Is : List (List ℕ) → Type 0) : Type 0 where
+  pub from : StoreFacts
+  pub lent : IsLent old source from
+  pub table : HasAnew from Is
+
+-- what a crash leaves while a script is run on a table file
+abbrev pub RunsSafely : List ℕ → List ℕ → FilesFacts → OutFacts → OutFacts → Status → Folder → Folder → Type 0
+RunsSafely table script old out out_now status = IsSameBut table (HoldsRun table script old out out_now status)
+
+-- while a CSV file is loaded into a table file
+abbrev pub LoadsSafely : List ℕ → List ℕ → List ℕ → Axes → ℕ → FilesFacts → Folder → Folder → Type 0
+LoadsSafely source table name axes page_rows old = IsSameBut table (λ held. HasLoaded source name axes page_rows old (MayStand table old held))
+
+-- while a table file of an older version is made anew
+abbrev pub UpgradesSafely : List ℕ → List ℕ → FilesFacts → Folder → Folder → Type 0
+UpgradesSafely source table old = IsSameBut table (λ held. HasUpgraded source old (MayStand table old held))
+
+-- this is what a whole run of the command that these words ask for leaves in the table file that they name
+abbrev pub IsKeptBy : List (List ℕ) → FilesFacts → OutFacts → OutFacts → Status → List ℕ → Held → Type 0
+IsKeptBy words old out out_now status path held =
+    ((script : List ℕ) × AsksRun words path script × HoldsRun path script old out out_now status held)
+    ⊎ (((source : List ℕ) × (name : List ℕ) × (axes : Axes) × (page_rows : ℕ) × AsksLoad words source path name axes.dims page_rows axes.signed
+    × HasLoaded source name axes page_rows old (MayStand path old held))
+    ⊎ ((source : List ℕ) × AsksUpgrade words source path × HasUpgraded source old (MayStand path old held)))
+
+-- each path but standard input is found as before, or holds that
+abbrev pub IsBeforeOrAfter : List (List ℕ) → FilesFacts → OutFacts → OutFacts → Status → Folder → Folder → Type 0
+IsBeforeOrAfter words old out out_now status d c =
+    (path : List ℕ) → path ≢ standard_input → (c path ≡ d path) ⊎ IsKeptBy words old out out_now status path (c path)
