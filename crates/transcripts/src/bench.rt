@@ -1,17 +1,19 @@
-ghost use Rattle.transcripts.specs.Bench.{bench_facts};
-
-use crate::damage::{copy, is_damaged};
+use crate::crash::{Left, left_of, seen_at};
+use crate::damage::is_damaged;
 use crate::marks::Asked;
 use crate::narrow::Narrow;
 use std::alloc::{AllocError, Global};
-use ub_shell::{Files, MemFiles, run_program};
-use ub_store::{FaultyStore, PageStore, StoreFault};
+use ub_journal::{TornPlace, is_journal};
+use ub_journal_page::{page_total, spell_page};
+use ub_memory_files::MemFiles;
+use ub_shell::{Files, run_program};
+use ub_store::Page;
 
 /// Files in memory, over which command lines run.
 #[derive(Drop)]
 pub struct Bench {
     alloc: Global,
-    files: Kept<MemFiles>,
+    files: MemFiles,
 }
 
 impl Bench {
@@ -19,56 +21,103 @@ impl Bench {
     pub fn new(alloc: Global) -> Bench {
         Bench {
             alloc,
-            files: Kept {
-                inner: MemFiles::new(alloc),
-                k: 0,
-                reads: 0,
-                tables: 0,
-            },
+            files: MemFiles::new(alloc),
         }
     }
 
     /// Puts a text at this name.
     pub fn put(&mut self, name: &str, text: &str) -> Result<(), AllocError> {
         let bytes = Vec::from_slice(self.alloc, text.as_bytes())?;
-        self.files.inner.put_text(name, bytes)
+        self.files.put_text(name, bytes)
     }
 
     /// Damages a table file, or copies one, by a line of the transcript. It says whether there was such a file, and such a place
     /// in it.
     pub fn damage(&mut self, line: &str) -> bool {
-        is_damaged(&mut self.files.inner, line)
+        is_damaged(self.alloc, &mut self.files, line)
     }
 
-    /// The bytes of a text, or of a table file, if there is one of this name.
+    /// The bytes of a text, of a table file, or of the journal beside one, if there is one of this name.
     pub fn bytes_of(&mut self, name: &str) -> Result<Option<Vec<u8>>, AllocError> {
-        if let Ok(text) = self.files.inner.read(name) {
+        if let Ok(text) = self.files.read(name) {
             return Ok(Some(text));
         }
-        let Ok(mut store) = self.files.inner.open(name) else {
+        if let Some(place) = self.files.table(name) {
+            let pages = place.copy_pages(self.alloc)?;
+            return Ok(Some(bytes_in(self.alloc, pages.as_slice())?));
+        }
+        match name.strip_suffix("-journal") {
+            Some(table) => self.journal_of(table),
+            None => Ok(None),
+        }
+    }
+
+    // The bytes of the journal beside the table file of this name, if one stands there.
+    fn journal_of(&self, name: &str) -> Result<Option<Vec<u8>>, AllocError> {
+        let Some(place) = self.files.table(name) else {
             return Ok(None);
         };
-        let bytes = bytes_in(self.alloc, &mut store);
-        self.files.inner.put_back(name, store);
-        Ok(Some(bytes?))
+        let Some(journal) = seen_at(self.alloc, Some(place))?.journal else {
+            return Ok(None);
+        };
+        if !is_journal(&journal) {
+            return Ok(None);
+        }
+        let mut pages = Vec::new(self.alloc);
+        let mut page = [0; 4096];
+        for n in 0..page_total(&journal) {
+            spell_page(&journal, n, &mut page);
+            pages.push(page)?;
+        }
+        Ok(Some(bytes_in(self.alloc, pages.as_slice())?))
     }
 
     /// Runs a command line, and gives its status and what it wrote.
     pub fn run(&mut self, asked: Asked<'_>) -> Result<(u8, Narrow), AllocError> {
         let words = words_of(self.alloc, asked.words)?;
         let out = Narrow::new(self.alloc, asked.room);
-        self.files.k = asked.k;
-        Ok(run_program(self.alloc, &mut self.files, Ok(words), out))
+        self.files.fail_at(asked.k);
+        let ran = run_program(self.alloc, &mut self.files, Ok(words), out);
+        self.files.fail_at(0);
+        Ok(ran)
+    }
+
+    /// Runs a command line up to the call of its table file's place at which it is stopped, leaves what a crash there may leave, and
+    /// gives what it wrote up to there.
+    pub fn crash(&mut self, asked: Asked<'_>, left: Left) -> Result<Narrow, AllocError> {
+        let name = table_of(asked.words);
+        let before = seen_at(self.alloc, self.files.table(name))?;
+        let (_, mut out) = self.run(asked)?;
+        out.take_back("! Device\n");
+        if let Some(place) = self.files.table(name) {
+            let image = left_of(self.alloc, before, place, left)?;
+            self.leave(name, image)?;
+        }
+        Ok(out)
+    }
+
+    // Leaves what stands at a place to the table file of this name.
+    fn leave(&mut self, name: &str, place: TornPlace) -> Result<(), AllocError> {
+        self.files.put_place(name, place)
     }
 }
 
-// The bytes of a store's pages, one page after the other, up to the first that can't be read.
-fn bytes_in<S: PageStore>(alloc: Global, store: &mut S) -> Result<Vec<u8>, AllocError> {
+// The table file that a command line names: its second word, or of a `load` or an `upgrade` its third.
+fn table_of(words: &str) -> &str {
+    let mut words = words.split_whitespace();
+    let command = words.next().unwrap_or("");
+    let first = words.next().unwrap_or("");
+    match command {
+        "load" | "upgrade" => words.next().unwrap_or(""),
+        _ => first,
+    }
+}
+
+// The bytes of pages, one page after the other.
+fn bytes_in(alloc: Global, pages: &[Page]) -> Result<Vec<u8>, AllocError> {
     let mut bytes = Vec::new(alloc);
-    for n in 0..store.pages() {
-        if let Ok(page) = store.read_page(n) {
-            bytes.extend_from_slice(&page)?;
-        }
+    for page in pages {
+        bytes.extend_from_slice(page)?;
     }
     Ok(bytes)
 }
@@ -81,51 +130,4 @@ pub fn words_of(alloc: Global, line: &str) -> Result<Vec<String>, AllocError> {
         words.push(String::from_str(alloc, word)?)?;
     }
     Ok(words)
-}
-
-// Files whose stores fail at their k-th call, or never where k is 0. What a store holds that is put back is kept.
-#[derive(Drop)]
-struct Kept<F> {
-    inner: F,
-    k: u64,
-    reads: u64,
-    tables: u64,
-}
-
-impl<F: Files> Files for Kept<F> {
-    type Store = FaultyStore<F::Store>;
-
-    ghost facts = { λ files. bench_facts files.reads files.tables };
-
-    fn read(&mut self, path: &str) -> Result<Vec<u8>, StoreFault> {
-        let read = self.inner.read(path);
-        if let Err(StoreFault::Device) = &read {
-            self.reads = self.reads.saturating_add(1);
-        }
-        read
-    }
-
-    fn open(&mut self, path: &str) -> Result<FaultyStore<F::Store>, StoreFault> {
-        let opened = self.inner.open(path);
-        if let Err(StoreFault::Device) = &opened {
-            self.tables = self.tables.saturating_add(1);
-        }
-        Ok(FaultyStore::new(opened?, self.k))
-    }
-
-    fn create(&mut self, path: &str) -> Result<FaultyStore<F::Store>, StoreFault> {
-        let created = self.inner.create(path);
-        if let Err(StoreFault::Device) = &created {
-            self.tables = self.tables.saturating_add(1);
-        }
-        Ok(FaultyStore::new(created?, self.k))
-    }
-
-    fn put_back(&mut self, path: &str, mut store: FaultyStore<F::Store>) {
-        if let Ok(mut kept) = self.inner.create(path) {
-            let count = store.pages();
-            copy(&mut store, count, &mut kept);
-            self.inner.put_back(path, kept);
-        }
-    }
 }

@@ -3,7 +3,8 @@ use crate::marks::Asked;
 use crate::narrow::Narrow;
 use std::alloc::{AllocError, Global};
 use std::{fs, io};
-use ub_shell::{HostFiles, run_program};
+use ub_host_files::HostFiles;
+use ub_shell::run_program;
 
 // A file of the system: its name, and the bytes that it had when it was looked at, if it was there.
 #[derive(Drop)]

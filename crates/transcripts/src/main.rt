@@ -6,7 +6,10 @@
 //     # ..        a comment
 //     == NAME     the lines that follow are the text of the file NAME
 //     $ WORDS     `ubq WORDS` over these files writes the lines that follow; standard input is the file `-`
-//     @K WORDS    the same, where the store of its table file fails at its K-th call
+//     @K WORDS    the same, where the place of its table file fails at its K-th call
+//     @crash K IMAGE WORDS
+//                 the same, where it is stopped at that call: its table file is then what a crash leaves: all that is `seen`, with
+//                 what wasn't synced `lost`, or with each page that wasn't synced `torn`
 //     /ROOM WORDS the same, where the output has room for ROOM bytes alone
 //     > SQL       the line SQL as a script on the table of `t.csv`: two dimensions, two rows a page
 //     ? STATUS    the command line above ends with this status, and not with 0
@@ -16,7 +19,7 @@
 //     | FILE PAGES
 //                 the table file FILE is cut to so many pages of 4096 bytes
 //
-//     ^ NAME      the file NAME is put into a folder of the system, as it stands
+//     ^ NAME      the file NAME is put into a folder of the system, as it stands; so is the journal beside a table file, as NAME-journal
 //     : WORDS     `ubq WORDS` over the files of that folder writes the lines that follow; the mark ? tells its status
 //     * NAME ..   the command line above changes or makes these files of the folder. Of all others that were put there, or that
 //                 such a command line names, it must leave each byte as it was, and make none
@@ -29,6 +32,7 @@
 #![tactic(auto)]
 
 mod bench;
+mod crash;
 mod damage;
 mod folder;
 mod marks;

@@ -1,3 +1,5 @@
+use crate::crash::{Left, left_by};
+
 /// Where the files lie over which a command line runs.
 #[derive(Clone, Copy)]
 pub enum Place {
@@ -10,8 +12,10 @@ pub enum Place {
 #[derive(Clone, Copy)]
 pub struct Asked<'a> {
     pub words: &'a str,
-    /// Which call of its table file's store fails: none where it is 0.
+    /// Which call of its table file's place fails: none where it is 0.
     pub k: u64,
+    /// What is left of it where it is stopped at that call.
+    pub left: Option<Left>,
     /// For how many bytes its output has room.
     pub room: usize,
     /// The status that it must end with.
@@ -27,6 +31,7 @@ impl<'a> Asked<'a> {
         Asked {
             words,
             k: 0,
+            left: None,
             room: usize::MAX,
             status: 0,
             place: Place::Memory,
@@ -81,6 +86,15 @@ pub fn mark_of(line: &str) -> Option<Mark<'_>> {
 // A command line where a call of a store fails, or the output.
 fn failing<'a>(head: &str, words: &'a str) -> Option<Asked<'a>> {
     let asked = Asked::new(words);
+    if head == "@crash" {
+        let (k, rest) = cut(words);
+        let (left, words) = cut(rest);
+        return Some(Asked {
+            k: k.parse::<u64>().ok()?,
+            left: Some(left_by(left)?),
+            ..Asked::new(words)
+        });
+    }
     if let Some(k) = head.strip_prefix('@') {
         let k = k.parse::<u64>().ok()?;
         return Some(Asked { k, ..asked });

@@ -18,6 +18,14 @@ impl Narrow {
             room,
         }
     }
+
+    /// Takes a line back that was written last, where it was.
+    pub fn take_back(&mut self, line: &str) {
+        if self.taken.as_slice().ends_with(line.as_bytes()) {
+            let front = self.taken.len().saturating_sub(line.len());
+            self.taken.truncate(front);
+        }
+    }
 }
 
 impl Write for Narrow {

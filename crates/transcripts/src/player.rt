@@ -157,13 +157,21 @@ impl<'a> Player<'a> {
     fn run(&mut self, rt: &HostRuntime, asked: Asked<'a>) -> io::Result<(u8, Narrow, String)> {
         match asked.place {
             Place::Memory => {
-                let (status, out) = self.bench.run(asked)?;
+                let (status, out) = self.run_in_memory(asked)?;
                 Ok((status, out, String::new(self.alloc)))
             }
             Place::Folder => {
                 let (status, out) = self.folder.run(rt, asked)?;
                 Ok((status, out, self.folder.changes(rt)?))
             }
+        }
+    }
+
+    // Runs a command line over the files in memory, or stops it, which has no status.
+    fn run_in_memory(&mut self, asked: Asked<'a>) -> Result<(u8, Narrow), AllocError> {
+        match asked.left {
+            Some(left) => Ok((asked.status, self.bench.crash(asked, left)?)),
+            None => self.bench.run(asked),
         }
     }
 
@@ -180,7 +188,7 @@ impl<'a> Player<'a> {
         let wanted = self.text.as_str();
         let written = str::from_utf8(out.taken.as_slice()).unwrap_or("! no text\n");
         println!(rt;
-            "{}, store fails at {}, room {}",
+            "{}, place fails at {}, room {}",
             asked.words, asked.k, asked.room
         )?;
         println!(rt;

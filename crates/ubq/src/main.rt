@@ -4,7 +4,8 @@
 
 use std::io;
 use std::process::ExitCode;
-use ub_shell::{HostFiles, program_words, run_program};
+use ub_host_files::HostFiles;
+use ub_shell::{program_words, run_program};
 
 // The status where a file or the output failed.
 const FAILED: u8 = 4;
