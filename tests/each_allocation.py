@@ -2,7 +2,7 @@
 """Makes each allocation of the program fail in turn, by hand. It runs `try`, `load` and `run` on the table of five rows and a script with a statement of every kind, and then
 `run` of a script that changes the table, each time on a new copy of it; `describe` and `check` of it, and of the same in format 1; and `upgrade` of that table in formats 1 and 2. It says how many runs told `! Memory` after whole texts of
 first statements, how many did without, and how many did anything else (which is wrong). A table that was changed must then open, and hold what those statements left, but for the
-first rows of a DELETE that was stopped. The old file of an upgrade must be as it was, and after a refusal the new one too, and so must each table that is described or checked.
+first rows of a DELETE that was stopped; where memory for a changed page was refused, which ends as `! Device`, it must be as it was. The old file of an upgrade must be as it was, and after a refusal the new one too, and so must each table that is described or checked.
 
     tests/each_allocation.py [PROGRAM]      (needs cc; the program is built first where none is named)"""
 import pathlib
@@ -43,7 +43,8 @@ FIVE, SIX, LEFT = (1, 2, 3, 4, 5), (1, 2, 3, 4, 5, 6), (1, 3, 4)
 AFTER = [[FIVE], [SIX], [SIX, (1, 3, 4, 5, 6), (1, 3, 4, 6), LEFT], [LEFT], [LEFT + (7,)]]
 # The commands that write one text, of a table that they leave as it is.
 ASKING = ["describe", "check"]
-MEMORY = 5
+MEMORY, DEVICE = 5, 4
+NOT_KEPT = "ubq: nothing was kept in copy.ub: "
 OLD = pathlib.Path(__file__).resolve().parent / "old"
 OLDER = {"one.ub": OLD / "s.ub", "two.ub": OLD / "format_2" / "s.ub"}
 ROUND = 40  # so many runs that did without the allocation, one after the other, end a command's round
@@ -99,6 +100,8 @@ def main():
             if words[1] != "copy.ub":
                 return True
             status, rows, _ = failing_memory.ended(library, [program, "run", "copy.ub", "all.sql"], 0, work)
+            if text.endswith("! Device\n"):
+                return status == 0 and has_rows(rows, FIVE)
             told = first_texts(text.removesuffix("! Memory\n"))
             return status == 0 and any(has_rows(rows, numbers) for numbers in AFTER[len(told) - 1])
 
@@ -126,7 +129,8 @@ def main():
                     since += 1
                     continue
                 since = 0
-                if ended[0] == MEMORY and ended[1] in told and not ended[2]:
+                is_unkept = words[1] == "copy.ub" and ended[0] == DEVICE and ended[1].replace("! Device", "! Memory") in told and ended[2].startswith(NOT_KEPT)
+                if ended[0] == MEMORY and ended[1] in told and not ended[2] or is_unkept:
                     refused += 1
                 else:
                     odd += 1

@@ -31,7 +31,7 @@ judge() { # what holds, and whether it does
 # empty.
 errs() {
     case $1 in
-    4) [ "$(wc -l <err)" -le 1 ] && ! grep -qv "^ubq: can't " err ;;
+    4) [ "$(wc -l <err)" -le 1 ] && ! grep -qvE "^ubq: (can't |nothing was kept in |kept in )" err ;;
     *) [ ! -s err ] ;;
     esac
 }
@@ -126,8 +126,9 @@ sleep 2
 kill -9 $!
 wait $! 2>err
 exec 9>&-
-try 'a run that was killed leaves the table unclean' 3 all '! Unclean page 0\n' run same.ub count.sql
-try 'and no statement runs on it' 3 all '! Unclean page 0\n' run same.ub delete.sql
+try 'a run that was killed leaves the table as it was' 0 all 'COUNT(*)\n5\n-- rows 1, pages 3\n' run same.ub count.sql
+holds 'byte for byte' cmp -s before.ub same.ub
+try 'and statements run on it' 0 all '-- deleted 2\n' run same.ub delete.sql
 
 # ---- a table with a signed dimension
 printf 'x,m\n-1,10\n0,20\n-2147483648,30\n2147483647,40\n' >signed.csv
@@ -263,10 +264,10 @@ if "${as[@]}" "$ubq" --version >out 2>err; then
     try 'no row is put into it' 4 all '! Device\n' run s.ub insert.sql
     denied='Permission denied (os error 13)'
     misses "make s.ub: $denied" load s.csv s.ub --dims 2
-    misses "use s.ub: $denied" run s.ub insert.sql
+    misses "change s.ub: $denied" run s.ub insert.sql
     try 'none is put where there is room' 4 all '! Device\n' run s.ub <(printf 'INSERT INTO t VALUES (3, 0, 6);')
     try 'none is taken out' 4 all '! Device\n' run s.ub delete.sql
-    try 'but a DELETE of no row is done' 0 all '-- deleted 0\n' run s.ub none.sql
+    try 'nor is a DELETE of no row done' 4 all '! Device\n' run s.ub none.sql
     holds 'it is as it was' cmp -s before.ub s.ub
     chmod a= s.ub
     try 'a table file that can not be read either' 4 all '! Device\n' run s.ub row1.sql
@@ -344,11 +345,16 @@ if command -v cc >/dev/null; then
     as=(env LD_PRELOAD="$room/sync.so")
     cp before.ub failing.ub
     io='Input/output error (os error 5)'
-    misses "use unsynced.ub: $io" load s.csv unsynced.ub --dims 2
+    "${as[@]}" "$ubq" load s.csv unsynced.ub --dims 2 >out 2>err
+    holds 'a table that is not made to last is status 4' test $? -eq 4
+    holds 'which is told' test "$(cat out)" = '! Device'
+    holds 'with its file and the reason' grep -qE "^ubq: (can't make|nothing was kept in) unsynced.ub: " err
     "${as[@]}" "$ubq" run failing.ub insert.sql >out 2>err
     holds 'an INSERT whose table is not made to last is status 4' test $? -eq 4
     holds 'its line is told, and then the failure' test "$(tail -n 1 out)" = '! Device'
-    holds 'with the file and the reason' grep -qxF "ubq: can't use failing.ub: $io" err
+    holds 'with the file and the reason' grep -qxF "ubq: nothing was kept in failing.ub: $io" err
+    holds 'and the file is as it was' cmp -s before.ub failing.ub
+    holds 'with nothing beside it' test ! -e failing.ub-journal -a ! -e failing.ub-journal.tmp
     try 'what only asks makes nothing last' 0 all "$row1" run before.ub row1.sql
     as=()
 else

@@ -23,7 +23,7 @@ tell() { # whether it is right, and what was tried
 # Whether standard error is as it should be after this status: one line that begins so where a file failed, and else nothing.
 errs() {
     case $1 in
-    4) [ "$(wc -l <"$room/err")" -le 1 ] && ! grep -qv "^ubq: can't " "$room/err" ;;
+    4) [ "$(wc -l <"$room/err")" -le 1 ] && ! grep -qvE "^ubq: (can't |nothing was kept in |kept in )" "$room/err" ;;
     *) [ ! -s "$room/err" ] ;;
     esac
 }
