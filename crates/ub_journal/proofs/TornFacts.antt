@@ -94,7 +94,7 @@ no_mark c = record {
 }
 
 pub no_size : (count : ℕ) (c : Image) → Resizes count c c
-no_size count c = record { same = refl; kept = λ m in_count in_table. refl }
+no_size count c = record { same = refl; no_longer = omega arith; kept = λ m in_count in_table. refl }
 
 -- the draft has become the journal
 pub torn_publishes : {old new : TornPlace} {result : Result (Unit {0}) Failed} → Notes deed.Publish old new result

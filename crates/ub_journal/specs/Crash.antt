@@ -45,9 +45,10 @@ pub record TearsMark (old new : Image) : Type 0 where
   pub table : new.table ≡ slice_set old.table 0 (slice_set (first_page old.table) 5 byte)
   pub rest : 1 ≤ length old.table → new.rest ≡ old.rest
 
--- the file was cut or made longer, or was about to be: it may have any length, and what is new holds any bytes
+-- the file was cut or made longer, or was about to be: it may have any length up to the longer one, and what is new holds any bytes
 pub record Resizes (count : ℕ) (old new : Image) : Type 0 where
   pub same : new ≡ record old { table = new.table; rest = new.rest }
+  pub no_longer : length new.table ≤ max (length old.table) count
   pub kept : (m : ℕ) → m < count → m < length old.table → slice_get new.table m ≡ slice_get old.table m
 
 -- the draft holds anything

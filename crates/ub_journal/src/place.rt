@@ -66,8 +66,8 @@ pub trait Place: Drop {
         ensures written { OnOk result (Shows with_mark (facts self.old) (facts self.new)) }
         ensures effect { Steps TearsMark (facts self.old) (facts self.new) result };
 
-    /// Gives the table's file so many pages and no byte more: cuts it, or adds pages of zeros. A crash may leave any length, and
-    /// any bytes in what is added.
+    /// Gives the table's file so many pages and no byte more: cuts it, or adds pages of zeros. A crash may leave any length up to the
+    /// longer one, and any bytes in what is added.
     fn resize(&mut self, count: u32) -> Result<(), Failed>
         ensures written { OnOk result (Shows (with_count count) (facts self.old) (facts self.new)) }
         ensures effect { Steps (Resizes count) (facts self.old) (facts self.new) result };

@@ -1,5 +1,5 @@
 -- The clock of a place in memory that keeps its calls: what is seen is one of the outcomes of a crash.
-use Rattle.std.proofs.Common.{Bool, ◌≡◌, ◌≢◌, ◌<◌, ◌++◌, ◌∷◌, [], ℕ, zero, suc, List, length, take, replicate, slice_get, slice_set, inr, ap, arith, refl, sym, subst, length-set, ◌∙◌}
+use Rattle.std.proofs.Common.{Bool, ◌≡◌, ◌≢◌, ◌<◌, ◌++◌, ◌∷◌, [], ℕ, zero, suc, List, length, take, replicate, slice_get, slice_set, inr, ap, arith, refl, sym, subst, length-set, length-take, ◌∙◌}
 use Rattle.std.proofs.lemmas.List.{take_all}
 use Rattle.ub_store.specs.Facts.{zero_page}
 use Rattle.ub_journal.specs.Image.{Image}
@@ -39,7 +39,7 @@ torn_done (deed.Write n page) i = record {
   rest = λ less. refl;
 }
 torn_done deed.Mark i = record { same = refl; byte = 1; table = refl; rest = λ some. refl }
-torn_done (deed.Resize count) i = record { same = refl; kept = λ m in_count in_table. get_resized count m i.table zero_page in_count in_table }
+torn_done (deed.Resize count) i = record { same = refl; no_longer = rw (length-take count (i.table ++ replicate count zero_page)) (omega arith); kept = λ m in_count in_table. get_resized count m i.table zero_page in_count in_table }
 torn_done deed.Sync i = (refl, (refl, refl))
 torn_done (deed.Draft j) i = refl
 torn_done deed.SyncDraft i = (refl, refl)
