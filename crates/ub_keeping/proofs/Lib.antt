@@ -4,3 +4,4 @@ pub mod StoreFacts
 pub mod FoundFacts
 pub mod KeptFacts
 pub mod MadeFacts
+pub mod BeginFacts

@@ -1,15 +1,16 @@
 -- The journal that makes a table anew.
-use Rattle.std.proofs.Common.{◌≡◌, ◌<◌, ◌≤◌, ◌+◌, ◌-◌, ◌∙◌, ◌^◌, ℕ, zero, suc, List, [], ◌∷◌, ◌++◌, Some, length, drop, slice_get, slice_set, ap, arith, inl, inr, refl, sym, subst}
+use Rattle.std.proofs.Common.{◌≡◌, ◌<◌, ◌≤◌, ◌+◌, ◌-◌, ◌∙◌, ◌^◌, ℕ, zero, suc, List, [], ◌∷◌, ◌++◌, Some, length, drop, slice_get, slice_set, ap, arith, inl, inr, refl, sym, subst, length-set}
 use Rattle.std.proofs.lemmas.Bool.{cases_eq}
 use Rattle.std.proofs.lemmas.Option.{get_or_from_slice_get, slice_get_within}
 use Rattle.ub_store.specs.Facts.{zero_page}
+use Rattle.ub_journal.specs.Crash.{with_page}
 use Rattle.ub_journal.specs.Image.{AreAscending, Image, IsComplete, IsJournal, IsMarkedFrom, IsUntouched, applied, first_page, numbers_of, put_all, resized}
 use Rattle.ub_journal.specs.inner.TornClock.{get_set_other}
 use Rattle.ub_journal.proofs.Applied.{length_sized}
 use Rattle.ub_journal.proofs.Lists.{get_set_same, same_all}
 use Rattle.ub_journal_page.proofs.LawFacts.{change_others}
 use Rattle.ub_keeping.specs.Kept.{numbered, replacing}
-use Rattle.ub_keeping.specs.inner.Made.{HasOthers, IsMadeOf}
+use Rattle.ub_keeping.specs.inner.Made.{HasOthers, IsMadeOf, PutsUpTo}
 
 ascending : (above n count : ℕ) (pages : List (List ℕ)) → above < n → n + length pages ≤ count → AreAscending above count (numbers_of (numbered n pages))
 ascending above n count [] less few = tt
@@ -110,6 +111,25 @@ pub change_told : (pages : List (List ℕ)) (at k : ℕ) (page : List ℕ) → k
 change_told [] at k page is there = absurd (let wrong = there in cc)
 change_told (p ∷ pages) at zero page is there = absurd (omega (arith, is))
 change_told (p ∷ pages) at (suc k) page is there = get_numbered 1 at (suc k) pages page (omega (arith, is)) (subst (λ (m : ℕ). slice_get pages m ≡ Some page) (omega (arith, is)) there)
+
+-- pages put one by one
+pub puts_none : (pages : List (List ℕ)) (old : Image) → length old.table ≡ length pages → PutsUpTo 1 pages old old
+puts_none pages old long = record { same = refl; count = long; others = λ m ne less. absurd (omega (arith, ne, less)) }
+
+pub puts_next : (n : ℕ) (pages : List (List ℕ)) (page : List ℕ) (old mid new : Image) → PutsUpTo n pages old mid → n < length pages → slice_get pages n ≡ Some page → new ≡ with_page n page mid
+    → PutsUpTo (n + 1) pages old new
+puts_next n pages page old mid new puts less there put =
+    let table : new.table ≡ slice_set mid.table n page = ap (λ (i : Image). i.table) put in
+    record {
+      same = put ∙ ap (with_page n page) puts.same ∙ ap (λ (t : List (List ℕ)). record old { table = t }) (sym table);
+      count = ap length table ∙ length-set mid.table n page ∙ puts.count;
+      others = λ m ne up. elim (cases_eq m n) [
+        | inl e ↦
+            ap (λ (t : List (List ℕ)). slice_get t m) table ∙ ap (slice_get (slice_set mid.table n page)) e ∙ get_set_same mid.table n page (omega (arith, less, puts.count)) ∙ sym there
+            ∙ ap (slice_get pages) (sym e)
+        | inr apart ↦ ap (λ (t : List (List ℕ)). slice_get t m) table ∙ get_set_other mid.table n m page apart ∙ puts.others m ne (omega (arith, up, apart))
+      ];
+    }
 
 -- with the first one they are all there
 pub all_there : (pages : List (List ℕ)) (page : List ℕ) (old new : Image) → HasOthers pages old new → slice_get pages 0 ≡ Some page → slice_set new.table 0 page ≡ pages

@@ -1,5 +1,6 @@
 -- What is kept at a place.
-use Rattle.std.specs.Prelude.{◌≡◌, ◌+◌, ◌⊎◌, ℕ, List, [], ◌∷◌, drop, length}
+use Rattle.std.specs.Prelude.{◌≡◌, ◌+◌, ◌⊎◌, ℕ, List, [], ◌∷◌, None, drop, length}
+use Rattle.ub_files.specs.Files.{IsPartWay}
 use Rattle.ub_journal.specs.Image.{Image, Journal, Stands, StandsForOld, first_page}
 use Rattle.ub_journal.specs.Place.{IsAtRest, PlaceFacts}
 use Rattle.ub_journal.specs.declared.journal.Change.{Change}
@@ -19,6 +20,14 @@ MayKeep pages old image = old.may_leave image ⊎ (StandsForOld old.seen image �
 -- found, or for them
 abbrev pub MayMake : List (List ℕ) → PlaceFacts → Image → Type 0
 MayMake pages old image = MayFinish old image ⊎ Stands image pages 0
+
+-- no journal is there, and a table of these pages has come so far that what is there is a part of it, which is no table
+abbrev pub IsPartOf : List (List ℕ) → Image → Type 0
+IsPartOf pages image = (image.journal ≡ None) × IsPartWay pages image.table
+
+-- what a crash leaves while a table is made of these pages where no page was: what it might have left before, or a part of it
+abbrev pub MayBegin : List (List ℕ) → PlaceFacts → Image → Type 0
+MayBegin pages old image = old.may_leave image ⊎ IsPartOf pages image
 
 -- pages under their numbers, the first of which is this one
 abbrev pub numbered : ℕ → List (List ℕ) → List Change

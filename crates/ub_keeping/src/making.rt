@@ -1,22 +1,22 @@
 ghost use Rattle.std.specs.Prelude.{◌≡◌, ◌≤◌, ◌⊎◌, None, IfErr, OnOk, OnErr, IsErrOf, length};
 ghost use Rattle.ub_files.specs.Files.{counted_open};
-ghost use Rattle.ub_journal.specs.Place.{AtAnyMoment, Counts, IsHonest};
+ghost use Rattle.ub_journal.specs.Place.{AtAnyMoment, Counts, IsHonest, LeavesNow};
 ghost use Rattle.ub_keeping.specs.Found.{IsForeign};
-ghost use Rattle.ub_keeping.specs.Kept.{IsKept, MayKeep, MayMake};
-ghost use Rattle.ub_keeping.specs.inner.Made.{HasOthers};
+ghost use Rattle.ub_keeping.specs.Kept.{IsKept, IsPartOf, MayBegin, MayKeep, MayMake};
+ghost use Rattle.ub_keeping.specs.inner.Made.{HasOthers, HasZero};
 
 use crate::changing::clear;
 use crate::keeping::commit_last;
 use crate::replacing::Replacing;
 use std::alloc::Global;
 use ub_files::OpenFault;
-use ub_journal::{Failed, Place};
+use ub_journal::{Failed, Place, make_last};
 use ub_store::{MemStore, PageStore, StoreFault};
 
 /// Makes a table of these pages, of which there is one at least, in the place of what is found there. The place is handed back. At Ok
 /// these are the pages of the table, which last, and no journal is there. Where a table stood, a crash at any moment leaves what it
-/// might have left before, or what stands for what was found, or for the new pages. Where there was no page, nothing is said of a
-/// crash. BadJournal comes where a journal stands there that is damaged, or none of the table, as beside one with no page: nothing is
+/// might have left before, or what stands for what was found, or for the new pages; where there was no page, a part of the new ones.
+/// BadJournal comes where a journal stands there that is damaged, or none of the table, as beside one with no page: nothing is
 /// done then; nor is it where Memory comes, of a journal for which memory was refused. Device comes where the place failed in this
 /// call, once, which ends it.
 pub fn make<P: Place>(alloc: Global, place: P, pages: &MemStore) -> (P, Result<(), OpenFault>)
@@ -25,6 +25,8 @@ pub fn make<P: Place>(alloc: Global, place: P, pages: &MemStore) -> (P, Result<(
         → IsKept pages.now (P.facts result.0)) }
     ensures any_moment { 1 ≤ length (P.facts place).seen.table
         → AtAnyMoment (MayMake pages.now (P.facts place)) (P.facts place) (P.facts result.0) }
+    ensures any_moment_begun { length (P.facts place).seen.table ≡ 0
+        → AtAnyMoment (MayBegin pages.now (P.facts place)) (P.facts place) (P.facts result.0) }
     ensures either { OnErr result.1 (IsHonest (P.facts place)
         → 1 ≤ length (P.facts place).seen.table
         → MayMake pages.now (P.facts place) (P.facts result.0).seen) }
@@ -49,6 +51,8 @@ fn make_at<P: Place>(alloc: Global, place: &mut P, pages: &MemStore) -> Result<(
         → IsKept pages.now (P.facts place.new)) }
     ensures any_moment { 1 ≤ length (P.facts place.old).seen.table → AtAnyMoment
         (MayMake pages.now (P.facts place.old)) (P.facts place.old) (P.facts place.new) }
+    ensures any_moment_begun { length (P.facts place.old).seen.table ≡ 0 → AtAnyMoment
+        (MayBegin pages.now (P.facts place.old)) (P.facts place.old) (P.facts place.new) }
     ensures foreign { IsErrOf result OpenFault.BadJournal
         → IsHonest (P.facts place.old) → IsForeign (P.facts place.old).seen }
     ensures faults { IfErr result (λ fault. (fault ≡ OpenFault.BadJournal)
@@ -74,6 +78,8 @@ fn write<P: Place>(place: &mut P, pages: &MemStore) -> Result<(), Failed>
         → IsKept pages.now (P.facts place.new)) }
     ensures any_moment { 1 ≤ length (P.facts place.old).seen.table → AtAnyMoment
         (MayKeep pages.now (P.facts place.old)) (P.facts place.old) (P.facts place.new) }
+    ensures any_moment_begun { length (P.facts place.old).seen.table ≡ 0 → AtAnyMoment
+        (MayBegin pages.now (P.facts place.old)) (P.facts place.old) (P.facts place.new) }
     ensures cause { Counts (P.facts place.old) (P.facts place.new) result }
 {
     if place.pages() == 0 {
@@ -85,13 +91,35 @@ fn write<P: Place>(place: &mut P, pages: &MemStore) -> Result<(), Failed>
     commit_last(place, &Replacing { before, pages })
 }
 
-// Puts these pages where no page is there: the first one once all others last.
+// Puts these pages where no page is there: the first one once all others last, and before that a page of zeros in its place.
 fn begin<P: Place>(place: &mut P, pages: &MemStore) -> Result<(), Failed>
     requires some { 1 ≤ length pages.now }
+    requires empty { IsHonest (P.facts place.old)
+        → length (P.facts place.old).seen.table ≡ 0 }
     requires alone { IsHonest (P.facts place.old)
         → (P.facts place.old).seen.journal ≡ None }
     ensures done { OnOk result (IsHonest (P.facts place.old)
         → IsKept pages.now (P.facts place.new)) }
+    ensures any_moment { AtAnyMoment (MayBegin pages.now (P.facts place.old))
+        (P.facts place.old) (P.facts place.new) }
+    ensures cause { Counts (P.facts place.old) (P.facts place.new) result }
+{
+    make_last(place)?;
+    place.resize(1)?;
+    place.sync()?;
+    fill(place, pages)
+}
+
+// Puts these pages where a page of zeros lasts in the place of the first.
+fn fill<P: Place>(place: &mut P, pages: &MemStore) -> Result<(), Failed>
+    requires some { 1 ≤ length pages.now }
+    requires alone { IsHonest (P.facts place.old)
+        → (P.facts place.old).seen.journal ≡ None }
+    requires zero { IsHonest (P.facts place.old) → LeavesNow HasZero (P.facts place.old) }
+    ensures done { OnOk result (IsHonest (P.facts place.old)
+        → IsKept pages.now (P.facts place.new)) }
+    ensures any_moment { AtAnyMoment (IsPartOf pages.now)
+        (P.facts place.old) (P.facts place.new) }
     ensures cause { Counts (P.facts place.old) (P.facts place.new) result }
 {
     place.resize(pages.pages())?;
@@ -104,10 +132,13 @@ fn begin<P: Place>(place: &mut P, pages: &MemStore) -> Result<(), Failed>
 
 // Puts all pages but the first, where the table has as many.
 fn put_others<P: Place>(place: &mut P, pages: &MemStore) -> Result<(), Failed>
-    requires { IsHonest (P.facts place.old)
+    requires count { IsHonest (P.facts place.old)
         → length (P.facts place.old).seen.table ≡ length pages.now }
+    requires zero { IsHonest (P.facts place.old) → LeavesNow HasZero (P.facts place.old) }
     ensures seen { OnOk result (IsHonest (P.facts place.old)
         → HasOthers pages.now (P.facts place.old).seen (P.facts place.new).seen) }
+    ensures zero { IsHonest (P.facts place.old) → LeavesNow HasZero (P.facts place.new) }
+    ensures any_moment { AtAnyMoment HasZero (P.facts place.old) (P.facts place.new) }
     ensures cause { Counts (P.facts place.old) (P.facts place.new) result }
 {
     for n in 1..pages.pages() {

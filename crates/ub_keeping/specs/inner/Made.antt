@@ -1,5 +1,6 @@
 -- What a commit asks of a journal and of the table that stands there.
-use Rattle.std.specs.Prelude.{◌≡◌, ◌≢◌, ◌<◌, ◌≤◌, ℕ, List, length, slice_get}
+use Rattle.std.specs.Prelude.{◌≡◌, ◌≢◌, ◌<◌, ◌≤◌, ℕ, List, None, Some, length, slice_get}
+use Rattle.ub_store.specs.Facts.{zero_page}
 use Rattle.ub_journal.specs.Image.{ChangesOthers, Fits, HasFront, Image, Journal}
 use Rattle.ub_journal.specs.Place.{IsHonest, PlaceFacts}
 
@@ -24,3 +25,7 @@ pub record PutsUpTo (n : ℕ) (pages : List (List ℕ)) (old new : Image) : Type
   pub same : new ≡ record old { table = new.table }
   pub count : length new.table ≡ length pages
   pub others : (m : ℕ) → m ≢ 0 → m < n → slice_get new.table m ≡ slice_get pages m
+
+-- the first page is one of zeros, and no journal is there
+abbrev pub HasZero : Image → Type 0
+HasZero c = (c.journal ≡ None) × (slice_get c.table 0 ≡ Some zero_page)

@@ -1,21 +1,58 @@
-use Rattle.std.proofs.lemmas.Result.{on_ok_weaker}
+use Rattle.std.proofs.Common.{IsTrue, subst}
+use Rattle.ub_journal.proofs.Moments.{joined}
+use Rattle.ub_keeping.proofs.BeginFacts.{one_sized, one_synced, part_joined, zero_lasts}
 use Rattle.ub_keeping.proofs.CalmFacts.{still}
-use Rattle.ub_keeping.proofs.KeptFacts.{begun_of}
 use Rattle.ub_keeping.proofs.making.begin.Goals as goal
 
-pub returns-clause-done : goal.returns-clause-done
-returns-clause-done g c = on_ok_weaker c.sync_folder.result (λ done honest.
+pub fill-requires-clause-zero : goal.fill-requires-clause-zero
+fill-requires-clause-zero g c after =
     let old = g.P.Place.facts c.args.place.now in
     let sized = g.P.Place.facts c.resize.new.self in
-    let filled = g.P.Place.facts c.put_others.new.place in
+    let first = g.P.Place.facts c.make_last.new.place in
+    let at_sized = subst (λ b. IsTrue b) c.sync.ensures.effect.counts.honest after in
+    let at_first = subst (λ b. IsTrue b) c.resize.ensures.effect.counts.honest at_sized in
+    let honest = subst (λ b. IsTrue b) c.make_last.ensures.cause.honest at_first in
+    let last = c.in_ok-make_last.ensures in
+    zero_lasts c.args.pages.now old first (c.requires.empty honest) (c.requires.alone honest) (last.seen honest) (last.durable honest) at_first (g.met.P.Place.clock c.make_last.new.place at_first)
+    c.resize.ensures.effect c.sync.ensures.effect (c.in_ok-resize.ensures.written at_first) (c.in_ok-sync.ensures.done at_sized)
+
+pub returns-in_err-resize-clause-any_moment : goal.returns-in_err-resize-clause-any_moment
+returns-in_err-resize-clause-any_moment g c honest =
+    let old = g.P.Place.facts c.args.place.now in
+    let first = g.P.Place.facts c.make_last.new.place in
+    let at_first = still old first c.make_last.ensures.cause.honest honest in
+    let last = c.in_ok-make_last.ensures in
+    let same = last.seen honest in
+    let durable = last.durable honest in
+    let clock = g.met.P.Place.clock c.make_last.new.place at_first in
+    part_joined c.args.pages.now old first (g.P.Place.facts c.resize.new.self) (c.make_last.ensures.any_moment honest)
+    (one_sized c.args.pages.now old first (c.requires.empty honest) (c.requires.alone honest) same durable at_first clock c.resize.ensures.effect).run
+
+pub returns-in_err-sync-clause-any_moment : goal.returns-in_err-sync-clause-any_moment
+returns-in_err-sync-clause-any_moment g c honest =
+    let old = g.P.Place.facts c.args.place.now in
+    let first = g.P.Place.facts c.make_last.new.place in
+    let at_first = still old first c.make_last.ensures.cause.honest honest in
+    let last = c.in_ok-make_last.ensures in
+    let same = last.seen honest in
+    let durable = last.durable honest in
+    let clock = g.met.P.Place.clock c.make_last.new.place at_first in
+    part_joined c.args.pages.now old first (g.P.Place.facts c.sync.new.self) (c.make_last.ensures.any_moment honest)
+    (one_synced c.args.pages.now old first (c.requires.empty honest) (c.requires.alone honest) same durable at_first clock c.resize.ensures.effect c.sync.ensures.effect).run
+
+pub returns-clause-any_moment : goal.returns-clause-any_moment
+returns-clause-any_moment g c honest =
+    let old = g.P.Place.facts c.args.place.now in
+    let first = g.P.Place.facts c.make_last.new.place in
+    let at_first = still old first c.make_last.ensures.cause.honest honest in
+    let last = c.in_ok-make_last.ensures in
+    let same = last.seen honest in
+    let durable = last.durable honest in
+    let clock = g.met.P.Place.clock c.make_last.new.place at_first in
+    let sized = g.P.Place.facts c.resize.new.self in
     let synced = g.P.Place.facts c.sync.new.self in
-    let put = g.P.Place.facts c.write_page.new.self in
-    let whole = g.P.Place.facts c.sync-2.new.self in
-    let at_sized = still old sized c.resize.ensures.effect.counts.honest honest in
-    let at_filled = still sized filled c.put_others.ensures.cause.honest at_sized in
-    let at_synced = still filled synced c.sync.ensures.effect.counts.honest at_filled in
-    let at_put = still synced put c.write_page.ensures.effect.counts.honest at_synced in
-    let at_whole = still put whole c.sync-2.ensures.effect.counts.honest at_put in
-    begun_of c.args.pages.now c.page.result.now c.pages.result old sized filled synced put whole (g.P.Place.facts c.sync_folder.new.self) c.page.ensures (c.requires.alone honest)
-    (c.in_ok-resize.ensures.written honest) (c.in_ok-put_others.ensures.seen at_sized) (c.in_ok-sync.ensures.done at_filled).seen (c.in_ok-write_page.ensures.written at_synced)
-    (c.in_ok-sync-2.ensures.done at_put) (done at_whole) (c.sync_folder.ensures.effect.leaves at_whole)) c.sync_folder.ensures.done
+    let at_sized = still first sized c.resize.ensures.effect.counts.honest at_first in
+    let at_synced = still sized synced c.sync.ensures.effect.counts.honest at_sized in
+    part_joined c.args.pages.now old first (g.P.Place.facts c.fill.new.place) (c.make_last.ensures.any_moment honest)
+    (joined (one_synced c.args.pages.now old first (c.requires.empty honest) (c.requires.alone honest) same durable at_first clock c.resize.ensures.effect c.sync.ensures.effect).run
+    (c.fill.ensures.any_moment at_synced) (λ i is. is) (λ i is. is))

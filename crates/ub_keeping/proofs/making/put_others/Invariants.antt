@@ -1,6 +1,7 @@
 use Rattle.std.proofs.Common.{◌≡◌}
 use Rattle.ub_journal.specs.Place.{IsHonest, PlaceFacts}
-use Rattle.ub_keeping.specs.inner.Made.{PutsUpTo}
+use Rattle.ub_keeping.specs.inner.Made.{HasZero, PutsUpTo}
+use Rattle.ub_journal.proofs.Moments.{At}
 use Rattle.ub_keeping.proofs.making.put_others.Given as goal
 
 -- the pages so far stand there, and no call failed
@@ -12,4 +13,5 @@ invariant-loop-n g l =
       honest : now.honest ≡ old.honest;
       failures : now.failures ≡ old.failures;
       put : IsHonest old → PutsUpTo l.n l.pages old.seen now.seen;
+      at : IsHonest old → At HasZero HasZero old now;
     }
