@@ -23,6 +23,7 @@ from program import program
 CALLS = "pwrite64 fsync rename unlink ftruncate fchown chown fchmod chmod".split()
 CHANGE = "INSERT INTO t VALUES (2, 3, -4); DELETE FROM t WHERE x >= 30; INSERT INTO t VALUES (7, 7, 7);"
 NOTHING = "DELETE FROM t WHERE x = 4000000000;"
+WRITTEN = "INSERT INTO t VALUES (39, 39, 39);"
 ALL = "SELECT * FROM t;"
 
 
@@ -83,7 +84,10 @@ class Trials:
         self.judge(what, rows in (before, after) and self.is_sound(table), rows[-200:])
         ended = self.run("run", table, "-", text=NOTHING)
         self.judge(f"{what}, then a change", ended.stdout == "-- deleted 0\n" and not ended.returncode and self.rows(table) == rows, ended)
-        self.judge(f"{what}, nothing beside", not self.beside(table), self.beside(table))
+        self.judge(f"{what}, no journal beside", self.beside(table) in ([], ["-journal.tmp"]), self.beside(table))
+        if self.beside(table):
+            self.run("run", table, "-", text=WRITTEN)
+            self.judge(f"{what}, no draft after what is written", not self.beside(table), self.beside(table))
         return rows
 
 
@@ -107,7 +111,7 @@ def told(trials, what, ran, before, after):
     """What a run that failed tells of itself."""
     rows = trials.rows("t.ub")
     if ran.returncode == 4:
-        nothing = re.match(r"ubq: nothing was kept in t\.ub: .+\n$", ran.stderr)
+        nothing = re.match(r"ubq: (nothing was kept in|can't make) t\.ub: .+\n$", ran.stderr)
         beside = re.match(r"ubq: kept in t\.ub-journal, to be finished by the next change: .+\n$", ran.stderr)
         whole = re.match(r"ubq: kept in t\.ub: .+\n$", ran.stderr)
         left = trials.beside("t.ub")
