@@ -235,6 +235,14 @@ def folders(trials, before, after):
     stat = (trials.room / "t.ub").stat()
     trials.judge("folder: a link is followed, inode and mode stay", ran.returncode == 0 and trials.rows("t.ub") == after and stat.st_ino == inode
                  and stat.st_mode & 0o777 == 0o640 and sorted(os.listdir(trials.room / "far")) == ["link.ub"], ran)
+    trials.copy("small.ub", "t.ub")
+    os.chmod(trials.room / "t.ub", 0o600)
+    trials.injected("fchown", "signal=KILL", 1, "run", "t.ub", "-", text=CHANGE)
+    draft = (trials.room / "t.ub-journal.tmp").stat()
+    trials.judge("folder: a draft shows nothing of a private table", draft.st_mode & 0o077 == 0 and draft.st_size == 0, draft)
+    trials.injected("fchmod", "signal=KILL", 2, "run", "t.ub", "-", text=CHANGE)
+    trials.run("run", "t.ub", "-", text=CHANGE)
+    trials.judge("folder: its mode is the table's", (trials.room / "t.ub").stat().st_mode & 0o777 == 0o600 and not trials.beside("t.ub"))
     disk = trials.room / "disk"
     disk.mkdir(exist_ok=True)
     if subprocess.run(["mount", "-t", "tmpfs", "-o", "size=256k", "tmpfs", disk], capture_output=True).returncode:

@@ -1,0 +1,85 @@
+#!/usr/bin/env python3
+"""What keeping a table by a journal costs: two programs by turns, one that writes the table in place and one that keeps it, or any two.
+
+    bench/keeping.py OLD NEW [ROUNDS]
+
+A table of 200,000 random rows of three dimensions and two measures is put in by `load`; then scripts of 1, 10,000 and 100,000
+INSERTs run on copies of it, a script that asks once, and a load where no table stands. Each line has the least of the rounds' times of OLD and of NEW in
+milliseconds, without the time inside fsync (by `strace`, which traces nothing else), their ratio, how many calls of fsync each makes, and the most memory of
+each in MB. Keep the machine quiet."""
+import os
+import random
+import re
+import resource
+import shutil
+import subprocess
+import sys
+import tempfile
+import time
+
+
+def rows(count, seed):
+    rng = random.Random(seed)
+    return [[rng.randrange(1 << 32) for _ in range(3)] + [rng.randrange(-1000, 1000) for _ in range(2)] for _ in range(count)]
+
+
+def timed(words, work, text=None):
+    """The milliseconds of a run without those inside fsync, how often that was called, and the most memory that the run had in MB."""
+    trace = os.path.join(work, "trace")
+    begun = time.monotonic()
+    told = ["strace", "-f", "--seccomp-bpf", "-qq", "-T", "-o", trace, "-e", "trace=fsync", *words]
+    with open(os.devnull, "w") as nowhere:
+        ran = subprocess.run(told, cwd=work, input=text, stdout=nowhere, stderr=subprocess.PIPE, text=True)
+    whole = time.monotonic() - begun
+    assert ran.returncode == 0, (words, ran.stderr)
+    synced = [float(seconds) for seconds in re.findall(r"<([0-9.]+)>$", open(trace).read(), re.M)]
+    return (whole - sum(synced)) * 1000, len(synced)
+
+
+def memory(words, work, text=None):
+    """The most memory of a run in MB."""
+    pid = os.fork()
+    if pid == 0:
+        with open(os.devnull, "w") as nowhere:
+            status = subprocess.run(words, cwd=work, input=text, stdout=nowhere, text=True).returncode
+        used = resource.getrusage(resource.RUSAGE_CHILDREN).ru_maxrss
+        with open(os.path.join(work, "used"), "w") as to:
+            to.write(str(used))
+        os._exit(status)
+    assert os.waitpid(pid, 0)[1] == 0
+    with open(os.path.join(work, "used")) as told:
+        return int(told.read()) / 1024
+
+
+def main():
+    old, new = (os.path.abspath(word) for word in sys.argv[1:3])
+    rounds = int(sys.argv[3]) if len(sys.argv) > 3 else 5
+    with tempfile.TemporaryDirectory(dir=os.getcwd()) as work:
+        data = os.path.join(work, "rows.csv")
+        with open(data, "w") as to:
+            to.write("x,y,z,m,n\n" + "".join(",".join(map(str, row)) + "\n" for row in rows(200_000, 1)))
+        subprocess.run([new, "load", data, "full.ub", "--dims", "3"], cwd=work, check=True, stdout=subprocess.DEVNULL)
+        inserts = {count: "".join(f"INSERT INTO t VALUES ({', '.join(map(str, row))});\n" for row in rows(count, 2)) for count in (1, 10_000, 100_000)}
+        kinds = [(f"{count} INSERTs", ["run", "t.ub", "-"], text) for count, text in inserts.items()]
+        kinds += [("one query", ["run", "full.ub", "-"], "SELECT COUNT(*) FROM t WHERE x < 1000000;"), ("a load", ["load", data, "made.ub", "--dims", "3"], None)]
+        print("what, ms of OLD, ms of NEW, ratio, fsyncs of OLD, of NEW, MB of OLD, of NEW")
+        for name, words, text in kinds:
+            least, syncs, held = {}, {}, {}
+            for turn in range(rounds + 1):
+                for program in (old, new):
+                    shutil.copyfile(os.path.join(work, "full.ub"), os.path.join(work, "t.ub"))
+                    os.sync()
+                    for left in ("made.ub", "made.ub-journal"):
+                        if os.path.exists(os.path.join(work, left)):
+                            os.remove(os.path.join(work, left))
+                    if turn == rounds:
+                        held[program] = memory([program, *words], work, text)
+                        continue
+                    took, syncs[program] = timed([program, *words], work, text)
+                    least[program] = min(took, least.get(program, took))
+            ratio = least[new] / least[old]
+            print(f"{name}, {least[old]:.2f}, {least[new]:.2f}, {ratio:.2f}, {syncs[old]}, {syncs[new]}, {held[old]:.1f}, {held[new]:.1f}", flush=True)
+
+
+if __name__ == "__main__":
+    main()
