@@ -1,4 +1,4 @@
-use crate::crash::{Left, left_of, seen_at};
+use crate::crash::{Before, Left, left_of, seen_at};
 use crate::damage::is_damaged;
 use crate::marks::Asked;
 use crate::narrow::Narrow;
@@ -57,7 +57,8 @@ impl Bench {
         let Some(place) = self.files.table(name) else {
             return Ok(None);
         };
-        let Some(journal) = seen_at(self.alloc, Some(place))?.journal else {
+        let Before { table: _, journal } = seen_at(self.alloc, Some(place))?;
+        let Some(journal) = journal else {
             return Ok(None);
         };
         if !is_journal(&journal) {

@@ -47,12 +47,12 @@ pub fn seen_at(alloc: Global, place: Option<&TornPlace>) -> Result<Before, Alloc
 
 // What is seen of a table's file and the names beside it, and what of that lasts.
 #[derive(Drop)]
-struct Disk<'a> {
+struct Disk {
     table: Vec<Page>,
     lasting: Vec<Page>,
-    draft: Option<&'a Journal>,
-    journal: Option<&'a Journal>,
-    journal_lasting: Option<&'a Journal>,
+    draft: Option<Journal>,
+    journal: Option<Journal>,
+    journal_lasting: Option<Journal>,
 }
 
 /// What a crash leaves at a place where these pages and this journal stood before its calls.
@@ -65,46 +65,56 @@ pub fn left_of(
     if let Left::Seen = left {
         return place.restarted(alloc);
     }
-    let lasting = Vec::from_slice(alloc, before.table.as_slice())?;
-    let mut disk = Disk {
-        table: before.table,
-        lasting,
-        draft: None,
-        journal: before.journal.as_ref(),
-        journal_lasting: before.journal.as_ref(),
-    };
+    let mut disk = begun(alloc, before)?;
     for deed in place.deeds() {
-        disk.redo(alloc, deed)?;
+        redo(alloc, &mut disk, deed)?;
     }
+    let Disk {
+        mut table,
+        lasting,
+        draft: _,
+        journal,
+        journal_lasting,
+    } = disk;
     if let Left::Torn = left {
-        tear(disk.table.as_mut_slice(), disk.lasting.as_slice());
-        let journal = copied(alloc, disk.journal)?;
-        return Ok(TornPlace::new(alloc, disk.table, 0, journal, true));
+        tear(table.as_mut_slice(), lasting.as_slice());
+        return Ok(TornPlace::new(alloc, table, 0, journal, true));
     }
-    let journal = copied(alloc, disk.journal_lasting)?;
-    Ok(TornPlace::new(alloc, disk.lasting, 0, journal, true))
+    Ok(TornPlace::new(alloc, lasting, 0, journal_lasting, true))
 }
 
-impl<'a> Disk<'a> {
-    // Does a call again.
-    fn redo(&mut self, alloc: Global, deed: &'a Deed) -> Result<(), AllocError> {
-        match deed {
-            Deed::Write(n, page) => put(self.table.as_mut_slice(), *n, page),
-            Deed::Mark => {
-                if let Some(first) = self.table.first_mut() {
-                    first[5] = 1;
-                }
+// What stands there before any call.
+fn begun(alloc: Global, before: Before) -> Result<Disk, AllocError> {
+    let Before { table, journal } = before;
+    let lasting = Vec::from_slice(alloc, table.as_slice())?;
+    let journal_lasting = copied(alloc, journal.as_ref())?;
+    Ok(Disk {
+        table,
+        lasting,
+        draft: None,
+        journal,
+        journal_lasting,
+    })
+}
+
+// Does a call again.
+fn redo(alloc: Global, disk: &mut Disk, deed: &Deed) -> Result<(), AllocError> {
+    match deed {
+        Deed::Write(n, page) => put(disk.table.as_mut_slice(), *n, page),
+        Deed::Mark => {
+            if let Some(first) = disk.table.first_mut() {
+                first[5] = 1;
             }
-            Deed::Resize(count) => self.table.resize(*count as usize, [0; 4096])?,
-            Deed::Sync => self.lasting = Vec::from_slice(alloc, self.table.as_slice())?,
-            Deed::Draft(journal) => self.draft = Some(journal),
-            Deed::SyncDraft => {}
-            Deed::Publish => self.journal = self.draft,
-            Deed::Remove => self.journal = None,
-            Deed::SyncFolder => self.journal_lasting = self.journal,
         }
-        Ok(())
+        Deed::Resize(count) => disk.table.resize(*count as usize, [0; 4096])?,
+        Deed::Sync => disk.lasting = Vec::from_slice(alloc, disk.table.as_slice())?,
+        Deed::Draft(journal) => disk.draft = copied(alloc, Some(journal))?,
+        Deed::SyncDraft => {}
+        Deed::Publish => disk.journal = copied(alloc, disk.draft.as_ref())?,
+        Deed::Remove => disk.journal = None,
+        Deed::SyncFolder => disk.journal_lasting = copied(alloc, disk.journal.as_ref())?,
     }
+    Ok(())
 }
 
 // Puts a page at its number, where there is one.
