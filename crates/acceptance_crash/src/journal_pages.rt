@@ -1,12 +1,11 @@
 // A journal's pages, each told by its first bytes and by what stands behind them.
 
-ghost use Rattle.ub_journal.specs.Image.{IsJournal, told};
-
-use std::alloc::Global;
+use std::alloc::{AllocError, Global};
 use std::test::Fail;
-use ub_journal::{Journal, JournalFault};
-use ub_journal_page::{fits, page_total, read_journal, spell_page};
-use ub_store::{MemStore, Page, PageStore};
+use ub_journal::{Journal, JournalFault, TornPlace};
+use ub_journal_page::{page_total, read_journal, spell_page};
+use ub_keeping::ask;
+use ub_store::{MemStore, Page, PageStore, StoreFault};
 
 // The pages of a journal by hand: the table is to have 10 pages, of which 3 and 9 change besides the first.
 const PAGES: [([u8; 16], u8); 6] = [
@@ -116,28 +115,42 @@ fn a_journal_is_read_and_written_as_it_stands(rt: HostRuntime) -> Result<(), Fai
     Ok(())
 }
 
-// Whether a journal is one of a table of these pages, each of one byte, with so many bytes after them: 2 where that can't be told.
-fn told_fit(alloc: Global, pages: &[u8], mark: u8, rest: u32, journal: &Journal) -> u8
-    requires { IsJournal (told journal.now) }
-{
-    let mut table = MemStore::new(alloc);
-    for (n, byte) in pages.iter().enumerate() {
+// Pages, each of one byte, the first of them with this mark.
+fn table_of(alloc: Global, bytes: &[u8], mark: u8) -> Result<Vec<Page>, AllocError> {
+    let mut pages = Vec::new(alloc);
+    for (n, byte) in bytes.iter().enumerate() {
         let mut page = [*byte; 4096];
         if n == 0 {
             page[5] = mark;
         }
-        if !add(&mut table, &page) {
-            return 2;
-        }
+        pages.push(page)?;
     }
-    match fits(&mut table, rest, journal) {
-        Ok(yes) => u8::from(yes),
+    Ok(pages)
+}
+
+// Whether a store has the pages that the journal makes: ten, of which these three are its own.
+fn is_new<S: PageStore>(store: &mut S) -> bool {
+    let mut right = store.pages() == 10;
+    for (n, byte) in [(0, 2), (3, 3), (9, 9)] {
+        right &= store.read_page(n) == Ok([byte; 4096]);
+    }
+    right
+}
+
+// Whether a table of these pages, with so many bytes after them, is read through the journal beside it: 2 where that can't be told.
+fn told_fit(alloc: Global, bytes: &[u8], mark: u8, rest: u16, journal: Journal) -> u8 {
+    let Ok(pages) = table_of(alloc, bytes, mark) else {
+        return 2;
+    };
+    match ask(alloc, TornPlace::new(alloc, pages, rest, Some(journal), false)) {
+        Ok(mut found) => u8::from(is_new(&mut found)),
+        Err(refused) if refused.fault == StoreFault::BadSize => 0,
         Err(_) => 2,
     }
 }
 
 // Tables whose pages have one byte each, the mark of the first, how many bytes stand after them, and whether the journal is theirs.
-const TABLES: &[(&[u8], u8, u32, u8)] = &[
+const TABLES: &[(&[u8], u8, u16, u8)] = &[
     // The table of before, marked and not, with bytes after it.
     (&[1, 7, 7, 7, 7, 7, 7, 7, 7, 7], 1, 0, 1),
     (&[1, 7, 7, 7, 7, 7, 7, 7, 7, 7], 0, 9, 1),
@@ -210,9 +223,9 @@ fn numbers_go_on_on_a_second_page(rt: HostRuntime) -> Result<(), Fail> {
 #[test]
 fn a_journal_fits_its_table(rt: HostRuntime) -> Result<(), Fail> {
     let mut store = store_of(rt.alloc(), 6).expect(&rt, "a store");
-    let journal = read_journal(rt.alloc(), &mut store).expect(&rt, "a journal");
     for (pages, mark, rest, told) in TABLES {
-        assert!(&rt; told_fit(rt.alloc(), pages, *mark, *rest, &journal) == *told);
+        let journal = read_journal(rt.alloc(), &mut store).expect(&rt, "a journal");
+        assert!(&rt; told_fit(rt.alloc(), pages, *mark, *rest, journal) == *told);
     }
     Ok(())
 }

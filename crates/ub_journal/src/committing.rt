@@ -1,11 +1,10 @@
-ghost use Rattle.std.specs.Prelude.{◌↔◌, IsTrue, OnOk};
-ghost use Rattle.ub_journal.specs.Image.{IsBetween, IsJournal, IsMarkedFrom, Recovers};
+ghost use Rattle.std.specs.Prelude.{OnOk};
+ghost use Rattle.ub_journal.specs.Image.{IsBetween, IsJournal, Recovers};
 ghost use Rattle.ub_journal.specs.Place.{AtAnyMoment, Counts, IsCommitted, IsDurable, IsFound, IsHonest, IsLeft, IsReady, IsSame, Heals, LeavesNow, PlaceFacts, Shows};
 ghost use Rattle.ub_journal.specs.inner.Way.{HasBegun, HasCompleted, IsCompleted, IsDrafted, IsMarked, IsNamed, Puts, with_others};
 
-use crate::journal::Tells;
+use crate::journal::{Tells, is_marked_from};
 use crate::place::{Failed, Place};
-use ub_store::Page;
 
 /// Puts the changes that a journal tells into the table's file, where no journal stands beside it, what is seen lasts, and the journal
 /// was made of that table. At Ok the table is the new one, it lasts, and no journal is there. A crash at any moment leaves what
@@ -173,15 +172,4 @@ fn settle<P: Place, J: Tells>(place: &mut P, journal: &J) -> Result<(), Failed>
     place.sync()?;
     place.remove()?;
     place.sync_folder()
-}
-
-// Whether a page is another one, but for its mark.
-fn is_marked_from(before: &Page, page: &Page) -> bool
-    ensures { IsTrue result ↔ IsMarkedFrom before.now page.now }
-{
-    let mut was = *before;
-    let mut is = *page;
-    was[5] = 0;
-    is[5] = 0;
-    is == was
 }

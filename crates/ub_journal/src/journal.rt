@@ -1,5 +1,5 @@
 ghost use Rattle.std.specs.Prelude.{◌≡◌, ◌↔◌, ◌<◌, Some, IsTrue, length, slice_get};
-ghost use Rattle.ub_journal.specs.Image.{Journal as spec, AreAscending, IsJournal, numbers_of, told};
+ghost use Rattle.ub_journal.specs.Image.{Journal as spec, AreAscending, IsJournal, IsMarkedFrom, numbers_of, told};
 
 use ub_store::Page;
 
@@ -102,4 +102,15 @@ fn are_ascending(changes: &[Change], count: u32) -> bool
         above = number;
     }
     true
+}
+
+/// Whether a page is another one but for its mark, the byte at offset 5.
+pub fn is_marked_from(before: &Page, page: &Page) -> bool
+    ensures { IsTrue result ↔ IsMarkedFrom before.now page.now }
+{
+    let mut was = *before;
+    let mut is = *page;
+    was[5] = 0;
+    is[5] = 0;
+    is == was
 }

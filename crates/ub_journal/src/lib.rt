@@ -56,6 +56,6 @@ mod torn;
 
 pub use committing::{commit, finish, heal, make_last};
 pub use fault::JournalFault;
-pub use journal::{Change, Journal, Tells, is_journal};
+pub use journal::{Change, Journal, Tells, is_journal, is_marked_from};
 pub use place::{Failed, Place};
 pub use torn::{Deed, TornPlace};

@@ -1,4 +1,3 @@
-pub mod FitFacts
 pub mod LawFacts
 pub mod Lists
 pub mod NumberFacts

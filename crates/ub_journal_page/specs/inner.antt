@@ -1,2 +1,1 @@
-pub mod Fitting
 pub mod Numbers

@@ -13,21 +13,16 @@
 //
 // All numbers have four bytes, the highest of them first. Pages that spell a journal spell no other one (`law`).
 //
-// A journal is one of a table by what stands in its file (`fits`): the first page is the one from before, but for its mark, or all
-// others are those of the new table; and the pages that the journal leaves are there.
-//
 // `spell_page` gives the page of any number of a journal that is told, so that one is written page by page and takes no memory
 // besides. `read_journal` reads the pages of a store, once each. It keeps nothing before it knows that there are as many pages as
 // the head tells; then it takes the memory for all of them at once.
 
 #![tactic(auto)]
 
-mod fitting;
 pub mod law;
 mod numbers;
 mod reading;
 mod spelling;
 
-pub use fitting::fits;
 pub use reading::read_journal;
 pub use spelling::{page_total, spell_page};

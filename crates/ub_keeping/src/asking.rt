@@ -3,7 +3,7 @@ ghost use Rattle.std.specs.Option.{option_map};
 ghost use Rattle.ub_files.specs.Files.{counted, raised_by};
 ghost use Rattle.ub_journal.specs.Image.{Finds, IsJournal, told};
 ghost use Rattle.ub_journal.specs.Place.{IsHonest};
-ghost use Rattle.ub_journal_page.specs.inner.Fitting.{LeaveFirst};
+ghost use Rattle.ub_keeping.specs.inner.Fitting.{LeaveFirst};
 ghost use Rattle.ub_keeping.specs.Calm.{IsCalm, IsQuiet};
 ghost use Rattle.ub_keeping.specs.Found.{IsItsJournal, IsLookedUp, IsUnsized};
 ghost use Rattle.ub_keeping.specs.Store.{HasCount, place_view};

@@ -1,11 +1,11 @@
 // Whether a journal is one of the table that a place holds.
 ghost use Rattle.std.specs.Prelude.{◌≡◌, ◌↔◌, ◌≤◌, IsTrue, IfOk, length};
-ghost use Rattle.ub_journal.specs.Image.{AreAscending, Fits, IsJournal, IsMarkedFrom, numbers_of, told};
+ghost use Rattle.ub_journal.specs.Image.{AreAscending, Fits, IsJournal, numbers_of, told};
 ghost use Rattle.ub_journal.specs.Place.{Counts, IsHonest};
-ghost use Rattle.ub_journal_page.specs.inner.Fitting.{AreThere, LeaveFirst};
+ghost use Rattle.ub_keeping.specs.inner.Fitting.{AreThere, LeaveFirst};
 ghost use Rattle.ub_keeping.specs.Calm.{IsCalm};
 
-use ub_journal::{Change, Failed, Journal, Place};
+use ub_journal::{Change, Failed, Journal, Place, is_marked_from};
 use ub_store::Page;
 
 /// Whether a journal is one of the table that is seen, which has so many pages. The first page is read, and where that isn't the one
@@ -36,17 +36,6 @@ pub fn fits<P: Place>(place: &mut P, pages: u64, journal: &Journal) -> Result<bo
         return Ok(false);
     }
     are_there(place, changes)
-}
-
-// Whether a page is another one but for its mark.
-fn is_marked_from(before: &Page, page: &Page) -> bool
-    ensures { IsTrue result ↔ IsMarkedFrom before.now page.now }
-{
-    let mut was = *before;
-    let mut is = *page;
-    was[5] = 0;
-    is[5] = 0;
-    is == was
 }
 
 // Whether two pages have the same bytes.

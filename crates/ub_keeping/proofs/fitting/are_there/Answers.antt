@@ -1,7 +1,7 @@
 use Rattle.std.proofs.Common.{◌<◌, IsTrue, get_or, [], length, subst, sym}
 use Rattle.ub_journal.specs.Image.{Image}
 use Rattle.ub_journal.specs.declared.journal.Change.{Change}
-use Rattle.ub_journal_page.proofs.FitFacts.{below_at}
+use Rattle.ub_keeping.proofs.FitFacts.{below_at}
 use Rattle.ub_keeping.proofs.fitting.are_there.Goals as goal
 
 pub read_page-requires : goal.read_page-requires

@@ -1,6 +1,6 @@
 use Rattle.std.proofs.Common.{◌≡◌, ◌↔◌, drop}
 use Rattle.ub_journal.specs.Place.{IsHonest}
-use Rattle.ub_journal_page.specs.inner.Fitting.{AreThere}
+use Rattle.ub_keeping.specs.inner.Fitting.{AreThere}
 use Rattle.ub_keeping.specs.Calm.{IsCalm}
 use Rattle.ub_keeping.proofs.fitting.are_there.Given as goal
 

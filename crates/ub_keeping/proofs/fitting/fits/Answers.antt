@@ -2,8 +2,8 @@ use Rattle.std.proofs.Common.{◌↔◌, ◌∙◌, IsTrue, ℕ, List, length, s
 use Rattle.ub_journal.specs.Image.{Fits, told}
 use Rattle.ub_journal.specs.Place.{IsHonest}
 use Rattle.ub_journal.specs.declared.journal.Change.{Change}
-use Rattle.ub_journal_page.specs.inner.Fitting.{AreThere, LeaveFirst}
-use Rattle.ub_journal_page.proofs.FitFacts.{fits_there, if_ok}
+use Rattle.ub_keeping.specs.inner.Fitting.{AreThere, LeaveFirst}
+use Rattle.ub_keeping.proofs.FitFacts.{fits_there, if_ok}
 use Rattle.ub_keeping.proofs.CalmFacts.{still}
 use Rattle.ub_keeping.proofs.FitFacts.{same_there}
 use Rattle.ub_keeping.proofs.fitting.fits.Goals as goal

@@ -1,6 +1,6 @@
 use Rattle.std.proofs.Common.{◌≤◌, ℕ, arith, le-leb, subst, sym}
 use Rattle.std.proofs.lemmas.Bool.{leb-true}
-use Rattle.ub_journal_page.proofs.FitFacts.{last_tells, too_few}
+use Rattle.ub_keeping.proofs.FitFacts.{last_tells, too_few}
 use Rattle.ub_keeping.proofs.fitting.leave_first.Goals as goal
 
 pub returns-then-changes-missing : goal.returns-then-changes-missing
