@@ -21,7 +21,8 @@ pub trait Files {
 
     ghost clock: { Self → FolderClock };
 
-    ghost law: { (files : Self) → IsTrue (facts files).honest → IsFolderClock (clock files) };
+    ghost law: { (files : Self) → IsTrue (facts files).honest
+        → IsFolderClock (facts files) (clock files) };
 
     /// The bytes of a file. Device comes where it can't be opened or read, Memory where memory was refused. What files hold stays
     /// as it was, but that standard input is used up: after it was read it has no bytes, and after a refusal any of them may be
@@ -69,8 +70,8 @@ pub trait Files {
             (facts self.old) (facts self.new) result }
         ensures crash { Runs (MayHold path.now (Self.Store.facts store).pages)
             (facts self.old) (clock self.old) (clock self.new) }
-        ensures lasts { OnOk result (IsTrue (facts self.old).honest
-            → Lasts path.now (Self.Store.facts store).pages (clock self.new)) };
+        ensures lasts { OnOk result (Lasts path.now (Self.Store.facts store).pages
+            (facts self.old) (clock self.new)) };
 
     /// Makes a table file of these pages, of which there is one at least, in the place of what is there. Device comes where that failed
     /// in this call, Memory where memory was refused for a journal that a stopped run has left, and then nothing was done;
@@ -83,8 +84,8 @@ pub trait Files {
         ensures effect { MakesFile path.now pages.now (facts self.old) (facts self.new) result }
         ensures crash { Runs (MayBecome path.now pages.now (facts self.old))
             (facts self.old) (clock self.old) (clock self.new) }
-        ensures lasts { OnOk result (IsTrue (facts self.old).honest
-            → Lasts path.now pages.now (clock self.new)) };
+        ensures lasts { OnOk result (Lasts path.now pages.now
+            (facts self.old) (clock self.new)) };
 
     /// Takes back a store that isn't kept: what was written to it is gone, and no file is changed.
     fn put_back(&mut self, path: &str, store: Self::Store)

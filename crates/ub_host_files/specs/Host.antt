@@ -53,9 +53,9 @@ clock_of_host = record {
 }
 
 -- so nothing is to be shown of clocks
-pub no_host_clock : IsTrue is_honest_host → IsFolderClock clock_of_host
+pub no_host_clock : (files : FilesFacts) → IsTrue is_honest_host → IsFolderClock files clock_of_host
 unfolding is_honest_host
-no_host_clock honest = absurd (cc honest)
+no_host_clock files honest = absurd (cc honest)
 
 pub no_clock : (pages rest failures : ℕ) → IsTrue is_honest_host → IsClock (facts_of_place pages rest failures)
 unfolding is_honest_host

@@ -162,7 +162,7 @@ where
 
     ghost clock = { λ files. clock_of_host };
 
-    ghost law = { λ files honest. no_host_clock honest };
+    ghost law = { λ files honest. no_host_clock (facts_of_host files.reads files.tables) honest };
 
     fn read(&mut self, path: &str) -> Result<Vec<u8>, StoreFault> {
         let (device, name) = if path == STANDARD_INPUT {

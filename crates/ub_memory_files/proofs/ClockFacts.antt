@@ -53,9 +53,9 @@ either_of Is (Err e) held was none done (inl same) = inl same
 either_of Is (Err e) held was none done (inr left) = inr (subst Is (sym left) none)
 
 -- the pages that a path is told to hold last
-pub lasts_in : (path : List ℕ) (all : List (List ℕ)) (entries : List Entry) → HasPages (held_in entries path) all
-    → Lasts path all (clock_in_memory entries)
-lasts_in path all entries has = λ c left ne. subst (λ held. HasPages held all) (sym (left path ne)) has
+pub lasts_in : (path : List ℕ) (all : List (List ℕ)) (files : FilesFacts) (entries : List Entry) → HasPages (held_in entries path) all
+    → Lasts path all files (clock_in_memory entries)
+lasts_in path all files entries has = λ honest c left ne. subst (λ held. HasPages held all) (sym (left path ne)) has
 
 -- one of two is one of three
 pub or_more : {A B C : Type 0} → A ⊎ B → A ⊎ (B ⊎ C)

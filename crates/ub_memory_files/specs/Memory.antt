@@ -2,8 +2,8 @@
 use Rattle.std.specs.Prelude.{◌≡◌, ◌≢◌, ℕ, List, Result, OnErr, OnOk, [], ◌∷◌, Option, Some, None, String, Vec, if◌then◌else◌, true, map, suc, string_bytes}
 use Rattle.std.specs.Option.{option_map}
 use Rattle.std.specs.Str.{bytes_eq}
-use Rattle.ub_files.specs.Clock.{FolderClock, IsSameFolder}
-use Rattle.ub_files.specs.Files.{FilesFacts, Held, HoldsBut, absent, bytes, standard_input, untold}
+use Rattle.ub_files.specs.Clock.{FolderClock, IsLeftAs, IsSameFolder}
+use Rattle.ub_files.specs.Files.{FilesFacts, Held, HoldsBut, absent, bytes, pages, standard_input, torn, untold}
 use Rattle.ub_journal.specs.Torn.{torn_facts}
 use Rattle.ub_memory_files.specs.Tables.{held_of}
 use Rattle.ub_memory_files.specs.declared.entries.Entry.{Entry}
@@ -72,3 +72,11 @@ pub record IsPut (path : List ℕ) (file : Held) (old new : FilesFacts) : Type 0
 -- a crash leaves what these files hold. Nothing is told of what it might have left earlier: for memory no time goes by
 abbrev pub clock_in_memory : List Entry → FolderClock
 clock_in_memory entries = record { may_leave = IsSameFolder (held_in entries); moment = 0; left_since = λ t. IsSameFolder (held_in entries) }
+
+-- what memory holds is what is told to last
+pub left_as : (lasting held : Held) → held ≡ lasting → IsLeftAs lasting held
+left_as untold held same = tt
+left_as absent held same = same
+left_as (bytes text) held same = same
+left_as (pages all) held same = same
+left_as torn held same = same

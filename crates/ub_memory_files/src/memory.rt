@@ -1,7 +1,7 @@
 ghost use Rattle.std.specs.Prelude.{◌≡◌, ◌≢◌, ◌≤◌, ◌⊎◌, ◌↔◌, ℕ, List, [], ◌∷◌, Some, IfOk, IfSome, IfErr, OnErr, OnOk, IsErrOf};
 ghost use Rattle.ub_files.specs.Clock.{IsSameFolder, Runs};
 ghost use Rattle.ub_files.specs.Files.{bytes, counted, counted_open, pages, untold, AreRead, ReadsFile};
-ghost use Rattle.ub_memory_files.specs.Memory.{clock_in_memory, facts_in_memory, held_in, paths_told, IsPut};
+ghost use Rattle.ub_memory_files.specs.Memory.{clock_in_memory, facts_in_memory, held_in, left_as, paths_told, IsPut};
 ghost use Rattle.ub_memory_files.specs.Tables.{IsSeenAs};
 
 use crate::entries::{Entry, MemFile, put, read_text, table_at};
@@ -136,6 +136,7 @@ impl Files for MemFiles {
     ghost law = { λ files honest. record {
       counts_now = λ t c earlier left. left;
       only_now = λ c left. left;
+      lasting = λ path c left told. left_as (held_in files.entries.items path) (c path) (left path told);
     } };
 
     /// The text at this path. Device comes exactly where it holds no text. At a refusal each path holds what it did, standard input
