@@ -49,7 +49,7 @@ _ubq_read() {
 }
 
 _ubq() {
-    local commands=(load run try upgrade describe check next help) help=(-h --help)
+    local commands=(load run query append try upgrade describe check next help) help=(-h --help)
     local table=(--dims --signed --page-rows --name)
     local current=${COMP_WORDS[COMP_CWORD]} word command= waiting= plain=no given=' ' taken=0 files=0 options=("${help[@]}")
     COMPREPLY=()
@@ -59,8 +59,8 @@ _ubq() {
     case $command in
     '') options+=(-V --version) ;;
     load | try) files=2 options+=("${table[@]}") ;;
-    run | upgrade) files=2 ;;
-    describe | check) files=1 ;;
+    run | append | upgrade) files=2 ;;
+    query | describe | check) files=1 ;;
     next) ;;
     *) options=() ;;
     esac

@@ -1,7 +1,7 @@
 #!/usr/bin/env bash
 # Tries `bin/ubq` in a fresh clone, by hand: answers of the build that is not proved yet, by files of all kinds and standard
-# input; `--prove`, interrupted and begun again; runs with nothing changed, with a source touched or changed; a `load`; a script
-# that changes a table; a mistake in the program; a proof that fails. It takes as long as proving the program from nothing does and
+# input; `--prove`, interrupted and begun again; runs with nothing changed, with a source touched or changed; a `load`; an `append`; a
+# script and a query that change a table; a mistake in the program; a proof that fails. It takes as long as proving the program from nothing does and
 # some 25 answers of a minute.
 # With --warm what was proved here is taken along, but for the crate `ub_words`. With --answers the program is not proved:
 # only the unproved answers are tried; with --proof only what follows them, as with --warm. The last line says whether all was as
@@ -112,7 +112,7 @@ answers() {
     check "and so is a table" wrote '! Device\n'
     check "with that status" ended 4
     ask describe tests/old/s.ub
-    check "a table file is described" wrote 'table t\ndimension x\ndimension y\nmeasure m\nrows 5\nnext 6\nregions 3\npage-rows 2\ndirectory-pages 1\nformat 1\n'
+    check "a table file is described" wrote 'table t\ndimension x\ndimension y\nmeasure m\nrows 5\nnext 6\nregions 3\npage-rows 2\ndirectory-pages 1\nformat 1\nload-with --dims 2 --signed 0 --page-rows 2 --name t\n'
     check "by the build that is not proved" is_unproved
     cp examples/s.csv "$room/none.ub"
     ask describe "$room/none.ub"
@@ -127,6 +127,10 @@ answers() {
     check "help of load needs no proof" grep -q '^Usage: ubq load ' "$room/out"
     ask upgrade --help
     check "nor does help of upgrade" grep -q '^Usage: ubq upgrade ' "$room/out"
+    ask append --help
+    check "nor of append" grep -q '^Usage: ubq append ' "$room/out"
+    ask query "$room/none.ub" --help 'DELETE FROM t'
+    check "nor of query" grep -q '^Usage: ubq query ' "$room/out"
     ask
     check "no words at all have status 2" ended 2
     check "and are shown how the program is called" grep -q '^Usage: ubq <COMMAND>' "$room/out"
@@ -181,6 +185,18 @@ scripts() {
     ask run "$room/none.ub" <(cat "$room/changes.sql")
     check "and one from a pipe" told 'changed by the proved program alone'
     rm -f "$(sed -n 's/.*prover said: //p' "$room/err")"
+    ask query "$room/none.ub" 'SELECT * FROM t; deLETE FROM t WHERE x = 2'
+    check "and a query that changes a table" told 'changed by the proved program alone'
+    check "without one there is no answer" ended 125
+    rm -f "$(sed -n 's/.*prover said: //p' "$room/err")"
+    ask query "$room/none.ub" -- '-- what an InSeRt would change'
+    check "also where the word stands in a comment" told 'changed by the proved program alone'
+    rm -f "$(sed -n 's/.*prover said: //p' "$room/err")"
+    ask append "$room/none.ub" examples/s.csv
+    check "an append needs it" told 'changed by the proved program alone'
+    check "without one there is no answer" ended 125
+    check "and the table file stands as it was" cmp -s examples/s.csv "$room/none.ub"
+    rm -f "$(sed -n 's/.*prover said: //p' "$room/err")"
     ask upgrade tests/old/s.ub "$room/new.ub"
     check "an upgrade needs it" told 'made by the proved program alone'
     check "without one there is no answer" ended 125
@@ -197,6 +213,11 @@ scripts() {
     check "with that status" ended 3
     ask run "$room/none.ub" "$room"
     check "a folder for a script is told as the program tells it" wrote '! Device\n'
+    ask query "$room/none.ub" 'SELECT COUNT(*) FROM t'
+    check "a query that only asks is answered unproved" is_unproved
+    check "with the program's status" ended 3
+    check "its fault isn't among the answers" test ! -s "$room/out"
+    check "and is told apart" told '^! BadSize$'
     ask try examples/s.csv "$room/changes.sql" --dims 2
     check "a try changes no file, so it is answered unproved" wrote '-- deleted 2\n-- inserted 6\nCOUNT(*)\n4\n-- rows 1, pages 1\n'
     check "and says so" is_unproved
@@ -236,6 +257,14 @@ proof() {
     check "with the worked lines" wrote "$worked"
     ask run "$room/s.ub" examples/between.sql
     check "also of the table" wrote "$worked"
+    ask query "$room/s.ub" 'SELECT * FROM t WHERE x BETWEEN 2 AND 3'
+    check "and to a query" wrote 'x,y,m\n2,3,20\n3,0,5\n2,3,1\n'
+    check "with the line that tells of it apart" told '^-- rows 3, pages 1$'
+    cp "$room/s.ub" "$room/changed.ub"
+    ask append "$room/changed.ub" examples/s.csv
+    check "which takes rows of a file" wrote '-- appended 5, rows 10\n'
+    ask query "$room/changed.ub" 'SELECT COUNT(*) FROM t'
+    check "and has them" wrote 'COUNT(*)\n10\n'
     cp "$room/s.ub" "$room/changed.ub"
     printf 'INSERT INTO t VALUES (3, 3, -6);' >"$room/insert.sql"
     ask run "$room/changed.ub" "$room/insert.sql"

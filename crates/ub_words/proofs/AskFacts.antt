@@ -11,7 +11,7 @@ use Rattle.clap.specs.declared.parser.matches.ArgMatches.{ArgMatches}
 use Rattle.clap.specs.declared.error.kind.ErrorKind.{ErrorKind}
 use Rattle.clap.specs.declared.error.kind.ErrorKind.TheVariants as kind
 use Rattle.clap.proofs.OnLiterals.{clap_on_literals}
-use Rattle.ub_words.specs.CommandLine.{AreNextWords, AsksHelpAlone, AsksNothing, IsCheckGiven, IsDescribeGiven, IsLoadGiven, IsNextGiven, IsRunGiven, IsTaken, IsTryGiven, IsUpgradeGiven, standard_input, ubq_app}
+use Rattle.ub_words.specs.CommandLine.{AreNextWords, AsksHelpAlone, AsksNothing, IsAppendGiven, IsCheckGiven, IsDescribeGiven, IsLoadGiven, IsNextGiven, IsQueryGiven, IsRunGiven, IsTaken, IsTryGiven, IsUpgradeGiven, standard_input, ubq_app}
 
 -- the program's command line is one whose matches `clap` tells
 pub ubq_is_simple : is_simple ubq_app ≡ true
@@ -47,84 +47,23 @@ pub no_help_refused : (words : List (List ℕ)) (k : ErrorKind) → IsAmong k (f
 no_help_refused words k among no_help no_version (inl help) = no_help (only_kind k _ _ among help)
 no_help_refused words k among no_help no_version (inr version) = no_version (only_kind k _ _ among version)
 
--- the names of two commands
-apart : (name other : List ℕ) → bytes_eq name other ≡ false → name ≢ other
-apart name other unlike e = false≢true (sym unlike ∙ (bytes_eq-Decides name other).1 e)
+-- two names that are spelled differently aren't one
+pub differ : (name other : List ℕ) → name ≡ other → bytes_eq name other ≡ false → ⊥
+differ name other e unlike = false≢true (sym unlike ∙ (bytes_eq-Decides name other).1 e)
 
-pub load≢try : codes "load" ≢ codes "try"
-load≢try = apart (codes "load") (codes "try") refl
-
-pub run≢try : codes "run" ≢ codes "try"
-run≢try = apart (codes "run") (codes "try") refl
-
-pub load≢run : codes "load" ≢ codes "run"
-load≢run = apart (codes "load") (codes "run") refl
-
-pub try≢next : codes "try" ≢ codes "next"
-try≢next = apart (codes "try") (codes "next") refl
-
-pub load≢next : codes "load" ≢ codes "next"
-load≢next = apart (codes "load") (codes "next") refl
-
-pub run≢next : codes "run" ≢ codes "next"
-run≢next = apart (codes "run") (codes "next") refl
-
-pub upgrade≢try : codes "upgrade" ≢ codes "try"
-upgrade≢try = apart (codes "upgrade") (codes "try") refl
-
-pub upgrade≢load : codes "upgrade" ≢ codes "load"
-upgrade≢load = apart (codes "upgrade") (codes "load") refl
-
-pub upgrade≢run : codes "upgrade" ≢ codes "run"
-upgrade≢run = apart (codes "upgrade") (codes "run") refl
-
-pub upgrade≢next : codes "upgrade" ≢ codes "next"
-upgrade≢next = apart (codes "upgrade") (codes "next") refl
-
-pub describe≢try : codes "describe" ≢ codes "try"
-describe≢try = apart (codes "describe") (codes "try") refl
-
-pub describe≢load : codes "describe" ≢ codes "load"
-describe≢load = apart (codes "describe") (codes "load") refl
-
-pub describe≢run : codes "describe" ≢ codes "run"
-describe≢run = apart (codes "describe") (codes "run") refl
-
-pub describe≢upgrade : codes "describe" ≢ codes "upgrade"
-describe≢upgrade = apart (codes "describe") (codes "upgrade") refl
-
-pub describe≢next : codes "describe" ≢ codes "next"
-describe≢next = apart (codes "describe") (codes "next") refl
-
-pub check≢try : codes "check" ≢ codes "try"
-check≢try = apart (codes "check") (codes "try") refl
-
-pub check≢load : codes "check" ≢ codes "load"
-check≢load = apart (codes "check") (codes "load") refl
-
-pub check≢run : codes "check" ≢ codes "run"
-check≢run = apart (codes "check") (codes "run") refl
-
-pub check≢upgrade : codes "check" ≢ codes "upgrade"
-check≢upgrade = apart (codes "check") (codes "upgrade") refl
-
-pub check≢describe : codes "check" ≢ codes "describe"
-check≢describe = apart (codes "check") (codes "describe") refl
-
-pub check≢next : codes "check" ≢ codes "next"
-check≢next = apart (codes "check") (codes "next") refl
-
--- words by which a command was found ask for nothing, if it is none of the seven, or what was given for it is not enough
+-- words by which a command was found ask for nothing, if it is none of the nine, or what was given for it is not enough
 pub nothing_by : (words : List (List ℕ)) (name : List ℕ) (rows : List Row) → IsTaken words (both name rows)
     → (name ≡ codes "try" → (source script table : List ℕ) (dims page_rows signed : ℕ) → IsTryGiven rows source script table dims page_rows signed
     → (source ≡ standard_input) × (script ≡ standard_input))
     → (name ≡ codes "load" → (source table other : List ℕ) (dims page_rows signed : ℕ) → ¬ (IsLoadGiven rows source table other dims page_rows signed))
     → (name ≡ codes "run" → (table script : List ℕ) → ¬ (IsRunGiven rows table script))
+    → (name ≡ codes "query" → (table statements : List ℕ) → ¬ (IsQueryGiven rows table statements))
+    → (name ≡ codes "append" → (table source : List ℕ) → ¬ (IsAppendGiven rows table source))
     → (name ≡ codes "upgrade" → (old new : List ℕ) → ¬ (IsUpgradeGiven rows old new))
     → (name ≡ codes "describe" → (table : List ℕ) → ¬ (IsDescribeGiven rows table))
     → (name ≡ codes "check" → (table : List ℕ) → ¬ (IsCheckGiven rows table))
     → (name ≡ codes "next" → (lo hi z : List ℕ) → ¬ (IsNextGiven rows lo hi z)) → AsksNothing words
-nothing_by words name rows taken by_try by_load by_run by_upgrade by_describe by_check by_next = record {
+nothing_by words name rows taken by_try by_load by_run by_query by_append by_upgrade by_describe by_check by_next = record {
   no_try = λ source script table dims page_rows signed asks.
       let same = same_found _ _ _ _ (sym taken.1 ∙ asks.1.1) in
       asks.3 (by_try same.0 source script table dims page_rows signed (subst (λ (r : List Row). IsTryGiven r source script table dims page_rows signed) (sym same.1) asks.2));
@@ -134,6 +73,12 @@ nothing_by words name rows taken by_try by_load by_run by_upgrade by_describe by
   no_run = λ table script asks.
       let same = same_found _ _ _ _ (sym taken.1 ∙ asks.1.1) in
       by_run same.0 table script (subst (λ (r : List Row). IsRunGiven r table script) (sym same.1) asks.2);
+  no_query = λ table statements asks.
+      let same = same_found _ _ _ _ (sym taken.1 ∙ asks.1.1) in
+      by_query same.0 table statements (subst (λ (r : List Row). IsQueryGiven r table statements) (sym same.1) asks.2);
+  no_append = λ table source asks.
+      let same = same_found _ _ _ _ (sym taken.1 ∙ asks.1.1) in
+      by_append same.0 table source (subst (λ (r : List Row). IsAppendGiven r table source) (sym same.1) asks.2);
   no_upgrade = λ old new asks.
       let same = same_found _ _ _ _ (sym taken.1 ∙ asks.1.1) in
       by_upgrade same.0 old new (subst (λ (r : List Row). IsUpgradeGiven r old new) (sym same.1) asks.2);
@@ -157,46 +102,56 @@ pub nothing_by_try : (words : List (List ℕ)) (rows : List Row) → IsTaken wor
     → ((source script name : List ℕ) (dims page_rows signed : ℕ) → IsTryGiven rows source script name dims page_rows signed
     → (source ≡ standard_input) × (script ≡ standard_input)) → AsksNothing words
 nothing_by_try words rows taken none =
-    nothing_by words (codes "try") rows taken (λ e. none) (λ e. absurd (load≢try (sym e))) (λ e. absurd (run≢try (sym e))) (λ e. absurd (upgrade≢try (sym e))) (λ e. absurd (describe≢try (sym e))) (λ e. absurd (check≢try (sym e))) (λ e. absurd (try≢next e))
+    nothing_by words (codes "try") rows taken (λ e. none) (λ e. absurd (differ _ _ e refl)) (λ e. absurd (differ _ _ e refl)) (λ e. absurd (differ _ _ e refl))
+    (λ e. absurd (differ _ _ e refl)) (λ e. absurd (differ _ _ e refl)) (λ e. absurd (differ _ _ e refl)) (λ e. absurd (differ _ _ e refl)) (λ e. absurd (differ _ _ e refl))
 
 pub nothing_by_load : (words : List (List ℕ)) (rows : List Row) → IsTaken words (both (codes "load") rows)
     → ((source table name : List ℕ) (dims page_rows signed : ℕ) → ¬ (IsLoadGiven rows source table name dims page_rows signed)) → AsksNothing words
 nothing_by_load words rows taken none =
-    nothing_by words (codes "load") rows taken (λ e. absurd (load≢try e)) (λ e. none) (λ e. absurd (load≢run e)) (λ e. absurd (upgrade≢load (sym e))) (λ e. absurd (describe≢load (sym e))) (λ e. absurd (check≢load (sym e))) (λ e. absurd (load≢next e))
+    nothing_by words (codes "load") rows taken (λ e. absurd (differ _ _ e refl)) (λ e. none) (λ e. absurd (differ _ _ e refl)) (λ e. absurd (differ _ _ e refl))
+    (λ e. absurd (differ _ _ e refl)) (λ e. absurd (differ _ _ e refl)) (λ e. absurd (differ _ _ e refl)) (λ e. absurd (differ _ _ e refl)) (λ e. absurd (differ _ _ e refl))
 
 pub nothing_by_run : (words : List (List ℕ)) (rows : List Row) → IsTaken words (both (codes "run") rows)
     → ((table script : List ℕ) → ¬ (IsRunGiven rows table script)) → AsksNothing words
 nothing_by_run words rows taken none =
-    nothing_by words (codes "run") rows taken (λ e. absurd (run≢try e)) (λ e. absurd (load≢run (sym e))) (λ e. none) (λ e. absurd (upgrade≢run (sym e))) (λ e. absurd (describe≢run (sym e))) (λ e. absurd (check≢run (sym e))) (λ e. absurd (run≢next e))
+    nothing_by words (codes "run") rows taken (λ e. absurd (differ _ _ e refl)) (λ e. absurd (differ _ _ e refl)) (λ e. none) (λ e. absurd (differ _ _ e refl))
+    (λ e. absurd (differ _ _ e refl)) (λ e. absurd (differ _ _ e refl)) (λ e. absurd (differ _ _ e refl)) (λ e. absurd (differ _ _ e refl)) (λ e. absurd (differ _ _ e refl))
+
+pub nothing_by_query : (words : List (List ℕ)) (rows : List Row) → IsTaken words (both (codes "query") rows)
+    → ((table statements : List ℕ) → ¬ (IsQueryGiven rows table statements)) → AsksNothing words
+nothing_by_query words rows taken none =
+    nothing_by words (codes "query") rows taken (λ e. absurd (differ _ _ e refl)) (λ e. absurd (differ _ _ e refl)) (λ e. absurd (differ _ _ e refl)) (λ e. none)
+    (λ e. absurd (differ _ _ e refl)) (λ e. absurd (differ _ _ e refl)) (λ e. absurd (differ _ _ e refl)) (λ e. absurd (differ _ _ e refl)) (λ e. absurd (differ _ _ e refl))
+
+pub nothing_by_append : (words : List (List ℕ)) (rows : List Row) → IsTaken words (both (codes "append") rows)
+    → ((table source : List ℕ) → ¬ (IsAppendGiven rows table source)) → AsksNothing words
+nothing_by_append words rows taken none =
+    nothing_by words (codes "append") rows taken (λ e. absurd (differ _ _ e refl)) (λ e. absurd (differ _ _ e refl)) (λ e. absurd (differ _ _ e refl)) (λ e. absurd (differ _ _ e refl))
+    (λ e. none) (λ e. absurd (differ _ _ e refl)) (λ e. absurd (differ _ _ e refl)) (λ e. absurd (differ _ _ e refl)) (λ e. absurd (differ _ _ e refl))
 
 pub nothing_by_upgrade : (words : List (List ℕ)) (rows : List Row) → IsTaken words (both (codes "upgrade") rows)
     → ((old new : List ℕ) → ¬ (IsUpgradeGiven rows old new)) → AsksNothing words
 nothing_by_upgrade words rows taken none =
-    nothing_by words (codes "upgrade") rows taken (λ e. absurd (upgrade≢try e)) (λ e. absurd (upgrade≢load e)) (λ e. absurd (upgrade≢run e)) (λ e. none)
-    (λ e. absurd (describe≢upgrade (sym e))) (λ e. absurd (check≢upgrade (sym e))) (λ e. absurd (upgrade≢next e))
+    nothing_by words (codes "upgrade") rows taken (λ e. absurd (differ _ _ e refl)) (λ e. absurd (differ _ _ e refl)) (λ e. absurd (differ _ _ e refl)) (λ e. absurd (differ _ _ e refl))
+    (λ e. absurd (differ _ _ e refl)) (λ e. none) (λ e. absurd (differ _ _ e refl)) (λ e. absurd (differ _ _ e refl)) (λ e. absurd (differ _ _ e refl))
 
 pub nothing_by_describe : (words : List (List ℕ)) (rows : List Row) → IsTaken words (both (codes "describe") rows)
     → ((table : List ℕ) → ¬ (IsDescribeGiven rows table)) → AsksNothing words
 nothing_by_describe words rows taken none =
-    nothing_by words (codes "describe") rows taken (λ e. absurd (describe≢try e)) (λ e. absurd (describe≢load e)) (λ e. absurd (describe≢run e)) (λ e. absurd (describe≢upgrade e))
-    (λ e. none) (λ e. absurd (check≢describe (sym e))) (λ e. absurd (describe≢next e))
+    nothing_by words (codes "describe") rows taken (λ e. absurd (differ _ _ e refl)) (λ e. absurd (differ _ _ e refl)) (λ e. absurd (differ _ _ e refl)) (λ e. absurd (differ _ _ e refl))
+    (λ e. absurd (differ _ _ e refl)) (λ e. absurd (differ _ _ e refl)) (λ e. none) (λ e. absurd (differ _ _ e refl)) (λ e. absurd (differ _ _ e refl))
 
 pub nothing_by_check : (words : List (List ℕ)) (rows : List Row) → IsTaken words (both (codes "check") rows)
     → ((table : List ℕ) → ¬ (IsCheckGiven rows table)) → AsksNothing words
 nothing_by_check words rows taken none =
-    nothing_by words (codes "check") rows taken (λ e. absurd (check≢try e)) (λ e. absurd (check≢load e)) (λ e. absurd (check≢run e)) (λ e. absurd (check≢upgrade e))
-    (λ e. absurd (check≢describe e)) (λ e. none) (λ e. absurd (check≢next e))
+    nothing_by words (codes "check") rows taken (λ e. absurd (differ _ _ e refl)) (λ e. absurd (differ _ _ e refl)) (λ e. absurd (differ _ _ e refl)) (λ e. absurd (differ _ _ e refl))
+    (λ e. absurd (differ _ _ e refl)) (λ e. absurd (differ _ _ e refl)) (λ e. absurd (differ _ _ e refl)) (λ e. none) (λ e. absurd (differ _ _ e refl))
 
 pub nothing_by_next : (words : List (List ℕ)) (rows : List Row) → IsTaken words (both (codes "next") rows)
     → ((lo hi z : List ℕ) → ¬ (IsNextGiven rows lo hi z)) → AsksNothing words
 nothing_by_next words rows taken none =
-    nothing_by words (codes "next") rows taken (λ e. absurd (try≢next (sym e))) (λ e. absurd (load≢next (sym e))) (λ e. absurd (run≢next (sym e))) (λ e. absurd (upgrade≢next (sym e))) (λ e. absurd (describe≢next (sym e)))
-    (λ e. absurd (check≢next (sym e))) (λ e. none)
-
-pub nothing_by_other : (words : List (List ℕ)) (name : List ℕ) (rows : List Row) → IsTaken words (both name rows)
-    → name ≢ codes "load" → name ≢ codes "run" → name ≢ codes "try" → name ≢ codes "upgrade" → name ≢ codes "describe" → name ≢ codes "check" → name ≢ codes "next" → AsksNothing words
-nothing_by_other words name rows taken load run try upgrade describe check next =
-    nothing_by words name rows taken (λ e. absurd (try e)) (λ e. absurd (load e)) (λ e. absurd (run e)) (λ e. absurd (upgrade e)) (λ e. absurd (describe e)) (λ e. absurd (check e)) (λ e. absurd (next e))
+    nothing_by words (codes "next") rows taken (λ e. absurd (differ _ _ e refl)) (λ e. absurd (differ _ _ e refl)) (λ e. absurd (differ _ _ e refl)) (λ e. absurd (differ _ _ e refl))
+    (λ e. absurd (differ _ _ e refl)) (λ e. absurd (differ _ _ e refl)) (λ e. absurd (differ _ _ e refl)) (λ e. absurd (differ _ _ e refl)) (λ e. none)
 
 -- words by which no command was found
 pub nothing_by_none : (words : List (List ℕ)) (found : Option (List ℕ × List Row)) → None ≡ found → IsTaken words found → AsksNothing words
@@ -204,6 +159,8 @@ nothing_by_none words found is taken = record {
   no_try = λ source script table dims page_rows signed asks. let bad = is ∙ (sym taken.1 ∙ asks.1.1) in cc;
   no_load = λ source table other dims page_rows signed asks. let bad = is ∙ (sym taken.1 ∙ asks.1.1) in cc;
   no_run = λ table script asks. let bad = is ∙ (sym taken.1 ∙ asks.1.1) in cc;
+  no_query = λ table statements asks. let bad = is ∙ (sym taken.1 ∙ asks.1.1) in cc;
+  no_append = λ table source asks. let bad = is ∙ (sym taken.1 ∙ asks.1.1) in cc;
   no_upgrade = λ old new asks. let bad = is ∙ (sym taken.1 ∙ asks.1.1) in cc;
   no_describe = λ table asks. let bad = is ∙ (sym taken.1 ∙ asks.1.1) in cc;
   no_check = λ table asks. let bad = is ∙ (sym taken.1 ∙ asks.1.1) in cc;
@@ -220,6 +177,8 @@ nothing_by_refusal words refused no_help none = record {
   no_try = λ source script name dims page_rows signed asks. refused asks.1.0;
   no_load = λ source table name dims page_rows signed asks. refused asks.1.0;
   no_run = λ table script asks. refused asks.1.0;
+  no_query = λ table statements asks. refused asks.1.0;
+  no_append = λ table source asks. refused asks.1.0;
   no_upgrade = λ old new asks. refused asks.1.0;
   no_describe = λ table asks. refused asks.1.0;
   no_check = λ table asks. refused asks.1.0;

@@ -1,8 +1,8 @@
 -- What was read of the words of a command line, held against what they ask for.
 use Rattle.std.specs.Prelude.{◌≡◌, ℕ, List, ◌++◌, codes}
-use Rattle.ub_words.specs.CommandLine.{AsksCheck, AsksDescribe, AsksHelp, AsksLoad, AsksNext, AsksNothing, AsksRun, AsksTry, AsksUpgrade}
+use Rattle.ub_words.specs.CommandLine.{AsksAppend, AsksCheck, AsksDescribe, AsksHelp, AsksLoad, AsksNext, AsksNothing, AsksQuery, AsksRun, AsksTry, AsksUpgrade}
 use Rattle.ub_words.specs.declared.words.Asked.{Asked}
-use Rattle.ub_words.specs.declared.words.Asked.TheVariants.{Try, Load, Run, Upgrade, Describe, Check, Next, Help, Wrong}
+use Rattle.ub_words.specs.declared.words.Asked.TheVariants.{Try, Load, Run, Query, Append, Upgrade, Describe, Check, Next, Help, Wrong}
 
 -- whole lines, one at least
 abbrev pub AreLines : List ℕ → Type 0
@@ -13,6 +13,8 @@ abbrev pub IsAskedBy : List (List ℕ) → Asked → Type 0
 IsAskedBy words (Try asked) = AsksTry words asked.source.path.now asked.script.now asked.source.name.now asked.source.dims asked.source.page_rows asked.source.signed
 IsAskedBy words (Load asked) = AsksLoad words asked.source.path.now asked.table.now asked.source.name.now asked.source.dims asked.source.page_rows asked.source.signed
 IsAskedBy words (Run asked) = AsksRun words asked.table.now asked.script.now
+IsAskedBy words (Query asked) = AsksQuery words asked.table.now asked.statements.now
+IsAskedBy words (Append asked) = AsksAppend words asked.table.now asked.data.now
 IsAskedBy words (Upgrade asked) = AsksUpgrade words asked.old.now asked.new.now
 IsAskedBy words (Describe asked) = AsksDescribe words asked.table.now
 IsAskedBy words (Check asked) = AsksCheck words asked.table.now

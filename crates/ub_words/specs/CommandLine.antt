@@ -53,6 +53,14 @@ load_app = data_app (new_app (codes "load")) (word_rule (codes "TABLE"))
 abbrev pub run_app : App
 run_app = with_rule (with_rule (new_app (codes "run")) (word_rule (codes "TABLE"))) (word_rule (codes "SCRIPT"))
 
+-- `query TABLE STATEMENTS`
+abbrev pub query_app : App
+query_app = with_rule (with_rule (new_app (codes "query")) (word_rule (codes "TABLE"))) (word_rule (codes "STATEMENTS"))
+
+-- `append TABLE DATA`
+abbrev pub append_app : App
+append_app = with_rule (with_rule (new_app (codes "append")) (word_rule (codes "TABLE"))) (word_rule (codes "DATA"))
+
 -- `try DATA SCRIPT --dims D [--signed MASK] [--page-rows C] [--name T]`
 abbrev pub try_app : App
 try_app = data_app (new_app (codes "try")) (word_rule (codes "SCRIPT"))
@@ -78,7 +86,8 @@ bare_app = record (new_app (codes "ubq")) {
 -- the whole command line
 unfoldable pub ubq_app : App
 ubq_app =
-    with_subcommand (with_subcommand (with_subcommand (with_subcommand (with_subcommand (with_subcommand (with_subcommand bare_app load_app.top) run_app.top) try_app.top) upgrade_app.top) describe_app.top) check_app.top) next_app.top
+    with_subcommand (with_subcommand (with_subcommand (with_subcommand (with_subcommand (with_subcommand (with_subcommand (with_subcommand (with_subcommand bare_app
+    load_app.top) run_app.top) query_app.top) append_app.top) try_app.top) upgrade_app.top) describe_app.top) check_app.top) next_app.top
 
 -- an argument that `clap` reads so, and that no subcommand shares
 abbrev pub IsArgFor : Rule → Arg → Type 0
@@ -127,6 +136,16 @@ pub record IsRunGiven (rows : List Row) (table script : List ℕ) : Type 0 where
   pub table_is : first_of (codes "TABLE") rows ≡ Some table
   pub script_is : first_of (codes "SCRIPT") rows ≡ Some script
 
+-- what was given for the command `query`
+pub record IsQueryGiven (rows : List Row) (table statements : List ℕ) : Type 0 where
+  pub table_is : first_of (codes "TABLE") rows ≡ Some table
+  pub statements_are : first_of (codes "STATEMENTS") rows ≡ Some statements
+
+-- what was given for the command `append`
+pub record IsAppendGiven (rows : List Row) (table source : List ℕ) : Type 0 where
+  pub table_is : first_of (codes "TABLE") rows ≡ Some table
+  pub data_is : first_of (codes "DATA") rows ≡ Some source
+
 -- what was given for the command `upgrade`
 pub record IsUpgradeGiven (rows : List Row) (old new : List ℕ) : Type 0 where
   pub old_is : first_of (codes "OLD") rows ≡ Some old
@@ -169,6 +188,15 @@ AsksLoad words source table name dims page_rows signed =
 abbrev pub AsksRun : List (List ℕ) → List ℕ → List ℕ → Type 0
 AsksRun words table script = (rows : List Row) × IsTaken words (Some (codes "run", rows)) × IsRunGiven rows table script
 
+-- the words ask for a run of these statements on this table file, whose answers go out apart from what tells of them
+abbrev pub AsksQuery : List (List ℕ) → List ℕ → List ℕ → Type 0
+AsksQuery words table statements =
+    (rows : List Row) × IsTaken words (Some (codes "query", rows)) × IsQueryGiven rows table statements
+
+-- the words ask for the rows of the CSV text of this file to be put into this table file, behind its own
+abbrev pub AsksAppend : List (List ℕ) → List ℕ → List ℕ → Type 0
+AsksAppend words table source = (rows : List Row) × IsTaken words (Some (codes "append", rows)) × IsAppendGiven rows table source
+
 -- the words ask for this table file of an older version to be made anew, as this other one
 abbrev pub AsksUpgrade : List (List ℕ) → List ℕ → List ℕ → Type 0
 AsksUpgrade words old new = (rows : List Row) × IsTaken words (Some (codes "upgrade", rows)) × IsUpgradeGiven rows old new
@@ -201,6 +229,8 @@ pub record AsksNothing (words : List (List ℕ)) : Type 0 where
   pub no_try : (source script name : List ℕ) (dims page_rows signed : ℕ) → ¬ (AsksTry words source script name dims page_rows signed)
   pub no_load : (source table name : List ℕ) (dims page_rows signed : ℕ) → ¬ (AsksLoad words source table name dims page_rows signed)
   pub no_run : (table script : List ℕ) → ¬ (AsksRun words table script)
+  pub no_query : (table statements : List ℕ) → ¬ (AsksQuery words table statements)
+  pub no_append : (table source : List ℕ) → ¬ (AsksAppend words table source)
   pub no_upgrade : (old new : List ℕ) → ¬ (AsksUpgrade words old new)
   pub no_describe : (table : List ℕ) → ¬ (AsksDescribe words table)
   pub no_check : (table : List ℕ) → ¬ (AsksCheck words table)

@@ -4,7 +4,7 @@ use Rattle.ub_words.specs.Asked.{IsAskedBy}
 use Rattle.ub_words.specs.CommandLine.{AsksHelpAlone}
 use Rattle.ub_words.specs.declared.given.DataWords.{DataWords}
 use Rattle.ub_words.specs.declared.words.Asked.{Asked}
-use Rattle.ub_words.specs.declared.words.Asked.TheVariants.{Try, Load, Run, Upgrade, Describe, Check, Next, Help, Wrong}
+use Rattle.ub_words.specs.declared.words.Asked.TheVariants.{Try, Load, Run, Query, Append, Upgrade, Describe, Check, Next, Help, Wrong}
 
 -- these name one CSV file, and make a table of it in one way
 abbrev pub IsSameData : DataWords → DataWords → Type 0
@@ -16,6 +16,8 @@ abbrev pub AreAlike : Asked → Asked → Type 0
 AreAlike (Try a) (Try b) = IsSameData a.source b.source × (a.script.now ≡ b.script.now)
 AreAlike (Load a) (Load b) = IsSameData a.source b.source × (a.table.now ≡ b.table.now)
 AreAlike (Run a) (Run b) = (a.table.now ≡ b.table.now) × (a.script.now ≡ b.script.now)
+AreAlike (Query a) (Query b) = (a.table.now ≡ b.table.now) × (a.statements.now ≡ b.statements.now)
+AreAlike (Append a) (Append b) = (a.table.now ≡ b.table.now) × (a.data.now ≡ b.data.now)
 AreAlike (Upgrade a) (Upgrade b) = (a.old.now ≡ b.old.now) × (a.new.now ≡ b.new.now)
 AreAlike (Describe a) (Describe b) = a.table.now ≡ b.table.now
 AreAlike (Check a) (Check b) = a.table.now ≡ b.table.now

@@ -1,6 +1,6 @@
 ghost use Rattle.std.specs.Prelude.{IfOk, codes};
 ghost use Rattle.clap.specs.Words.{App, Rule, with_rule, with_subcommand};
-ghost use Rattle.ub_words.specs.CommandLine.{IsArgFor, IsCommandFor, check_app, data_app, describe_app, dims_rule, load_app, next_app, option_rule, page_rows_rule, run_app, signed_rule, try_app, ubq_app, upgrade_app, word_rule};
+ghost use Rattle.ub_words.specs.CommandLine.{IsArgFor, IsCommandFor, append_app, check_app, data_app, describe_app, dims_rule, load_app, next_app, option_rule, page_rows_rule, query_app, run_app, signed_rule, try_app, ubq_app, upgrade_app, word_rule};
 
 use clap::{Arg, Command, value_parser};
 use std::alloc::{AllocError, Global};
@@ -9,11 +9,12 @@ use std::alloc::{AllocError, Global};
 const PROGRAM_HELP: &str = "\
 Example:
   ubq load sales.csv sales.ub --dims 2
-  echo 'SELECT COUNT(*) FROM t WHERE day BETWEEN 1 AND 7;' | ubq run sales.ub -
+  ubq query sales.ub 'SELECT COUNT(*) FROM t WHERE day BETWEEN 1 AND 7'
+  ubq append sales.ub new.csv
 
 All values are whole numbers. Statements are SELECT with WHERE, GROUP BY, ORDER BY and LIMIT, INSERT of one row, and
 DELETE with WHERE; ubq run --help has their grammar. EXPLAIN in front of a SELECT shows how it would be answered, and
-reads no page of rows. If something fails, the last line says what, as ! NoPage.
+reads no page of rows. If something fails, the last line says what, as ! NoPage; the help of each command has its lines.
 
 Status:
   0  all was done
@@ -38,6 +39,23 @@ the second, 4 for the third, 8 for the fourth. So of day, zone and temp
   ubq load days.csv days.ub --dims 3 --signed 6
 has zone (2) and temp (4) signed. DATA is mostly refused as ! OutOfRange row 1 column 1 where a negative number stands in
 a dimension that isn't signed: name that one by --signed.
+
+A load that fails says why in its last line:
+  ! NoHeader                    DATA has no record
+  ! ColumnCount                 DATA has fewer columns than D, or over D + 4
+  ! BadName table               T is no name: 1 to 32 letters, digits or _, with no digit first, and no keyword
+  ! BadName column K            the name of this column is none either, or an earlier column has it
+  ! Csv                         a record has more fields than the header, or fewer: mostly for a comma in a number
+  ! BadNumber row R column K    this is no whole number: mostly a text, a date, a decimal point, or nothing
+  ! OutOfRange row R column K   this is one that the column can't hold: mostly below 0 where that isn't signed
+  ! Full                        DATA has over 16777215 rows
+  ! BadSize                     there is no room for another page
+  ! SameFile                    DATA and TABLE are one path
+  ! BadMask                     MASK names a dimension that isn't there: 4 or more with --dims 2
+  ! BadJournal                  the file TABLE-journal is damaged, another table's, or beside no table: move it away
+  ! Device                      a file isn't there or can't be used, as standard error says, or the disk is full
+  ! Memory                      DATA and the table don't fit into memory
+Row R is counted behind the header, and column K in DATA, both from 1.
 
 Status:
   0  TABLE holds the rows of DATA
@@ -66,10 +84,18 @@ moment leaves TABLE as it was, or as it is to be. Status 0, 1, 3 and 5 say that 
 what it held, or all that was done before the fault, and standard error says which: look before running the script again.
 A script that only asks leaves TABLE as it was, byte for byte. A run with INSERT or DELETE waits for whoever uses TABLE.
 
-Three refusals of TABLE say what to do:
+A fault ends the run, and the last line says which:
   ! OldFormat page 0   an older ubq made TABLE: ubq upgrade TABLE NEW makes it anew, with all its rows
-  ! Unclean page 0     TABLE was copied while it was changed, without the file TABLE-journal beside it: put that there
+  ! Unclean page 0     a ubq of before journals was stopped while it changed TABLE, or works on it now; or TABLE was
+                       copied while it was changed, without the file TABLE-journal beside it: put that there
+  ! WrongKind page 0   TABLE is no table file, or one of a later ubq
+  ! NAME page N        this page is damaged: BadCount, BadName, BadRow, BadOrder, OutOfRegion, BadPadding or WrongKind
+  ! NoPage             TABLE has no bytes, or not a page that it names
+  ! BadSize            TABLE is no whole number of pages, mostly a part of a copy; or has no room for another page
   ! BadJournal         the file TABLE-journal is damaged, or another table's: move it away
+  ! Full               an INSERT finds no row number left of 16777215, or no room in the index
+  ! Device             a file isn't there or can't be used, as standard error says, or the disk is full
+  ! Memory             memory was refused: mostly for the rows of one answer
 
 Statements, each ended by a semicolon:
   statement   = select | insert | delete
@@ -110,6 +136,64 @@ Status:
   4  a file or the output failed
   5  memory was refused";
 
+const QUERY_HELP: &str = "\
+Example:
+  ubq query sales.ub 'SELECT shop, SUM(price) FROM t GROUP BY shop'
+  ubq query sales.ub 'SELECT * FROM t' >sales.csv
+
+STATEMENTS are what a script of ubq run can hold, and do to TABLE what they do there; ubq run --help has their grammar,
+and the lines of faults. Of what ubq run would write, each line that begins with -- or ! and then a space goes to
+standard error, and all others go to standard output. So a file or a pipe gets titles and rows alone: the second example
+makes a CSV file that ubq load takes.
+
+The statements run first: nothing is written before TABLE is closed and its lock let go. So what they answer, which is
+held in memory until then, can go into TABLE itself:
+  ubq query sales.ub 'SELECT * FROM t WHERE day = 7' | ubq append sales.ub -
+
+STATEMENTS that begin with --, as a comment does, come after the word --:
+  ubq query sales.ub -- '-- all shops
+  SELECT * FROM t'
+
+Status:
+  0  all statements were answered
+  1  a statement was refused, and the others were run
+  2  wrong arguments
+  3  TABLE isn't a table file, is damaged, or is refused as OldFormat, Unclean or BadJournal; or it has no room for
+     another row, as ! Full
+  4  a file or the output failed
+  5  memory was refused";
+
+const APPEND_HELP: &str = "\
+Example:
+  ubq append sales.ub new.csv
+writes
+  -- appended 12, rows 1012
+
+Each record of DATA becomes a row of TABLE behind those that are there, in the order of DATA. The header of DATA names
+each of TABLE's columns once, in any order: each value goes into the column of its name. DATA is looked at whole before
+the first change, and all of its rows are put in, or none: an append that is stopped at any moment leaves TABLE as it
+was, or with all of them.
+
+One that fails says why in its last line:
+  ! NoHeader                    DATA has no record
+  ! BadName column K            no column of TABLE has this name, in this case, or an earlier column of DATA has it
+  ! ColumnCount                 a column of TABLE isn't among those of DATA
+  ! Csv                         a record has more fields than the header, or fewer: mostly for a comma in a number
+  ! BadNumber row R column K    this is no whole number: mostly a text, a date, a decimal point, or nothing
+  ! OutOfRange row R column K   this is one that the column can't hold: mostly below 0 where that isn't signed
+  ! Full                        not so many row numbers are left of 16777215, or there is no room in the index
+  ! SameFile                    DATA and TABLE are one path
+Row R is counted behind the header, and column K in DATA, both from 1. TABLE is refused as ubq run --help says: as
+OldFormat, Unclean, WrongKind or another name with its page, NoPage, BadSize, BadJournal, Device or Memory. After
+! Device standard error says whether the rows are in: look before running it again.
+
+Status:
+  0  TABLE has all rows of DATA
+  2  wrong arguments, or DATA and TABLE are one path, as ! SameFile
+  3  DATA was refused, as ! BadNumber row 2 column 1; or TABLE was, or it has no room for all rows, as ! Full
+  4  a file failed, as ! Device; or the output did, which no line says, and then all rows are in
+  5  memory was refused";
+
 const TRY_HELP: &str = "\
 Example:
   ubq try sales.csv script.sql --dims 2
@@ -137,6 +221,17 @@ numbers, and goes on with the next one; none of its dimensions is signed. OLD is
 touched; where OLD is refused NEW stays as it was. Where NEW is a table already, it holds that or the new one at each
 moment, also where the upgrade is stopped. A table file of this version is refused, as ! WrongKind page 0.
 
+An upgrade that fails says why in its last line:
+  ! WrongKind page 0   OLD is no table file, or one of this version, which needs no upgrade, or of a later one
+  ! Unclean page 0     an older ubq was stopped while it changed OLD, or works on it now
+  ! NAME page N        this page is damaged: BadCount, BadName, BadRow, BadOrder, OutOfRegion, BadPadding or WrongKind
+  ! NoPage             OLD has no bytes, or not a page that it names
+  ! BadSize            OLD is no whole number of pages, mostly a part of a copy; or NEW would have too many
+  ! SameFile           OLD and NEW are one path
+  ! BadJournal         the file NEW-journal is damaged, another table's, or beside no table: move it away
+  ! Device             a file isn't there or can't be used, as standard error says, or the disk is full
+  ! Memory             the table doesn't fit into memory
+
 Status:
   0  NEW holds the table of OLD
   2  wrong arguments, or OLD and NEW are one path, as ! SameFile
@@ -159,11 +254,12 @@ writes
   page-rows 64
   levels 1
   format 3
+  load-with --dims 2 --signed 0 --page-rows 64 --name t
 
 A signed dimension has signed after its name. The counts are those that the header of TABLE tells: rows, the number that
 the next row gets, regions, the most rows of a page, the levels of the index, and the version of the table file. Of a
-table file of an older version the header alone is read; one of format 1 has directory-pages in place of levels. TABLE is
-only read.
+table file of an older version the header alone is read; one of format 1 has directory-pages in place of levels. The last
+line has the options with which ubq load makes the same table of a CSV file of its rows. TABLE is only read.
 
 Status:
   0  TABLE was described
@@ -323,6 +419,32 @@ fn run_command<'a>(alloc: Global) -> Making<'a>
     with_arg(command, script_arg(alloc))
 }
 
+// The command `query` as `clap` reads it.
+fn query_command<'a>(alloc: Global) -> Making<'a>
+    ensures { IfOk result (IsCommandFor query_app) }
+{
+    let table = "A table file that `load` made; INSERT and DELETE change it";
+    let statements = "The statements themselves, parted by semicolons";
+    let command = Command::new(alloc, "query")
+        .about("Write the answers of statements on a table file, and nothing else")
+        .after_help(QUERY_HELP);
+    let command = with_arg(Ok(command), word_arg(alloc, "TABLE", table));
+    with_arg(command, word_arg(alloc, "STATEMENTS", statements))
+}
+
+// The command `append` as `clap` reads it.
+fn append_command<'a>(alloc: Global) -> Making<'a>
+    ensures { IfOk result (IsCommandFor append_app) }
+{
+    let table = "A table file that `load` made; it gets the rows";
+    let data = "A CSV file whose header names each column of TABLE; - is standard input";
+    let command = Command::new(alloc, "append")
+        .about("Put the rows of a CSV file into a table file")
+        .after_help(APPEND_HELP);
+    let command = with_arg(Ok(command), word_arg(alloc, "TABLE", table));
+    with_arg(command, word_arg(alloc, "DATA", data))
+}
+
 // The command `try` as `clap` reads it.
 fn try_command<'a>(alloc: Global) -> Making<'a>
     ensures { IfOk result (IsCommandFor try_app) }
@@ -394,6 +516,8 @@ pub(crate) fn program<'a>(alloc: Global) -> Making<'a>
         .subcommand_required(true);
     let command = with_command(Ok(command), load_command(alloc));
     let command = with_command(command, run_command(alloc));
+    let command = with_command(command, query_command(alloc));
+    let command = with_command(command, append_command(alloc));
     let command = with_command(command, try_command(alloc));
     let command = with_command(command, upgrade_command(alloc));
     let command = with_command(command, describe_command(alloc));

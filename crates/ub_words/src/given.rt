@@ -1,6 +1,6 @@
 ghost use Rattle.std.specs.Prelude.{◌≡◌, ◌≤◌, ℕ, List, MatchOption, map, option_map, string_bytes};
 ghost use Rattle.clap.specs.Words.{first_of, found_of, rows_of, subcommand_rows_of};
-ghost use Rattle.ub_words.specs.CommandLine.{AreNextWords, IsCheckGiven, IsDataGiven, IsDescribeGiven, IsLoadGiven, IsNextGiven, IsNumberGiven, IsRunGiven, IsTryGiven, IsUpgradeGiven};
+ghost use Rattle.ub_words.specs.CommandLine.{AreNextWords, IsAppendGiven, IsCheckGiven, IsDataGiven, IsDescribeGiven, IsLoadGiven, IsNextGiven, IsNumberGiven, IsQueryGiven, IsRunGiven, IsTryGiven, IsUpgradeGiven};
 
 use clap::ArgMatches;
 
@@ -42,6 +42,24 @@ pub struct RunWords<'a> {
     pub table: &'a str,
     /// The path of the script; `-` is standard input.
     pub script: &'a str,
+}
+
+/// What a command line says that asks for answers of a table file, apart from what tells of them.
+#[derive(Clone, Copy)]
+pub struct QueryWords<'a> {
+    /// The path of the table file.
+    pub table: &'a str,
+    /// The statements themselves.
+    pub statements: &'a str,
+}
+
+/// What a command line says that asks for the rows of a CSV file to be put into a table file.
+#[derive(Clone, Copy)]
+pub struct AppendWords<'a> {
+    /// The path of the table file.
+    pub table: &'a str,
+    /// The path of the CSV file; `-` is standard input.
+    pub data: &'a str,
 }
 
 /// What a command line says that asks for a table file of an older version to be made anew.
@@ -155,6 +173,33 @@ pub(crate) fn run_words<'a>(matches: &ArgMatches<'a>) -> Option<RunWords<'a>>
     Some(RunWords {
         table: text_given(matches, "TABLE")?,
         script: text_given(matches, "SCRIPT")?,
+    })
+}
+
+// What was given for the command `query`.
+pub(crate) fn query_words<'a>(matches: &ArgMatches<'a>) -> Option<QueryWords<'a>>
+    ensures { MatchOption result
+        ((table statements : List ℕ)
+        → ¬ (IsQueryGiven (rows_of (found_of matches.now)) table statements))
+        (λ words. IsQueryGiven (rows_of (found_of matches.now))
+        words.table.now words.statements.now) }
+{
+    Some(QueryWords {
+        table: text_given(matches, "TABLE")?,
+        statements: text_given(matches, "STATEMENTS")?,
+    })
+}
+
+// What was given for the command `append`.
+pub(crate) fn append_words<'a>(matches: &ArgMatches<'a>) -> Option<AppendWords<'a>>
+    ensures { MatchOption result
+        ((table source : List ℕ)
+        → ¬ (IsAppendGiven (rows_of (found_of matches.now)) table source))
+        (λ words. IsAppendGiven (rows_of (found_of matches.now)) words.table.now words.data.now) }
+{
+    Some(AppendWords {
+        data: text_given(matches, "DATA")?,
+        table: text_given(matches, "TABLE")?,
     })
 }
 

@@ -10,6 +10,7 @@ pub mod law;
 mod words;
 
 pub use given::{
-    CheckWords, DataWords, DescribeWords, LoadWords, NextWords, RunWords, TryWords, UpgradeWords,
+    AppendWords, CheckWords, DataWords, DescribeWords, LoadWords, NextWords, QueryWords, RunWords,
+    TryWords, UpgradeWords,
 };
 pub use words::{Asked, STANDARD_INPUT, read_words};

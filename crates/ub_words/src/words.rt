@@ -5,9 +5,9 @@ ghost use Rattle.ub_words.specs.CommandLine.{AsksNothing, IsTaken, standard_inpu
 
 use crate::builder::program;
 use crate::given::{
-    CheckWords, DescribeWords, LoadWords, NextWords, RunWords, TryWords, UpgradeWords, check_words,
-    command_found, describe_words, load_words, next_words, run_words, three_after_next, try_words,
-    upgrade_words,
+    AppendWords, CheckWords, DescribeWords, LoadWords, NextWords, QueryWords, RunWords, TryWords,
+    UpgradeWords, append_words, check_words, command_found, describe_words, load_words, next_words,
+    query_words, run_words, three_after_next, try_words, upgrade_words,
 };
 use clap::ArgMatches;
 use clap::error::ErrorKind;
@@ -25,6 +25,10 @@ pub enum Asked<'a> {
     Load(LoadWords<'a>),
     /// A run of a script on a table file.
     Run(RunWords<'a>),
+    /// A run of statements on a table file, whose answers go out apart from what tells of them.
+    Query(QueryWords<'a>),
+    /// The rows of a CSV file to be put into a table file, behind its own.
+    Append(AppendWords<'a>),
     /// A table file of an older version to be made anew.
     Upgrade(UpgradeWords<'a>),
     /// What the header of a table file tells.
@@ -74,6 +78,10 @@ fn asked_by_command<'a>(
         asked_by_load(alloc, found)
     } else if name == "run" {
         asked_by_run(alloc, found)
+    } else if name == "query" {
+        asked_by_query(alloc, found)
+    } else if name == "append" {
+        asked_by_append(alloc, found)
     } else if name == "try" {
         asked_by_try(alloc, found)
     } else if name == "upgrade" {
@@ -107,6 +115,30 @@ fn asked_by_run<'a>(alloc: Global, found: &ArgMatches<'a>) -> Result<Asked<'a>, 
 {
     match run_words(found) {
         Some(asked) => Ok(Asked::Run(asked)),
+        None => no_command(alloc),
+    }
+}
+
+// What words ask for that name the command `query`.
+fn asked_by_query<'a>(alloc: Global, found: &ArgMatches<'a>) -> Result<Asked<'a>, AllocError>
+    ensures { (words : List (List ℕ))
+        → IsTaken words (Some (codes "query", rows_of (found_of found.now)))
+        → IfOk result (IsAskedBy words) }
+{
+    match query_words(found) {
+        Some(asked) => Ok(Asked::Query(asked)),
+        None => no_command(alloc),
+    }
+}
+
+// What words ask for that name the command `append`.
+fn asked_by_append<'a>(alloc: Global, found: &ArgMatches<'a>) -> Result<Asked<'a>, AllocError>
+    ensures { (words : List (List ℕ))
+        → IsTaken words (Some (codes "append", rows_of (found_of found.now)))
+        → IfOk result (IsAskedBy words) }
+{
+    match append_words(found) {
+        Some(asked) => Ok(Asked::Append(asked)),
         None => no_command(alloc),
     }
 }
