@@ -37,7 +37,7 @@ none_head : (o : Option LoadFault) (rest : List (Option LoadFault)) → first_of
 none_head None rest h = (refl, h)
 none_head (Some f) rest h = cc
 
-each-fine : {X : Type 0} (g : ℕ × X → Option LoadFault) (n : ℕ) (xs : List X) (j : ℕ) (x : X) → first_of (map g (enumerate_from n xs)) ≡ None → slice_get xs j ≡ Some x → g (n + j, x) ≡ None
+pub each-fine : {X : Type 0} (g : ℕ × X → Option LoadFault) (n : ℕ) (xs : List X) (j : ℕ) (x : X) → first_of (map g (enumerate_from n xs)) ≡ None → slice_get xs j ≡ Some x → g (n + j, x) ≡ None
 each-fine g n [] j x h e = cc
 each-fine g n (y ∷ ys) zero x h e =
     let s : y ≡ x = cc in
@@ -48,7 +48,7 @@ each-fine g n (y ∷ ys) (suc j) x h e =
     rw same at more
 
 -- an item among the first ones passes a test that it passes
-any_taken : {X : Type 0} (p : X → Bool) (xs : List X) (i j : ℕ) (x : X) → i < j → slice_get xs i ≡ Some x → p x ≡ true → list_any p (take j xs) ≡ true
+pub any_taken : {X : Type 0} (p : X → Bool) (xs : List X) (i j : ℕ) (x : X) → i < j → slice_get xs i ≡ Some x → p x ≡ true → list_any p (take j xs) ≡ true
 any_taken p [] i j x l e t = cc
 any_taken p (y ∷ ys) i zero x l e t = absurd (omega arith)
 any_taken p (y ∷ ys) zero (suc j) x l e t = let s : y ≡ x = cc in rw (s, t) refl
@@ -57,7 +57,7 @@ any_taken p (y ∷ ys) (suc i) (suc j) x l e t = elim (cases_Bool (p y)) [
   | inr u ↦ rw u (any_taken p ys i j x (omega arith) e t)
 ]
 
-got_at : {X : Type 0} (xs : List X) (i : ℕ) → i < length xs → (x : X) × (slice_get xs i ≡ Some x)
+pub got_at : {X : Type 0} (xs : List X) (i : ℕ) → i < length xs → (x : X) × (slice_get xs i ≡ Some x)
 got_at [] i h = absurd (omega arith)
 got_at (x ∷ xs) zero h = (x, refl)
 got_at (x ∷ xs) (suc i) h = got_at xs i (omega arith)

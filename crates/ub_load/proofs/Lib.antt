@@ -2,8 +2,12 @@ pub mod FieldFacts
 pub mod RefusalFacts
 pub mod RowFacts
 pub mod CsvFacts
+pub mod ReadingFacts
 pub mod HeaderFacts
 pub mod ToldFacts
 pub mod LoadFacts
+pub mod NamedFacts
+pub mod PlacedFacts
+pub mod RowsFacts
 pub mod PutFacts
 pub mod Laws

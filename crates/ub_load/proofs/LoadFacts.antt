@@ -1,16 +1,11 @@
 -- How the records that have been read of a text, and the tree that holds their rows, become more.
-use Rattle.std.proofs.Common.{Bool, ◌≡◌, ◌≤◌, ◌+◌, ℕ, false, List, [], ◌∷◌, ◌++◌, length, map, Some, None, true, refl, sym, ap, subst, ◌∙◌, arith, append_assoc, length-append, inl, inr}
+use Rattle.std.proofs.Common.{◌≡◌, ◌≤◌, ◌+◌, ℕ, false, List, [], ◌∷◌, ◌++◌, length, map, Some, None, true, refl, sym, ap, subst, ◌∙◌, arith, append_assoc, length-append, inl, inr}
 use Rattle.std.proofs.lemmas.List.{map-append, length-map}
 use Rattle.std.proofs.lemmas.List.FromFn.{length-enumerate_from}
 use Rattle.std.specs.List.{enumerate_from}
 use Rattle.std.specs.Prelude.{Result, Ok, Err, IfOk, IfErr}
 use Rattle.std.specs.Result.{OnOk}
-use Rattle.csv.proofs.ReadFacts.{rows-more, rows-end}
-use Rattle.csv.specs.Reading.{ReadRecord, Reached, Ready, builder_config, builder_names_headers, builder_trim, default_config, names_headers, reader_config, reader_headers, reader_state, reader_trim, source_of, strip_bom, took_first, with_names_headers}
-use Rattle.csv.specs.declared.reader.ReaderBuilder.{ReaderBuilder}
-use Rattle.csv.specs.declared.parser.State.TheVariants as st
 use Rattle.csv.specs.declared.reader.Reader.{Reader}
-use Rattle.csv.specs.declared.reader.Trim.TheVariants as trim
 use Rattle.ub_store.specs.Facts.{StoreFacts, IsHonest}
 use Rattle.ub_tree.proofs.Laws.{grown_is_not_full}
 use Rattle.ub_tree.specs.Calls.{IsCreated}
@@ -23,12 +18,13 @@ use Rattle.ub_load.specs.Field.{trimmed}
 use Rattle.ub_load.specs.LoadedTable.{IsSchemaOf, columns_of, records_of, row_of, rows_of}
 use Rattle.ub_load.specs.LoadedTree.{IsLoadedTree, insert_all}
 use Rattle.ub_load.specs.Loading.{HasGrown, HasTaken, IsLoadFault, IsTakeFault}
-use Rattle.ub_load.specs.inner.Progress.{HasLoadedRecords, HasReadHeader, HoldsRows, IsAt, IsHeaded, IsHeaderFault, IsLoading, IsRecordsFault, Source, bytes_of}
+use Rattle.ub_load.specs.inner.Progress.{HasLoadedRecords, HasReadHeader, HoldsRows, IsHeaded, IsHeaderFault, IsLoading, IsRecordsFault}
+use Rattle.ub_load.specs.inner.Records.{HasRead, IsAt, Source}
+use Rattle.ub_load.proofs.ReadingFacts.{at_end, at_front, at_next}
 use Rattle.ub_load.proofs.ToldFacts.{header_is_of_text, told_after, told_first}
 use Rattle.ub_load.specs.Refusals.{first_of, first_refusal, header_refusal, header_refusals, record_refusals, refusals}
 use Rattle.ub_load.specs.declared.fault.LoadFault.{LoadFault}
 use Rattle.ub_load.specs.declared.fault.LoadFault.TheVariants.{NoHeader}
-use Rattle.ub_load.proofs.CsvFacts.{AreRecords-records, Reached-front}
 use Rattle.ub_load.proofs.RefusalFacts.{enumerate_from-append, first-here, first-skip, flat-more, flat-refused}
 use Rattle.ub_region.proofs.Laws.{insertion_adds_the_row}
 use Rattle.ub_region.specs.Regions.{insert}
@@ -41,51 +37,20 @@ use Rattle.ub_table.specs.declared.schema.Schema.{Schema}
 
 -- the next record was read, or that there is none
 abbrev pub Took : Reader Source → Reader Source → List (List ℕ) → Type 0
-Took a b fields = ReadRecord bytes_of a b true fields × (took_first b ≡ true)
+Took a b fields = HasRead a true fields b
 
 abbrev pub TookNone : Reader Source → Reader Source → List (List ℕ) → Type 0
-TookNone a b fields = ReadRecord bytes_of a b false fields
-
--- which is what a call tells that succeeds
-pub took : {text : List ℕ} {taken : List (List (List ℕ))} {a : Reader Source} → IsAt text taken a → (b : Reader Source) (found : Bool) (fields : List (List ℕ)) → found ≡ true
-    → (reader_trim a ≡ trim.None → Ready a → ReadRecord bytes_of a b found fields) → (reader_trim a ≡ trim.None → took_first b ≡ true) → Took a b fields
-took is b found fields e reads first = (rw e at (reads is.trim is.ready), first is.trim)
-
-pub took_none : {text : List ℕ} {taken : List (List (List ℕ))} {a : Reader Source} → IsAt text taken a → (b : Reader Source) (found : Bool) (fields : List (List ℕ)) → found ≡ false
-    → (reader_trim a ≡ trim.None → Ready a → ReadRecord bytes_of a b found fields) → TookNone a b fields
-took_none is b found fields e reads = rw e at (reads is.trim is.ready)
-
-pub at_next : {text : List ℕ} {taken : List (List (List ℕ))} {a : Reader Source} → IsAt text taken a → (b : Reader Source) (fields : List (List ℕ)) → Took a b fields
-    → IsAt text (taken ++ fields ∷ []) b
-at_next {text} {taken} {a} is b fields s =
-    let more = rows-more bytes_of a b fields default_config st.StartRecord (strip_bom text) is.rest taken is.config is.source is.reached s.0 in
-    record {
-      trim = s.0.3 ∙ is.trim;
-      ready = inl s.1;
-      config = s.0.2 ∙ is.config;
-      rest = more.0;
-      source = more.1;
-      reached = more.2;
-    }
-
--- at the end, these are all
-pub at_end : {text : List ℕ} {taken : List (List (List ℕ))} {a : Reader Source} → IsAt text taken a → (b : Reader Source) (fields : List (List ℕ)) → TookNone a b fields → taken ≡ records_of text
-at_end {text} {taken} {a} is b fields s =
-    AreRecords-records default_config (strip_bom text) taken (a.state, is.rest, is.reached, rows-end bytes_of a b fields default_config is.rest is.config is.source s)
-
--- and before, the first ones
-pub at_front : {text : List ℕ} {taken : List (List (List ℕ))} {a : Reader Source} → IsAt text taken a → (rest : List (List (List ℕ))) × (taken ++ rest ≡ records_of text)
-at_front {text} {taken} {a} is = Reached-front default_config (strip_bom text) is.rest a.state taken is.reached
+TookNone a b fields = HasRead a false fields b
 
 length-rows_of : (axes : Axes) (taken : List (List (List ℕ))) → length (rows_of axes taken) ≡ length taken
 unfolding rows_of
 length-rows_of axes taken = length-map (enumerate_from 1 taken) (row_of axes) ∙ length-enumerate_from 1 taken
 
-rows_of-more : (axes : Axes) (taken : List (List (List ℕ))) (r : List (List ℕ)) → rows_of axes (taken ++ r ∷ []) ≡ rows_of axes taken ++ row_of axes (1 + length taken, r) ∷ []
+pub rows_of-more : (axes : Axes) (taken : List (List (List ℕ))) (r : List (List ℕ)) → rows_of axes (taken ++ r ∷ []) ≡ rows_of axes taken ++ row_of axes (1 + length taken, r) ∷ []
 unfolding rows_of
 rows_of-more axes taken r = rw (enumerate_from-append 1 taken (r ∷ []), map-append (row_of axes) (enumerate_from 1 taken) (enumerate_from (1 + length taken) (r ∷ []))) refl
 
-rows_of-none : (axes : Axes) → rows_of axes [] ≡ []
+pub rows_of-none : (axes : Axes) → rows_of axes [] ≡ []
 unfolding rows_of
 rows_of-none axes = refl
 
@@ -234,14 +199,13 @@ pub refused_empty : {text : List ℕ} {a : Reader Source} → IsAt text [] a →
 unfolding refusals
 refused_empty is b fields s axes name = ap (first_refusal axes name) (sym (at_end is b fields s)) ∙ refl
 
-module _ (from b : Reader Source) (found : Bool) (header : List (List ℕ)) (reads : reader_trim from ≡ trim.None → Ready from → ReadRecord bytes_of from b found header)
-    (more : found ≡ true) (first : reader_trim from ≡ trim.None → took_first b ≡ true) (axes : Axes) where
+module _ (from b : Reader Source) (header : List (List ℕ)) (s : Took from b header) (axes : Axes) where
   -- the first record was read and makes a schema
   pub took_header : (page_rows : ℕ) (name : List ℕ) (result : Result Schema LoadFault) → IfOk result (IsSchemaOf header axes page_rows name)
       → OnOk result (header_refusal axes.dims name (columns_of header) ≡ None) → IfOk result (HasReadHeader axes page_rows name from b)
   took_header page_rows name (Ok schema) is fine = λ text start. record {
     header = header;
-    at = at_next start b header (took start b found header more reads first);
+    at = at_next start b header s;
     fine = fine;
     schema_is = is;
   }
@@ -252,7 +216,7 @@ module _ (from b : Reader Source) (found : Bool) (header : List (List ℕ)) (rea
       → IfErr result (IsHeaderFault axes name from)
   told_header name (Ok schema) bad = tt
   told_header name (Err fault) bad = λ text store start.
-      let after = at_next start b header (took start b found header more reads first) in
+      let after = at_next start b header s in
       inr (told_first _ _ _ fault (header_is_of_text axes.dims name (map trimmed header) fault bad) (refused_header after axes name fault bad))
 
 -- at the end nothing is wrong, and all rows are in the tree
@@ -290,11 +254,10 @@ pub record IsTaking (from : Reader Source) (old : TreeView) (number : ℕ) (t : 
   pub loading : (text : List ℕ) (axes : Axes) (page_rows : ℕ) (name : List ℕ) (store : StoreFacts) → IsLoading text axes page_rows name store 1 old from
       → IsLoading text axes page_rows name store number t rdr
 
-module _ {from : Reader Source} {old t : TreeView} {number : ℕ} {a : Reader Source} (is : IsTaking from old number t a) (b : Reader Source) (found : Bool) (r : List (List ℕ))
-    (reads : reader_trim a ≡ trim.None → Ready a → ReadRecord bytes_of a b found r) where
+module _ {from : Reader Source} {old t : TreeView} {number : ℕ} {a : Reader Source} (is : IsTaking from old number t a) (b : Reader Source) (r : List (List ℕ)) where
   -- one more record
-  pub taking_more : found ≡ true → (reader_trim a ≡ trim.None → took_first b ≡ true) → (u : TreeView) → HasTaken (number, r) t u → IsTaking from old (number + 1) u b
-  taking_more more first u taken =
+  pub taking_more : Took a b r → (u : TreeView) → HasTaken (number, r) t u → IsTaking from old (number + 1) u b
+  taking_more s u taken =
       let least : number ≤ 16777215 = taken.number in
       record {
         some = omega arith;
@@ -303,32 +266,17 @@ module _ {from : Reader Source} {old t : TreeView} {number : ℕ} {a : Reader So
         working = taken.working;
         loading = λ text axes page_rows name store h.
             let now = is.loading text axes page_rows name store h in
-            loading_more now u b r (took now.at b found r more reads first) taken;
+            loading_more now u b r s taken;
       }
 
   -- a record is refused
-  pub taking_refused : found ≡ true → (reader_trim a ≡ trim.None → took_first b ≡ true) → (f : LoadFault) → IsTakeFault (number, r) t f → IsRecordsFault from old f
-  taking_refused more first f fault = λ text axes page_rows name store h.
+  pub taking_refused : Took a b r → (f : LoadFault) → IsTakeFault (number, r) t f → IsRecordsFault from old f
+  taking_refused s f fault = λ text axes page_rows name store h.
       let now = is.loading text axes page_rows name store h in
-      told_record now b r (took now.at b found r more reads first) f fault
+      told_record now b r s f fault
 
   -- there are no more
-  pub all_taken : found ≡ false → HasLoadedRecords from old t
-  all_taken none = λ text axes page_rows name store h.
+  pub all_taken : TookNone a b r → HasLoadedRecords from old t
+  all_taken s = λ text axes page_rows name store h.
       let now = is.loading text axes page_rows name store h in
-      (now.at_work, λ honest. all_loaded now b r (took_none now.at b found r none reads) honest)
-
--- a fresh reader of a text with no header row
-pub at_start : (text : Source) (fresh b : ReaderBuilder) (rdr : Reader Source)
-    → builder_config fresh ≡ default_config → builder_trim fresh ≡ trim.None → b ≡ with_names_headers fresh false
-    → reader_config rdr ≡ builder_config b → names_headers rdr ≡ builder_names_headers b → reader_trim rdr ≡ builder_trim b → reader_headers rdr ≡ None → reader_state rdr ≡ st.StartRecord
-    → source_of bytes_of rdr ≡ Some (strip_bom text.now) → IsAt text.now [] rdr
-unfolding Reached
-at_start text fresh b rdr config trimming is rconfig rnames rtrim rheaders rstate rsource = record {
-  trim = rw is at rtrim ∙ trimming;
-  ready = inr (inr (rw is at rnames, rheaders));
-  config = rw is at rconfig ∙ config;
-  rest = strip_bom text.now;
-  source = rsource;
-  reached = (sym rstate, refl);
-}
+      (now.at_work, λ honest. all_loaded now b r s honest)

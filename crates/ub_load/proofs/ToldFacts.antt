@@ -1,5 +1,5 @@
 -- What is told of a text, of a record and of a tree. None of the refusals of a header or of what a record holds is one of the tree.
-use Rattle.std.proofs.Common.{◌⊎◌, ◌≡◌, ◌≢◌, ◌+◌, ◌==◌, ℕ, false, List, [], ◌∷◌, length, take, map, Option, Some, None, refl, ap, subst, inl, inr}
+use Rattle.std.proofs.Common.{◌⊎◌, ◌≡◌, ◌≢◌, ◌+◌, ◌==◌, ℕ, false, List, [], ◌∷◌, length, take, map, Option, Some, None, refl, sym, ap, subst, inl, inr}
 use Rattle.std.specs.Prelude.{IfSome, IsTrue, nat_lt, ◌&&◌, ◌||◌, not, if◌then◌else◌}
 use Rattle.std.specs.List.{AllByRecursion, enumerate_from, list_any}
 use Rattle.std.specs.Str.{bytes_eq}
@@ -187,3 +187,8 @@ header_is_of_text dims name names f e =
       | inl t ↦ rw t tt
       | inr n ↦ rw n (λ fault e. cc)
     ]
+
+-- what a record that can't be read tells
+pub told_unread : (first : Option LoadFault) (F B : Type 0) (f : LoadFault) → (f ≡ Csv) ⊎ (f ≡ Memory) → (f ≡ Csv) ⊎ IsToldOf first F B f
+told_unread first F B f (inl is) = inl is
+told_unread first F B f (inr is) = subst (λ (f : LoadFault). (f ≡ Csv) ⊎ IsToldOf first F B f) (sym is) (inr tt)

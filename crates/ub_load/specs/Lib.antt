@@ -4,3 +4,4 @@ pub mod Refusals
 pub mod LoadedTable
 pub mod LoadedTree
 pub mod Loading
+pub mod Appending

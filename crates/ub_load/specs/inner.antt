@@ -1,1 +1,3 @@
+pub mod Records
 pub mod Progress
+pub mod Arranged

@@ -1,4 +1,5 @@
 use csv::ErrorKind;
+use std::alloc::{AllocError, AllocFailed};
 use std::fmt;
 use thiserror::Error;
 use ub_tree::TreeFault;
@@ -16,17 +17,19 @@ impl fmt::Display for Named {
     }
 }
 
-/// Why a CSV text is no table. Rows and columns count from 1, the header not among the rows. Shown, it is what the program
-/// prints of it.
+/// Why a CSV text is no table, or holds no rows for a table that there is. Rows and columns are those of the text, from 1, the
+/// header not among the rows. Shown, it is what the program prints of it.
 #[derive(Clone, Copy, PartialEq, Eq, Debug, Error)]
 pub enum LoadFault {
     /// The text has no record at all.
     #[error("NoHeader")]
     NoHeader,
-    /// The table's name (0) or a column's (from 1) is no name, or an earlier column has it.
+    /// The table's name (0) or a column's (from 1) is no name, or an earlier column has it. Of rows for a table that there is:
+    /// a column's name is that of none of the table's columns, or an earlier column has it.
     #[error("BadName {named}", named = Named(*.0))]
     BadName(u32),
-    /// The header has fewer columns than dimensions, or more than four more.
+    /// The header has fewer columns than dimensions, or more than four more. Of rows for a table that there is: one of the
+    /// table's columns is missing.
     #[error("ColumnCount")]
     ColumnCount,
     /// A field is no number.
@@ -41,7 +44,7 @@ pub enum LoadFault {
     /// The tree refused: `Full` where there are more rows than row numbers (16777215), or its store failed. Never `Memory`.
     #[error("{0}")]
     Tree(TreeFault),
-    /// The memory for a record or for the tree was refused.
+    /// The memory for a record, for the rows or for the tree was refused.
     #[error("Memory")]
     Memory,
 }
@@ -58,6 +61,28 @@ impl From<csv::Error> for LoadFault {
             ErrorKind::OutOfMemory => LoadFault::Memory,
             _ => LoadFault::Csv,
         }
+    }
+}
+
+impl From<AllocError> for LoadFault {
+    ghost use Rattle.std.specs.Prelude.{◌≡◌};
+    ghost use Rattle.ub_load.specs.declared.fault.LoadFault.TheVariants.{Memory};
+
+    ghost from_gives = { λ _ fault. fault ≡ Memory };
+
+    fn from(_error: AllocError) -> LoadFault {
+        LoadFault::Memory
+    }
+}
+
+impl<T: Drop> From<AllocFailed<T>> for LoadFault {
+    ghost use Rattle.std.specs.Prelude.{◌≡◌};
+    ghost use Rattle.ub_load.specs.declared.fault.LoadFault.TheVariants.{Memory};
+
+    ghost from_gives = { λ _ fault. fault ≡ Memory };
+
+    fn from(_error: AllocFailed<T>) -> LoadFault {
+        LoadFault::Memory
     }
 }
 

@@ -6,7 +6,8 @@ ghost use Rattle.csv.specs.Records.{fields_of};
 ghost use Rattle.ub_load.specs.LoadedTable.{axes_with};
 ghost use Rattle.ub_load.specs.LoadedTree.{IsLoadedTree};
 ghost use Rattle.ub_load.specs.Loading.{HasCounted, HasGrown, HasTaken, IsAtWork, IsLoadFault, IsNewFault, IsTakeFault};
-ghost use Rattle.ub_load.specs.inner.Progress.{HasLoadedRecords, HasReadHeader, IsAt, IsHeaderFault, IsRecordsFault};
+ghost use Rattle.ub_load.specs.inner.Progress.{HasLoadedRecords, HasReadHeader, IsHeaderFault, IsRecordsFault};
+ghost use Rattle.ub_load.specs.inner.Records.{IsAt};
 ghost use Rattle.ub_store.specs.Facts.{page_count, IsHonest};
 ghost use Rattle.ub_table.specs.Region.{measures_of};
 ghost use Rattle.ub_table.specs.Schema.{AreTableNumbers, IsMask};
@@ -18,8 +19,9 @@ ghost use Rattle.ub_tree.specs.View.{IsSound};
 
 use crate::fault::LoadFault;
 use crate::header::read_schema;
+use crate::reading::{read_record, reader_of};
 use crate::row::read_row;
-use csv::{ByteRecord, Reader, ReaderBuilder};
+use csv::{ByteRecord, Reader};
 use std::alloc::Global;
 use ub_store::PageStore;
 use ub_table::{Axes, Row, Schema};
@@ -55,9 +57,7 @@ pub fn load<S: PageStore>(
     ensures refused { IfErr result
         (IsLoadFault (axes_with dims signed) name.now text.now (S.facts store)) }
 {
-    let mut reader = ReaderBuilder::new()
-        .has_headers(false)
-        .from_reader(alloc, text);
+    let mut reader = reader_of(alloc, text);
     // Each record is read into the place of the one before.
     let mut fields = ByteRecord::new(alloc);
     load_from(
@@ -110,7 +110,7 @@ fn read_header(
     ensures read { IfOk result (HasReadHeader axes page_rows name.now reader.old reader.new) }
     ensures refused { IfErr result (IsHeaderFault axes name.now reader.old) }
 {
-    if !reader.read_byte_record(fields)? {
+    if !read_record(reader, fields)? {
         return Err(LoadFault::NoHeader);
     }
     read_schema(fields, axes, page_rows, name)
@@ -128,7 +128,7 @@ fn load_records<S: PageStore>(
     ensures refused { IfErr result (IsRecordsFault reader.old tree.old) }
 {
     let mut number = 1;
-    while reader.read_byte_record(fields)? {
+    while read_record(reader, fields)? {
         load_record(tree, fields, number)?;
         number += 1;
     }

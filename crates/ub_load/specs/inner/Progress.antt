@@ -1,16 +1,13 @@
 -- What has been read of a text: the records so far, and the tree that holds the rows of those after the header.
-use Rattle.std.specs.Prelude.{◌≡◌, ◌≤◌, ◌+◌, ℕ, List, [], ◌∷◌, length, Option, Some, None}
-use Rattle.std.specs.Borrow.{Bor}
+use Rattle.std.specs.Prelude.{◌≡◌, ◌≤◌, ◌+◌, ℕ, List, [], ◌∷◌, length, None}
 use Rattle.std.specs.List.{enumerate_from, flat_map}
-use Rattle.csv.specs.Reading.{Reached, Ready, default_config, reader_config, reader_state, reader_trim, source_of, strip_bom}
-use Rattle.csv.specs.declared.parser.State.TheVariants as st
 use Rattle.csv.specs.declared.reader.Reader.{Reader}
-use Rattle.csv.specs.declared.reader.Trim.TheVariants as trim
 use Rattle.ub_load.specs.LoadedTable.{IsSchemaOf, columns_of, rows_of}
 use Rattle.ub_load.specs.LoadedTree.{IsLoadedTree, loaded_regions}
 use Rattle.ub_load.specs.Loading.{IsAtWork, IsLoadFault}
 use Rattle.ub_load.specs.Refusals.{first_of, header_refusal, record_refusals}
 use Rattle.ub_load.specs.declared.fault.LoadFault.{LoadFault}
+use Rattle.ub_load.specs.inner.Records.{IsAt, Source}
 use Rattle.ub_region.specs.Regions.{AreTableRows}
 use Rattle.ub_store.specs.Facts.{StoreFacts, IsHonest}
 use Rattle.ub_table.specs.Value.{axes_of}
@@ -19,21 +16,6 @@ use Rattle.ub_table.specs.declared.row.Row.{Row}
 use Rattle.ub_table.specs.declared.schema.Schema.{Schema}
 use Rattle.ub_tree.specs.Grown.{IsOnlyGrown}
 use Rattle.ub_tree.specs.View.{TreeView, IsSound, region_count, regions}
-
-abbrev pub Source : Type 0
-Source = Bor (List ℕ)
-
-abbrev pub bytes_of : Source → Option (List ℕ)
-bytes_of s = Some s.now
-
--- a reader of the text has given these records, and reads on
-pub record IsAt (text : List ℕ) (taken : List (List (List ℕ))) (rdr : Reader Source) : Type 0 where
-  pub trim : reader_trim rdr ≡ trim.None
-  pub ready : Ready rdr
-  pub config : reader_config rdr ≡ default_config
-  pub rest : List ℕ
-  pub source : source_of bytes_of rdr ≡ Some rest
-  pub reached : Reached default_config st.StartRecord (strip_bom text) taken (reader_state rdr) rest
 
 -- the tree is sound, and its table has these rows, which were put in one after the other, and none was taken out
 pub record HoldsRows (dims c : ℕ) (rows : List Row) (t : TreeView) : Type 0 where
