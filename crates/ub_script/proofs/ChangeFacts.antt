@@ -25,7 +25,6 @@ use Rattle.ub_script.specs.Faults.{IsRunLeft, Runs, fault_of_read, fault_of_tree
 use Rattle.ub_script.specs.Formed.{IsSameBut}
 use Rattle.ub_script.specs.Loop.{Replies, Stops}
 use Rattle.ub_script.specs.Text.{deleted_text, inserted_text, reply}
-use Rattle.ub_script.specs.declared.fault.RunFault.{RunFault}
 use Rattle.ub_script.specs.declared.fault.RunFault.TheVariants as run
 use Rattle.ub_store.specs.declared.fault.StoreFault.TheVariants as store
 use Rattle.ub_table.proofs.Laws.{fitting_coordinate}
@@ -91,7 +90,7 @@ length_coordinates schema values i dims are le =
 -- ---- faults
 
 -- what holds of the fault that it is
-pub if_err : {T : Type 0} (r : Result T RunFault) (e : RunFault) (P : RunFault → Type 0) → IsErrAnd r (λ x. x ≡ e) → P e → IfErr r P
+pub if_err : {T E : Type 0} (r : Result T E) (e : E) (P : E → Type 0) → IsErrAnd r (λ x. x ≡ e) → P e → IfErr r P
 if_err (Ok x) e P is p = absurd is
 if_err (Err f) e P is p = subst P (sym is) p
 
@@ -183,9 +182,11 @@ module _ (old new : TreeView) (values : List ℤ) (result : Result ℕ TreeFault
   put_over : (seen : TreeView) → IsSameBut seen old → HasPutIn seen values result new
   put_over seen same = record {
     given = subst (λ (t : TreeView). IsGiven t.schema (puts values)) same given;
-    old = old;
-    same = same;
-    puts_in = subst (λ (row : Row). PutsIn row old new result) (ap (λ (t : TreeView). row_of t.schema t.next values) same) puts_in;
+    put = record {
+      old = old;
+      same = same;
+      puts_in = subst (λ (row : Row). PutsIn row old new result) (ap (λ (t : TreeView). row_of t.schema t.next values) same) puts_in;
+    };
   }
 
   -- no page is fetched
@@ -206,25 +207,28 @@ insert_stopped (over_any seen) old new values e is given puts_in = (
 )
 
 -- one number was left
-number_left : (s o n m : ℕ) → s ≡ o → n ≡ o + 1 → n ≤ m + 1 → s ≤ m
+pub number_left : (s o n m : ℕ) → s ≡ o → n ≡ o + 1 → n ≤ m + 1 → s ≤ m
 number_left s o n m same next le = omega arith
 
 -- where the table of a sound tree stands then
+pub stand_row : (old new : TreeView) (s : Stand) (row : Row) → IsStandOf old s → IsInserted row old new → IsStandOf new (with_row row s)
+stand_row old new s row is inserted = record {
+  sound = inserted.sound;
+  schema_is = is.schema_is ∙ sym inserted.schema;
+  rows_are = inserted.table s.table.rows is.rows_are;
+  regions_are = sym (inserted.regions_are ∙ ap (λ (x : Schema). insert x.dims x.page_rows row (regions old)) (sym is.schema_is)
+      ∙ ap (λ (rs : List Region). insert s.table.schema.dims s.table.schema.page_rows row rs) (sym is.regions_are));
+  next_is = ap (λ (n : ℕ). n + 1) is.next_is ∙ sym inserted.next;
+}
+
+-- also where the row is made of values
 stand_put : (old new : TreeView) (s : Stand) (values : List ℤ) → IsStandOf old s → IsInserted (row_of old.schema old.next values) old new
     → IsStandOf new (with_row (row_of s.table.schema s.next values) s)
 stand_put old new s values is put =
     let row = row_of s.table.schema s.next values in
     let same : row_of old.schema old.next values ≡ row =
     ap (λ (x : Schema). row_of x old.next values) (sym is.schema_is) ∙ ap (λ (n : ℕ). row_of s.table.schema n values) (sym is.next_is) in
-    let inserted : IsInserted row old new = subst (λ (r : Row). IsInserted r old new) same put in
-    record {
-      sound = inserted.sound;
-      schema_is = is.schema_is ∙ sym inserted.schema;
-      rows_are = inserted.table s.table.rows is.rows_are;
-      regions_are = sym (inserted.regions_are ∙ ap (λ (x : Schema). insert x.dims x.page_rows row (regions old)) (sym is.schema_is)
-          ∙ ap (λ (rs : List Region). insert s.table.schema.dims s.table.schema.page_rows row rs) (sym is.regions_are));
-      next_is = ap (λ (n : ℕ). n + 1) is.next_is ∙ sym inserted.next;
-    }
+    stand_row old new s row is (subst (λ (r : Row). IsInserted r old new) same put)
 
 -- the reply to it
 pub insert_replies : (basis : Basis) (old new : TreeView) (values : List ℤ) (n : ℕ) (text : List ℕ) → IsBasisOf old basis → IsGiven old.schema (puts values)

@@ -222,7 +222,7 @@ schema_kept : (basis : Basis) (outcome : Outcome) (r : Reply) (now : Basis) → 
 schema_kept basis (Ok (asks t)) r now (answer, none, still) = ap schema_of still
 schema_kept (on_stand s) (Ok (puts values)) r now (after, h, at) = ap schema_of at ∙ ap (λ (x : Stand). x.table.schema) h.now_is
 schema_kept (over_any seen) (Ok (puts values)) r now (after, h, at) =
-    ap schema_of at ∙ ap (λ (t : TreeView). t.schema) h.put.puts_in.effect.frame ∙ ap (λ (t : TreeView). t.schema) h.put.same
+    ap schema_of at ∙ ap (λ (t : TreeView). t.schema) h.put.put.puts_in.effect.frame ∙ ap (λ (t : TreeView). t.schema) h.put.put.same
 schema_kept (on_stand s) (Ok (takes q)) r now (after, h, at) =
     ap schema_of at ∙ ap (λ (x : Stand). x.table.schema) h.now_is ∙ without_schema (selected_of q s) s
 schema_kept (over_any seen) (Ok (takes q)) r now (after, h, at) =
@@ -355,7 +355,7 @@ unchanged_tables_stay basis script replies left now h none = all_stay basis scri
 
 -- an INSERT that finds no room leaves the tree
 full_put : (m : TreeView) (values : List ℤ) (after : TreeView) (e : TreeFault) → HasPutIn m values (Err e) after → Tree Full ≡ fault_of_tree e → IsSameBut m after
-full_put m values after Full h same = h.puts_in.effect.left.1 ∙ h.same ∙ ap (λ (t : TreeView). record m { trace = t.trace }) (sym h.puts_in.effect.left.1)
+full_put m values after Full h same = h.put.puts_in.effect.left.1 ∙ h.put.same ∙ ap (λ (t : TreeView). record m { trace = t.trace }) (sym h.put.puts_in.effect.left.1)
 full_put m values after Failed h same = cc
 full_put m values after NoMemory h same = cc
 full_put m values after (Page page fault) h same = cc

@@ -9,5 +9,9 @@ pub mod FormedFacts
 pub mod RunFacts
 pub mod StartFacts
 pub mod ChangeFacts
+pub mod AppendFacts
 pub mod AskingFacts
+pub mod PartFacts
+pub mod AnswerFacts
+pub mod ExportFacts
 pub mod Laws

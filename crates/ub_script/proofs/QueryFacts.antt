@@ -143,7 +143,7 @@ failed_over (on_stand s) c fault pages now apart ended = tt
 failed_over (over_any seen) (asks t) fault pages now apart ended = asked_failed seen fault apart ended.1
 failed_over (over_any seen) (puts values) fault pages now apart (none, inl memory) = λ failed. inl memory.0
 failed_over (over_any seen) (puts values) fault pages now apart (none, inr (after, of_tree, put, is, left)) =
-    λ failed. inr (is ∙ only_failed of_tree (put.puts_in.failed (failed_same seen put.old put.same failed)))
+    λ failed. inr (is ∙ only_failed of_tree (put.put.puts_in.failed (failed_same seen put.put.old put.put.same failed)))
 failed_over (over_any seen) (takes q) fault pages now apart (some, inl memory) = λ failed. inl memory.0
 failed_over (over_any seen) (takes q) fault pages now apart (some, inr (after, told, taken, is, left)) =
     λ failed. inr (delete_failed told fault (taken.deletes.failed (failed_same seen taken.old taken.same failed)) is)

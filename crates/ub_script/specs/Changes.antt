@@ -66,12 +66,16 @@ pub record PutsIn (row : Row) (old new : TreeView) (result : Result ℕ TreeFaul
   pub refused : old.is_failed ≡ false → AnswersRow old (key_of old.schema.dims row) result
   pub effect : Changes old new result
 
--- the row of these values was, with the number that was next; nothing but the trace tells the tree before it from this one
-pub record HasPutIn (seen : TreeView) (values : List ℤ) (result : Result ℕ TreeFault) (new : TreeView) : Type 0 where
-  pub given : IsGiven seen.schema (puts values)
+-- the same of this tree, or of one that nothing but its trace tells from it
+pub record HasPutRow (seen : TreeView) (row : Row) (result : Result ℕ TreeFault) (new : TreeView) : Type 0 where
   pub old : TreeView
   pub same : IsSameBut seen old
-  pub puts_in : PutsIn (row_of seen.schema seen.next values) old new result
+  pub puts_in : PutsIn row old new result
+
+-- the row of these values was, with the number that was next
+pub record HasPutIn (seen : TreeView) (values : List ℤ) (result : Result ℕ TreeFault) (new : TreeView) : Type 0 where
+  pub given : IsGiven seen.schema (puts values)
+  pub put : HasPutRow seen (row_of seen.schema seen.next values) result new
 
 -- the rows for which this asks were asked to be taken out of a tree, with this answer: what `delete` says of any tree. Each of those
 -- that the regions show was asked to be, unless a fault ended that

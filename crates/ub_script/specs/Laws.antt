@@ -1,18 +1,29 @@
 -- The laws of the definitions. Each is what the function of its name in `law` ensures.
-use Rattle.std.specs.Prelude.{◌≡◌, ◌≤◌, ◌++◌, ℕ, List, length, take}
+use Rattle.std.specs.Prelude.{◌≡◌, ◌≤◌, ◌+◌, ◌++◌, ℕ, List, ◌∷◌, length, take}
+use Rattle.std.specs.List.{AllByRecursion, flat_map}
 use Rattle.ub_exec.specs.Stand.{Stand, IsStand}
+use Rattle.ub_load.specs.LoadedTable.{IsLoaded}
+use Rattle.ub_query.specs.Meaning.{IsMeaning, titles}
 use Rattle.ub_query.specs.Shape.{Asked}
+use Rattle.ub_query.specs.declared.cell.Cell.{Cell}
 use Rattle.ub_region.specs.Regions.{AreRegions}
+use Rattle.ub_script.specs.Appending.{ArePutIn, numbered_from}
 use Rattle.ub_script.specs.Basis.{Basis, on_stand, over_any, schema_of, IsReply}
+use Rattle.ub_script.specs.Exports.{all_rows, renumbered}
 use Rattle.ub_script.specs.Formed.{IsSameBut}
 use Rattle.ub_script.specs.Output.{IsFrontOf}
+use Rattle.ub_script.specs.Parts.{answers_in, notes_in}
 use Rattle.ub_script.specs.Run.{EndedOver, FirstOver, IsCutOff, IsStopped, IsWhole}
 use Rattle.ub_script.specs.Script.{Outcome}
-use Rattle.ub_script.specs.Text.{ArePages, Reply, changed_by, texts_of}
+use Rattle.ub_script.specs.Text.{ArePages, Reply, answer_text, changed_by, comma_line, counts_line, row_line, texts_of}
 use Rattle.ub_script.specs.declared.fault.RunFault.{RunFault}
 use Rattle.ub_script.specs.declared.fault.RunFault.TheVariants.{Tree}
 use Rattle.ub_script.specs.declared.script.Summary.{Summary}
-use Rattle.ub_table.specs.Region.{Region}
+use Rattle.ub_table.specs.Name.{IsName}
+use Rattle.ub_table.specs.Region.{Region, IsRow, measures_of}
+use Rattle.ub_table.specs.Table.{Table, IsInOrder}
+use Rattle.ub_table.specs.Value.{axes_of}
+use Rattle.ub_table.specs.declared.row.Row.{Row}
 use Rattle.ub_table.specs.declared.schema.Schema.{Schema}
 use Rattle.ub_tree.specs.View.{TreeView}
 use Rattle.ub_tree.specs.declared.fault.TreeFault.TheVariants.{Full}
@@ -89,3 +100,27 @@ UnchangedTablesStay = (basis : Basis) (script : List ℕ) (replies : List Reply)
 abbrev pub FullTablesStay : Type 0
 FullTablesStay = (seen : TreeView) (script : List ℕ) (replies : List Reply) (left pages : ℕ) (now : Basis)
     → EndedOver (over_any seen) script (Tree Full) replies left pages now → changed_by replies ≡ 0 → IsUnchanged (over_any seen) now
+
+-- rows that are put in stand behind those that the table has, in their order, with the numbers from the next one on
+abbrev pub AppendedRowsAreLast : Type 0
+AppendedRowsAreLast = (s : Stand) (rows : List Row) (now : Basis) → ArePutIn (on_stand s) rows now
+    → (after : Stand) × (now ≡ on_stand after) × (after.table ≡ record s.table { rows = s.table.rows ++ numbered_from s.next rows })
+    × (after.next ≡ s.next + length rows)
+
+-- of the text of an answer the line of counts tells, and the lines that are answers are its title and its rows, over a schema whose
+-- columns' names are names, whatever the query and the rows are
+abbrev pub AnswersAreTheirLines : Type 0
+AnswersAreTheirLines = (schema : Schema) (q : Asked) (rows : List (List Cell)) (pages : ℕ) → AllByRecursion IsName schema.columns
+    → (answers_in (answer_text schema q rows pages) ≡ comma_line (titles schema q) ++ flat_map row_line rows)
+    × (notes_in (answer_text schema q rows pages) ≡ counts_line (length rows) pages)
+
+-- so the answer to a query for all columns of all rows of a table, without the line that tells, is a text that is loaded as the same
+-- table, by the same words: nothing is wrong with it, its schema is the table's, and its rows are the table's in their order, numbered
+-- from 1
+abbrev pub ExportsAreLoaded : Type 0
+ExportsAreLoaded = (table : Table) (rows : List (List Cell)) (pages : ℕ)
+    → AllByRecursion IsName (table.schema.name ∷ table.schema.columns) → IsInOrder table.rows
+    → AllByRecursion (IsRow table.schema.dims (measures_of table.schema)) table.rows
+    → IsMeaning table (all_rows table.schema) rows
+    → IsLoaded (answers_in (answer_text table.schema (all_rows table.schema) rows pages)) (axes_of table.schema)
+    table.schema.page_rows table.schema.name table.schema (renumbered table.rows)

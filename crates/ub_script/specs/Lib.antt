@@ -2,9 +2,12 @@ pub mod Output
 pub mod Faults
 pub mod Script
 pub mod Text
+pub mod Parts
+pub mod Exports
 pub mod Formed
 pub mod Changes
 pub mod Basis
+pub mod Appending
 pub mod Run
 pub mod Loop
 pub mod Laws

@@ -1,4 +1,4 @@
-ghost use Rattle.ub_script.specs.Laws.{QueriesFetchOneNumberOfPages, OutcomesHaveOneReply, StatementsHaveOneReplyEach, ScriptsHaveOneEnd, ScriptsHaveOneSummary, CutTextsAreAFront, StoppedTextsAreAFront, StoppedTextsAreWhole, UnchangedTablesStay, FullTablesStay};
+ghost use Rattle.ub_script.specs.Laws.{QueriesFetchOneNumberOfPages, OutcomesHaveOneReply, StatementsHaveOneReplyEach, ScriptsHaveOneEnd, ScriptsHaveOneSummary, CutTextsAreAFront, StoppedTextsAreAFront, StoppedTextsAreWhole, UnchangedTablesStay, FullTablesStay, AppendedRowsAreLast, AnswersAreTheirLines, ExportsAreLoaded};
 
 // Each function here does nothing, and its clause is a law of the definitions in specs/. So the law is proved, and is read
 // beside the code.
@@ -55,4 +55,22 @@ pub fn unchanged_tables_stay()
 /// Nor does an INSERT change a tree that finds no number left, or no room in the index.
 pub fn full_tables_stay()
     ensures { FullTablesStay }
+{}
+
+/// Rows that are put in are the table's last, in their order, and have the numbers from the next one on.
+pub fn appended_rows_are_last()
+    ensures { AppendedRowsAreLast }
+{}
+
+/// Of the text of an answer the line of counts alone tells of it: without that line it is the title
+/// and the rows.
+pub fn answers_are_their_lines()
+    ensures { AnswersAreTheirLines }
+{}
+
+/// The answer to a query for all columns of all rows of a table, without that line, is loaded as the
+/// same table: by the same words it has the same schema, and the same rows in their order, numbered
+/// from 1.
+pub fn exports_are_loaded()
+    ensures { ExportsAreLoaded }
 {}

@@ -2,10 +2,12 @@
 //
 // `output` is what bytes are written to, `text` makes the text of an answer, and `script` runs the statements of a script one
 // after the other, each query by its plan, and each INSERT and DELETE by `changing`, on the table that the statements before it
-// left. `asking` tells by a script's words whether it may change the table at all. The grammar and the meaning of a statement, and
-// how plans are carried out, belong to the crates below; no command line is known here.
+// left. `asking` tells by a script's words whether it may change the table at all. `appending` puts rows in that no statement
+// tells. The grammar and the meaning of a statement, and how plans are carried out, belong to the crates below; no command line
+// is known here.
 #![tactic(auto)]
 
+mod appending;
 mod asking;
 mod changing;
 pub mod fault;
@@ -14,6 +16,7 @@ pub mod output;
 pub mod script;
 pub mod text;
 
+pub use appending::put_rows;
 pub use asking::may_change;
 pub use fault::RunFault;
 pub use output::{Out, OutFault, Over, put_all};

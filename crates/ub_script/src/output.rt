@@ -1,4 +1,4 @@
-ghost use Rattle.std.specs.Prelude.{◌≡◌, OnOk, OnErr};
+ghost use Rattle.std.specs.Prelude.{◌≡◌, ◌≤◌, ◌↔◌, IsTrue, OnOk, OnErr};
 ghost use Rattle.std.specs.Io.KnownBytes.{WriteAppends};
 ghost use Rattle.std.specs.Io.{WritesAtMost};
 ghost use Rattle.ub_script.specs.Output.{OutFacts, out_facts, Breaks, HasWritten, Puts};
@@ -38,6 +38,13 @@ impl<W: Write> Over<W> {
         ensures { ⟦<Over<W> as Out>⟧.facts result ≡ out_facts (W.contents inner) 0 }
     {
         Over { inner, failed: 0 }
+    }
+
+    /// Whether a write has failed.
+    pub fn has_failed(&self) -> bool
+        ensures { IsTrue result ↔ (1 ≤ (⟦<Over<W> as Out>⟧.facts self.now).failures) }
+    {
+        self.failed > 0
     }
 
     /// The writer, with all that was written to it.
