@@ -9,6 +9,14 @@ use ub_memory_files::MemFiles;
 use ub_shell::{Files, run_program};
 use ub_store::Page;
 
+/// How a command line has ended: its status, and what it wrote to each of its outputs.
+#[derive(Drop)]
+pub struct Ran {
+    pub status: u8,
+    pub out: Narrow,
+    pub notes: Narrow,
+}
+
 /// Files in memory, over which command lines run.
 #[derive(Drop)]
 pub struct Bench {
@@ -73,28 +81,30 @@ impl Bench {
         Ok(Some(bytes_in(self.alloc, pages.as_slice())?))
     }
 
-    /// Runs a command line, and gives its status and what it wrote.
-    pub fn run(&mut self, asked: Asked<'_>) -> Result<(u8, Narrow), AllocError> {
+    /// Runs a command line.
+    pub fn run(&mut self, asked: Asked<'_>) -> Result<Ran, AllocError> {
         let words = words_of(self.alloc, asked.words)?;
         let out = Narrow::new(self.alloc, asked.room);
+        let notes = Narrow::new(self.alloc, asked.noted_room);
         self.files.fail_at(asked.k);
-        let ran = run_program(self.alloc, &mut self.files, Ok(words), out);
+        let (status, out, notes) = run_program(self.alloc, &mut self.files, Ok(words), out, notes);
         self.files.fail_at(0);
-        Ok(ran)
+        Ok(Ran { status, out, notes })
     }
 
     /// Runs a command line up to the call of its table file's place at which it is stopped, leaves what a crash there may leave, and
-    /// gives what it wrote up to there.
-    pub fn crash(&mut self, asked: Asked<'_>, left: Left) -> Result<Narrow, AllocError> {
+    /// gives what it wrote up to there; as its status, which it hasn't, the one that is wanted.
+    pub fn crash(&mut self, asked: Asked<'_>, left: Left) -> Result<Ran, AllocError> {
         let name = table_of(asked.words);
         let before = seen_at(self.alloc, self.files.table(name))?;
-        let (_, mut out) = self.run(asked)?;
-        out.take_back("! Device\n");
+        let mut ran = self.run(asked)?;
+        ran.status = asked.status;
+        ran.out.take_back("! Device\n");
         if let Some(place) = self.files.table(name) {
             let image = left_of(self.alloc, before, place, left)?;
             self.leave(name, image)?;
         }
-        Ok(out)
+        Ok(ran)
     }
 
     // Leaves what stands at a place to the table file of this name.
@@ -123,12 +133,24 @@ fn bytes_in(alloc: Global, pages: &[Page]) -> Result<Vec<u8>, AllocError> {
     Ok(bytes)
 }
 
-/// The words of a command line, the program's name first.
+/// The words of a command line, the program's name first. What stands between two single quotes is one word.
 pub fn words_of(alloc: Global, line: &str) -> Result<Vec<String>, AllocError> {
     let mut words = Vec::new(alloc);
     words.push(String::from_str(alloc, "ubq")?)?;
-    for word in line.split_whitespace() {
-        words.push(String::from_str(alloc, word)?)?;
+    for (n, part) in line.split('\'').enumerate() {
+        if n % 2 == 0 {
+            push_words(alloc, &mut words, part)?;
+        } else {
+            words.push(String::from_str(alloc, part)?)?;
+        }
     }
     Ok(words)
+}
+
+// Pushes the words of a part of a command line in which no quote stands.
+fn push_words(alloc: Global, words: &mut Vec<String>, part: &str) -> Result<(), AllocError> {
+    for word in part.split_whitespace() {
+        words.push(String::from_str(alloc, word)?)?;
+    }
+    Ok(())
 }

@@ -1,4 +1,4 @@
-use crate::bench::words_of;
+use crate::bench::{Ran, words_of};
 use crate::marks::Asked;
 use crate::narrow::Narrow;
 use std::alloc::{AllocError, Global};
@@ -35,15 +35,19 @@ impl<'a> Folder<'a> {
         self.look_at(rt, name)
     }
 
-    /// Runs a command line over the files of the folder, and gives its status and what it wrote.
-    pub fn run(&mut self, rt: &HostRuntime, asked: Asked<'a>) -> io::Result<(u8, Narrow)> {
-        for word in asked.words.split_whitespace() {
-            self.look_at(rt, word)?;
+    /// Runs a command line over the files of the folder.
+    pub fn run(&mut self, rt: &HostRuntime, asked: Asked<'a>) -> io::Result<Ran> {
+        for (n, part) in asked.words.split('\'').enumerate() {
+            if n % 2 == 0 {
+                self.look_at_all(rt, part)?;
+            }
         }
         let words = words_of(self.alloc, asked.words)?;
         let out = Narrow::new(self.alloc, asked.room);
+        let notes = Narrow::new(self.alloc, asked.noted_room);
         let mut files = HostFiles::new(rt);
-        Ok(run_program(self.alloc, &mut files, Ok(words), out))
+        let (status, out, notes) = run_program(self.alloc, &mut files, Ok(words), out, notes);
+        Ok(Ran { status, out, notes })
     }
 
     /// The names of the files that aren't as they were when they were looked at, with a space between them. They are looked at
@@ -58,6 +62,14 @@ impl<'a> Folder<'a> {
             seen.bytes = now;
         }
         Ok(names)
+    }
+
+    // Looks at the file of each of these words.
+    fn look_at_all(&mut self, rt: &HostRuntime, words: &'a str) -> io::Result<()> {
+        for word in words.split_whitespace() {
+            self.look_at(rt, word)?;
+        }
+        Ok(())
     }
 
     // Looks at the file of this name.

@@ -5,14 +5,18 @@
 //
 //     # ..        a comment
 //     == NAME     the lines that follow are the text of the file NAME
-//     $ WORDS     `ubq WORDS` over these files writes the lines that follow; standard input is the file `-`
+//     $ WORDS     `ubq WORDS` over these files writes the lines that follow; standard input is the file `-`. What stands between
+//                 two single quotes is one word
 //     @K WORDS    the same, where the place of its table file fails at its K-th call
 //     @crash K IMAGE WORDS
 //                 the same, where it is stopped at that call: its table file is then what a crash leaves: all that is `seen`, with
 //                 what wasn't synced `lost`, or with each page that wasn't synced `torn`
 //     /ROOM WORDS the same, where the output has room for ROOM bytes alone
+//     2/ROOM WORDS
+//                 the same, where the second output has
 //     > SQL       the line SQL as a script on the table of `t.csv`: two dimensions, two rows a page
 //     ? STATUS    the command line above ends with this status, and not with 0
+//     2> LINE     the command line above writes this line to its second output; with no such line it writes nothing there
 //     = FROM TO   the table file TO is made of the pages of the table file FROM
 //     ~ FILE OFFSET BYTE BYTE ..
 //                 these bytes, in decimal, are put into the table file FILE, from this offset on

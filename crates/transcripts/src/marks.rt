@@ -18,6 +18,8 @@ pub struct Asked<'a> {
     pub left: Option<Left>,
     /// For how many bytes its output has room.
     pub room: usize,
+    /// For how many its second output has.
+    pub noted_room: usize,
     /// The status that it must end with.
     pub status: u8,
     pub place: Place,
@@ -33,6 +35,7 @@ impl<'a> Asked<'a> {
             k: 0,
             left: None,
             room: usize::MAX,
+            noted_room: usize::MAX,
             status: 0,
             place: Place::Memory,
             changes: "",
@@ -53,6 +56,8 @@ pub enum Mark<'a> {
     Script(&'a str),
     /// The status that the command line above ends with.
     Status(u8),
+    /// A line that the command line above must write to its second output.
+    Note(&'a str),
     /// The files of the folder that the command line above changes, or makes.
     Changes(&'a str),
     /// The file of this name is put into the folder.
@@ -72,6 +77,7 @@ pub fn mark_of(line: &str) -> Option<Mark<'_>> {
         "$" => Some(Mark::Run(Asked::new(rest))),
         ">" => Some(Mark::Script(rest)),
         "?" => Some(Mark::Status(rest.parse::<u8>().ok()?)),
+        "2>" => Some(Mark::Note(rest)),
         "^" => Some(Mark::Put(rest)),
         ":" => Some(Mark::Run(Asked {
             place: Place::Folder,
@@ -83,7 +89,7 @@ pub fn mark_of(line: &str) -> Option<Mark<'_>> {
     }
 }
 
-// A command line where a call of a store fails, or the output.
+// A command line where a call of a store fails, or one of the outputs.
 fn failing<'a>(head: &str, words: &'a str) -> Option<Asked<'a>> {
     let asked = Asked::new(words);
     if head == "@crash" {
@@ -98,6 +104,13 @@ fn failing<'a>(head: &str, words: &'a str) -> Option<Asked<'a>> {
     if let Some(k) = head.strip_prefix('@') {
         let k = k.parse::<u64>().ok()?;
         return Some(Asked { k, ..asked });
+    }
+    if let Some(room) = head.strip_prefix("2/") {
+        let noted_room = room.parse::<usize>().ok()?;
+        return Some(Asked {
+            noted_room,
+            ..asked
+        });
     }
     let room = head.strip_prefix('/')?.parse::<usize>().ok()?;
     Some(Asked { room, ..asked })

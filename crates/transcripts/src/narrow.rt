@@ -1,11 +1,12 @@
 use std::alloc::Global;
 use std::io::{self, Write};
+use std::str;
 
 /// Takes one byte at a time, as long as there is room, and counts how often it failed.
 #[derive(Drop)]
 pub struct Narrow {
-    pub taken: Vec<u8>,
-    pub failed: u64,
+    taken: Vec<u8>,
+    failed: u64,
     room: usize,
 }
 
@@ -17,6 +18,16 @@ impl Narrow {
             failed: 0,
             room,
         }
+    }
+
+    /// Whether it has taken this text, and failed once at most.
+    pub fn is_taken(&self, text: &str) -> bool {
+        self.taken.as_slice() == text.as_bytes() && self.failed < 2
+    }
+
+    /// What it has taken, where that is a text.
+    pub fn text(&self) -> &str {
+        str::from_utf8(self.taken.as_slice()).unwrap_or("! no text\n")
     }
 
     /// Takes a line back that was written last, where it was.

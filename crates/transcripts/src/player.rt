@@ -1,9 +1,8 @@
-use crate::bench::Bench;
+use crate::bench::{Bench, Ran};
 use crate::folder::Folder;
 use crate::marks::{Asked, Mark, Place, cut, mark_of};
-use crate::narrow::Narrow;
 use std::alloc::{AllocError, Global};
-use std::{io, str};
+use std::io;
 
 // What the lines since the last mark are.
 #[derive(Clone, Copy)]
@@ -23,6 +22,8 @@ pub struct Player<'a> {
     folder: Folder<'a>,
     part: Part<'a>,
     text: String,
+    // What the command line must write to its second output.
+    noted: String,
     // Whether the last line was empty: it isn't in the text yet.
     is_blank: bool,
     right: u64,
@@ -38,6 +39,7 @@ impl<'a> Player<'a> {
             folder: Folder::new(alloc),
             part: Part::Nothing,
             text: String::new(alloc),
+            noted: String::new(alloc),
             is_blank: false,
             right: 0,
             wrong: 0,
@@ -58,6 +60,10 @@ impl<'a> Player<'a> {
                     asked.changes = changes;
                 }
                 Ok(())
+            }
+            Some(Mark::Note(note)) => {
+                self.is_blank = false;
+                Ok(add_line(&mut self.noted, note)?)
             }
             Some(mark) => self.begin(rt, mark),
             None => Ok(self.add(line)?),
@@ -83,7 +89,7 @@ impl<'a> Player<'a> {
     fn begin(&mut self, rt: &HostRuntime, mark: Mark<'a>) -> io::Result<()> {
         self.end_part(rt)?;
         self.part = match mark {
-            Mark::Comment | Mark::Status(_) | Mark::Changes(_) => Part::Nothing,
+            Mark::Comment | Mark::Status(_) | Mark::Changes(_) | Mark::Note(_) => Part::Nothing,
             Mark::File(name) => Part::File(name),
             Mark::Run(asked) => Part::Run(asked),
             Mark::Damage(line) => {
@@ -149,53 +155,58 @@ impl<'a> Player<'a> {
         }
         self.part = Part::Nothing;
         self.text.clear();
+        self.noted.clear();
         self.is_blank = false;
         Ok(())
     }
 
-    // Runs a command line where its files are, and gives its status, what it wrote, and which files of the folder it changed.
-    fn run(&mut self, rt: &HostRuntime, asked: Asked<'a>) -> io::Result<(u8, Narrow, String)> {
+    // Runs a command line where its files are, and gives how it has ended, and which files of the folder it changed.
+    fn run(&mut self, rt: &HostRuntime, asked: Asked<'a>) -> io::Result<(Ran, String)> {
         match asked.place {
             Place::Memory => {
-                let (status, out) = self.run_in_memory(asked)?;
-                Ok((status, out, String::new(self.alloc)))
+                let ran = self.run_in_memory(asked)?;
+                Ok((ran, String::new(self.alloc)))
             }
             Place::Folder => {
-                let (status, out) = self.folder.run(rt, asked)?;
-                Ok((status, out, self.folder.changes(rt)?))
+                let ran = self.folder.run(rt, asked)?;
+                Ok((ran, self.folder.changes(rt)?))
             }
         }
     }
 
-    // Runs a command line over the files in memory, or stops it, which has no status.
-    fn run_in_memory(&mut self, asked: Asked<'a>) -> Result<(u8, Narrow), AllocError> {
+    // Runs a command line over the files in memory, or stops it.
+    fn run_in_memory(&mut self, asked: Asked<'a>) -> Result<Ran, AllocError> {
         match asked.left {
-            Some(left) => Ok((asked.status, self.bench.crash(asked, left)?)),
+            Some(left) => self.bench.crash(asked, left),
             None => self.bench.run(asked),
         }
     }
 
     // Runs a command line, counts it, and prints what differs.
     fn judge(&mut self, rt: &HostRuntime, asked: Asked<'a>) -> io::Result<()> {
-        let (status, out, changes) = self.run(rt, asked)?;
-        let is_same = out.taken.as_slice() == self.text.as_bytes()
+        let (ran, changes) = self.run(rt, asked)?;
+        let is_same = ran.out.is_taken(self.text.as_str())
+            && ran.notes.is_taken(self.noted.as_str())
             && changes.as_str() == asked.changes;
-        if is_same && status == asked.status && out.failed < 2 {
+        if is_same && ran.status == asked.status {
             self.right = self.right.saturating_add(1);
             return Ok(());
         }
         self.wrong = self.wrong.saturating_add(1);
-        let wanted = self.text.as_str();
-        let written = str::from_utf8(out.taken.as_slice()).unwrap_or("! no text\n");
         println!(rt;
-            "{}, place fails at {}, room {}",
-            asked.words, asked.k, asked.room
+            "{}, place fails at {}, room {} and {}",
+            asked.words, asked.k, asked.room, asked.noted_room
         )?;
         println!(rt;
-            "wanted, with status {}, changes {}:\n{wanted}",
-            asked.status, asked.changes
+            "wanted, with status {}, changes {}:\n{}2>\n{}",
+            asked.status, asked.changes, self.text, self.noted
         )?;
-        println!(rt; "written, with status {status}, changes {changes}:\n{written}")
+        println!(rt;
+            "written, with status {}, changes {changes}:\n{}2>\n{}",
+            ran.status,
+            ran.out.text(),
+            ran.notes.text()
+        )
     }
 }
 

@@ -1,11 +1,13 @@
 -- What a crash leaves of files while a command works, put together of what its calls say.
-use Rattle.std.proofs.Common.{◌≡◌, ◌≢◌, ℕ, List, Result, Ok, ap, inl, inr, refl, subst, sym}
+use Rattle.std.proofs.Common.{◌≡◌, ◌≢◌, ℕ, List, [], Some, Result, Ok, ap, inl, inr, refl, subst, sym}
 use Rattle.std.specs.Prelude.{IsOk, IsTrue}
 use Rattle.ub_files.specs.Clock.{FolderClock, IsSameBut, IsSameFolder, MayBecome, MayHold, Runs}
 use Rattle.ub_files.specs.Files.{FilesFacts, HasPages, Held, IsEmpty, IsLent}
-use Rattle.ub_script.specs.Output.{OutFacts}
+use Rattle.ub_script.specs.Output.{OutFacts, out_facts}
+use Rattle.ub_shell.specs.Appended.{AppendsSafely, HoldsAppended}
 use Rattle.ub_shell.specs.Commands.{HasRead, IsRunOn, IsTable, axes_asked}
-use Rattle.ub_shell.specs.Crashes.{HasAnew, HasLoaded, HasTable, HasUpgraded, HoldsAsked, HoldsLeft, HoldsRun, IsBeforeOrAfter, IsKeptBy, LoadsSafely, MayStand, RunsSafely, UpgradesSafely}
+use Rattle.ub_shell.specs.Crashes.{HasAnew, HasLoaded, HasTable, HasUpgraded, HoldsAsked, HoldsLeft, HoldsQueried, HoldsRun, IsBeforeOrAfter, IsKeptBy, LoadsSafely, MayStand, QueriesSafely, RunsSafely, UpgradesSafely}
+use Rattle.ub_shell.specs.Queried.{IsShown}
 use Rattle.ub_shell.specs.Upgrading.{IsTableAnew}
 use Rattle.ub_shell.specs.declared.status.Status.{Status}
 use Rattle.ub_shell.proofs.GoesFacts.{runs_as, runs_none, runs_of, runs_of_same, runs_same, runs_still, runs_then}
@@ -13,8 +15,10 @@ use Rattle.ub_store.specs.Facts.{StoreFacts}
 use Rattle.ub_table.specs.declared.axes.Axes.{Axes}
 use Rattle.ub_tree.specs.declared.fault.TreeFault.{TreeFault}
 use Rattle.ub_words.specs.Asked.{IsAskedBy}
-use Rattle.ub_words.specs.CommandLine.{AsksRun}
+use Rattle.ub_words.specs.CommandLine.{AsksAppend, AsksQuery, AsksRun}
+use Rattle.ub_words.specs.declared.given.AppendWords.{AppendWords}
 use Rattle.ub_words.specs.declared.given.LoadWords.{LoadWords}
+use Rattle.ub_words.specs.declared.given.QueryWords.{QueryWords}
 use Rattle.ub_words.specs.declared.given.RunWords.{RunWords}
 use Rattle.ub_words.specs.declared.given.UpgradeWords.{UpgradeWords}
 use Rattle.ub_words.specs.declared.words.Asked.{Asked}
@@ -24,7 +28,7 @@ use Rattle.ub_words.specs.declared.words.Asked.TheVariants as asked
 pub still_honest : (old new : FilesFacts) → new.honest ≡ old.honest → IsTrue old.honest → IsTrue new.honest
 still_honest old new same honest = subst IsTrue (sym same) honest
 
-read_honest : (path text : List ℕ) (old mid : FilesFacts) → HasRead path text old mid → IsTrue old.honest → IsTrue mid.honest
+pub read_honest : (path text : List ℕ) (old mid : FilesFacts) → HasRead path text old mid → IsTrue old.honest → IsTrue mid.honest
 read_honest path text old mid read = still_honest old mid (ap (λ (f : FilesFacts). f.honest) read.reads.same)
 
 abbrev done : Unit {0} → Result (Unit {0}) TreeFault
@@ -155,47 +159,77 @@ upgrade_same source table old was now runs = runs_same table (λ held. HasUpgrad
 pub upgrade_still : (source table : List ℕ) (old : FilesFacts) (clock : FolderClock) → Runs (UpgradesSafely source table old) old clock clock
 upgrade_still source table old clock = runs_still table (λ held. HasUpgraded source old (MayStand table old held)) old clock
 
+-- statements were run on a table file, into memory, and their text was shown
+pub queried_safely : (table statements : List ℕ) (old : FilesFacts) (was now : FolderClock) (before after : OutFacts) (text : List ℕ) (failed : ℕ) (of_run : Status)
+    (out out_now notes notes_now : OutFacts) (status : Status) → before ≡ out_facts (Some []) 0 → after ≡ out_facts (Some text) failed
+    → IsShown text failed of_run out out_now notes notes_now status → Runs (IsSameBut table (HoldsAsked table statements old before after of_run)) old was now
+    → Runs (QueriesSafely table statements old out out_now notes notes_now status) old was now
+queried_safely table statements old was now before after text failed of_run out out_now notes notes_now status none all shown runs =
+    runs_as table (HoldsQueried table statements old out out_now notes notes_now status) (HoldsAsked table statements old before after of_run) old was now
+    (λ held asked. record { text = text; failed = failed; ended = of_run; asked = rw (none, all) at asked; shown = shown }) runs
+
 -- ---- by what the words ask for
 
-module _ (words : List (List ℕ)) (a : Asked) (old : FilesFacts) (was now : FolderClock) (out out_now : OutFacts) (status : Status) where
+module _ (words : List (List ℕ)) (a : Asked) (old : FilesFacts) (was now : FolderClock) (out out_now notes notes_now : OutFacts) (status : Status) where
   pub run_crash : (r : RunWords) → a ≡ asked.Run r → IsAskedBy words a → Runs (RunsSafely r.table.now r.script.now old out out_now status) old was now
-      → Runs (IsBeforeOrAfter words old out out_now status) old was now
+      → Runs (IsBeforeOrAfter words old out out_now notes notes_now status) old was now
   run_crash r is by safe =
       let asks : AsksRun words r.table.now r.script.now = rw is at by in
-      runs_of r.table.now (HoldsRun r.table.now r.script.now old out out_now status) (IsBeforeOrAfter words old out out_now status) old was now
+      runs_of r.table.now (HoldsRun r.table.now r.script.now old out out_now status) (IsBeforeOrAfter words old out out_now notes notes_now status) old was now
       (λ d c held path told. elim (held path told) [
         | inl same ↦ inl same
-        | inr here ↦ inr (subst (λ p. IsKeptBy words old out out_now status p (c path)) (sym here.0) (inl (r.script.now, asks, here.1)))
+        | inr here ↦ inr (subst (λ p. IsKeptBy words old out out_now notes notes_now status p (c path)) (sym here.0) (inl (r.script.now, asks, here.1)))
+      ]) safe
+
+  pub query_crash : (q : QueryWords) → a ≡ asked.Query q → IsAskedBy words a
+      → Runs (QueriesSafely q.table.now q.statements.now old out out_now notes notes_now status) old was now
+      → Runs (IsBeforeOrAfter words old out out_now notes notes_now status) old was now
+  query_crash q is by safe =
+      let asks : AsksQuery words q.table.now q.statements.now = rw is at by in
+      runs_of q.table.now (HoldsQueried q.table.now q.statements.now old out out_now notes notes_now status) (IsBeforeOrAfter words old out out_now notes notes_now status) old was now
+      (λ d c held path told. elim (held path told) [
+        | inl same ↦ inl same
+        | inr here ↦ inr (subst (λ p. IsKeptBy words old out out_now notes notes_now status p (c path)) (sym here.0) (inr (inl (q.statements.now, asks, here.1))))
       ]) safe
 
   pub load_crash : (l : LoadWords) → a ≡ asked.Load l → IsAskedBy words a
       → Runs (LoadsSafely l.source.path.now l.table.now l.source.name.now (axes_asked l.source) l.source.page_rows old) old was now
-      → Runs (IsBeforeOrAfter words old out out_now status) old was now
+      → Runs (IsBeforeOrAfter words old out out_now notes notes_now status) old was now
   load_crash l is by safe =
       let asks = rw is at by in
-      runs_of l.table.now (λ held. HasLoaded l.source.path.now l.source.name.now (axes_asked l.source) l.source.page_rows old (MayStand l.table.now old held)) (IsBeforeOrAfter words old out out_now status) old was now
+      runs_of l.table.now (λ held. HasLoaded l.source.path.now l.source.name.now (axes_asked l.source) l.source.page_rows old (MayStand l.table.now old held)) (IsBeforeOrAfter words old out out_now notes notes_now status) old was now
       (λ d c held path told. elim (held path told) [
         | inl same ↦ inl same
-        | inr here ↦ inr (subst (λ p. IsKeptBy words old out out_now status p (c path)) (sym here.0)
-            (inr (inl (l.source.path.now, l.source.name.now, axes_asked l.source, l.source.page_rows, asks, here.1))))
+        | inr here ↦ inr (subst (λ p. IsKeptBy words old out out_now notes notes_now status p (c path)) (sym here.0)
+            (inr (inr (inl (l.source.path.now, l.source.name.now, axes_asked l.source, l.source.page_rows, asks, here.1)))))
       ]) safe
 
   pub upgrade_crash : (u : UpgradeWords) → a ≡ asked.Upgrade u → IsAskedBy words a → Runs (UpgradesSafely u.old.now u.new.now old) old was now
-      → Runs (IsBeforeOrAfter words old out out_now status) old was now
+      → Runs (IsBeforeOrAfter words old out out_now notes notes_now status) old was now
   upgrade_crash u is by safe =
       let asks = rw is at by in
-      runs_of u.new.now (λ held. HasUpgraded u.old.now old (MayStand u.new.now old held)) (IsBeforeOrAfter words old out out_now status) old was now
+      runs_of u.new.now (λ held. HasUpgraded u.old.now old (MayStand u.new.now old held)) (IsBeforeOrAfter words old out out_now notes notes_now status) old was now
       (λ d c held path told. elim (held path told) [
         | inl same ↦ inl same
-        | inr here ↦ inr (subst (λ p. IsKeptBy words old out out_now status p (c path)) (sym here.0) (inr (inr (u.old.now, asks, here.1))))
+        | inr here ↦ inr (subst (λ p. IsKeptBy words old out out_now notes notes_now status p (c path)) (sym here.0) (inr (inr (inr (inl (u.old.now, asks, here.1))))))
+      ]) safe
+
+  pub append_crash : (r : AppendWords) → a ≡ asked.Append r → IsAskedBy words a → Runs (AppendsSafely r.table.now r.data.now old out out_now status) old was now
+      → Runs (IsBeforeOrAfter words old out out_now notes notes_now status) old was now
+  append_crash r is by safe =
+      let asks : AsksAppend words r.table.now r.data.now = rw is at by in
+      runs_of r.table.now (HoldsAppended r.table.now r.data.now old out out_now status) (IsBeforeOrAfter words old out out_now notes notes_now status) old was now
+      (λ d c held path told. elim (held path told) [
+        | inl same ↦ inl same
+        | inr here ↦ inr (subst (λ p. IsKeptBy words old out out_now notes notes_now status p (c path)) (sym here.0) (inr (inr (inr (inr (r.data.now, asks, here.1))))))
       ]) safe
 
 -- a command that changes no file, and one that asks for none
-pub same_crash : (words : List (List ℕ)) (old : FilesFacts) (was now : FolderClock) (out out_now : OutFacts) (status : Status) → Runs IsSameFolder old was now
-    → Runs (IsBeforeOrAfter words old out out_now status) old was now
-same_crash words old was now out out_now status runs =
-    runs_of_same (IsBeforeOrAfter words old out out_now status) old was now (λ d c same path told. inl (same path told)) runs
+pub same_crash : (words : List (List ℕ)) (old : FilesFacts) (was now : FolderClock) (out out_now notes notes_now : OutFacts) (status : Status) → Runs IsSameFolder old was now
+    → Runs (IsBeforeOrAfter words old out out_now notes notes_now status) old was now
+same_crash words old was now out out_now notes notes_now status runs =
+    runs_of_same (IsBeforeOrAfter words old out out_now notes notes_now status) old was now (λ d c same path told. inl (same path told)) runs
 
-pub no_crash : (words : List (List ℕ)) (old : FilesFacts) (clock : FolderClock) (out out_now : OutFacts) (status : Status)
-    → Runs (IsBeforeOrAfter words old out out_now status) old clock clock
-no_crash words old clock out out_now status = same_crash words old clock clock out out_now status (runs_none old clock)
+pub no_crash : (words : List (List ℕ)) (old : FilesFacts) (clock : FolderClock) (out out_now notes notes_now : OutFacts) (status : Status)
+    → Runs (IsBeforeOrAfter words old out out_now notes notes_now status) old clock clock
+no_crash words old clock out out_now notes notes_now status = same_crash words old clock clock out out_now notes notes_now status (runs_none old clock)

@@ -6,13 +6,14 @@ use Rattle.std.specs.List.{flat_map, range_with_len}
 use Rattle.std.specs.Prelude.{IfErr, IsErrAnd, OnOk}
 use Rattle.ub_page.specs.declared.header.Header.{Header}
 use Rattle.ub_script.specs.Output.{OutFacts}
-use Rattle.ub_shell.specs.Described.{Description, count_lines, levels_word, number_line, IsDescribeFault, IsUndescribed, IsDescribed, IsOldFault, IsOldText, IsTextOf, described, described_old, description_text, fact_line, of_old_format}
+use Rattle.ub_shell.specs.Described.{Description, count_lines, levels_word, number_line, option_text, options_line, IsDescribeFault, IsUndescribed, IsDescribed, IsOldFault, IsOldText, IsTextOf, described, described_old, description_text, fact_line, of_old_format}
 use Rattle.ub_shell.specs.Ending.{Tells}
 use Rattle.ub_shell.specs.Status.{tree_fault_status, tree_fault_text}
 use Rattle.ub_shell.specs.declared.status.Status.{Status}
 use Rattle.ub_shell.specs.declared.status.Status.TheVariants.{Done}
 use Rattle.ub_store.specs.Facts.{StoreFacts, IsHonest}
 use Rattle.ub_store.specs.declared.fault.StoreFault.TheVariants as store
+use Rattle.ub_table.specs.declared.schema.Schema.{Schema}
 use Rattle.ub_tree.specs.Effects.{raised_by, read_store}
 use Rattle.ub_tree.specs.Opened.{IsOpenFault, IsOpened, IsPassing, IsRooted}
 use Rattle.ub_tree.specs.View.{TreeView}
@@ -57,6 +58,30 @@ dimension_put (Ok a) name sign start one two three new first what signed last =
     let told = then_put start (codes "dimension " ++ name) sign two three named signed in
     then_put start ((codes "dimension " ++ name) ++ sign) (codes "\n") three new told last
 dimension_put (Err e) name sign start one two three new first what signed last = tt
+
+pub option_put : {A E : Type 0} (r : Result A E) (option told number start one new : List ℕ) → told ≡ number → one ≡ start ++ option
+    → new ≡ (if is_ok r then one ++ told else one) → OnOk r (new ≡ start ++ (option ++ number))
+option_put (Ok a) option told number start one new is first last =
+    then_put start option told one new first last ∙ ap (λ (t : List ℕ). start ++ (option ++ t)) is
+option_put (Err e) option told number start one new is first last = tt
+
+pub options_put : {A E : Type 0} (r : Result A E) (schema : Schema) (dims signed page_rows : ℕ) (name start one two three new : List ℕ)
+    → dims ≡ schema.dims → signed ≡ schema.signed → page_rows ≡ schema.page_rows → name ≡ schema.name
+    → one ≡ start ++ option_text (codes "load-with --dims ") dims → two ≡ one ++ option_text (codes " --signed ") signed
+    → three ≡ two ++ option_text (codes " --page-rows ") page_rows → OnOk r (new ≡ three ++ fact_line (codes " --name") name)
+    → OnOk r (new ≡ start ++ options_line schema)
+options_put (Ok a) schema dims signed page_rows name start one two three new dims_are signed_is rows_are name_is first second third last =
+    let A = option_text (codes "load-with --dims ") schema.dims in
+    let B = option_text (codes " --signed ") schema.signed in
+    let C = option_text (codes " --page-rows ") schema.page_rows in
+    let D = fact_line (codes " --name") schema.name in
+    let one_is : one ≡ start ++ A = first ∙ ap (λ (n : ℕ). start ++ option_text (codes "load-with --dims ") n) dims_are in
+    let two_is : two ≡ one ++ B = second ∙ ap (λ (n : ℕ). one ++ option_text (codes " --signed ") n) signed_is in
+    let three_is : three ≡ two ++ C = third ∙ ap (λ (n : ℕ). two ++ option_text (codes " --page-rows ") n) rows_are in
+    let new_is : new ≡ three ++ D = last ∙ ap (λ (text : List ℕ). three ++ fact_line (codes " --name") text) name_is in
+    new_is ∙ ap (λ (s : List ℕ). s ++ D) three_is ∙ append_assoc two C D ∙ ap (λ (s : List ℕ). s ++ (C ++ D)) two_is ∙ append_assoc one B (C ++ D)
+    ∙ ap (λ (s : List ℕ). s ++ (B ++ (C ++ D))) one_is ∙ append_assoc start A (B ++ (C ++ D))
+options_put (Err e) schema dims signed page_rows name start one two three new dims_are signed_is rows_are name_is first second third last = tt
 
 counts_put : (a b c d e f start one two three four five new : List ℕ) → one ≡ start ++ a → two ≡ one ++ b → three ≡ two ++ c → four ≡ three ++ d
     → five ≡ four ++ e → new ≡ five ++ f → new ≡ start ++ (a ++ (b ++ (c ++ (d ++ (e ++ f)))))

@@ -1,9 +1,9 @@
 -- What the commands that read and write files leave of them, step by step.
 use Rattle.std.proofs.lemmas.Bool.{cases_Bool, false≢true}
 use Rattle.std.specs.Prelude.{IfErr, IfOk, IsErrAnd, IsErrOf, IsTrue}
-use Rattle.std.proofs.Common.{◌≡◌, ◌⊎◌, ◌↔◌, ◌∙◌, ℕ, Bool, List, codes, Result, Ok, Err, inl, inr, ap, false, true, refl, subst, sym}
+use Rattle.std.proofs.Common.{◌≡◌, ◌⊎◌, ◌↔◌, ◌∙◌, ◌≤◌, ℕ, zero, suc, Bool, List, [], Some, codes, Result, Ok, Err, inl, inr, ap, arith, false, true, refl, subst, sym}
 use Rattle.ub_script.specs.Faults.{counted}
-use Rattle.ub_script.specs.Output.{OutFacts}
+use Rattle.ub_script.specs.Output.{OutFacts, out_facts}
 use Rattle.ub_script.specs.Script.{HasChangeWord, OnlyAsks}
 use Rattle.ub_store.specs.Facts.{StoreFacts, memory_facts}
 use Rattle.ub_store.specs.declared.fault.StoreFault.{StoreFault}
@@ -22,24 +22,28 @@ use Rattle.ub_table.specs.declared.axes.Axes.{Axes}
 use Rattle.ub_table.specs.declared.schema.Schema.{Schema}
 use Rattle.ub_words.specs.Asked.{AreLines, IsAskedBy}
 use Rattle.ub_words.specs.CommandLine.{AsksHelp, AsksNothing}
+use Rattle.ub_words.specs.declared.given.AppendWords.{AppendWords}
 use Rattle.ub_words.specs.declared.given.CheckWords.{CheckWords}
 use Rattle.ub_words.specs.declared.given.DescribeWords.{DescribeWords}
 use Rattle.ub_words.specs.declared.given.LoadWords.{LoadWords}
 use Rattle.ub_words.specs.declared.given.NextWords.{NextWords}
+use Rattle.ub_words.specs.declared.given.QueryWords.{QueryWords}
 use Rattle.ub_words.specs.declared.given.RunWords.{RunWords}
 use Rattle.ub_words.specs.declared.given.TryWords.{TryWords}
 use Rattle.ub_words.specs.declared.given.UpgradeWords.{UpgradeWords}
 use Rattle.ub_words.specs.declared.words.Asked.{Asked}
 use Rattle.ub_words.specs.declared.words.Asked.TheVariants as asked
-use Rattle.ub_shell.specs.Commands.{HasRead, HasRunTree, IsKept, IsUnopened, IsUnread, IsUnready, IsWeighed, LoadsFile, OpensFor, RunsFile, TellsRan, TriesFiles, axes_asked, status_after}
+use Rattle.ub_shell.specs.Commands.{HasRead, HasRunTree, IsKept, IsUnopened, IsUnread, IsUnready, IsWeighed, LoadsFile, OpensFor, RunsFile, RunsScript, TellsRan, TriesFiles, axes_asked, status_after}
 use Rattle.ub_files.specs.declared.fault.OpenFault.{OpenFault}
 use Rattle.ub_files.specs.declared.fault.OpenFault.TheVariants as opening
+use Rattle.ub_shell.specs.Appended.{AppendsFile}
 use Rattle.ub_shell.specs.Checked.{ChecksFile}
 use Rattle.ub_shell.specs.Described.{DescribesFile}
 use Rattle.ub_shell.specs.Ending.{Tells}
 use Rattle.ub_files.specs.Files.{FilesFacts, ChangesFile, IsText, KeepsFile, IsTorn, OpensFile, ReadsFile}
 use Rattle.ub_next.specs.Next.{IsNextAnswer, answer_text}
-use Rattle.ub_shell.specs.Ran.{HasEnded}
+use Rattle.ub_shell.specs.Queried.{IsShown, QueriesFile}
+use Rattle.ub_shell.specs.Ran.{HasEnded, HasEndedAlone}
 use Rattle.ub_shell.specs.Upgrading.{UpgradesFile}
 use Rattle.ub_shell.specs.Status.{answer_status, open_fault_status, open_fault_text, store_fault_status, store_fault_text}
 use Rattle.ub_next.specs.declared.next.Neighbours.{Neighbours}
@@ -203,11 +207,36 @@ pub unkept_closing : (changes : Bool) (path : List ℕ) (left : List (List ℕ))
 unkept_closing true path left fault old new same = (refl, same)
 unkept_closing false path left fault old new same = (refl, same)
 
+-- ---- statements on a table file
+
+-- no write failed where a failure isn't told
+pub no_failure : (failed : Bool) (n : ℕ) → (IsTrue failed ↔ (1 ≤ n)) → failed ≡ false → n ≡ 0
+no_failure failed zero told is = refl
+no_failure failed (suc n) told is = absurd (false≢true (sym is ∙ told.1 (omega arith)))
+
+-- statements were run, into memory, and their text was shown
+pub queried : (table statements : List ℕ) (old new : FilesFacts) (before after : OutFacts) (text : List ℕ) (failed : ℕ) (of_run : Status) (out out_now notes notes_now : OutFacts)
+    (status : Status) → before ≡ out_facts (Some []) 0 → after ≡ out_facts (Some text) failed → RunsScript table statements old new before after of_run
+    → IsShown text failed of_run out out_now notes notes_now status → QueriesFile table statements old new out out_now notes notes_now status
+queried table statements old new before after text failed of_run out out_now notes notes_now status none all ran shown =
+    record { text = text; failed = failed; ended = of_run; asked = rw (none, all) at ran; shown = shown }
+
 -- ---- what the words ask for
+
+-- a command that writes to one output alone leaves the other one as it was
+pub ended_alone : (words : List (List ℕ)) (old new : FilesFacts) (out out_now notes : OutFacts) (status : Status) → HasEndedAlone words old new out out_now status
+    → HasEnded words old new out out_now notes notes status
+ended_alone words old new out out_now notes status ended = inr (refl, ended)
+
+pub query_ends : (words : List (List ℕ)) (a : Asked) (q : QueryWords) (old new : FilesFacts) (out out_now notes notes_now : OutFacts) (status : Status) → a ≡ asked.Query q
+    → IsAskedBy words a → QueriesFile q.table.now q.statements.now old new out out_now notes notes_now status
+    → HasEnded words old new out out_now notes notes_now status
+query_ends words a q old new out out_now notes notes_now status is by queries =
+    inl (record { table = q.table.now; statements = q.statements.now; asks = rw is at by; queries = queries })
 
 pub load_ends : (words : List (List ℕ)) (a : Asked) (l : LoadWords) (old new : FilesFacts) (out out_now : OutFacts) (status : Status) → a ≡ asked.Load l
     → IsAskedBy words a → LoadsFile l.source.path.now l.table.now l.source.name.now (axes_asked l.source) l.source.page_rows old new out out_now status
-    → HasEnded words old new out out_now status
+    → HasEndedAlone words old new out out_now status
 load_ends words a l old new out out_now status is by loads = inl (record {
   source = l.source.path.now;
   table = l.table.now;
@@ -219,13 +248,13 @@ load_ends words a l old new out out_now status is by loads = inl (record {
 })
 
 pub run_ends : (words : List (List ℕ)) (a : Asked) (r : RunWords) (old new : FilesFacts) (out out_now : OutFacts) (status : Status) → a ≡ asked.Run r
-    → IsAskedBy words a → RunsFile r.table.now r.script.now old new out out_now status → HasEnded words old new out out_now status
+    → IsAskedBy words a → RunsFile r.table.now r.script.now old new out out_now status → HasEndedAlone words old new out out_now status
 run_ends words a r old new out out_now status is by runs =
     inr (inl (record { table = r.table.now; script = r.script.now; asks = rw is at by; runs = runs }))
 
 pub try_ends : (words : List (List ℕ)) (a : Asked) (t : TryWords) (old new : FilesFacts) (out out_now : OutFacts) (status : Status) → a ≡ asked.Try t
     → IsAskedBy words a → TriesFiles t.source.path.now t.script.now t.source.name.now (axes_asked t.source) t.source.page_rows old new out out_now status
-    → HasEnded words old new out out_now status
+    → HasEndedAlone words old new out out_now status
 try_ends words a t old new out out_now status is by tries = inr (inr (inl (record {
   source = t.source.path.now;
   script = t.script.now;
@@ -236,24 +265,29 @@ try_ends words a t old new out out_now status is by tries = inr (inr (inl (recor
   tries = tries;
 })))
 
+pub append_ends : (words : List (List ℕ)) (a : Asked) (r : AppendWords) (old new : FilesFacts) (out out_now : OutFacts) (status : Status) → a ≡ asked.Append r
+    → IsAskedBy words a → AppendsFile r.table.now r.data.now old new out out_now status → HasEndedAlone words old new out out_now status
+append_ends words a r old new out out_now status is by appends =
+    inr (inr (inr (inr (inr (inr (inr (inr (inr (inl (record { table = r.table.now; source = r.data.now; asks = rw is at by; appends = appends }))))))))))
+
 pub upgrade_ends : (words : List (List ℕ)) (a : Asked) (u : UpgradeWords) (old new : FilesFacts) (out out_now : OutFacts) (status : Status) → a ≡ asked.Upgrade u
-    → IsAskedBy words a → UpgradesFile u.old.now u.new.now old new out out_now status → HasEnded words old new out out_now status
+    → IsAskedBy words a → UpgradesFile u.old.now u.new.now old new out out_now status → HasEndedAlone words old new out out_now status
 upgrade_ends words a u old new out out_now status is by upgrades =
     inr (inr (inr (inl (record { source = u.old.now; table = u.new.now; asks = rw is at by; upgrades = upgrades }))))
 
 pub describe_ends : (words : List (List ℕ)) (a : Asked) (d : DescribeWords) (old new : FilesFacts) (out out_now : OutFacts) (status : Status) → a ≡ asked.Describe d
-    → IsAskedBy words a → DescribesFile d.table.now old new out out_now status → HasEnded words old new out out_now status
+    → IsAskedBy words a → DescribesFile d.table.now old new out out_now status → HasEndedAlone words old new out out_now status
 describe_ends words a d old new out out_now status is by describes =
     inr (inr (inr (inr (inl (record { table = d.table.now; asks = rw is at by; describes = describes })))))
 
 pub check_ends : (words : List (List ℕ)) (a : Asked) (k : CheckWords) (old new : FilesFacts) (out out_now : OutFacts) (status : Status) → a ≡ asked.Check k
-    → IsAskedBy words a → ChecksFile k.table.now old new out out_now status → HasEnded words old new out out_now status
+    → IsAskedBy words a → ChecksFile k.table.now old new out out_now status → HasEndedAlone words old new out out_now status
 check_ends words a k old new out out_now status is by checks =
     inr (inr (inr (inr (inr (inl (record { table = k.table.now; asks = rw is at by; checks = checks }))))))
 
 pub next_ends : (words : List (List ℕ)) (a : Asked) (n : NextWords) (files : FilesFacts) (out out_now : OutFacts) (status : Status) (answer : Result Neighbours NextFault)
     → a ≡ asked.Next n → IsAskedBy words a → IsNextAnswer n.low.now n.high.now n.address.now answer
-    → Tells out out_now (answer_text answer) (answer_status answer) status → HasEnded words files files out out_now status
+    → Tells out out_now (answer_text answer) (answer_status answer) status → HasEndedAlone words files files out out_now status
 next_ends words a n files out out_now status answer is by answers told = inr (inr (inr (inr (inr (inr (inl (record {
   lo = n.low.now;
   hi = n.high.now;
@@ -266,15 +300,15 @@ next_ends words a n files out out_now status answer is by answers told = inr (in
 })))))))
 
 pub help_ends : (words : List (List ℕ)) (files : FilesFacts) (out out_now : OutFacts) (text bytes : List ℕ) (status : Status) → AsksHelp words × AreLines text → bytes ≡ text
-    → Tells out out_now bytes Done status → HasEnded words files files out out_now status
+    → Tells out out_now bytes Done status → HasEndedAlone words files files out out_now status
 help_ends words files out out_now text bytes status by same told =
     inr (inr (inr (inr (inr (inr (inr (inl (record { asks = by.0; text = text; lines = by.1; tells = rw same at told; files = refl }))))))))
 
 pub wrong_ends : (words : List (List ℕ)) (files : FilesFacts) (out out_now : OutFacts) (text bytes : List ℕ) (status : Status) → AsksNothing words × AreLines text → bytes ≡ text
-    → Tells out out_now bytes CommandLine status → HasEnded words files files out out_now status
+    → Tells out out_now bytes CommandLine status → HasEndedAlone words files files out out_now status
 wrong_ends words files out out_now text bytes status by same told =
     inr (inr (inr (inr (inr (inr (inr (inr (inl (record { asks = by.0; text = text; lines = by.1; tells = rw same at told; files = refl })))))))))
 
 pub memory_ends : (words : List (List ℕ)) (files : FilesFacts) (out out_now : OutFacts) (status : Status) → Tells out out_now (codes "! Memory\n") Memory status
-    → HasEnded words files files out out_now status
-memory_ends words files out out_now status told = inr (inr (inr (inr (inr (inr (inr (inr (inr (record { tells = told; files = refl })))))))))
+    → HasEndedAlone words files files out out_now status
+memory_ends words files out out_now status told = inr (inr (inr (inr (inr (inr (inr (inr (inr (inr (record { tells = told; files = refl }))))))))))

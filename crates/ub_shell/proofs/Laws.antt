@@ -1,5 +1,5 @@
 -- The laws of how a command ends, as specs/Laws.antt states them.
-use Rattle.std.proofs.Common.{◌≡◌, ◌≢◌, ◌⊎◌, ◌∙◌, ℕ, Bool, true, false, List, Ok, Err, inl, inr, ap, arith, length, refl, subst, sym}
+use Rattle.std.proofs.Common.{◌≡◌, ◌≢◌, ◌⊎◌, ◌∙◌, ℕ, Bool, true, false, List, [], Some, Ok, Err, inl, inr, ap, arith, length, refl, subst, sym}
 use Rattle.std.proofs.lemmas.Bool.{cases_Bool, false≢true}
 use Rattle.std.proofs.lemmas.Slice.Eq.{bytes_eq-Decides}
 use Rattle.std.specs.Str.{bytes_eq}
@@ -11,21 +11,27 @@ use Rattle.ub_files.specs.Files.{standard_input, FilesFacts, HasPages, Held, IsE
 use Rattle.ub_files.specs.declared.fault.OpenFault.{OpenFault}
 use Rattle.ub_files.specs.declared.fault.OpenFault.TheVariants as opening
 use Rattle.ub_words.proofs.Laws.{no_help_taken}
-use Rattle.ub_words.specs.CommandLine.{AsksHelpAlone, AsksNext}
-use Rattle.ub_shell.specs.Commands.{IsKept, IsUnlent, IsUnopened, IsUnready, MakesTable, OpensFor, RunsFile, TellsMade, TellsRan, both_ended, loaded_line}
+use Rattle.ub_words.specs.CommandLine.{AsksHelp, AsksHelpAlone, AsksNext, AsksNothing}
+use Rattle.ub_shell.specs.Commands.{IsKept, IsUnlent, IsUnopened, IsUnready, MakesTable, OpensFor, RunsFile, RunsScript, TellsMade, TellsRan, both_ended, loaded_line}
+use Rattle.ub_shell.proofs.KeptFacts.{says_done, store_not_done, tree_not_done}
 use Rattle.ub_shell.proofs.LeftFacts.{full_stays, run_leaves, run_stays, where_ok}
-use Rattle.ub_shell.specs.Laws.{AreBothInput, AskingLeavesTheTable, CheckedTablesAreRunAsSound, CheckedTablesAreSound, CheckingLeavesTheTable, CrashesLeaveATable, DescribingLeavesTheTable, FailedRunsLoseNothing, FullTablesAreLeft, IsClosedTable, IsHeldStill, IsHeldTable, IsOldIfTold, IsOldTable, IsRunOfTable, IsSoundTable, KeptRunsLast, LoadsLoseNoTable, OldTablesAreNotLost, OnlyHelpIsWritten, OnlySoundTablesAreUpgraded, SaysKept, SoundTablesPass, TellsBadJournal, TellsPassing, UnchangedTablesAreLeft, UpgradedTablesAreTheSame, UpgradesLoseNoTable, UpgradingLeavesTheOldTable, WhatWasDoneStands, WrongWordsAreTold, row_count}
+use Rattle.ub_shell.specs.Laws.{AreBothInput, AskingLeavesTheTable, AskingQueriesLeaveTheTable, AskingRunsLeaveTheTable, CheckedTablesAreRunAsSound, CheckedTablesAreSound, CheckingLeavesTheTable, CrashesLeaveATable, DescribingLeavesTheTable, FailedQueriesLoseNothing, FailedRunsLoseNothing, FailedScriptsLoseNothing, FullTablesAreLeft, IsClosedTable, IsHeldStill, IsHeldTable, IsOldIfTold, IsOldTable, IsRunOfTable, IsScriptOfTable, IsSoundTable, KeptQueriesLast, KeptRunsLast, KeptScriptsLast, LoadsLoseNoTable, OldTablesAreNotLost, OnlyHelpIsWritten, OnlyQueriesNote, OnlySoundTablesAreUpgraded, SaysKept, SoundTablesPass, TellsBadJournal, TellsPassing, UnchangedTablesAreLeft, UpgradedTablesAreTheSame, UpgradesLoseNoTable, UpgradingLeavesTheOldTable, WhatWasDoneStands, WrongWordsAreTold, row_count}
+use Rattle.ub_shell.proofs.AppendFacts.{appended_sound}
+use Rattle.ub_shell.specs.Appended.{HoldsAppended}
 use Rattle.ub_shell.specs.Checked.{ChecksFile, IsChecked}
-use Rattle.ub_shell.specs.Crashes.{HoldsRun}
+use Rattle.ub_shell.specs.Crashes.{HoldsAsked, HoldsRun}
 use Rattle.ub_shell.specs.Ending.{Tells}
 use Rattle.ub_shell.proofs.UpgradeFacts.{some_page}
 use Rattle.ub_shell.specs.Status.{open_fault_status, open_fault_text, store_fault_status, store_fault_text, tree_fault_status, tree_fault_text}
+use Rattle.ub_shell.specs.Queried.{IsShown}
+use Rattle.ub_shell.specs.Ran.{HasEndedAlone, HasHelped, HasNoMemory, HasRefused}
 use Rattle.ub_shell.specs.Upgrading.{IsFileAnew}
 use Rattle.ub_shell.specs.declared.status.Status.{Status}
 use Rattle.ub_shell.specs.declared.status.Status.TheVariants as ended
 use Rattle.ub_shell.specs.declared.status.Status.TheVariants.{Done}
 use Rattle.ub_exec.proofs.Laws.{sound_trees_stand}
-use Rattle.ub_script.specs.Output.{OutFacts}
+use Rattle.ub_script.specs.Output.{OutFacts, out_facts}
+use Rattle.ub_script.specs.Script.{OnlyAsks}
 use Rattle.ub_script.specs.declared.fault.RunFault.{RunFault}
 use Rattle.ub_script.specs.declared.fault.RunFault.TheVariants as stop
 use Rattle.ub_script.specs.declared.script.Summary.{Summary}
@@ -45,29 +51,46 @@ no_next : (words : List (List ℕ)) (lo hi z : List ℕ) → AsksHelpAlone words
 no_next words lo hi z alone (inl by_clap) = no_help_taken words by_clap.1.0 alone
 no_next words lo hi z alone (inr by_place) = by_place.2 alone
 
+only_help : (words : List (List ℕ)) (old new : FilesFacts) (out out_now : OutFacts) (status : Status) → AsksHelpAlone words
+    → HasEndedAlone words old new out out_now status → HasHelped words old new out out_now status ⊎ HasNoMemory old new out out_now status
+only_help words old new out out_now status alone (inl load) = absurd (no_help_taken words load.asks.1.0 alone)
+only_help words old new out out_now status alone (inr (inl run)) = absurd (no_help_taken words run.asks.1.0 alone)
+only_help words old new out out_now status alone (inr (inr (inl tried))) = absurd (no_help_taken words tried.asks.1.0 alone)
+only_help words old new out out_now status alone (inr (inr (inr (inl upgrade)))) = absurd (no_help_taken words upgrade.asks.1.0 alone)
+only_help words old new out out_now status alone (inr (inr (inr (inr (inl described))))) = absurd (no_help_taken words described.asks.1.0 alone)
+only_help words old new out out_now status alone (inr (inr (inr (inr (inr (inl check)))))) = absurd (no_help_taken words check.asks.1.0 alone)
+only_help words old new out out_now status alone (inr (inr (inr (inr (inr (inr (inl next))))))) = absurd (no_next words _ _ _ alone next.asks)
+only_help words old new out out_now status alone (inr (inr (inr (inr (inr (inr (inr (inl help)))))))) = inl help
+only_help words old new out out_now status alone (inr (inr (inr (inr (inr (inr (inr (inr (inl wrong))))))))) = absurd (wrong.asks.no_help alone)
+only_help words old new out out_now status alone (inr (inr (inr (inr (inr (inr (inr (inr (inr (inl append)))))))))) = absurd (no_help_taken words append.asks.1.0 alone)
+only_help words old new out out_now status alone (inr (inr (inr (inr (inr (inr (inr (inr (inr (inr memory)))))))))) = inr memory
+
 pub only_help_is_written : OnlyHelpIsWritten
-only_help_is_written words old new out out_now status alone (inl load) = absurd (no_help_taken words load.asks.1.0 alone)
-only_help_is_written words old new out out_now status alone (inr (inl run)) = absurd (no_help_taken words run.asks.1.0 alone)
-only_help_is_written words old new out out_now status alone (inr (inr (inl tried))) = absurd (no_help_taken words tried.asks.1.0 alone)
-only_help_is_written words old new out out_now status alone (inr (inr (inr (inl upgrade)))) = absurd (no_help_taken words upgrade.asks.1.0 alone)
-only_help_is_written words old new out out_now status alone (inr (inr (inr (inr (inl described))))) = absurd (no_help_taken words described.asks.1.0 alone)
-only_help_is_written words old new out out_now status alone (inr (inr (inr (inr (inr (inl check)))))) = absurd (no_help_taken words check.asks.1.0 alone)
-only_help_is_written words old new out out_now status alone (inr (inr (inr (inr (inr (inr (inl next))))))) = absurd (no_next words _ _ _ alone next.asks)
-only_help_is_written words old new out out_now status alone (inr (inr (inr (inr (inr (inr (inr (inl help)))))))) = inl help
-only_help_is_written words old new out out_now status alone (inr (inr (inr (inr (inr (inr (inr (inr (inl wrong))))))))) = absurd (wrong.asks.no_help alone)
-only_help_is_written words old new out out_now status alone (inr (inr (inr (inr (inr (inr (inr (inr (inr memory))))))))) = inr memory
+only_help_is_written words old new out out_now notes notes_now status alone (inl query) = absurd (no_help_taken words query.asks.1.0 alone)
+only_help_is_written words old new out out_now notes notes_now status alone (inr (same, ended)) = (same, only_help words old new out out_now status alone ended)
+
+wrong_told : (words : List (List ℕ)) (old new : FilesFacts) (out out_now : OutFacts) (status : Status) → AsksNothing words → ¬ (AsksHelp words)
+    → HasEndedAlone words old new out out_now status → HasRefused words old new out out_now status ⊎ HasNoMemory old new out out_now status
+wrong_told words old new out out_now status nothing no_help (inl load) = absurd (nothing.no_load _ _ _ _ _ _ load.asks)
+wrong_told words old new out out_now status nothing no_help (inr (inl run)) = absurd (nothing.no_run _ _ run.asks)
+wrong_told words old new out out_now status nothing no_help (inr (inr (inl tried))) = absurd (nothing.no_try _ _ _ _ _ _ tried.asks)
+wrong_told words old new out out_now status nothing no_help (inr (inr (inr (inl upgrade)))) = absurd (nothing.no_upgrade _ _ upgrade.asks)
+wrong_told words old new out out_now status nothing no_help (inr (inr (inr (inr (inl described))))) = absurd (nothing.no_describe _ described.asks)
+wrong_told words old new out out_now status nothing no_help (inr (inr (inr (inr (inr (inl check)))))) = absurd (nothing.no_check _ check.asks)
+wrong_told words old new out out_now status nothing no_help (inr (inr (inr (inr (inr (inr (inl next))))))) = absurd (nothing.no_next _ _ _ next.asks)
+wrong_told words old new out out_now status nothing no_help (inr (inr (inr (inr (inr (inr (inr (inl help)))))))) = absurd (no_help help.asks)
+wrong_told words old new out out_now status nothing no_help (inr (inr (inr (inr (inr (inr (inr (inr (inl wrong))))))))) = inl wrong
+wrong_told words old new out out_now status nothing no_help (inr (inr (inr (inr (inr (inr (inr (inr (inr (inl append)))))))))) = absurd (nothing.no_append _ _ append.asks)
+wrong_told words old new out out_now status nothing no_help (inr (inr (inr (inr (inr (inr (inr (inr (inr (inr memory)))))))))) = inr memory
 
 pub wrong_words_are_told : WrongWordsAreTold
-wrong_words_are_told words old new out out_now status nothing no_help (inl load) = absurd (nothing.no_load _ _ _ _ _ _ load.asks)
-wrong_words_are_told words old new out out_now status nothing no_help (inr (inl run)) = absurd (nothing.no_run _ _ run.asks)
-wrong_words_are_told words old new out out_now status nothing no_help (inr (inr (inl tried))) = absurd (nothing.no_try _ _ _ _ _ _ tried.asks)
-wrong_words_are_told words old new out out_now status nothing no_help (inr (inr (inr (inl upgrade)))) = absurd (nothing.no_upgrade _ _ upgrade.asks)
-wrong_words_are_told words old new out out_now status nothing no_help (inr (inr (inr (inr (inl described))))) = absurd (nothing.no_describe _ described.asks)
-wrong_words_are_told words old new out out_now status nothing no_help (inr (inr (inr (inr (inr (inl check)))))) = absurd (nothing.no_check _ check.asks)
-wrong_words_are_told words old new out out_now status nothing no_help (inr (inr (inr (inr (inr (inr (inl next))))))) = absurd (nothing.no_next _ _ _ next.asks)
-wrong_words_are_told words old new out out_now status nothing no_help (inr (inr (inr (inr (inr (inr (inr (inl help)))))))) = absurd (no_help help.asks)
-wrong_words_are_told words old new out out_now status nothing no_help (inr (inr (inr (inr (inr (inr (inr (inr (inl wrong))))))))) = inl wrong
-wrong_words_are_told words old new out out_now status nothing no_help (inr (inr (inr (inr (inr (inr (inr (inr (inr memory))))))))) = inr memory
+wrong_words_are_told words old new out out_now notes notes_now status nothing no_help (inl query) = absurd (nothing.no_query _ _ query.asks)
+wrong_words_are_told words old new out out_now notes notes_now status nothing no_help (inr (same, ended)) =
+    (same, wrong_told words old new out out_now status nothing no_help ended)
+
+pub only_queries_note : OnlyQueriesNote
+only_queries_note words old new out out_now notes notes_now status no_query (inl query) = absurd (no_query _ _ query.asks)
+only_queries_note words old new out out_now notes notes_now status no_query (inr (same, ended)) = same
 
 -- ---- a table file on which a script was run
 
@@ -82,11 +105,11 @@ still_same : (a b : Held) → b ≡ a → IsHeldStill a b
 still_same a b same = subst (λ (held : Held). IsHeldStill a held) (sym same) (still a)
 
 -- a path holds what it did where the files are as they were
-held_same : (path : List ℕ) (old new : FilesFacts) → new ≡ old → new.holds path ≡ old.holds path
+pub held_same : (path : List ℕ) (old new : FilesFacts) → new ≡ old → new.holds path ≡ old.holds path
 held_same path old new same = ap (λ (f : FilesFacts). f.holds path) same
 
 -- reading a text leaves each file but standard input
-left_by_reading : {A : Type 0} (path table : List ℕ) (old new : FilesFacts) (r : Result A StoreFault) → ¬ (AreBothInput table path) → ReadsFile path old new r
+pub left_by_reading : {A : Type 0} (path table : List ℕ) (old new : FilesFacts) (r : Result A StoreFault) → ¬ (AreBothInput table path) → ReadsFile path old new r
     → new.holds table ≡ old.holds table
 left_by_reading path table old new r other h = elim (cases_Bool (bytes_eq table path)) [
   | inl same ↦
@@ -116,35 +139,49 @@ kept_either true table left (Ok done) (Err fault) old new h = elim h.either [
 kept_either true table left (Err fault) keeping old new h = inl (held_same table old new h.1)
 kept_either false table left closing keeping old new h = inl (held_same table old new h.1)
 
-pub failed_runs_lose_nothing : FailedRunsLoseNothing
-failed_runs_lose_nothing table script old new out out_now status other (inr unread) = inl (left_by_reading script table old new _ other unread.reads)
-failed_runs_lose_nothing table script old new out out_now status other (inl run) =
-    let mid : run.mid.holds table ≡ old.holds table = left_by_reading script table old run.mid _ other run.read.reads in
-    elim run.ran [
-      | inl unweighed ↦ inl (held_same table run.mid new unweighed.files ∙ mid)
-      | inr weighed ↦ elim weighed.2 [
-        | inl asked ↦
-            let opened = left_by_opening weighed.0 table run.mid asked.mid asked.opens in
-            elim asked.asks [
-              | inl kept ↦ elim (kept_either weighed.0 table kept.left.pages kept.run.ran.closing kept.run.ran.keeping asked.mid new kept.kept) [
-                | inl same ↦ inl (same ∙ opened ∙ mid)
-                | inr held ↦ inr (record {
-                  asked = run.asked;
-                  mid = run.mid;
-                  store = asked.store;
-                  left = kept.left;
-                  read = run.read;
-                  lent = asked.lent;
-                  run = kept.run;
-                  closed = held.0;
-                  holds = held.1;
-                })
-              ]
-              | inr none ↦ inl (held_same table asked.mid new none.1 ∙ opened ∙ mid)
-            ]
-        | inr unlent ↦ inl (left_unlent weighed.0 table run.mid new out out_now status unlent ∙ mid)
+-- so where a script was run on it
+script_either : (table script : List ℕ) (old new : FilesFacts) (out out_now : OutFacts) (status : Status) → RunsScript table script old new out out_now status
+    → (new.holds table ≡ old.holds table) ⊎ HoldsAsked table script old out out_now status (new.holds table)
+script_either table script old new out out_now status (inl unweighed) = inl (held_same table old new unweighed.files)
+script_either table script old new out out_now status (inr (changes, weighed, inr unlent)) = inl (left_unlent changes table old new out out_now status unlent)
+script_either table script old new out out_now status (inr (changes, weighed, inl asked)) =
+    let opened = left_by_opening changes table old asked.mid asked.opens in
+    elim asked.asks [
+      | inl kept ↦ elim (kept_either changes table kept.left.pages kept.run.ran.closing kept.run.ran.keeping asked.mid new kept.kept) [
+        | inl same ↦ inl (same ∙ opened)
+        | inr held ↦ inr (asked.store, asked.lent, (kept.left, kept.run, held.0, held.1))
       ]
+      | inr none ↦ inl (held_same table asked.mid new none.1 ∙ opened)
     ]
+
+failed_scripts_lose_nothing : FailedScriptsLoseNothing
+failed_scripts_lose_nothing table script old new out out_now status other (inr unread) = inl (left_by_reading script table old new _ other unread.reads)
+failed_scripts_lose_nothing table script old new out out_now status other (inl run) =
+    let mid : run.mid.holds table ≡ old.holds table = left_by_reading script table old run.mid _ other run.read.reads in
+    elim (script_either table run.asked run.mid new out out_now status run.ran) [
+      | inl same ↦ inl (same ∙ mid)
+      | inr (store, lent, (left, ran, closed, holds)) ↦ inr (record {
+        asked = run.asked;
+        mid = run.mid;
+        store = store;
+        left = left;
+        read = run.read;
+        lent = lent;
+        run = ran;
+        closed = closed;
+        holds = holds;
+      })
+    ]
+
+failed_queries_lose_nothing : FailedQueriesLoseNothing
+failed_queries_lose_nothing table statements old new out out_now notes notes_now status q =
+    elim (script_either table statements old new (out_facts (Some []) 0) (out_facts (Some q.text) q.failed) q.ended q.asked) [
+      | inl same ↦ inl same
+      | inr held ↦ inr (record { text = q.text; failed = q.failed; ended = q.ended; asked = held; shown = q.shown })
+    ]
+
+pub failed_runs_lose_nothing : FailedRunsLoseNothing
+failed_runs_lose_nothing = (failed_scripts_lose_nothing, failed_queries_lose_nothing)
 
 -- what is kept with the pages that were there
 kept_same : (before after : Held) (held left : List (List ℕ)) → HasPages before held → HasPages after left → left ≡ held → IsHeldStill before after
@@ -158,16 +195,32 @@ kept_same absent after held left stored kept same = absurd stored
 kept_same (bytes text) after held left stored kept same = absurd stored
 kept_same torn after held left stored kept same = absurd stored
 
-pub asking_leaves_the_table : AskingLeavesTheTable
-asking_leaves_the_table table script old new out out_now status other asks ran =
-    elim (failed_runs_lose_nothing table script old new out out_now status other ran) [
+-- where a script only asks
+asked_still : (table script : List ℕ) (old : FilesFacts) (out out_now : OutFacts) (status : Status) (after : Held) → ((schema : Schema) → OnlyAsks schema script)
+    → HoldsAsked table script old out out_now status after → IsHeldStill (old.holds table) after
+asked_still table script old out out_now status after asks (store, lent, (left, run, closed, holds)) =
+    kept_same (old.holds table) after store.pages left.pages lent.stored holds (ap (λ (s : StoreFacts). s.pages) (run.left_is (asks run.tree.schema)))
+
+asking_runs_leave_the_table : AskingRunsLeaveTheTable
+asking_runs_leave_the_table table script old new out out_now status other asks ran =
+    elim (failed_scripts_lose_nothing table script old new out out_now status other ran) [
       | inl same ↦ still_same (old.holds table) (new.holds table) same
       | inr held ↦
           let mid : held.mid.holds table ≡ old.holds table = left_by_reading script table old held.mid _ other held.read.reads in
-          let left = held.run.left_is (asks held.asked held.run.tree.schema held.read.text_is) in
-          subst (λ (h : Held). IsHeldStill h (new.holds table)) mid (kept_same (held.mid.holds table) (new.holds table) held.store.pages held.left.pages held.lent.stored held.holds
-          (ap (λ (s : StoreFacts). s.pages) left))
+          subst (λ (h : Held). IsHeldStill h (new.holds table)) mid
+          (asked_still table held.asked held.mid out out_now status (new.holds table) (λ schema. asks held.asked schema held.read.text_is)
+          (held.store, held.lent, (held.left, held.run, held.closed, held.holds)))
     ]
+
+asking_queries_leave_the_table : AskingQueriesLeaveTheTable
+asking_queries_leave_the_table table statements old new out out_now notes notes_now status asks q =
+    elim (script_either table statements old new (out_facts (Some []) 0) (out_facts (Some q.text) q.failed) q.ended q.asked) [
+      | inl same ↦ still_same (old.holds table) (new.holds table) same
+      | inr held ↦ asked_still table statements old (out_facts (Some []) 0) (out_facts (Some q.text) q.failed) q.ended (new.holds table) asks held
+    ]
+
+pub asking_leaves_the_table : AskingLeavesTheTable
+asking_leaves_the_table = (asking_runs_leave_the_table, asking_queries_leave_the_table)
 
 -- ---- a table file that was described, or checked
 
@@ -193,36 +246,9 @@ upgrading_leaves_the_old_table source table old new out out_now status apart (in
     still_same (old.holds source) (new.holds source) (ap (λ (f : FilesFacts). f.holds source) unopened.files)
 
 -- a fault never ends as all that was to be done
-told_done : (out out_now : OutFacts) (text : List ℕ) (wanted : Status) → Tells out out_now text wanted Done → Done ≡ wanted
+pub told_done : (out out_now : OutFacts) (text : List ℕ) (wanted : Status) → Tells out out_now text wanted Done → Done ≡ wanted
 told_done out out_now text wanted (inl told) = told.0
 told_done out out_now text wanted (inr broken) = let bad = broken.0 in cc
-
-store_not_done : (fault : StoreFault) → Done ≡ store_fault_status fault → ⊥
-store_not_done store.NoPage e = let bad = e in cc
-store_not_done store.BadSize e = let bad = e in cc
-store_not_done store.Device e = let bad = e in cc
-store_not_done store.Memory e = let bad = e in cc
-
-tree_not_done : (fault : TreeFault) → Done ≡ tree_fault_status fault → ⊥
-tree_not_done tree.Memory e = let bad = e in cc
-tree_not_done Failed e = let bad = e in cc
-tree_not_done (tree.Store fault) e = store_not_done fault e
-tree_not_done tree.Full e = let bad = e in cc
-tree_not_done (tree.Page page fault) e = let bad = e in cc
-
--- nor as one of which a statement was refused
-store_not_refused : (fault : StoreFault) → ended.Refused ≡ store_fault_status fault → ⊥
-store_not_refused store.NoPage e = let bad = e in cc
-store_not_refused store.BadSize e = let bad = e in cc
-store_not_refused store.Device e = let bad = e in cc
-store_not_refused store.Memory e = let bad = e in cc
-
-tree_not_refused : (fault : TreeFault) → ended.Refused ≡ tree_fault_status fault → ⊥
-tree_not_refused tree.Memory e = let bad = e in cc
-tree_not_refused Failed e = let bad = e in cc
-tree_not_refused (tree.Store fault) e = store_not_refused fault e
-tree_not_refused tree.Full e = let bad = e in cc
-tree_not_refused (tree.Page page fault) e = let bad = e in cc
 
 -- the pages of a closed table of an older version are those of the store that was lent
 module _ (version next : ℕ) (schema : Schema) (placed : List Placed) where
@@ -446,6 +472,38 @@ unlent_told schema placed next true table old new out out_now status held unread
 unlent_told schema placed next false table old new out out_now status held unopened =
     inl (store_passing_told out out_now status unopened.fault (passing_alone schema placed next table old new held unopened) unopened.tells)
 
+script_of_table : (table script : List ℕ) (schema : Schema) (placed : List Placed) (next : ℕ) (old new : FilesFacts) (out out_now : OutFacts) (status : Status)
+    → IsTrue old.honest → IsHeldTable (old.holds table) schema placed next → RunsScript table script old new out out_now status
+    → IsScriptOfTable table script schema placed next old new out out_now status ⊎ (TellsPassing out out_now status ⊎ TellsBadJournal out out_now status)
+script_of_table table script schema placed next old new out out_now status honest held (inl unweighed) = inr (inl (inr unweighed.tells))
+script_of_table table script schema placed next old new out out_now status honest held (inr (changes, weighed, inr unlent)) =
+    inr (unlent_told schema placed next changes table old new out out_now status held unlent)
+script_of_table table script schema placed next old new out out_now status honest held (inr (changes, weighed, inl asked)) =
+    let from_honest = asked.lent.lent.honest honest in
+    let here = held_pages schema placed next (old.holds table) asked.store asked.lent.stored held in
+    elim asked.asks [
+      | inl kept ↦
+          let (sound, of_schema, of_placed, of_next) = kept.run.tree_is.sound schema placed next from_honest here in
+          inl (record {
+            store = asked.store;
+            left = kept.left;
+            changes = changes;
+            opened = asked.mid;
+            weighed = weighed;
+            lent = asked.lent;
+            opens = asked.opens;
+            honest = from_honest;
+            pages_are = here;
+            run = kept.run;
+            kept = kept.kept;
+            sound = sound;
+            schema_is = of_schema;
+            placed_is = of_placed;
+            next_is = of_next;
+          })
+      | inr none ↦ inr (inl (passing_told out out_now status none.0.fault (none.0.passing schema placed next from_honest here) none.0.tells))
+    ]
+
 run_of_table : (table script : List ℕ) (schema : Schema) (placed : List Placed) (next : ℕ) (old new : FilesFacts) (out out_now : OutFacts) (status : Status)
     → IsTrue old.honest → IsHeldTable (old.holds table) schema placed next → ¬ (AreBothInput table script) → RunsFile table script old new out out_now status
     → IsRunOfTable table script schema placed next old new out out_now status ⊎ (TellsPassing out out_now status ⊎ TellsBadJournal out out_now status)
@@ -455,46 +513,22 @@ run_of_table table script schema placed next old new out out_now status honest h
     let mid = left_by_reading script table old run.mid _ apart run.read.reads in
     let there = subst (λ (h : Held). IsHeldTable h schema placed next) (sym mid) held in
     let mid_honest : IsTrue run.mid.honest = rw (ap (λ (f : FilesFacts). f.honest) run.read.reads.same) honest in
-    elim run.ran [
-      | inl unweighed ↦ inr (inl (inr unweighed.tells))
-      | inr weighed ↦ elim weighed.2 [
-        | inl asked ↦
-            let from_honest = asked.lent.lent.honest mid_honest in
-            let here = held_pages schema placed next (run.mid.holds table) asked.store asked.lent.stored there in
-            elim asked.asks [
-              | inl kept ↦
-                  let (sound, of_schema, of_placed, of_next) = kept.run.tree_is.sound schema placed next from_honest here in
-                  inl (record {
-                    asked = run.asked;
-                    mid = run.mid;
-                    store = asked.store;
-                    left = kept.left;
-                    changes = weighed.0;
-                    opened = asked.mid;
-                    read = run.read;
-                    weighed = weighed.1;
-                    lent = asked.lent;
-                    opens = asked.opens;
-                    honest = from_honest;
-                    pages_are = here;
-                    run = kept.run;
-                    kept = kept.kept;
-                    sound = sound;
-                    schema_is = of_schema;
-                    placed_is = of_placed;
-                    next_is = of_next;
-                  })
-              | inr none ↦ inr (inl (passing_told out out_now status none.0.fault (none.0.passing schema placed next from_honest here) none.0.tells))
-            ]
-        | inr unlent ↦ inr (unlent_told schema placed next weighed.0 table run.mid new out out_now status there unlent)
-      ]
+    elim (script_of_table table run.asked schema placed next run.mid new out out_now status mid_honest there run.ran) [
+      | inl ran ↦ inl (record { asked = run.asked; mid = run.mid; read = run.read; ran = ran })
+      | inr told ↦ inr told
     ]
 
 pub checked_tables_are_run_as_sound : CheckedTablesAreRunAsSound
-checked_tables_are_run_as_sound table script old mid later new out out_mid out_later out_now status honest check later_honest same told apart run =
+checked_tables_are_run_as_sound table script statements old mid later new out out_mid out_later out_now status honest check later_honest same told =
     let (schema, placed, next, held) = checked_held table old mid out out_mid honest check (λ none. told (same ∙ none)) in
-    let there = subst (λ (h : Held). IsHeldTable h schema placed next) (sym same) held in
-    (schema, placed, next, there, run_of_table table script schema placed next later new out_later out_now status later_honest there apart run)
+    let there = subst (λ (h : Held). IsHeldTable h schema placed next) (sym same) held in (
+      schema,
+      placed,
+      next,
+      there,
+      λ apart run. run_of_table table script schema placed next later new out_later out_now status later_honest there apart run,
+      λ run. script_of_table table statements schema placed next later new out_later out_now status later_honest there run,
+    )
 
 -- ---- a table on which a script was run
 
@@ -524,45 +558,41 @@ full_tables_are_left store left script out out_now status run full =
 
 -- ---- what a run that may change the table has kept
 
--- a line that ends with the status of a file that failed
-device_told : (out out_now : OutFacts) (line : List ℕ) (status : Status) → Tells out out_now line ended.Device status → status ≡ ended.Device
-device_told out out_now line status (inl told) = told.0
-device_told out out_now line status (inr broken) = broken.0
-
--- a fault after a run to the end isn't told with the status of one that has kept
-fault_not_kept : (out out_now : OutFacts) (status : Status) (fault : TreeFault) → Tells out out_now (tree_fault_text fault) (tree_fault_status fault) status
-    → (status ≡ Done) ⊎ (status ≡ ended.Refused) → ⊥
-fault_not_kept out out_now status fault (inl told) (inl done) = tree_not_done fault (sym done ∙ told.0)
-fault_not_kept out out_now status fault (inl told) (inr refused) = tree_not_refused fault (sym refused ∙ told.0)
-fault_not_kept out out_now status fault (inr broken) (inl done) = let bad = sym done ∙ broken.0 in cc
-fault_not_kept out out_now status fault (inr broken) (inr refused) = let bad = sym refused ∙ broken.0 in cc
-
--- so a refused closing or keeping isn't
-never_says : (result : Result Summary RunFault) (fault : TreeFault) (out out_now : OutFacts) (status : Status) → TellsRan result (Err fault) out out_now status → SaysKept result status → ⊥
-never_says (Ok summary) fault out out_now status told says = fault_not_kept out out_now status fault told says
-never_says (Err stop.Memory) fault out out_now status told says = says (device_told out out_now _ status told)
-never_says (Err stop.Write) fault out out_now status told says = says told.0
-never_says (Err (stop.Load of_load)) fault out out_now status told says = says (device_told out out_now _ status told)
-never_says (Err (stop.Tree of_tree)) fault out out_now status told says = says (device_told out out_now _ status told)
-
-says_done : (result : Result Summary RunFault) (closing : Result (Unit {0}) TreeFault) (keeping : Result (Unit {0}) StoreFault) (out out_now : OutFacts) (status : Status)
-    → TellsRan result (both_ended closing keeping) out out_now status → SaysKept result status → IsOk closing × IsOk keeping
-says_done result (Ok done) (Ok kept) out out_now status told says = (refl, refl)
-says_done result (Ok done) (Err fault) out out_now status told says = absurd (never_says result (tree_fault fault) out out_now status told says)
-says_done result (Err fault) keeping out out_now status told says = absurd (never_says result fault out out_now status told says)
-
-kept_pages : (table : List ℕ) (left : List (List ℕ)) (closing : Result (Unit {0}) TreeFault) (keeping : Result (Unit {0}) StoreFault) (old new : FilesFacts)
+pub kept_pages : (table : List ℕ) (left : List (List ℕ)) (closing : Result (Unit {0}) TreeFault) (keeping : Result (Unit {0}) StoreFault) (old new : FilesFacts)
     → IsOk closing → IsOk keeping → IsKept true table left closing keeping old new → HasPages (new.holds table) left × HasPages (new.lasts table) left
 kept_pages table left (Ok done) (Ok kept) old new closed also h = h.kept
 kept_pages table left (Ok done) (Err fault) old new closed also h = absurd (false≢true also)
 kept_pages table left (Err fault) keeping old new closed also h = absurd (false≢true closed)
 
-pub kept_runs_last : KeptRunsLast
-kept_runs_last table script store old new out out_now status kept says =
+kept_scripts_last : KeptScriptsLast
+kept_scripts_last table script store old new out out_now status kept says =
     let ran = kept.run.ran in
     let done = says_done ran.result ran.closing ran.keeping ran.mid out_now status ran.tells says in
     let there = kept_pages table kept.left.pages ran.closing ran.keeping old new done.0 done.1 kept.kept in
     (done.0, there.0, there.1)
+
+-- a status that says so of a query is that of its run
+says_still : (result : Result Summary RunFault) (of_run status : Status) → status ≡ of_run → SaysKept result status → SaysKept result of_run
+says_still result of_run status same says = subst (λ (s : Status). SaysKept result s) same says
+
+never_device : (result : Result Summary RunFault) (status : Status) → status ≡ ended.Device → SaysKept result status → ⊥
+never_device (Ok summary) status same (inl done) = let bad = sym same ∙ done in cc
+never_device (Ok summary) status same (inr refused) = let bad = sym same ∙ refused in cc
+never_device (Err fault) status same says = says same
+
+says_of_run : (result : Result Summary RunFault) (text : List ℕ) (failed : ℕ) (of_run status : Status) (out out_now notes notes_now : OutFacts)
+    → IsShown text failed of_run out out_now notes notes_now status → SaysKept result status → status ≢ ended.Memory → SaysKept result of_run
+says_of_run result text failed of_run status out out_now notes notes_now (inl (whole, inl shown)) says other = says_still result of_run status shown.0 says
+says_of_run result text failed of_run status out out_now notes notes_now (inl (whole, inr broken)) says other = absurd (never_device result status broken.0 says)
+says_of_run result text failed of_run status out out_now notes notes_now (inr (some, none)) says other = absurd (other none.0)
+
+kept_queries_last : KeptQueriesLast
+kept_queries_last table statements text failed store old new of_run status out out_now notes notes_now kept shown says other =
+    kept_scripts_last table statements store old new (out_facts (Some []) 0) (out_facts (Some text) failed) of_run kept
+    (says_of_run kept.run.ran.result text failed of_run status out out_now notes notes_now shown says other)
+
+pub kept_runs_last : KeptRunsLast
+kept_runs_last = (kept_scripts_last, kept_queries_last)
 
 -- ---- a table that was there before a load or an upgrade
 
@@ -623,37 +653,62 @@ never_empty schema placed next (bytes text) is none = is
 never_empty schema placed next torn is none = is
 
 -- what is left of a run on a closed table is one
+asked_sound : (schema : Schema) (placed : List Placed) (next : ℕ) (table script : List ℕ) (old : FilesFacts) (out out_now : OutFacts) (status : Status) (held : Held) → IsTrue old.honest
+    → IsHeldTable (old.holds table) schema placed next → HoldsAsked table script old out out_now status held → IsSoundTable held
+asked_sound schema placed next table script old out out_now status held honest was (store, lent, (left, run, closed, holds)) =
+    let from_honest = lent.lent.honest honest in
+    let here = held_pages schema placed next (old.holds table) store lent.stored was in
+    let (s, now, stands, has, is, left_honest, sound) = what_was_done_stands store left schema placed next script out out_now status from_honest here run closed in
+    sound_table held left.pages run.ran.now.schema run.ran.now.placed run.ran.now.next holds sound
+
 run_sound : (schema : Schema) (placed : List Placed) (next : ℕ) (table script : List ℕ) (old : FilesFacts) (out out_now : OutFacts) (status : Status) (held : Held) → IsTrue old.honest
     → table ≢ standard_input → IsHeldTable (old.holds table) schema placed next → HoldsRun table script old out out_now status held → IsSoundTable held
 run_sound schema placed next table script old out out_now status held honest told was h =
     let mid : h.mid.holds table ≡ old.holds table = left_by_reading script table old h.mid _ (λ both. told both.0) h.read.reads in
     let there = subst (λ (x : Held). IsHeldTable x schema placed next) (sym mid) was in
     let mid_honest : IsTrue h.mid.honest = rw (ap (λ (f : FilesFacts). f.honest) h.read.reads.same) honest in
-    let from_honest = h.lent.lent.honest mid_honest in
+    asked_sound schema placed next table h.asked h.mid out out_now status held mid_honest there (h.store, h.lent, (h.left, h.run, h.closed, h.holds))
+
+-- so is what is left of one to which rows were appended
+more_sound : (schema : Schema) (placed : List Placed) (next : ℕ) (table source : List ℕ) (old : FilesFacts) (out out_now : OutFacts) (status : Status) (held : Held) → IsTrue old.honest
+    → table ≢ standard_input → IsHeldTable (old.holds table) schema placed next → HoldsAppended table source old out out_now status held → IsSoundTable held
+more_sound schema placed next table source old out out_now status held honest told was h =
+    let mid : h.mid.holds table ≡ old.holds table = left_by_reading source table old h.mid _ (λ both. told both.0) h.read.reads in
+    let there = subst (λ (x : Held). IsHeldTable x schema placed next) (sym mid) was in
+    let mid_honest : IsTrue h.mid.honest = rw (ap (λ (f : FilesFacts). f.honest) h.read.reads.same) honest in
     let here = held_pages schema placed next (h.mid.holds table) h.store h.lent.stored there in
-    let (s, now, stands, has, is, left_honest, sound) = what_was_done_stands h.store h.left schema placed next h.asked out out_now status from_honest here h.run h.closed in
-    sound_table held h.left.pages h.run.ran.now.schema h.run.ran.now.placed h.run.ran.now.next h.holds sound
+    let sound = appended_sound schema placed next h.store h.left h.text out out_now status (h.lent.lent.honest mid_honest) here h.appended h.closed in
+    let now = h.appended.put.now in
+    sound_table held h.left.pages now.schema now.placed now.next h.holds sound
 
 pub crashes_leave_a_table : CrashesLeaveATable
-crashes_leave_a_table words table old out out_now status before after schema placed next honest told was sound step = elim (step table told) [
+crashes_leave_a_table words table old out out_now notes notes_now status before after schema placed next honest told was sound step = elim (step table told) [
   | inl same ↦ subst (λ (h : Held). IsSoundTable h) (sym same) sound
   | inr kept ↦ elim kept [
     | inl ran ↦ run_sound schema placed next table ran.0 old out out_now status (after table) honest told was ran.2
-    | inr made ↦ elim made [
-      | inl load ↦
-          let (source, name, axes, page_rows, asks, has) = load in
-          let (rows, regions, all, is, stands) = has.table in
-          elim stands [
-            | inl holds ↦ sound_table (after table) all is.tree.schema is.tree.placed is.tree.next holds is.closed
-            | inr part ↦ absurd (never_empty schema placed next (old.holds table) was part.0)
-          ]
-      | inr anew ↦
-          let (source, asks, has) = anew in
-          let (rows, regions, all, is, stands) = has.table in
-          elim stands [
-            | inl holds ↦ sound_table (after table) all is.tree.schema is.tree.placed is.tree.next holds is.closed
-            | inr part ↦ absurd (never_empty schema placed next (old.holds table) was part.0)
-          ]
+    | inr others ↦ elim others [
+      | inl queried ↦
+          let q = queried.2 in
+          asked_sound schema placed next table queried.0 old (out_facts (Some []) 0) (out_facts (Some q.text) q.failed) q.ended (after table) honest was q.asked
+      | inr made ↦ elim made [
+        | inl load ↦
+            let (source, name, axes, page_rows, asks, has) = load in
+            let (rows, regions, all, is, stands) = has.table in
+            elim stands [
+              | inl holds ↦ sound_table (after table) all is.tree.schema is.tree.placed is.tree.next holds is.closed
+              | inr part ↦ absurd (never_empty schema placed next (old.holds table) was part.0)
+            ]
+        | inr others ↦ elim others [
+          | inl anew ↦
+              let (source, asks, has) = anew in
+              let (rows, regions, all, is, stands) = has.table in
+              elim stands [
+                | inl holds ↦ sound_table (after table) all is.tree.schema is.tree.placed is.tree.next holds is.closed
+                | inr part ↦ absurd (never_empty schema placed next (old.holds table) was part.0)
+              ]
+          | inr append ↦ more_sound schema placed next table append.0 old out out_now status (after table) honest told was append.2
+        ]
+      ]
     ]
   ]
 ]

@@ -1,9 +1,14 @@
 pub mod EndFacts
 pub mod FileFacts
 pub mod GoesFacts
+pub mod PartingFacts
 pub mod CrashFacts
+pub mod KeptFacts
+pub mod LastFacts
+pub mod AppendFacts
 pub mod LeftFacts
 pub mod UpgradeFacts
 pub mod DescribeFacts
 pub mod CheckFacts
 pub mod Laws
+pub mod AppendLaws

@@ -28,7 +28,7 @@ use Rattle.ub_tree.specs.declared.fault.TreeFault.TheVariants.{Failed}
 use Rattle.ub_writing.specs.Closing.{IsClosed, IsSaved, IsUnclosed}
 use Rattle.ub_words.specs.declared.given.DataWords.{DataWords}
 use Rattle.ub_shell.specs.Ending.{HasTried, Tells, trial}
-use Rattle.ub_files.specs.Clock.{FolderClock, IsSameBut, Runs}
+use Rattle.ub_files.specs.Clock.{FolderClock, IsSameBut, Lasts, Runs}
 use Rattle.ub_files.specs.Files.{FilesFacts, ChangesFile, HasPages, IsLent, IsText, IsTorn, KeepsFile, MakesFile, OpensFile, ReadsFile}
 use Rattle.ub_files.specs.declared.fault.OpenFault.{OpenFault}
 use Rattle.ub_files.specs.declared.fault.OpenFault.TheVariants as opening
@@ -117,7 +117,7 @@ both_ended (Ok done) (Err fault) = Err (tree_fault fault)
 both_ended (Ok done) (Ok kept) = Ok kept
 
 -- a tree was closed, and what is left was kept at this path, or not; a crash leaves the path to hold what it held, or, where the closing was
--- done, what is left
+-- done, what is left; and where that was kept, each crash from then on leaves that. A keeping is refused only as the file failed
 pub record ClosesFile (changes : Bool) (path : List ℕ) (old new : FilesFacts) (was now : FolderClock) (t : TreeView) (result : Result (Unit {0}) TreeFault) : Type 0 where
   pub left : StoreFacts
   pub closing : Result (Unit {0}) TreeFault
@@ -125,7 +125,9 @@ pub record ClosesFile (changes : Bool) (path : List ℕ) (old new : FilesFacts) 
   pub closes : Closes t left closing
   pub kept : IsKept changes path left.pages closing keeping old new
   pub ended : result ≡ both_ended closing keeping
+  pub faults : IfErr keeping (λ fault. fault ≡ store.Device)
   pub crash : Runs (IsSameBut path (λ held. IsOk closing × HasPages held left.pages)) old was now
+  pub lasts : IsTrue changes → IsOk result → Lasts path left.pages old now
 
 -- ---- a table file that is made
 

@@ -1,15 +1,19 @@
 -- What a crash leaves of files at any moment of a command: each path is found as before, or it is the table that the command names, and holds
 -- what a whole run of the command leaves there.
-use Rattle.std.specs.Prelude.{◌≡◌, ◌≢◌, ◌⊎◌, ℕ, List, IsOk}
-use Rattle.ub_files.specs.Clock.{Folder, IsSameBut}
+use Rattle.std.specs.Prelude.{◌≡◌, ◌≢◌, ◌⊎◌, ℕ, List, [], Some, IsOk}
+use Rattle.ub_files.specs.Clock.{Endures, Folder, FolderClock, IsSameBut}
 use Rattle.ub_files.specs.Files.{FilesFacts, HasPages, Held, IsEmpty, IsLent, IsPart, IsText, standard_input}
-use Rattle.ub_script.specs.Output.{OutFacts}
+use Rattle.ub_script.specs.Output.{OutFacts, out_facts}
+use Rattle.ub_script.specs.Script.{HasChangeWord}
+use Rattle.ub_shell.specs.Appended.{HoldsAppended}
 use Rattle.ub_shell.specs.Commands.{HasRead, IsRunOn, IsTable}
+use Rattle.ub_shell.specs.Queried.{IsShown}
 use Rattle.ub_shell.specs.Upgrading.{IsTableAnew}
 use Rattle.ub_shell.specs.declared.status.Status.{Status}
+use Rattle.ub_shell.specs.declared.status.Status.TheVariants.{Done, Refused}
 use Rattle.ub_store.specs.Facts.{StoreFacts}
 use Rattle.ub_table.specs.declared.axes.Axes.{Axes}
-use Rattle.ub_words.specs.CommandLine.{AsksLoad, AsksRun, AsksUpgrade}
+use Rattle.ub_words.specs.CommandLine.{AsksAppend, AsksLoad, AsksQuery, AsksRun, AsksUpgrade}
 
 -- where it is told, this is the pages that were left of the store of a table file by a run of the script that the other path holds, once that
 -- was closed
@@ -32,6 +36,14 @@ HoldsLeft store script out out_now status held =
 -- and of a run on the table file
 abbrev pub HoldsAsked : List ℕ → List ℕ → FilesFacts → OutFacts → OutFacts → Status → Held → Type 0
 HoldsAsked table script old out out_now status held = (store : StoreFacts) × IsLent old table store × HoldsLeft store script out out_now status held
+
+-- and of a run of statements into memory, whose text was shown
+pub record HoldsQueried (table statements : List ℕ) (old : FilesFacts) (out out_now notes notes_now : OutFacts) (status : Status) (held : Held) : Type 0 where
+  pub text : List ℕ
+  pub failed : ℕ
+  pub ended : Status
+  pub asked : HoldsAsked table statements old (out_facts (Some []) 0) (out_facts (Some text) failed) ended held
+  pub shown : IsShown text failed ended out out_now notes notes_now status
 
 -- where it is told, this is these pages; or, where the path had no page, a part of them, which is no table
 abbrev pub MayStand : List ℕ → FilesFacts → Held → List (List ℕ) → Type 0
@@ -62,6 +74,11 @@ pub record HasUpgraded (source : List ℕ) (old : FilesFacts) (Is : List (List �
 abbrev pub RunsSafely : List ℕ → List ℕ → FilesFacts → OutFacts → OutFacts → Status → Folder → Folder → Type 0
 RunsSafely table script old out out_now status = IsSameBut table (HoldsRun table script old out out_now status)
 
+-- while statements are run on a table file
+abbrev pub QueriesSafely : List ℕ → List ℕ → FilesFacts → OutFacts → OutFacts → OutFacts → OutFacts → Status → Folder → Folder → Type 0
+QueriesSafely table statements old out out_now notes notes_now status =
+    IsSameBut table (HoldsQueried table statements old out out_now notes notes_now status)
+
 -- while a CSV file is loaded into a table file
 abbrev pub LoadsSafely : List ℕ → List ℕ → List ℕ → Axes → ℕ → FilesFacts → Folder → Folder → Type 0
 LoadsSafely source table name axes page_rows old = IsSameBut table (λ held. HasLoaded source name axes page_rows old (MayStand table old held))
@@ -71,14 +88,43 @@ abbrev pub UpgradesSafely : List ℕ → List ℕ → FilesFacts → Folder → 
 UpgradesSafely source table old = IsSameBut table (λ held. HasUpgraded source old (MayStand table old held))
 
 -- this is what a whole run of the command that these words ask for leaves in the table file that they name
-abbrev pub IsKeptBy : List (List ℕ) → FilesFacts → OutFacts → OutFacts → Status → List ℕ → Held → Type 0
-IsKeptBy words old out out_now status path held =
+abbrev pub IsKeptBy : List (List ℕ) → FilesFacts → OutFacts → OutFacts → OutFacts → OutFacts → Status → List ℕ → Held → Type 0
+IsKeptBy words old out out_now notes notes_now status path held =
     ((script : List ℕ) × AsksRun words path script × HoldsRun path script old out out_now status held)
+    ⊎ (((statements : List ℕ) × AsksQuery words path statements × HoldsQueried path statements old out out_now notes notes_now status held)
     ⊎ (((source : List ℕ) × (name : List ℕ) × (axes : Axes) × (page_rows : ℕ) × AsksLoad words source path name axes.dims page_rows axes.signed
     × HasLoaded source name axes page_rows old (MayStand path old held))
-    ⊎ ((source : List ℕ) × AsksUpgrade words source path × HasUpgraded source old (MayStand path old held)))
+    ⊎ (((source : List ℕ) × AsksUpgrade words source path × HasUpgraded source old (MayStand path old held))
+    ⊎ ((source : List ℕ) × AsksAppend words path source × HoldsAppended path source old out out_now status held))))
 
 -- each path but standard input is found as before, or holds that
-abbrev pub IsBeforeOrAfter : List (List ℕ) → FilesFacts → OutFacts → OutFacts → Status → Folder → Folder → Type 0
-IsBeforeOrAfter words old out out_now status d c =
-    (path : List ℕ) → path ≢ standard_input → (c path ≡ d path) ⊎ IsKeptBy words old out out_now status path (c path)
+abbrev pub IsBeforeOrAfter : List (List ℕ) → FilesFacts → OutFacts → OutFacts → OutFacts → OutFacts → Status → Folder → Folder → Type 0
+IsBeforeOrAfter words old out out_now notes notes_now status d c =
+    (path : List ℕ) → path ≢ standard_input → (c path ≡ d path) ⊎ IsKeptBy words old out out_now notes notes_now status path (c path)
+
+-- ---- after a command
+
+-- the status says that all was done: each statement was answered or refused, or the table was made
+abbrev pub SaysAllDone : Status → Type 0
+SaysAllDone status = (status ≡ Done) ⊎ (status ≡ Refused)
+
+-- the script that a path holds was read, and where it may change the table file, each crash from now on leaves there what was left of the
+-- table's store by a run of it
+pub record RunLasts (table script : List ℕ) (old : FilesFacts) (out out_now : OutFacts) (status : Status) (now : FolderClock) : Type 0 where
+  pub asked : List ℕ
+  pub mid : FilesFacts
+  pub read : HasRead script asked old mid
+  pub lasts : HasChangeWord asked → Endures table (HoldsAsked table asked mid out out_now status) mid now
+
+-- each crash from now on leaves in the table file the pages of the table of the text that a path holds
+abbrev pub LoadLasts : List ℕ → List ℕ → List ℕ → Axes → ℕ → FilesFacts → FolderClock → Type 0
+LoadLasts source table name axes page_rows old now = Endures table (λ held. HasLoaded source name axes page_rows old (HasPages held)) old now
+
+-- the pages of the table of the store that a path holds, made anew
+abbrev pub UpgradeLasts : List ℕ → List ℕ → FilesFacts → FolderClock → Type 0
+UpgradeLasts source table old now = Endures table (λ held. HasUpgraded source old (HasPages held)) old now
+
+-- each crash from now on leaves in the table file, where the statements may change it, what was left of the table's store by a run of them
+abbrev pub QueryLasts : List ℕ → List ℕ → FilesFacts → OutFacts → OutFacts → OutFacts → OutFacts → Status → FolderClock → Type 0
+QueryLasts table statements old out out_now notes notes_now status now =
+    HasChangeWord statements → Endures table (HoldsQueried table statements old out out_now notes notes_now status) old now

@@ -94,9 +94,19 @@ count_lines d =
     ++ (number_line (codes "page-rows") d.schema.page_rows ++ (number_line (levels_word d.version) d.levels
     ++ number_line (codes "format") d.version))))
 
--- a line for each fact: the table's name, its columns, and its counts
+-- an option of a command line, with a number
+abbrev pub option_text : List ℕ → ℕ → List ℕ
+option_text option number = option ++ decimal number
+
+-- the options with which a CSV file of a table's rows is loaded as the same table
+abbrev pub options_line : Schema → List ℕ
+options_line schema =
+    option_text (codes "load-with --dims ") schema.dims ++ (option_text (codes " --signed ") schema.signed
+    ++ (option_text (codes " --page-rows ") schema.page_rows ++ fact_line (codes " --name") schema.name))
+
+-- a line for each fact: the table's name, its columns, and its counts; and one for the options that load it
 unfoldable pub description_text : Description → List ℕ
-description_text d = fact_line (codes "table") d.schema.name ++ (column_lines d.schema ++ count_lines d)
+description_text d = fact_line (codes "table") d.schema.name ++ (column_lines d.schema ++ (count_lines d ++ options_line d.schema))
 
 -- ---- which store tells what
 

@@ -1,10 +1,13 @@
 -- The laws of how a command ends. Each is what the function of its name in `law` ensures, and is proved in proofs/Laws.antt.
-use Rattle.std.specs.Prelude.{◌≡◌, ◌≢◌, ◌⊎◌, ◌++◌, ℕ, Bool, true, false, List, [], ◌∷◌, Result, Ok, Err, IsOk, IsTrue, codes, length}
+use Rattle.std.specs.Prelude.{◌≡◌, ◌≢◌, ◌≤◌, ◌⊎◌, ◌+◌, ◌++◌, ℕ, Bool, true, false, List, [], ◌∷◌, Some, Result, Ok, Err, IsOk, IsTrue, codes, length}
 use Rattle.std.specs.List.{flat_map}
-use Rattle.ub_exec.specs.Stand.{Stand, IsStandOf}
-use Rattle.ub_words.specs.CommandLine.{AsksHelp, AsksHelpAlone, AsksNothing}
+use Rattle.ub_exec.specs.Stand.{Stand, IsStand, IsStandOf}
+use Rattle.ub_words.specs.CommandLine.{AsksHelp, AsksHelpAlone, AsksNothing, AsksQuery}
+use Rattle.ub_load.specs.Appending.{AreRowsOf}
+use Rattle.ub_load.specs.LoadedTable.{records_of}
+use Rattle.ub_script.specs.Appending.{numbered_from}
 use Rattle.ub_script.specs.Basis.{Basis, on_stand, over_any}
-use Rattle.ub_script.specs.Output.{OutFacts, HasTaken, IsFrontOf}
+use Rattle.ub_script.specs.Output.{OutFacts, HasTaken, IsFrontOf, out_facts}
 use Rattle.ub_script.specs.Run.{EndedOver, FirstOver, summary_of}
 use Rattle.ub_script.specs.Script.{OnlyAsks}
 use Rattle.ub_script.specs.Text.{Reply, changed_by, texts_of}
@@ -15,6 +18,7 @@ use Rattle.ub_store.specs.Facts.{StoreFacts, IsHonest}
 use Rattle.ub_table.specs.declared.axes.Axes.{Axes}
 use Rattle.ub_table.specs.declared.schema.Schema.{Schema}
 use Rattle.ub_table.specs.Region.{Region}
+use Rattle.ub_table.specs.declared.row.Row.{Row}
 use Rattle.ub_tree.specs.Old.{AreOldPages}
 use Rattle.ub_tree.specs.Placed.{Placed, regions_in}
 use Rattle.ub_tree.specs.Stored.{AreSoundPages}
@@ -22,11 +26,13 @@ use Rattle.ub_tree.specs.View.{IsSound}
 use Rattle.ub_tree.specs.declared.fault.TreeFault.TheVariants.{Full}
 use Rattle.ub_files.specs.Clock.{Folder}
 use Rattle.ub_files.specs.Files.{FilesFacts, HasPages, Held, IsEmpty, IsLent, IsText, pages, standard_input, untold}
-use Rattle.ub_shell.specs.Commands.{HasRead, IsKept, IsKeptRun, IsRunOn, IsWeighed, LoadsFile, OpensFor, RunsFile, loaded_line}
+use Rattle.ub_shell.specs.Commands.{HasRead, IsKept, IsKeptRun, IsRunOn, IsWeighed, LoadsFile, OpensFor, RunsFile, RunsScript, loaded_line}
+use Rattle.ub_shell.specs.Appended.{AppendsFile}
 use Rattle.ub_shell.specs.Checked.{ChecksFile}
-use Rattle.ub_shell.specs.Crashes.{HasLoaded, HasUpgraded, HoldsRun, IsBeforeOrAfter}
+use Rattle.ub_shell.specs.Crashes.{HasLoaded, HasUpgraded, HoldsQueried, HoldsRun, IsBeforeOrAfter}
 use Rattle.ub_shell.specs.Described.{DescribesFile}
 use Rattle.ub_shell.specs.Ending.{Tells}
+use Rattle.ub_shell.specs.Queried.{IsShown, QueriesFile}
 use Rattle.ub_shell.specs.Ran.{HasEnded, HasHelped, HasNoMemory, HasRefused}
 use Rattle.ub_shell.specs.Upgrading.{UpgradesFile}
 use Rattle.ub_shell.specs.declared.status.Status.{Status}
@@ -35,13 +41,24 @@ use Rattle.ub_shell.specs.declared.status.Status.TheVariants.{Done}
 
 -- where the words ask for the help alone, only the help is written; or memory was refused
 abbrev pub OnlyHelpIsWritten : Type 0
-OnlyHelpIsWritten = (words : List (List ℕ)) (old new : FilesFacts) (out out_now : OutFacts) (status : Status) → AsksHelpAlone words
-    → HasEnded words old new out out_now status → HasHelped words old new out out_now status ⊎ HasNoMemory old new out out_now status
+OnlyHelpIsWritten =
+    (words : List (List ℕ)) (old new : FilesFacts) (out out_now notes notes_now : OutFacts) (status : Status) → AsksHelpAlone words
+    → HasEnded words old new out out_now notes notes_now status
+    → (notes_now ≡ notes) × (HasHelped words old new out out_now status ⊎ HasNoMemory old new out out_now status)
 
 -- where the words ask for nothing, nor may be told the help, only that is told; or memory was refused
 abbrev pub WrongWordsAreTold : Type 0
-WrongWordsAreTold = (words : List (List ℕ)) (old new : FilesFacts) (out out_now : OutFacts) (status : Status) → AsksNothing words → ¬ (AsksHelp words)
-    → HasEnded words old new out out_now status → HasRefused words old new out out_now status ⊎ HasNoMemory old new out out_now status
+WrongWordsAreTold =
+    (words : List (List ℕ)) (old new : FilesFacts) (out out_now notes notes_now : OutFacts) (status : Status) → AsksNothing words
+    → ¬ (AsksHelp words) → HasEnded words old new out out_now notes notes_now status
+    → (notes_now ≡ notes) × (HasRefused words old new out out_now status ⊎ HasNoMemory old new out out_now status)
+
+-- a command that is no query leaves the second output as it was
+abbrev pub OnlyQueriesNote : Type 0
+OnlyQueriesNote =
+    (words : List (List ℕ)) (old new : FilesFacts) (out out_now notes notes_now : OutFacts) (status : Status)
+    → ((table statements : List ℕ) → ¬ (AsksQuery words table statements)) → HasEnded words old new out out_now notes notes_now status
+    → notes_now ≡ notes
 
 -- where both are told, this is held still
 abbrev pub IsHeldStill : Held → Held → Type 0
@@ -58,9 +75,20 @@ abbrev pub AreBothInput : List ℕ → List ℕ → Type 0
 AreBothInput table script = (table ≡ standard_input) × (script ≡ standard_input)
 
 -- a table file on which a script was run that only asks is as it was, page for page, whatever it is and however the run has ended
-abbrev pub AskingLeavesTheTable : Type 0
-AskingLeavesTheTable = (table script : List ℕ) (old new : FilesFacts) (out out_now : OutFacts) (status : Status) → ¬ (AreBothInput table script)
+abbrev pub AskingRunsLeaveTheTable : Type 0
+AskingRunsLeaveTheTable = (table script : List ℕ) (old new : FilesFacts) (out out_now : OutFacts) (status : Status) → ¬ (AreBothInput table script)
     → IsOnlyAsking (old.holds script) → RunsFile table script old new out out_now status → IsHeldStill (old.holds table) (new.holds table)
+
+-- so is one on which statements were run that only ask
+abbrev pub AskingQueriesLeaveTheTable : Type 0
+AskingQueriesLeaveTheTable =
+    (table statements : List ℕ) (old new : FilesFacts) (out out_now notes notes_now : OutFacts) (status : Status)
+    → ((schema : Schema) → OnlyAsks schema statements) → QueriesFile table statements old new out out_now notes notes_now status
+    → IsHeldStill (old.holds table) (new.holds table)
+
+-- a table file that is only asked, by a run or a query, is as it was
+abbrev pub AskingLeavesTheTable : Type 0
+AskingLeavesTheTable = AskingRunsLeaveTheTable × AskingQueriesLeaveTheTable
 
 -- a table file that was described is as it was, page for page, whatever it is and however that has ended
 abbrev pub DescribingLeavesTheTable : Type 0
@@ -114,27 +142,31 @@ SoundTablesPass =
     → IsTrue old.honest → IsHeldTable (old.holds table) schema placed next → ChecksFile table old new out out_now status
     → Tells out out_now (loaded_line (row_count placed) (length placed)) Done status ⊎ TellsPassing out out_now status
 
--- the script of a file was read, and run on the store in the table file, which is honest and holds the pages of this closed table; its
--- tree is sound, and that of this table
-pub record IsRunOfTable (table script : List ℕ) (schema : Schema) (placed : List Placed) (next : ℕ) (old new : FilesFacts) (out out_now : OutFacts) (status : Status) : Type 0 where
-  pub asked : List ℕ
-  pub mid : FilesFacts
+-- a script was run on the store in the table file, which is honest and holds the pages of this closed table; its tree is sound, and that of this
+-- table
+pub record IsScriptOfTable (table script : List ℕ) (schema : Schema) (placed : List Placed) (next : ℕ) (old new : FilesFacts) (out out_now : OutFacts) (status : Status) : Type 0 where
   pub store : StoreFacts
   pub left : StoreFacts
   pub changes : Bool
   pub opened : FilesFacts
-  pub read : HasRead script asked old mid
-  pub weighed : IsWeighed asked changes
-  pub lent : IsLent mid table store
-  pub opens : OpensFor changes table mid opened
+  pub weighed : IsWeighed script changes
+  pub lent : IsLent old table store
+  pub opens : OpensFor changes table old opened
   pub honest : IsHonest store
   pub pages_are : AreSoundPages store.pages schema placed next
-  pub run : IsRunOn store asked left out out_now status
+  pub run : IsRunOn store script left out out_now status
   pub kept : IsKept changes table left.pages run.ran.closing run.ran.keeping opened new
   pub sound : IsSound run.tree
   pub schema_is : run.tree.schema ≡ schema
   pub placed_is : run.tree.placed ≡ placed
   pub next_is : run.tree.next ≡ next
+
+-- the script of a file was read, and so run
+pub record IsRunOfTable (table script : List ℕ) (schema : Schema) (placed : List Placed) (next : ℕ) (old new : FilesFacts) (out out_now : OutFacts) (status : Status) : Type 0 where
+  pub asked : List ℕ
+  pub mid : FilesFacts
+  pub read : HasRead script asked old mid
+  pub ran : IsScriptOfTable table asked schema placed next mid new out out_now status
 
 -- a journal stands beside a table file that is damaged, or another table's, and that was told
 abbrev pub TellsBadJournal : OutFacts → OutFacts → Status → Type 0
@@ -145,12 +177,15 @@ TellsBadJournal out out_now status = Tells out out_now (codes "! BadJournal\n") 
 -- another table's, which is told
 abbrev pub CheckedTablesAreRunAsSound : Type 0
 CheckedTablesAreRunAsSound =
-    (table script : List ℕ) (old mid later new : FilesFacts) (out out_mid out_later out_now : OutFacts) (status : Status)
+    (table script statements : List ℕ) (old mid later new : FilesFacts) (out out_mid out_later out_now : OutFacts) (status : Status)
     → IsTrue old.honest → ChecksFile table old mid out out_mid Done
-    → IsTrue later.honest → later.holds table ≡ mid.holds table → later.holds table ≢ untold → ¬ (AreBothInput table script)
-    → RunsFile table script later new out_later out_now status
+    → IsTrue later.honest → later.holds table ≡ mid.holds table → later.holds table ≢ untold
     → (schema : Schema) × (placed : List Placed) × (next : ℕ) × IsHeldTable (later.holds table) schema placed next
-    × (IsRunOfTable table script schema placed next later new out_later out_now status
+    × (¬ (AreBothInput table script) → RunsFile table script later new out_later out_now status
+    → IsRunOfTable table script schema placed next later new out_later out_now status
+    ⊎ (TellsPassing out_later out_now status ⊎ TellsBadJournal out_later out_now status))
+    × (RunsScript table statements later new out_later out_now status
+    → IsScriptOfTable table statements schema placed next later new out_later out_now status
     ⊎ (TellsPassing out_later out_now status ⊎ TellsBadJournal out_later out_now status))
 
 -- what a path holds is the pages of a closed table of this older version
@@ -231,11 +266,21 @@ FullTablesAreLeft =
 -- ---- what a table file holds after a run, a load or an upgrade
 
 -- however a run has ended on a table file, that holds what it held, or the pages that were left once the run was closed, and nothing else
-abbrev pub FailedRunsLoseNothing : Type 0
-FailedRunsLoseNothing =
+abbrev pub FailedScriptsLoseNothing : Type 0
+FailedScriptsLoseNothing =
     (table script : List ℕ) (old new : FilesFacts) (out out_now : OutFacts) (status : Status) → ¬ (AreBothInput table script)
     → RunsFile table script old new out out_now status
     → (new.holds table ≡ old.holds table) ⊎ HoldsRun table script old out out_now status (new.holds table)
+
+-- the same of a query
+abbrev pub FailedQueriesLoseNothing : Type 0
+FailedQueriesLoseNothing =
+    (table statements : List ℕ) (old new : FilesFacts) (out out_now notes notes_now : OutFacts) (status : Status)
+    → QueriesFile table statements old new out out_now notes notes_now status
+    → (new.holds table ≡ old.holds table) ⊎ HoldsQueried table statements old out out_now notes notes_now status (new.holds table)
+
+abbrev pub FailedRunsLoseNothing : Type 0
+FailedRunsLoseNothing = FailedScriptsLoseNothing × FailedQueriesLoseNothing
 
 -- the status with which a run of this result ended says that what it did is kept: all was done, or a statement was refused; or a fault ended
 -- a statement, and the status isn't that of a file that failed
@@ -245,11 +290,22 @@ SaysKept (Err fault) status = status ≢ ended.Device
 
 -- where a script was run that may change the table, and the status says that what it did is kept, the closing was done, the table file holds
 -- the pages that it left, and each crash leaves them there
-abbrev pub KeptRunsLast : Type 0
-KeptRunsLast =
+abbrev pub KeptScriptsLast : Type 0
+KeptScriptsLast =
     (table script : List ℕ) (store : StoreFacts) (old new : FilesFacts) (out out_now : OutFacts) (status : Status)
     → (kept : IsKeptRun true table script store old new out out_now status) → SaysKept kept.run.ran.result status
     → IsOk kept.run.ran.closing × HasPages (new.holds table) kept.left.pages × HasPages (new.lasts table) kept.left.pages
+
+-- the same of a query; but that memory was refused says nothing, since it may have been refused for the text alone
+abbrev pub KeptQueriesLast : Type 0
+KeptQueriesLast =
+    (table statements text : List ℕ) (failed : ℕ) (store : StoreFacts) (old new : FilesFacts) (of_run status : Status) (out out_now notes notes_now : OutFacts)
+    → (kept : IsKeptRun true table statements store old new (out_facts (Some []) 0) (out_facts (Some text) failed) of_run)
+    → IsShown text failed of_run out out_now notes notes_now status → SaysKept kept.run.ran.result status → status ≢ ended.Memory
+    → IsOk kept.run.ran.closing × HasPages (new.holds table) kept.left.pages × HasPages (new.lasts table) kept.left.pages
+
+abbrev pub KeptRunsLast : Type 0
+KeptRunsLast = KeptScriptsLast × KeptQueriesLast
 
 -- however a load has ended into a path that held pages, that holds what it held, or the pages of the new table
 abbrev pub LoadsLoseNoTable : Type 0
@@ -273,7 +329,58 @@ OldTablesAreNotLost = LoadsLoseNoTable × UpgradesLoseNoTable
 -- leaves one there, where that is told: the same, or the one that a whole run of the command leaves
 abbrev pub CrashesLeaveATable : Type 0
 CrashesLeaveATable =
-    (words : List (List ℕ)) (table : List ℕ) (old : FilesFacts) (out out_now : OutFacts) (status : Status) (before after : Folder)
+    (words : List (List ℕ)) (table : List ℕ) (old : FilesFacts) (out out_now notes notes_now : OutFacts) (status : Status) (before after : Folder)
     (schema : Schema) (placed : List Placed) (next : ℕ) → IsTrue old.honest → table ≢ standard_input
     → IsHeldTable (old.holds table) schema placed next → IsSoundTable (before table)
-    → IsBeforeOrAfter words old out out_now status before after → IsSoundTable (after table)
+    → IsBeforeOrAfter words old out out_now notes notes_now status before after → IsSoundTable (after table)
+
+-- ---- rows that are appended
+
+-- the status says that the command line, the data or the table was refused, or memory
+abbrev pub SaysRefused : Status → Type 0
+SaysRefused status = (status ≡ ended.CommandLine) ⊎ ((status ≡ ended.Data) ⊎ (status ≡ ended.Memory))
+
+-- where rows were to be appended to a table file, and the status says that something was refused, it holds what it held
+abbrev pub RefusedDataLeavesTheTable : Type 0
+RefusedDataLeavesTheTable =
+    (table source : List ℕ) (old new : FilesFacts) (out out_now : OutFacts) (status : Status) → SaysRefused status
+    → AppendsFile table source old new out out_now status → new.holds table ≡ old.holds table
+
+-- a text that this can be has no record but a header
+abbrev pub HasNoRow : Held → Type 0
+HasNoRow held = (text : List ℕ) → IsText held text → length (records_of text) ≤ 1
+
+-- where the rows of a file were to be appended that has none, the table file holds what it held, however that has ended
+abbrev pub NoRowsNoChange : Type 0
+NoRowsNoChange =
+    (table source : List ℕ) (old new : FilesFacts) (out out_now : OutFacts) (status : Status) → HasNoRow (old.holds source)
+    → AppendsFile table source old new out out_now status → new.holds table ≡ old.holds table
+
+-- these pages are those of a closed table that stands so
+abbrev pub AreStanding : List (List ℕ) → Stand → Type 0
+AreStanding all s =
+    (placed : List Placed) × AreSoundPages all s.table.schema placed s.next × (s.regions ≡ regions_in placed) × IsStand s
+
+-- what a path holds is such pages
+abbrev pub IsHeldStand : Held → Stand → Type 0
+IsHeldStand (pages all) s = AreStanding all s
+IsHeldStand _ s = ⊥
+
+-- where it is told, it is
+abbrev pub StandsAs : Held → Stand → Type 0
+StandsAs untold s = Unit {0}
+StandsAs held s = IsHeldStand held s
+
+-- a table has the rows that another one has, and behind them these ones, with numbers from the one on that was next
+pub record HasMore (s : Stand) (rows : List Row) (now : Stand) : Type 0 where
+  pub table_is : now.table ≡ record s.table { rows = s.table.rows ++ numbered_from s.next rows }
+  pub next_is : now.next ≡ s.next + length rows
+
+-- where rows were appended to a closed table, and all was done, its file is a closed table that has them behind its own, in the order of the
+-- text that the other path held
+abbrev pub AppendedTablesHaveTheRows : Type 0
+AppendedTablesHaveTheRows =
+    (table source : List ℕ) (s : Stand) (old new : FilesFacts) (out out_now : OutFacts) → IsTrue old.honest → IsHeldStand (old.holds table) s
+    → AppendsFile table source old new out out_now Done
+    → (text : List ℕ) × (rows : List Row) × (now : Stand) × IsText (old.holds source) text × AreRowsOf text s.table.schema s.next rows
+    × HasMore s rows now × StandsAs (new.holds table) now

@@ -1,9 +1,13 @@
+pub mod inner
 pub mod Status
 pub mod Ending
 pub mod Commands
+pub mod Queried
 pub mod Upgrading
+pub mod Appended
 pub mod Crashes
 pub mod Described
 pub mod Checked
 pub mod Ran
+pub mod Program
 pub mod Laws

@@ -1,14 +1,16 @@
 -- How a command of the program has ended, by what its words ask for.
-use Rattle.std.specs.Prelude.{◌≡◌, ◌⊎◌, ℕ, List, Result, codes}
+use Rattle.std.specs.Prelude.{◌≡◌, ◌⊎◌, ℕ, List, None, Result, codes}
 use Rattle.ub_words.specs.Asked.{AreLines}
-use Rattle.ub_words.specs.CommandLine.{AsksCheck, AsksDescribe, AsksHelp, AsksLoad, AsksNext, AsksNothing, AsksRun, AsksTry, AsksUpgrade}
+use Rattle.ub_words.specs.CommandLine.{AsksAppend, AsksCheck, AsksDescribe, AsksHelp, AsksLoad, AsksNext, AsksNothing, AsksQuery, AsksRun, AsksTry, AsksUpgrade}
 use Rattle.ub_shell.specs.Commands.{LoadsFile, RunsFile, TriesFiles}
+use Rattle.ub_shell.specs.Appended.{AppendsFile}
 use Rattle.ub_shell.specs.Checked.{ChecksFile}
 use Rattle.ub_shell.specs.Described.{DescribesFile}
 use Rattle.ub_shell.specs.Ending.{Tells, words_fault_status, words_fault_text}
+use Rattle.ub_shell.specs.Queried.{QueriesFile}
 use Rattle.ub_shell.specs.Upgrading.{UpgradesFile}
 use Rattle.ub_shell.specs.Status.{answer_status}
-use Rattle.ub_script.specs.Output.{OutFacts}
+use Rattle.ub_script.specs.Output.{OutFacts, out_facts}
 use Rattle.ub_table.specs.declared.axes.Axes.{Axes}
 use Rattle.ub_files.specs.Files.{FilesFacts}
 use Rattle.ub_next.specs.Next.{IsNextAnswer, answer_text}
@@ -56,6 +58,20 @@ pub record HasRunFile (words : List (List ℕ)) (old new : FilesFacts) (out out_
   pub asks : AsksRun words table script
   pub runs : RunsFile table script old new out out_now status
 
+-- the words ask for statements on a table file
+pub record HasQueried (words : List (List ℕ)) (old new : FilesFacts) (out out_now notes notes_now : OutFacts) (status : Status) : Type 0 where
+  pub table : List ℕ
+  pub statements : List ℕ
+  pub asks : AsksQuery words table statements
+  pub queries : QueriesFile table statements old new out out_now notes notes_now status
+
+-- the words ask for the rows of a CSV file to be appended to a table file
+pub record HasAppendedFile (words : List (List ℕ)) (old new : FilesFacts) (out out_now : OutFacts) (status : Status) : Type 0 where
+  pub table : List ℕ
+  pub source : List ℕ
+  pub asks : AsksAppend words table source
+  pub appends : AppendsFile table source old new out out_now status
+
 -- the words ask for a table file of an older version to be made anew
 pub record HasUpgradedFile (words : List (List ℕ)) (old new : FilesFacts) (out out_now : OutFacts) (status : Status) : Type 0 where
   pub source : List ℕ
@@ -96,14 +112,26 @@ pub record HasNoMemory (old new : FilesFacts) (out out_now : OutFacts) (status :
   pub tells : Tells out out_now (codes "! Memory\n") Memory status
   pub files : new ≡ old
 
--- how a command of the program has ended that was given these words: what it left of the files, what it wrote, and its status
-abbrev pub HasEnded : List (List ℕ) → FilesFacts → FilesFacts → OutFacts → OutFacts → Status → Type 0
-HasEnded words old new out out_now status =
+-- how a command has ended that writes to one output alone
+abbrev pub HasEndedAlone : List (List ℕ) → FilesFacts → FilesFacts → OutFacts → OutFacts → Status → Type 0
+HasEndedAlone words old new out out_now status =
     HasLoadedFile words old new out out_now status ⊎ (HasRunFile words old new out out_now status ⊎ (HasTriedFiles words old new out out_now status
     ⊎ (HasUpgradedFile words old new out out_now status ⊎ (HasDescribed words old new out out_now status
     ⊎ (HasChecked words old new out out_now status ⊎ (HasFound words old new out out_now status ⊎ (HasHelped words old new out out_now status
-    ⊎ (HasRefused words old new out out_now status ⊎ HasNoMemory old new out out_now status))))))))
+    ⊎ (HasRefused words old new out out_now status ⊎ (HasAppendedFile words old new out out_now status
+    ⊎ HasNoMemory old new out out_now status)))))))))
+
+-- how a command of the program has ended that was given these words: what it left of the files, what it wrote, and its status. A query writes its
+-- notes to the second output; all others leave that as it was
+abbrev pub HasEnded : List (List ℕ) → FilesFacts → FilesFacts → OutFacts → OutFacts → OutFacts → OutFacts → Status → Type 0
+HasEnded words old new out out_now notes notes_now status =
+    HasQueried words old new out out_now notes notes_now status ⊎ ((notes_now ≡ notes) × HasEndedAlone words old new out out_now status)
+
+-- an output that nobody reads: nothing is told of what it has taken, and no write to it fails
+abbrev pub unheard : OutFacts
+unheard = out_facts None 0
 
 -- the words weren't read, which is told
-abbrev pub HasNotRead : WordsFault → FilesFacts → FilesFacts → OutFacts → OutFacts → Status → Type 0
-HasNotRead fault old new out out_now status = Tells out out_now (words_fault_text fault) (words_fault_status fault) status × (new ≡ old)
+abbrev pub HasNotRead : WordsFault → FilesFacts → FilesFacts → OutFacts → OutFacts → OutFacts → OutFacts → Status → Type 0
+HasNotRead fault old new out out_now notes notes_now status =
+    Tells out out_now (words_fault_text fault) (words_fault_status fault) status × (new ≡ old) × (notes_now ≡ notes)

@@ -1,5 +1,5 @@
-ghost use Rattle.std.specs.Prelude.{◌≡◌, Ok, Result};
-ghost use Rattle.ub_files.specs.Clock.{MayHold, Runs};
+ghost use Rattle.std.specs.Prelude.{◌≡◌, IfErr, Ok, OnOk, Result};
+ghost use Rattle.ub_files.specs.Clock.{IsSameFolder, Lasts, MayHold, Runs};
 ghost use Rattle.ub_files.specs.Files.{KeepsFile};
 ghost use Rattle.ub_shell.specs.Commands.{both_ended, ClosesFile};
 ghost use Rattle.ub_store.specs.declared.fault.StoreFault.{StoreFault};
@@ -34,13 +34,27 @@ pub fn close_table<F: Files>(
     }
 }
 
+/// Closes the tree of a table file in memory, and puts its store back: the file stays as it was.
+pub fn leave_table<F: Files>(files: &mut F, path: &str, tree: Tree<F::Store>)
+    ensures kept { F.facts files.new ≡ F.facts files.old }
+    ensures crash { Runs IsSameFolder (F.facts files.old) (F.clock files.old) (F.clock files.new) }
+{
+    match tree.close() {
+        Ok(store) => files.put_back(path, store),
+        Err(refused) => files.put_back(path, refused.store),
+    }
+}
+
 // Keeps the pages of a store in the table file from which it was lent.
 fn keep_store<F: Files>(files: &mut F, path: &str, store: F::Store) -> Result<(), TreeFault>
     ensures keeps { (keeping : Result (Unit {0}) StoreFault)
         × KeepsFile path.now (F.Store.facts store).pages (F.facts files.old) (F.facts files.new)
-        keeping × (result ≡ both_ended (Ok tt) keeping) }
+        keeping × (result ≡ both_ended (Ok tt) keeping)
+        × IfErr keeping (λ fault. fault ≡ StoreFault.Device) }
     ensures crash { Runs (MayHold path.now (F.Store.facts store).pages)
         (F.facts files.old) (F.clock files.old) (F.clock files.new) }
+    ensures lasts { OnOk result (Lasts path.now (F.Store.facts store).pages
+        (F.facts files.old) (F.clock files.new)) }
 {
     match files.keep(path, store) {
         Ok(()) => Ok(()),

@@ -1,56 +1,84 @@
 ghost use Rattle.std.specs.Prelude.{◌≡◌, map, string_bytes};
-ghost use Rattle.ub_files.specs.Clock.{Runs};
-ghost use Rattle.ub_shell.specs.Crashes.{IsBeforeOrAfter};
-ghost use Rattle.ub_shell.specs.Ran.{HasEnded};
+ghost use Rattle.ub_shell.specs.Program.{EndsCommand};
+ghost use Rattle.ub_shell.specs.Ran.{unheard};
 ghost use Rattle.ub_shell.specs.Status.{status_code};
 ghost use Rattle.ub_shell.specs.declared.status.Status.{Status};
 
+use crate::appending::append_file;
 use crate::checking::check_file;
 use crate::describing::describe_file;
 use crate::loading::load_file;
 use crate::next::tell_next;
+use crate::querying::query_file;
 use crate::running::run_file;
 use crate::status::{Status, tell, tell_memory};
 use crate::trial::try_files;
 use crate::upgrading::upgrade_file;
 use std::alloc::Global;
 use ub_files::Files;
-use ub_script::Out;
+use ub_script::{Out, OutFault};
 use ub_words::{Asked, read_words};
 
 /// Runs the program's command line: the words, the first of which is the program's name. All that it writes goes to
-/// `out`. The result is the status with which the program ends: 0 all was done, 1 a statement was refused, 2 the
-/// command line was, 3 the data were, 4 a file or the output failed, 5 memory was refused. After a fault the last line
-/// tells it, but for a failed write, after which nothing is written. Where the words ask for the help, only the help is
+/// `out`, but for the notes of a query, which nobody reads. The result is the status with which the program ends: 0 all was done, 1 a
+/// statement was refused, 2 the command line was, 3 the data were, 4 a file or the output failed, 5 memory was refused. After a fault
+/// the last line tells it, but for a failed write, after which nothing is written. Where the words ask for the help, only the help is
 /// written. A table file is changed whole or not at all, and none is made before its table stands in memory.
 pub fn command<F: Files, W: Out>(alloc: Global, files: &mut F, words: &[String], out: &mut W) -> u8
-    ensures ended { (status : Status) × (result ≡ status_code status)
-        × HasEnded (map string_bytes words.now) (F.facts files.old) (F.facts files.new)
-        (W.facts out.old) (W.facts out.new) status }
-    ensures crash { (status : Status) × (result ≡ status_code status)
-        × Runs (IsBeforeOrAfter (map string_bytes words.now) (F.facts files.old)
-        (W.facts out.old) (W.facts out.new) status)
-        (F.facts files.old) (F.clock files.old) (F.clock files.new) }
+    ensures { (status : Status) × (result ≡ status_code status)
+        × EndsCommand (map string_bytes words.now) (F.facts files.old) (F.facts files.new)
+        (F.clock files.old) (F.clock files.new)
+        (W.facts out.old) (W.facts out.new) unheard unheard status }
 {
-    run_words(alloc, files, words, out).code()
+    command_apart(alloc, files, words, out, &mut Unheard {})
 }
 
-// Runs the command that the words name.
-fn run_words<F: Files, W: Out>(
+/// Runs the program's command line as `command` does, with a second output. A query writes to `notes` all that tells of its answers, or
+/// of a fault, once its answers are written to `out`; no other command writes to `notes`.
+pub fn command_apart<F: Files, W: Out, N: Out>(
     alloc: Global,
     files: &mut F,
     words: &[String],
     out: &mut W,
+    notes: &mut N,
+) -> u8
+    ensures { (status : Status) × (result ≡ status_code status)
+        × EndsCommand (map string_bytes words.now) (F.facts files.old) (F.facts files.new)
+        (F.clock files.old) (F.clock files.new)
+        (W.facts out.old) (W.facts out.new) (N.facts notes.old) (N.facts notes.new) status }
+{
+    run_words(alloc, files, words, out, notes).code()
+}
+
+// An output that nobody reads: it takes all that is written to it.
+#[derive(Drop)]
+struct Unheard {}
+
+impl Out for Unheard {
+    ghost facts = { λ _. unheard };
+
+    fn write(&mut self, bytes: &[u8]) -> Result<usize, OutFault> {
+        Ok(bytes.len())
+    }
+}
+
+// Runs the command that the words name.
+fn run_words<F: Files, W: Out, N: Out>(
+    alloc: Global,
+    files: &mut F,
+    words: &[String],
+    out: &mut W,
+    notes: &mut N,
 ) -> Status
-    ensures ended { HasEnded (map string_bytes words.now) (F.facts files.old) (F.facts files.new)
-        (W.facts out.old) (W.facts out.new) result }
-    ensures crash { Runs (IsBeforeOrAfter (map string_bytes words.now) (F.facts files.old)
-        (W.facts out.old) (W.facts out.new) result)
-        (F.facts files.old) (F.clock files.old) (F.clock files.new) }
+    ensures { EndsCommand (map string_bytes words.now) (F.facts files.old) (F.facts files.new)
+        (F.clock files.old) (F.clock files.new)
+        (W.facts out.old) (W.facts out.new) (N.facts notes.old) (N.facts notes.new) result }
 {
     match read_words(alloc, words) {
         Ok(Asked::Load(asked)) => load_file(alloc, files, asked, out),
         Ok(Asked::Run(asked)) => run_file(alloc, files, asked, out),
+        Ok(Asked::Query(asked)) => query_file(alloc, files, asked, out, notes),
+        Ok(Asked::Append(asked)) => append_file(alloc, files, asked, out),
         Ok(Asked::Try(asked)) => try_files(alloc, files, asked, out),
         Ok(Asked::Upgrade(asked)) => upgrade_file(alloc, files, asked, out),
         Ok(Asked::Describe(asked)) => describe_file(alloc, files, asked, out),

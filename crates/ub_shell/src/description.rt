@@ -16,7 +16,8 @@ pub struct Numbers {
     pub version: u8,
 }
 
-/// The text of what a header tells: a line for each fact. `AllocError` only where memory is refused.
+/// The text of what a header tells: a line for each fact, and one with the options that load the table's rows as the same table.
+/// `AllocError` only where memory is refused.
 #[tactic(auto, unfolding(crate::specs::Described::description_text))]
 pub fn text_of(alloc: Global, schema: &Schema, numbers: Numbers) -> Result<Vec<u8>, AllocError>
     ensures { IfOk result (λ text.
@@ -26,6 +27,7 @@ pub fn text_of(alloc: Global, schema: &Schema, numbers: Numbers) -> Result<Vec<u
     push_fact(&mut text, b"table", schema.name().bytes())?;
     push_columns(&mut text, schema)?;
     push_counts(&mut text, schema, numbers)?;
+    push_options(&mut text, schema)?;
     Ok(text)
 }
 
@@ -103,6 +105,25 @@ fn levels_word(version: u8) -> &'static [u8]
     } else {
         b"levels"
     }
+}
+
+// Puts the line of the options with which a CSV file of the rows is loaded as the same table.
+fn push_options(text: &mut Vec<u8>, schema: &Schema) -> Result<(), AllocError>
+    ensures { OnOk result (text.new.items ≡ text.old.items ++ spec.options_line schema.now) }
+{
+    push_option(text, b"load-with --dims ", schema.dims())?;
+    push_option(text, b" --signed ", schema.signed())?;
+    push_option(text, b" --page-rows ", schema.page_rows())?;
+    push_fact(text, b" --name", schema.name().bytes())
+}
+
+// Puts an option with a number.
+fn push_option(text: &mut Vec<u8>, option: &[u8], number: u32) -> Result<(), AllocError>
+    ensures { OnOk result (text.new.items
+        ≡ text.old.items ++ spec.option_text option.now number) }
+{
+    text.extend_from_slice(option)?;
+    text.extend_from_slice(Buffer::new().format(number).as_bytes())
 }
 
 // Puts a line with a number.

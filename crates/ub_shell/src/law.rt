@@ -1,4 +1,4 @@
-ghost use Rattle.ub_shell.specs.Laws.{AskingLeavesTheTable, CheckedTablesAreRunAsSound, CheckedTablesAreSound, CheckingLeavesTheTable, CrashesLeaveATable, DescribingLeavesTheTable, FailedRunsLoseNothing, FullTablesAreLeft, KeptRunsLast, OldTablesAreNotLost, OnlyHelpIsWritten, OnlySoundTablesAreUpgraded, SoundTablesPass, UnchangedTablesAreLeft, UpgradedTablesAreTheSame, UpgradingLeavesTheOldTable, WhatWasDoneStands, WrongWordsAreTold};
+ghost use Rattle.ub_shell.specs.Laws.{AppendedTablesHaveTheRows, AskingLeavesTheTable, CheckedTablesAreRunAsSound, CheckedTablesAreSound, CheckingLeavesTheTable, CrashesLeaveATable, DescribingLeavesTheTable, FailedRunsLoseNothing, FullTablesAreLeft, KeptRunsLast, NoRowsNoChange, OldTablesAreNotLost, OnlyHelpIsWritten, OnlyQueriesNote, OnlySoundTablesAreUpgraded, RefusedDataLeavesTheTable, SoundTablesPass, UnchangedTablesAreLeft, UpgradedTablesAreTheSame, UpgradingLeavesTheOldTable, WhatWasDoneStands, WrongWordsAreTold};
 
 // Each function here does nothing, and its clause is a law of the definitions in specs/.
 
@@ -12,8 +12,13 @@ pub fn wrong_words_are_told()
     ensures { WrongWordsAreTold }
 {}
 
-/// A table file on which a script was run that only asks is as it was, page for page, whatever it is and however the run has
-/// ended.
+/// A command that is no query leaves the second output as it was.
+pub fn only_queries_note()
+    ensures { OnlyQueriesNote }
+{}
+
+/// A table file on which a script was run that only asks, by `run` or `query`, is as it was, page for page, whatever it is and
+/// however the run has ended.
 pub fn asking_leaves_the_table()
     ensures { AskingLeavesTheTable }
 {}
@@ -81,14 +86,15 @@ pub fn full_tables_are_left()
     ensures { FullTablesAreLeft }
 {}
 
-/// However a run has ended on a table file, that holds what it held, or the pages that were left once the run was closed, and
-/// nothing else.
+/// However a run or a query has ended on a table file, that holds what it held, or the pages that were left once the run was closed,
+/// and nothing else.
 pub fn failed_runs_lose_nothing()
     ensures { FailedRunsLoseNothing }
 {}
 
 /// Where a script was run that may change the table, and the status is `Done`, `Refused`, or that of a statement's fault, what was
-/// done is kept: the table file holds the pages that the closed run left, and each crash leaves them there.
+/// done is kept: the table file holds the pages that the closed run left, and each crash leaves them there. So it is of a query, but
+/// that the status `Memory` of one says nothing of it.
 pub fn kept_runs_last()
     ensures { KeptRunsLast }
 {}
@@ -102,4 +108,21 @@ pub fn old_tables_are_not_lost()
 /// after it, leaves one there: the same, or the one that a whole run of the command leaves.
 pub fn crashes_leave_a_table()
     ensures { CrashesLeaveATable }
+{}
+
+/// Where rows were to be appended to a table file, and the status says that the command line, the data or the table was refused, or
+/// memory, the file holds what it held.
+pub fn refused_data_leaves_the_table()
+    ensures { RefusedDataLeavesTheTable }
+{}
+
+/// Where the rows of a file were to be appended that has none, the table file holds what it held, however that has ended.
+pub fn no_rows_no_change()
+    ensures { NoRowsNoChange }
+{}
+
+/// Where rows were appended to a closed table, and all was done, its file is a closed table that has them behind its own, in the order
+/// of the text, with numbers from the one on that was next.
+pub fn appended_tables_have_the_rows()
+    ensures { AppendedTablesHaveTheRows }
 {}

@@ -1,7 +1,8 @@
-ghost use Rattle.std.specs.Prelude.{IfOk, IfErr};
-ghost use Rattle.ub_files.specs.Clock.{IsSameBut, Runs};
+ghost use Rattle.std.specs.Prelude.{◌≡◌, IfOk, IfErr};
+ghost use Rattle.ub_files.specs.Clock.{Endures, IsSameBut, Runs};
+ghost use Rattle.ub_files.specs.Files.{HasPages};
 ghost use Rattle.ub_shell.specs.Commands.{axes_asked, IsTable, IsUnloaded, KeepsText, LoadsFile};
-ghost use Rattle.ub_shell.specs.Crashes.{HasTable, LoadsSafely, MayStand};
+ghost use Rattle.ub_shell.specs.Crashes.{HasTable, LoadLasts, LoadsSafely, MayStand};
 ghost use Rattle.ub_table.specs.Schema.{AreTableNumbers, IsMask};
 
 use crate::making::{Counts, is_same, make_table};
@@ -40,6 +41,10 @@ pub fn load_file<F: Files, W: Out>(
     ensures crash { Runs (LoadsSafely asked.entry.source.path.now asked.entry.table.now
         asked.entry.source.name.now (axes_asked asked.entry.source) asked.entry.source.page_rows
         (F.facts files.old)) (F.facts files.old) (F.clock files.old) (F.clock files.new) }
+    ensures lasts { result ≡ Status.Done
+        → LoadLasts asked.entry.source.path.now asked.entry.table.now
+        asked.entry.source.name.now (axes_asked asked.entry.source) asked.entry.source.page_rows
+        (F.facts files.old) (F.clock files.new) }
 {
     if !is_mask(asked.source.dims, asked.source.signed) {
         return tell(out, b"! BadMask\n", Status::CommandLine);
@@ -72,6 +77,9 @@ fn keep_text<F: Files, W: Out>(
         asked.entry.source.page_rows
         (MayStand asked.entry.table.now (F.facts files.old) held)))
         (F.facts files.old) (F.clock files.old) (F.clock files.new) }
+    ensures lasts { result ≡ Status.Done → Endures asked.entry.table.now (λ held.
+        HasTable text.now asked.entry.source.name.now (axes_asked asked.entry.source)
+        asked.entry.source.page_rows (HasPages held)) (F.facts files.old) (F.clock files.new) }
 {
     match load_pages(alloc, text, asked) {
         Ok(loaded) => make_table(files, asked.table, &loaded.store, loaded.counts, out),

@@ -1,5 +1,5 @@
 ghost use Rattle.std.specs.Prelude.{◌≡◌, ◌≤◌, ◌↔◌, length, IsTrue};
-ghost use Rattle.ub_files.specs.Clock.{MayBecome, Runs};
+ghost use Rattle.ub_files.specs.Clock.{Lasts, MayBecome, Runs};
 ghost use Rattle.ub_shell.specs.Commands.{MakesTable, loaded_line};
 
 use crate::line::{Line, twice_numbered_line};
@@ -35,6 +35,8 @@ pub fn make_table<F: Files, W: Out>(
         (F.facts files.old) (F.facts files.new) (W.facts out.old) (W.facts out.new) result }
     ensures crash { Runs (MayBecome path.now pages.now (F.facts files.old))
         (F.facts files.old) (F.clock files.old) (F.clock files.new) }
+    ensures lasts { result ≡ Status.Done
+        → Lasts path.now pages.now (F.facts files.old) (F.clock files.new) }
 {
     match files.make(path, pages) {
         Ok(()) => tell_line(&counts_line(counts), Status::Done, out),

@@ -1,13 +1,11 @@
 ghost use Rattle.std.specs.Prelude.{◌≡◌, ℕ, MatchResult, map, string_bytes};
-ghost use Rattle.ub_files.specs.Clock.{IsSameFolder, Runs};
 ghost use Rattle.ub_script.specs.Output.{out_facts};
-ghost use Rattle.ub_shell.specs.Crashes.{IsBeforeOrAfter};
 ghost use Rattle.ub_shell.specs.Ending.{words_fault_status, words_fault_text, Tells};
-ghost use Rattle.ub_shell.specs.Ran.{HasEnded, HasNotRead};
+ghost use Rattle.ub_shell.specs.Program.{EndsCommand, EndsUnread};
 ghost use Rattle.ub_shell.specs.Status.{status_code};
 ghost use Rattle.ub_shell.specs.declared.status.Status.{Status};
 
-use crate::command::command;
+use crate::command::command_apart;
 use crate::status::{Status, tell, tell_memory};
 use std::alloc::Global;
 use std::io::Write;
@@ -39,56 +37,50 @@ pub fn program_words<R: Env + AllocGlobal>(rt: &R) -> Result<Vec<String>, WordsF
     }
 }
 
-/// The whole program but for what touches the process: runs the command line of these words as `command` does, over these files
-/// and a writer with no buffer before it, and gives the status and the writer back. Words that were not read are told.
-pub fn run_program<F: Files, W: Write>(
+/// The whole program but for what touches the process: runs the command line of these words as `command_apart` does, over these files
+/// and two writers with no buffer before them, and gives the status and the writers back. Words that were not read are told.
+pub fn run_program<F: Files, W: Write, N: Write>(
     alloc: Global,
     files: &mut F,
     words: Result<Vec<String>, WordsFault>,
     to: W,
-) -> (u8, W)
-    ensures ended { (status : Status) × (failures : ℕ) × (result.0 ≡ status_code status)
-        × MatchResult words
-        (λ all. HasEnded (map string_bytes all.items) (F.facts files.old) (F.facts files.new)
-        (out_facts (W.contents to) 0) (out_facts (W.contents result.1) failures) status)
-        (λ fault. HasNotRead fault (F.facts files.old) (F.facts files.new)
-        (out_facts (W.contents to) 0) (out_facts (W.contents result.1) failures) status) }
-    ensures crash { (status : Status) × (failures : ℕ) × (result.0 ≡ status_code status)
-        × MatchResult words
-        (λ all. Runs (IsBeforeOrAfter (map string_bytes all.items) (F.facts files.old)
-        (out_facts (W.contents to) 0) (out_facts (W.contents result.1) failures) status)
-        (F.facts files.old) (F.clock files.old) (F.clock files.new))
-        (λ fault. Runs IsSameFolder
-        (F.facts files.old) (F.clock files.old) (F.clock files.new)) }
+    notes: N,
+) -> (u8, W, N)
+    ensures { (status : Status) × (failures : ℕ) × (unnoted : ℕ)
+        × (result.0 ≡ status_code status) × MatchResult words
+        (λ all. EndsCommand (map string_bytes all.items) (F.facts files.old) (F.facts files.new)
+        (F.clock files.old) (F.clock files.new)
+        (out_facts (W.contents to) 0) (out_facts (W.contents result.1) failures)
+        (out_facts (N.contents notes) 0) (out_facts (N.contents result.2) unnoted) status)
+        (λ fault. EndsUnread fault (F.facts files.old) (F.facts files.new)
+        (F.clock files.old) (F.clock files.new)
+        (out_facts (W.contents to) 0) (out_facts (W.contents result.1) failures)
+        (out_facts (N.contents notes) 0) (out_facts (N.contents result.2) unnoted) status) }
 {
     let mut out = Over::new(to);
-    let code = run_or_tell(alloc, files, words, &mut out);
-    (code, out.into_inner())
+    let mut noted = Over::new(notes);
+    let code = run_or_tell(alloc, files, words, &mut out, &mut noted);
+    (code, out.into_inner(), noted.into_inner())
 }
 
 // Runs the command line of these words, or tells that they were not read.
-fn run_or_tell<F: Files, W: Out>(
+fn run_or_tell<F: Files, W: Out, N: Out>(
     alloc: Global,
     files: &mut F,
     words: Result<Vec<String>, WordsFault>,
     out: &mut W,
+    notes: &mut N,
 ) -> u8
-    ensures ended { (status : Status) × (result ≡ status_code status)
-        × MatchResult words
-        (λ all. HasEnded (map string_bytes all.items) (F.facts files.old) (F.facts files.new)
-        (W.facts out.old) (W.facts out.new) status)
-        (λ fault. HasNotRead fault (F.facts files.old) (F.facts files.new)
-        (W.facts out.old) (W.facts out.new) status) }
-    ensures crash { (status : Status) × (result ≡ status_code status)
-        × MatchResult words
-        (λ all. Runs (IsBeforeOrAfter (map string_bytes all.items) (F.facts files.old)
-        (W.facts out.old) (W.facts out.new) status)
-        (F.facts files.old) (F.clock files.old) (F.clock files.new))
-        (λ fault. Runs IsSameFolder
-        (F.facts files.old) (F.clock files.old) (F.clock files.new)) }
+    ensures { (status : Status) × (result ≡ status_code status) × MatchResult words
+        (λ all. EndsCommand (map string_bytes all.items) (F.facts files.old) (F.facts files.new)
+        (F.clock files.old) (F.clock files.new)
+        (W.facts out.old) (W.facts out.new) (N.facts notes.old) (N.facts notes.new) status)
+        (λ fault. EndsUnread fault (F.facts files.old) (F.facts files.new)
+        (F.clock files.old) (F.clock files.new)
+        (W.facts out.old) (W.facts out.new) (N.facts notes.old) (N.facts notes.new) status) }
 {
     match words {
-        Ok(words) => command(alloc, files, words.as_slice(), out),
+        Ok(words) => command_apart(alloc, files, words.as_slice(), out, notes),
         Err(fault) => tell_no_words(fault, out).code(),
     }
 }

@@ -1,8 +1,9 @@
-ghost use Rattle.std.specs.Prelude.{◌≡◌, ◌⊎◌, Ok, Err, IsOk, true, false};
-ghost use Rattle.ub_files.specs.Clock.{IsSameBut, Runs};
+ghost use Rattle.std.specs.Prelude.{◌≡◌, ◌⊎◌, Ok, Err, IsOk, IsTrue, true, false};
+ghost use Rattle.ub_files.specs.Clock.{Endures, IsSameBut, Lasts, Runs};
 ghost use Rattle.ub_files.specs.Files.{HasPages};
-ghost use Rattle.ub_shell.specs.Commands.{AsksStore, HasRunTree, IsAskedOf, IsKept, IsUnlent, RunsFile, RunsScript, TellsClosed, TellsRan, status_after};
-ghost use Rattle.ub_shell.specs.Crashes.{HoldsAsked, HoldsLeft, RunsSafely};
+ghost use Rattle.ub_script.specs.Script.{HasChangeWord};
+ghost use Rattle.ub_shell.specs.Commands.{AsksStore, HasRunTree, IsAskedOf, IsKept, IsUnlent, RunsFile, RunsScript, TellsClosed, TellsRan, both_ended, status_after};
+ghost use Rattle.ub_shell.specs.Crashes.{HoldsAsked, HoldsLeft, RunLasts, RunsSafely, SaysAllDone};
 ghost use Rattle.ub_store.specs.Facts.{StoreFacts};
 
 use crate::closing::close_table;
@@ -33,6 +34,8 @@ pub fn run_file<F: Files, W: Out>(
     ensures crash { Runs (RunsSafely asked.entry.table.now asked.entry.script.now
         (F.facts files.old) (W.facts out.old) (W.facts out.new) result)
         (F.facts files.old) (F.clock files.old) (F.clock files.new) }
+    ensures lasts { SaysAllDone result → RunLasts asked.entry.table.now asked.entry.script.now
+        (F.facts files.old) (W.facts out.old) (W.facts out.new) result (F.clock files.new) }
 {
     match files.read(asked.script) {
         Ok(script) => run_script(alloc, files, asked.table, script.as_slice(), out),
@@ -40,8 +43,8 @@ pub fn run_file<F: Files, W: Out>(
     }
 }
 
-// Runs a script on a table file, which is opened to be changed where the script may change it.
-fn run_script<F: Files, W: Out>(
+/// Runs a script on a table file, which is opened to be changed where the script may change it.
+pub fn run_script<F: Files, W: Out>(
     alloc: Global,
     files: &mut F,
     path: &str,
@@ -53,6 +56,9 @@ fn run_script<F: Files, W: Out>(
     ensures crash { Runs (IsSameBut path.now (HoldsAsked path.now script.now (F.facts files.old)
         (W.facts out.old) (W.facts out.new) result))
         (F.facts files.old) (F.clock files.old) (F.clock files.new) }
+    ensures lasts { HasChangeWord script.now → SaysAllDone result
+        → Endures path.now (HoldsAsked path.now script.now (F.facts files.old)
+        (W.facts out.old) (W.facts out.new) result) (F.facts files.old) (F.clock files.new) }
 {
     match may_change(alloc, script) {
         Ok(true) => change_table(alloc, files, path, script, out),
@@ -76,6 +82,9 @@ fn change_table<F: Files, W: Out>(
     ensures crash { Runs (IsSameBut path.now (HoldsAsked path.now script.now (F.facts files.old)
         (W.facts out.old) (W.facts out.new) result))
         (F.facts files.old) (F.clock files.old) (F.clock files.new) }
+    ensures lasts { SaysAllDone result
+        → Endures path.now (HoldsAsked path.now script.now (F.facts files.old)
+        (W.facts out.old) (W.facts out.new) result) (F.facts files.old) (F.clock files.new) }
 {
     match files.change(path) {
         Ok(store) => run_store(alloc, files, path, true, store, script, out),
@@ -120,6 +129,9 @@ fn run_store<F: Files, W: Out>(
     ensures crash { Runs (IsSameBut path.now (HoldsLeft (F.Store.facts store) script.now
         (W.facts out.old) (W.facts out.new) result))
         (F.facts files.old) (F.clock files.old) (F.clock files.new) }
+    ensures lasts { IsTrue changes → SaysAllDone result
+        → Endures path.now (HoldsLeft (F.Store.facts store) script.now
+        (W.facts out.old) (W.facts out.new) result) (F.facts files.old) (F.clock files.new) }
 {
     match Tree::open(alloc, store) {
         Ok(tree) => run_tree(alloc, files, path, changes, tree, script, out),
@@ -145,7 +157,9 @@ fn run_tree<F: Files, W: Out>(
         × IsKept changes path.now left.pages ran.closing ran.keeping
         (F.facts files.old) (F.facts files.new)
         × Runs (IsSameBut path.now (λ held. IsOk ran.closing × HasPages held left.pages))
-        (F.facts files.old) (F.clock files.old) (F.clock files.new) }
+        (F.facts files.old) (F.clock files.old) (F.clock files.new)
+        × (IsTrue changes → IsOk (both_ended ran.closing ran.keeping)
+        → Lasts path.now left.pages (F.facts files.old) (F.clock files.new)) }
 {
     let ran = run(alloc, &mut tree, script, out);
     let closed = close_table(files, path, changes, tree);

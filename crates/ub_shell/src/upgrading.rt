@@ -1,5 +1,7 @@
-ghost use Rattle.ub_files.specs.Clock.{IsSameBut, Runs};
-ghost use Rattle.ub_shell.specs.Crashes.{HasAnew, MayStand, UpgradesSafely};
+ghost use Rattle.std.specs.Prelude.{◌≡◌};
+ghost use Rattle.ub_files.specs.Clock.{Endures, IsSameBut, Runs};
+ghost use Rattle.ub_files.specs.Files.{HasPages};
+ghost use Rattle.ub_shell.specs.Crashes.{HasAnew, MayStand, UpgradeLasts, UpgradesSafely};
 ghost use Rattle.ub_shell.specs.Upgrading.{IsAfoot, IsFileAnew, IsUpgradeOf, UpgradesFile, UpgradesStore};
 ghost use Rattle.ub_store.specs.Facts.{StoreFacts};
 
@@ -27,6 +29,8 @@ pub fn upgrade_file<F: Files, W: Out>(
         (F.facts files.old) (F.facts files.new) (W.facts out.old) (W.facts out.new) result }
     ensures crash { Runs (UpgradesSafely asked.entry.old.now asked.entry.new.now
         (F.facts files.old)) (F.facts files.old) (F.clock files.old) (F.clock files.new) }
+    ensures lasts { result ≡ Status.Done → UpgradeLasts asked.entry.old.now asked.entry.new.now
+        (F.facts files.old) (F.clock files.new) }
 {
     if is_same(asked.old, asked.new) {
         return tell(out, b"! SameFile\n", Status::CommandLine);
@@ -50,6 +54,9 @@ fn upgrade_store<F: Files, W: Out>(
     ensures crash { Runs (IsSameBut asked.entry.new.now (λ held. HasAnew (F.Store.facts store)
         (MayStand asked.entry.new.now (F.facts files.old) held)))
         (F.facts files.old) (F.clock files.old) (F.clock files.new) }
+    ensures lasts { result ≡ Status.Done
+        → Endures asked.entry.new.now (λ held. HasAnew (F.Store.facts store) (HasPages held))
+        (F.facts files.old) (F.clock files.new) }
 {
     match Tree::upgrade(alloc, &mut store, MemStore::new(alloc)) {
         Ok(tree) => {
@@ -78,6 +85,9 @@ fn keep_tree<F: Files, W: Out>(
         → Runs (IsSameBut path.now (λ held. HasAnew from
         (MayStand path.now (F.facts files.old) held)))
         (F.facts files.old) (F.clock files.old) (F.clock files.new) }
+    ensures lasts { (from : StoreFacts) → IsUpgradeOf from tree → result ≡ Status.Done
+        → Endures path.now (λ held. HasAnew from (HasPages held))
+        (F.facts files.old) (F.clock files.new) }
 {
     let counts = Counts {
         rows: tree.rows(),

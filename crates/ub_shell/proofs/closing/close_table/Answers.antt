@@ -1,7 +1,9 @@
-use Rattle.std.proofs.Common.{Err, Ok, ap, refl}
+use Rattle.std.proofs.Common.{◌∙◌, Err, Ok, ap, refl, sym}
+use Rattle.std.proofs.lemmas.Bool.{false≢true}
 use Rattle.ub_tree.specs.declared.fault.TreeFault.{TreeFault}
 use Rattle.ub_shell.proofs.FileFacts.{kept_where, store_closed, unkept_closing, unkept_where}
 use Rattle.ub_shell.proofs.CrashFacts.{closed_kept, closed_same}
+use Rattle.ub_shell.proofs.LeftFacts.{where_ok}
 use Rattle.ub_shell.proofs.closing.close_table.Goals as goal
 
 pub returns-in-Err : goal.returns-in-Err
@@ -20,7 +22,9 @@ returns-in-Err g c = record {
   };
   kept = unkept_closing c.args.changes _ _ _ _ _ c.put_back-in-Err.ensures.kept;
   ended = refl;
+  faults = tt;
   crash = closed_same c.args.path.now (Err c.in-Err.refused.fault) (g.F.Store.PageStore.facts c.in-Err.refused.store) (g.F.Files.facts c.args.files.now) _ _ c.put_back-in-Err.ensures.crash;
+  lasts = λ changes done. absurd (false≢true done);
 }
 
 pub returns-then-changes : goal.returns-then-changes
@@ -39,7 +43,9 @@ returns-then-changes g c = record {
   };
   kept = kept_where c.args.changes _ _ _ _ _ c.if-changes.true c.keep_store.ensures.keeps.1;
   ended = c.keep_store.ensures.keeps.2;
+  faults = c.keep_store.ensures.keeps.3;
   crash = closed_kept c.args.path.now (g.F.Store.PageStore.facts c.in-Ok.store) (g.F.Files.facts c.args.files.now) _ _ c.keep_store.ensures.crash;
+  lasts = λ changes done. where_ok c.keep_store.result done c.keep_store.ensures.lasts;
 }
 
 pub returns-else-changes : goal.returns-else-changes
@@ -58,5 +64,7 @@ returns-else-changes g c = record {
   };
   kept = unkept_where c.args.changes _ _ _ _ _ c.if-changes.false c.put_back.ensures.kept;
   ended = refl;
+  faults = tt;
   crash = closed_same c.args.path.now (Ok tt) (g.F.Store.PageStore.facts c.in-Ok.store) (g.F.Files.facts c.args.files.now) _ _ c.put_back.ensures.crash;
+  lasts = λ changes done. absurd (false≢true (sym c.if-changes.false ∙ changes));
 }

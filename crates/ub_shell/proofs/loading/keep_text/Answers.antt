@@ -1,5 +1,6 @@
 use Rattle.std.proofs.Common.{inl, inr, refl}
 use Rattle.ub_shell.specs.Commands.{axes_asked}
+use Rattle.ub_shell.proofs.LastFacts.{load_says, never_done, table_lasts}
 use Rattle.ub_shell.proofs.CrashFacts.{table_stands, table_still}
 use Rattle.ub_shell.proofs.UpgradeFacts.{some_page}
 use Rattle.ub_shell.proofs.loading.keep_text.Goals as goal
@@ -32,3 +33,11 @@ returns-in-Ok-clause-crash g c =
 
 pub returns-in-Err-clause-crash : goal.returns-in-Err-clause-crash
 returns-in-Err-clause-crash g c = table_still c.args.asked.table.now c.args.text.now c.args.asked.source.name.now (axes_asked c.args.asked.source) c.args.asked.source.page_rows (g.F.Files.facts c.args.files.now) _
+
+pub returns-in-Ok-clause-lasts : goal.returns-in-Ok-clause-lasts
+returns-in-Ok-clause-lasts g c = λ done.
+    table_lasts c.args.asked.table.now c.args.text.now c.args.asked.source.name.now (axes_asked c.args.asked.source) c.args.asked.source.page_rows (g.F.Files.facts c.args.files.now) (g.F.Files.clock c.make_table.new.files)
+    c.in-Ok.loaded.counts.rows c.in-Ok.loaded.counts.regions c.in-Ok.loaded.store c.in-Ok.ensures.loaded (c.make_table.ensures.lasts done)
+
+pub returns-in-Err-clause-lasts : goal.returns-in-Err-clause-lasts
+returns-in-Err-clause-lasts g c = λ done. absurd (never_done _ _ _ _ c.tell_load_fault.result c.tell_load_fault.ensures (load_says c.in-Err.fault) (inl done))

@@ -1,6 +1,7 @@
 use Rattle.std.proofs.Common.{inl, inr, refl}
 use Rattle.ub_shell.specs.Commands.{axes_asked}
-use Rattle.ub_shell.proofs.CrashFacts.{load_same, load_still, loaded_safely}
+use Rattle.ub_shell.proofs.LastFacts.{loaded_lasts, never_done, store_says}
+use Rattle.ub_shell.proofs.CrashFacts.{load_same, load_still, loaded_safely, read_honest}
 use Rattle.ub_shell.proofs.FileFacts.{has_read, not_read, not_so}
 use Rattle.ub_shell.proofs.loading.load_file.Goals as goal
 
@@ -58,3 +59,18 @@ returns-then-is_same-clause-crash g c = load_still c.args.asked.source.path.now 
 
 pub returns-in-Err-clause-crash : goal.returns-in-Err-clause-crash
 returns-in-Err-clause-crash g c = load_same c.args.asked.source.path.now c.args.asked.table.now c.args.asked.source.name.now (axes_asked c.args.asked.source) c.args.asked.source.page_rows (g.F.Files.facts c.args.files.now) _ _ c.in-Err.ensures.crash
+
+pub returns-in-Ok-clause-lasts : goal.returns-in-Ok-clause-lasts
+returns-in-Ok-clause-lasts g c = λ done.
+    let read = has_read _ c.as_slice.result.now _ _ _ (rw c.as_slice.ensures.value c.in-Ok.ensures.text) c.in-Ok.ensures.effect in
+    loaded_lasts c.args.asked.source.path.now c.args.asked.table.now c.as_slice.result.now c.args.asked.source.name.now (axes_asked c.args.asked.source) c.args.asked.source.page_rows
+    (g.F.Files.facts c.args.files.now) (g.F.Files.facts c.read.new.self) (g.F.Files.clock c.keep_text.new.files) read (read_honest _ _ _ _ read) (c.keep_text.ensures.lasts done)
+
+pub returns-then-not-is_mask-clause-lasts : goal.returns-then-not-is_mask-clause-lasts
+returns-then-not-is_mask-clause-lasts g c = λ done. absurd (never_done _ _ _ _ c.tell.result c.tell.ensures refl (inl done))
+
+pub returns-then-is_same-clause-lasts : goal.returns-then-is_same-clause-lasts
+returns-then-is_same-clause-lasts g c = λ done. absurd (never_done _ _ _ _ c.tell-then-is_same.result c.tell-then-is_same.ensures refl (inl done))
+
+pub returns-in-Err-clause-lasts : goal.returns-in-Err-clause-lasts
+returns-in-Err-clause-lasts g c = λ done. absurd (never_done _ _ _ _ c.tell_store_fault.result c.tell_store_fault.ensures (store_says c.in-Err.fault) (inl done))

@@ -1,4 +1,5 @@
-use Rattle.std.proofs.Common.{Err, Ok}
+use Rattle.std.proofs.Common.{Err, Ok, inl}
+use Rattle.ub_shell.proofs.LastFacts.{never_done, open_says}
 use Rattle.ub_shell.proofs.making.make_table.Goals as goal
 
 pub make-requires : goal.make-requires
@@ -25,3 +26,9 @@ returns-in-Ok-clause-crash g c = c.in-Ok.ensures.crash
 
 pub returns-in-Err-clause-crash : goal.returns-in-Err-clause-crash
 returns-in-Err-clause-crash g c = c.in-Err.ensures.crash
+
+pub returns-in-Ok-clause-lasts : goal.returns-in-Ok-clause-lasts
+returns-in-Ok-clause-lasts g c = λ done. c.in-Ok.ensures.lasts
+
+pub returns-in-Err-clause-lasts : goal.returns-in-Err-clause-lasts
+returns-in-Err-clause-lasts g c = λ done. absurd (never_done _ _ _ _ c.tell_open_fault.result c.tell_open_fault.ensures (open_says c.in-Err.fault) (inl done))

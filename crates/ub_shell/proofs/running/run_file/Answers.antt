@@ -1,4 +1,5 @@
 use Rattle.std.proofs.Common.{inl, inr}
+use Rattle.ub_shell.proofs.LastFacts.{never_done, store_says}
 use Rattle.ub_shell.proofs.CrashFacts.{ran_safely, run_same}
 use Rattle.ub_shell.proofs.FileFacts.{has_read, not_read}
 use Rattle.ub_shell.proofs.running.run_file.Goals as goal
@@ -22,3 +23,14 @@ returns-in-Ok-clause-crash g c =
 
 pub returns-in-Err-clause-crash : goal.returns-in-Err-clause-crash
 returns-in-Err-clause-crash g c = run_same c.args.asked.table.now c.args.asked.script.now (g.F.Files.facts c.args.files.now) _ _ (g.W.Out.facts c.args.out.now) (g.W.Out.facts c.tell_store_fault.new.out) c.tell_store_fault.result c.in-Err.ensures.crash
+
+pub returns-in-Ok-clause-lasts : goal.returns-in-Ok-clause-lasts
+returns-in-Ok-clause-lasts g c = λ done. record {
+  asked = c.as_slice.result.now;
+  mid = g.F.Files.facts c.read.new.self;
+  read = has_read _ c.as_slice.result.now _ _ _ (rw c.as_slice.ensures.value c.in-Ok.ensures.text) c.in-Ok.ensures.effect;
+  lasts = λ has. c.run_script.ensures.lasts has done;
+}
+
+pub returns-in-Err-clause-lasts : goal.returns-in-Err-clause-lasts
+returns-in-Err-clause-lasts g c = λ done. absurd (never_done _ _ _ _ c.tell_store_fault.result c.tell_store_fault.ensures (store_says c.in-Err.fault) done)

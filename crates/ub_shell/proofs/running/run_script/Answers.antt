@@ -1,5 +1,7 @@
-use Rattle.std.proofs.Common.{false, inl, inr, refl, true}
+use Rattle.std.proofs.Common.{◌∙◌, false, inl, inr, refl, sym, true}
+use Rattle.std.proofs.lemmas.Bool.{false≢true}
 use Rattle.ub_shell.proofs.FileFacts.{weighed_as}
+use Rattle.ub_shell.proofs.LastFacts.{never_done}
 use Rattle.ub_shell.proofs.CrashFacts.{asked_same}
 use Rattle.ub_shell.proofs.GoesFacts.{runs_none}
 use Rattle.ub_shell.proofs.running.run_script.Goals as goal
@@ -21,3 +23,12 @@ returns-in-Ok-false-clause-crash g c = c.ask_table.ensures.crash
 
 pub returns-in-Err-clause-crash : goal.returns-in-Err-clause-crash
 returns-in-Err-clause-crash g c = asked_same c.args.path.now c.args.script.now (g.F.Files.facts c.args.files.now) _ _ (g.W.Out.facts c.args.out.now) (g.W.Out.facts c.tell_memory.new.out) c.tell_memory.result (runs_none (g.F.Files.facts c.args.files.now) _)
+
+pub returns-in-Ok-true-clause-lasts : goal.returns-in-Ok-true-clause-lasts
+returns-in-Ok-true-clause-lasts g c = λ has. c.change_table.ensures.lasts
+
+pub returns-in-Ok-false-clause-lasts : goal.returns-in-Ok-false-clause-lasts
+returns-in-Ok-false-clause-lasts g c = λ has. absurd (false≢true (sym c.in-Ok-false.field-0-test ∙ c.in-Ok-false.ensures.exact.1 has))
+
+pub returns-in-Err-clause-lasts : goal.returns-in-Err-clause-lasts
+returns-in-Err-clause-lasts g c = λ has done. absurd (never_done _ _ _ _ c.tell_memory.result c.tell_memory.ensures refl done)

@@ -1,3 +1,6 @@
+use Rattle.std.proofs.Common.{Result, subst, sym}
+use Rattle.std.specs.Prelude.{IsOk}
+use Rattle.ub_tree.specs.declared.fault.TreeFault.{TreeFault}
 use Rattle.ub_shell.proofs.running.run_tree.Goals as goal
 
 pub returns : goal.returns
@@ -16,4 +19,5 @@ returns g c =
       },
       closed.kept,
       closed.crash,
+      λ changes done. closed.lasts changes (subst (λ (r : Result (Unit {0}) TreeFault). IsOk r) (sym closed.ended) done),
     )

@@ -1,5 +1,6 @@
 use Rattle.std.proofs.Common.{inl, inr, refl}
 use Rattle.ub_shell.proofs.FileFacts.{not_opened, not_so}
+use Rattle.ub_shell.proofs.LastFacts.{never_done, store_says, upgraded_lasts}
 use Rattle.ub_shell.proofs.CrashFacts.{upgrade_same, upgrade_still, upgraded_safely}
 use Rattle.ub_shell.proofs.upgrading.upgrade_file.Goals as goal
 
@@ -32,3 +33,14 @@ returns-in-Err-clause-crash g c = upgrade_same c.args.asked.old.now c.args.asked
 
 pub returns-then-is_same-clause-crash : goal.returns-then-is_same-clause-crash
 returns-then-is_same-clause-crash g c = upgrade_still c.args.asked.old.now c.args.asked.new.now (g.F.Files.facts c.args.files.now) _
+
+pub returns-in-Ok-clause-lasts : goal.returns-in-Ok-clause-lasts
+returns-in-Ok-clause-lasts g c = λ done.
+    upgraded_lasts c.args.asked.old.now c.args.asked.new.now (g.F.Store.PageStore.facts c.in-Ok.store) (g.F.Files.facts c.args.files.now) (g.F.Files.clock c.upgrade_store.new.files) c.in-Ok.ensures.lent
+    (rw c.in-Ok.ensures.effect at (c.upgrade_store.ensures.lasts done))
+
+pub returns-in-Err-clause-lasts : goal.returns-in-Err-clause-lasts
+returns-in-Err-clause-lasts g c = λ done. absurd (never_done _ _ _ _ c.tell_store_fault.result c.tell_store_fault.ensures (store_says c.in-Err.fault) (inl done))
+
+pub returns-then-is_same-clause-lasts : goal.returns-then-is_same-clause-lasts
+returns-then-is_same-clause-lasts g c = λ done. absurd (never_done _ _ _ _ c.tell.result c.tell.ensures refl (inl done))

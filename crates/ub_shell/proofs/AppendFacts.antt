@@ -1,0 +1,208 @@
+-- What appending rows leaves of a table file, and of files at each moment, step by step.
+use Rattle.std.proofs.Common.{◌≡◌, ◌≤◌, ◌∙◌, ◌+◌, ◌-◌, ℕ, List, [], ◌∷◌, Result, Ok, Err, inl, inr, ap, arith, length, refl, subst, suc, sym}
+use Rattle.std.specs.List.{All}
+use Rattle.std.specs.Prelude.{IsOk, IsTrue, nat_lt}
+use Rattle.ub_files.specs.Clock.{FolderClock, IsSameBut, IsSameFolder, Runs}
+use Rattle.ub_files.specs.Files.{FilesFacts, HasPages, IsLent}
+use Rattle.ub_load.specs.Appending.{AreRowsOf, IsRowsFault}
+use Rattle.ub_load.specs.declared.fault.LoadFault.{LoadFault}
+use Rattle.ub_script.specs.Appending.{ArePutIn}
+use Rattle.ub_script.specs.Basis.{Basis, over_any, IsBasisOf}
+use Rattle.ub_script.specs.Loop.{OnEach}
+use Rattle.ub_script.specs.Output.{OutFacts}
+use Rattle.ub_shell.proofs.CrashFacts.{read_honest}
+use Rattle.ub_shell.proofs.LeftFacts.{where_ok}
+use Rattle.ub_shell.proofs.GoesFacts.{runs_as, runs_same, runs_still, runs_then}
+use Rattle.ub_shell.specs.Appended.{appended_line, AppendsSafely, AppendsStore, HasAppended, HasClosed, HoldsAppended, PutsRows, TellsAppended}
+use Rattle.ub_shell.specs.Commands.{ClosesFile, HasRead, IsKept, IsTreeOf}
+use Rattle.ub_shell.specs.Ending.{Tells}
+use Rattle.ub_shell.specs.Status.{tree_fault_status, tree_fault_text}
+use Rattle.ub_shell.specs.declared.status.Status.{Status}
+use Rattle.ub_shell.specs.declared.status.Status.TheVariants.{Done}
+use Rattle.ub_shell.specs.inner.Appending.{AppendsRows, AppendsTree, HoldsCount, HoldsMore, HoldsPut, HoldsRows, HoldsText, KeepsCount, KeepsPut}
+use Rattle.ub_store.specs.Facts.{StoreFacts, IsHonest}
+use Rattle.ub_table.specs.Region.{measures_of}
+use Rattle.ub_table.specs.declared.row.Row.{Row}
+use Rattle.ub_table.specs.declared.schema.Schema.{Schema}
+use Rattle.ub_tree.specs.Change.{Suits}
+use Rattle.ub_tree.specs.Placed.{Placed}
+use Rattle.ub_tree.specs.Stored.{AreSoundPages}
+use Rattle.ub_tree.specs.View.{TreeView}
+use Rattle.ub_tree.specs.declared.fault.TreeFault.{TreeFault}
+
+-- ---- how many rows were put in
+
+one_more : (s o a n k : ℕ) → o ≡ s → a ≡ o + 1 → n ≡ a + k → n ≡ s + suc k
+one_more s o a n k same counted more = omega arith
+
+none_more : (n : ℕ) → n ≡ n + 0
+none_more n = omega arith
+
+-- each of them is counted by the number that is next
+next_after : (rows : List Row) (seen : TreeView) (now : Basis) → ArePutIn (over_any seen) rows now
+    → (after : TreeView) × (now ≡ over_any after) × (after.next ≡ seen.next + length rows)
+next_after [] seen now same = (seen, same, none_more seen.next)
+next_after (row ∷ rows) seen now (mid, (one, put, is), rest) =
+    let more = next_after rows one now (subst (λ (b : Basis). ArePutIn b rows now) is rest) in
+    let before : put.old.next ≡ seen.next = ap (λ (t : TreeView). t.next) put.same in
+    (more.0, more.1, one_more seen.next put.old.next one.next more.0.next (length rows) before put.puts_in.counted.0 more.2)
+
+pub next_is : (old new : TreeView) (rows : List Row) → OnEach old (λ basis. (now : Basis) × ArePutIn basis rows now × IsBasisOf new now) → new.next ≡ old.next + length rows
+next_is old new rows put =
+    let (now, are, is) = put (over_any old) refl in
+    let (after, same, next) = next_after rows old now are in
+    let there : IsBasisOf new (over_any after) = subst (λ (b : Basis). IsBasisOf new b) same is in
+    ap (λ (t : TreeView). t.next) there ∙ next
+
+pub no_fewer : (before after next last n : ℕ) → next ≡ before → last ≡ after → after ≡ before + n → next ≤ last
+no_fewer before after next last n first second is = omega arith
+
+pub count_is : (before after next last n : ℕ) → next ≡ before → last ≡ after → after ≡ before + n → last - next ≡ n
+count_is before after next last n first second is = omega arith
+
+-- ---- a tree is closed
+
+-- what is told then
+pub told_rows : (count rows all : ℕ) (bytes : List ℕ) (out out_now : OutFacts) (status : Status) → rows ≡ all → bytes ≡ appended_line count rows
+    → Tells out out_now bytes Done status → Tells out out_now (appended_line count all) Done status
+told_rows count rows all bytes out out_now status same is told =
+    subst (λ (n : ℕ). Tells out out_now (appended_line count n) Done status) same (subst (λ (b : List ℕ). Tells out out_now b Done status) is told)
+
+module _ (table : List ℕ) (count : ℕ) (t : TreeView) (r : Result (Unit {0}) TreeFault) (old new : FilesFacts) (was now : FolderClock) (out out_now : OutFacts) (status : Status)
+    (closed : ClosesFile (nat_lt 0 count) table old new was now t r) (told : TellsAppended count t.rows r out out_now status) where
+  abbrev has_closed : HasClosed t count closed.left out out_now status
+  has_closed = record {
+    closing = closed.closing;
+    keeping = closed.keeping;
+    closes = closed.closes;
+    faults = closed.faults;
+    tells = subst (λ (x : Result (Unit {0}) TreeFault). TellsAppended count t.rows x out out_now status) closed.ended told;
+  }
+
+  pub count_kept : KeepsCount table count t old new out out_now status
+  count_kept = (closed.left, has_closed, closed.kept)
+
+  pub count_safely : Runs (IsSameBut table (HoldsCount t count out out_now status)) old was now
+  count_safely =
+      runs_as table (HoldsCount t count out out_now status) (λ held. IsOk closed.closing × HasPages held closed.left.pages) old was now
+      (λ held is. (closed.left, has_closed, is.0, is.1)) closed.crash
+
+-- ---- rows are put into a tree
+
+module _ (table : List ℕ) (rows : List Row) (t now : TreeView) (count : ℕ) (out out_now : OutFacts) (status : Status) (puts : PutsRows t now rows (Ok tt)) (is : count ≡ length rows) where
+  pub rows_kept : (old new : FilesFacts) → KeepsCount table count now old new out out_now status → KeepsPut table rows t old new out out_now status
+  rows_kept old new (left, closed, kept) =
+      let counted = subst (λ (n : ℕ). (c : HasClosed now n left out out_now status) × IsKept (nat_lt 0 n) table left.pages c.closing c.keeping old new) is (closed, kept) in
+      (left, record { now = now; puts = puts; closed = counted.0 }, counted.1)
+
+  pub rows_safely : (files : FilesFacts) (was then : FolderClock) → Runs (IsSameBut table (HoldsCount now count out out_now status)) files was then
+      → Runs (IsSameBut table (HoldsPut t rows out out_now status)) files was then
+  rows_safely files was then runs =
+      runs_as table (HoldsPut t rows out out_now status) (HoldsCount now count out out_now status) files was then
+      (λ held (left, closed, done, holds).
+      let counted = subst (λ (n : ℕ). (c : HasClosed now n left out out_now status) × IsOk c.closing) is (closed, done) in
+      (left, record { now = now; puts = puts; closed = counted.0 }, counted.1, holds))
+      runs
+
+pub put_same : (table : List ℕ) (rows : List Row) (t : TreeView) (files : FilesFacts) (was now : FolderClock) (out out_now : OutFacts) (status : Status) → Runs IsSameFolder files was now
+    → Runs (IsSameBut table (HoldsPut t rows out out_now status)) files was now
+put_same table rows t files was now out out_now status runs = runs_same table (HoldsPut t rows out out_now status) files was now runs
+
+-- ---- those of a text
+
+-- they are read for the schema and the next number of a tree
+pub rows_for : (text : List ℕ) (schema s : Schema) (next n : ℕ) (items rows : List Row) → schema ≡ s → next ≡ n → rows ≡ items → AreRowsOf text schema next items → AreRowsOf text s n rows
+rows_for text schema s next n items rows of_schema of_next same are =
+    subst (λ (x : Schema). AreRowsOf text x n rows) of_schema
+    (subst (λ (k : ℕ). AreRowsOf text schema k rows) of_next (subst (λ (rs : List Row). AreRowsOf text schema next rs) (sym same) are))
+
+pub suit_for : (schema s : Schema) (items rows : List Row) → schema ≡ s → rows ≡ items → All (Suits schema.dims (measures_of schema)) items → All (Suits s.dims (measures_of s)) rows
+suit_for schema s items rows of_schema same suit =
+    subst (λ (x : Schema). All (Suits x.dims (measures_of x)) rows) of_schema (subst (λ (rs : List Row). All (Suits schema.dims (measures_of schema)) rs) (sym same) suit)
+
+pub fault_for : (text : List ℕ) (schema s : Schema) (next n : ℕ) (fault : LoadFault) → schema ≡ s → next ≡ n → IsRowsFault text schema next fault → IsRowsFault text s n fault
+fault_for text schema s next n fault of_schema of_next is =
+    subst (λ (x : Schema). IsRowsFault text x n fault) of_schema (subst (λ (k : ℕ). IsRowsFault text schema k fault) of_next is)
+
+module _ (table text : List ℕ) (t : TreeView) (out out_now : OutFacts) (status : Status) where
+  pub tree_appends : (rows : List Row) (old new : FilesFacts) → AreRowsOf text t.schema t.next rows → AppendsRows table rows t old new out out_now status
+      → AppendsTree table text t old new out out_now status
+  tree_appends rows old new are (inl kept) = inl (rows, are, kept)
+  tree_appends rows old new are (inr (unput, same)) = inr (inr (rows, are, unput), same)
+
+  pub tree_safely : (rows : List Row) (files : FilesFacts) (was now : FolderClock) → AreRowsOf text t.schema t.next rows → Runs (IsSameBut table (HoldsPut t rows out out_now status)) files was now
+      → Runs (IsSameBut table (HoldsRows t text out out_now status)) files was now
+  tree_safely rows files was now are runs =
+      runs_as table (HoldsRows t text out out_now status) (HoldsPut t rows out out_now status) files was now (λ held put. (rows, are, put)) runs
+
+  pub tree_same : (files : FilesFacts) (was now : FolderClock) → Runs IsSameFolder files was now → Runs (IsSameBut table (HoldsRows t text out out_now status)) files was now
+  tree_same files was now runs = runs_same table (HoldsRows t text out out_now status) files was now runs
+
+  -- ---- the tree was opened in a store
+
+  pub store_appends : (store : StoreFacts) (old new : FilesFacts) → IsTreeOf store t → AppendsTree table text t old new out out_now status
+      → AppendsStore table text store old new out out_now status
+  store_appends store old new is (inl (rows, are, (left, put, kept))) =
+      inl (record { left = left; appended = record { tree = t; tree_is = is; rows = rows; rows_are = are; put = put }; kept = kept })
+  store_appends store old new is (inr (unput, same)) = inr (inr (record { tree = t; tree_is = is; is = unput }), same)
+
+  pub store_safely : (store : StoreFacts) (files : FilesFacts) (was now : FolderClock) → IsTreeOf store t → Runs (IsSameBut table (HoldsRows t text out out_now status)) files was now
+      → Runs (IsSameBut table (HoldsMore store text out out_now status)) files was now
+  store_safely store files was now is runs =
+      runs_as table (HoldsMore store text out out_now status) (HoldsRows t text out out_now status) files was now
+      (λ held (rows, are, (left, put, done, holds)). (left, record { tree = t; tree_is = is; rows = rows; rows_are = are; put = put }, done, holds)) runs
+
+-- ---- a table file lent it
+
+module _ (table text : List ℕ) (out out_now : OutFacts) (status : Status) where
+  pub store_same : (store : StoreFacts) (files : FilesFacts) (was now : FolderClock) → Runs IsSameFolder files was now
+      → Runs (IsSameBut table (HoldsMore store text out out_now status)) files was now
+  store_same store files was now runs = runs_same table (HoldsMore store text out out_now status) files was now runs
+
+  pub text_safely : (store : StoreFacts) (old mid : FilesFacts) (was then now : FolderClock) → IsLent old table store → (IsTrue old.honest → IsTrue mid.honest)
+      → Runs IsSameFolder old was then → Runs (IsSameBut table (HoldsMore store text out out_now status)) mid then now
+      → Runs (IsSameBut table (HoldsText table text old out out_now status)) old was now
+  text_safely store old mid was then now lent honest one two =
+      runs_then table (HoldsText table text old out out_now status) old mid was then now honest one
+      (runs_as table (HoldsText table text old out out_now status) (HoldsMore store text out out_now status) mid then now (λ held more. (store, lent, more)) two)
+
+  pub text_same : (old : FilesFacts) (was now : FolderClock) → Runs IsSameFolder old was now → Runs (IsSameBut table (HoldsText table text old out out_now status)) old was now
+  text_same old was now runs = runs_same table (HoldsText table text old out out_now status) old was now runs
+
+-- ---- the text was read of a file
+
+pub appended_safely : (table source text : List ℕ) (old mid : FilesFacts) (was then now : FolderClock) (out out_now : OutFacts) (status : Status) → HasRead source text old mid
+    → Runs IsSameFolder old was then → Runs (IsSameBut table (HoldsText table text mid out out_now status)) mid then now
+    → Runs (AppendsSafely table source old out out_now status) old was now
+appended_safely table source text old mid was then now out out_now status read one two =
+    runs_then table (HoldsAppended table source old out out_now status) old mid was then now (read_honest source text old mid read) one
+    (runs_as table (HoldsAppended table source old out out_now status) (HoldsText table text mid out out_now status) mid then now
+    (λ held (store, lent, (left, appended, closed, holds)). record {
+      text = text;
+      mid = mid;
+      store = store;
+      left = left;
+      read = read;
+      lent = lent;
+      appended = appended;
+      closed = closed;
+      holds = holds;
+    })
+    two)
+
+pub append_same : (table source : List ℕ) (old : FilesFacts) (was now : FolderClock) (out out_now : OutFacts) (status : Status) → Runs IsSameFolder old was now
+    → Runs (AppendsSafely table source old out out_now status) old was now
+append_same table source old was now out out_now status runs = runs_same table (HoldsAppended table source old out out_now status) old was now runs
+
+pub append_still : (table source : List ℕ) (old : FilesFacts) (clock : FolderClock) (out out_now : OutFacts) (status : Status)
+    → Runs (AppendsSafely table source old out out_now status) old clock clock
+append_still table source old clock out out_now status = runs_still table (HoldsAppended table source old out out_now status) old clock
+
+-- ---- what is left of a closed table is one
+
+pub appended_sound : (schema : Schema) (placed : List Placed) (next : ℕ) (store left : StoreFacts) (text : List ℕ) (out out_now : OutFacts) (status : Status)
+    → IsHonest store → AreSoundPages store.pages schema placed next → (a : HasAppended store text left out out_now status) → IsOk a.put.closed.closing
+    → AreSoundPages left.pages a.put.now.schema a.put.now.placed a.put.now.next
+appended_sound schema placed next store left text out out_now status honest sound a done =
+    let of_tree = (a.tree_is.sound schema placed next honest sound).0 in
+    (where_ok a.put.closed.closing done (a.put.closed.closes.closed (a.put.puts.effect.sound of_tree))).1

@@ -1,0 +1,41 @@
+use Rattle.std.proofs.Common.{inl, inr, length}
+use Rattle.ub_shell.proofs.AppendFacts.{count_is, next_is, no_fewer, put_same, rows_kept, rows_safely}
+use Rattle.ub_shell.proofs.appending.append_rows.Goals as goal
+
+pub put_rows-requires : goal.put_rows-requires
+put_rows-requires g c = c.requires.suit
+
+pub overflow_sub-count : goal.overflow_sub-count
+overflow_sub-count g c =
+    no_fewer c.args.tree.next c.put_rows.new.tree.next c.next-next.result c.next.result (length c.args.rows.now) c.next-next.ensures c.next.ensures
+    (next_is c.args.tree c.put_rows.new.tree c.args.rows.now c.in-Ok.ensures.put)
+
+pub returns-in-Ok-clause-appends : goal.returns-in-Ok-clause-appends
+returns-in-Ok-clause-appends g c = inl (
+    rows_kept c.args.path.now c.args.rows.now c.args.tree c.put_rows.new.tree _ (g.W.Out.facts c.args.out.now) (g.W.Out.facts c.keep_rows.new.out) c.keep_rows.result
+    (record { put = c.in-Ok.ensures.put; stopped = λ basis is. tt; effect = c.in-Ok.ensures.effect })
+    (count_is c.args.tree.next c.put_rows.new.tree.next c.next-next.result c.next.result _ c.next-next.ensures c.next.ensures (next_is c.args.tree c.put_rows.new.tree c.args.rows.now c.in-Ok.ensures.put))
+    _ _ c.keep_rows.ensures.keeps
+    )
+
+pub returns-in-Err-clause-appends : goal.returns-in-Err-clause-appends
+returns-in-Err-clause-appends g c = inr (
+  record {
+    now = c.put_rows.new.tree;
+    fault = c.in-Err.fault;
+    puts = record { put = λ basis is. tt; stopped = c.in-Err.ensures.stopped; effect = c.in-Err.ensures.effect };
+    tells = c.tell_tree_fault.ensures;
+  },
+  c.leave_table.ensures.kept,
+)
+
+pub returns-in-Ok-clause-crash : goal.returns-in-Ok-clause-crash
+returns-in-Ok-clause-crash g c =
+    rows_safely c.args.path.now c.args.rows.now c.args.tree c.put_rows.new.tree _ (g.W.Out.facts c.args.out.now) (g.W.Out.facts c.keep_rows.new.out) c.keep_rows.result
+    (record { put = c.in-Ok.ensures.put; stopped = λ basis is. tt; effect = c.in-Ok.ensures.effect })
+    (count_is c.args.tree.next c.put_rows.new.tree.next c.next-next.result c.next.result _ c.next-next.ensures c.next.ensures (next_is c.args.tree c.put_rows.new.tree c.args.rows.now c.in-Ok.ensures.put))
+    (g.F.Files.facts c.args.files.now) _ _ c.keep_rows.ensures.crash
+
+pub returns-in-Err-clause-crash : goal.returns-in-Err-clause-crash
+returns-in-Err-clause-crash g c =
+    put_same c.args.path.now c.args.rows.now c.args.tree (g.F.Files.facts c.args.files.now) _ _ (g.W.Out.facts c.args.out.now) (g.W.Out.facts c.tell_tree_fault.new.out) c.tell_tree_fault.result c.leave_table.ensures.crash
