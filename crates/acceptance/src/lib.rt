@@ -11,6 +11,8 @@ mod again;
 #[cfg(test)]
 mod answer;
 #[cfg(test)]
+mod appended;
+#[cfg(test)]
 mod boxes;
 #[cfg(test)]
 mod changes;

@@ -142,7 +142,10 @@ fn told_fit(alloc: Global, bytes: &[u8], mark: u8, rest: u16, journal: Journal) 
     let Ok(pages) = table_of(alloc, bytes, mark) else {
         return 2;
     };
-    match ask(alloc, TornPlace::new(alloc, pages, rest, Some(journal), false)) {
+    match ask(
+        alloc,
+        TornPlace::new(alloc, pages, rest, Some(journal), false),
+    ) {
         Ok(mut found) => u8::from(is_new(&mut found)),
         Err(refused) if refused.fault == StoreFault::BadSize => 0,
         Err(_) => 2,

@@ -1,0 +1,95 @@
+// Rows that are put into a tree over a store that fails at one of its calls. A program keeps nothing of that, so that none of them
+// can show it.
+ghost use Rattle.ub_tree.specs.Change.{Suits};
+
+use crate::worked::are;
+use std::alloc::Global;
+use ub_script::{Over, put_rows, run};
+use ub_store::{FaultyStore, MemStore, StoreFault};
+use ub_table::{Name, PageFault, Row, Schema};
+use ub_tree::{Tree, TreeFault};
+
+type Store = FaultyStore<MemStore>;
+
+const DEVICE: Result<(), TreeFault> = Err(TreeFault::Store(StoreFault::Device));
+
+// At which call the store fails, or 0, what is answered, and what a query of all rows writes then: nothing where the tree has
+// failed. A tree of no rows is made by six calls. The first row reads the root and the region and writes the region, the second
+// one writes it, which is cached. The third one finds it full, adds a page and writes both and the root, and so does the fourth.
+// The fifth row goes to the region that the third one made: that is read, and written.
+static CALLS: [(u64, Result<(), TreeFault>, &str); 8] = [
+    (7, DEVICE, "x,y,m\n-- rows 0, pages 1\n"),
+    (8, DEVICE, "x,y,m\n-- rows 0, pages 1\n"),
+    (9, DEVICE, ""),
+    (10, DEVICE, ""),
+    (11, DEVICE, ""),
+    (
+        19,
+        DEVICE,
+        "x,y,m\n1,1,10\n2,3,20\n3,0,5\n0,2,7\n-- rows 4, pages 3\n",
+    ),
+    (20, DEVICE, ""),
+    (
+        0,
+        Ok(()),
+        "x,y,m\n1,1,10\n2,3,20\n3,0,5\n0,2,7\n2,3,1\n-- rows 5, pages 3\n",
+    ),
+];
+
+// The schema of the worked table, two rows on a page.
+fn schema() -> Result<Schema, PageFault> {
+    let columns = [Name::new(b"x")?, Name::new(b"y")?, Name::new(b"m")?];
+    Schema::new(Name::new(b"t")?, &columns, 2, 2, 0)
+}
+
+// A row of it. Its number isn't looked at.
+fn row(x: u32, y: u32, m: i64) -> Row
+    ensures { Suits 2 1 result }
+{
+    Row {
+        number: 7,
+        dims: [x, y, 0, 0],
+        measures: [m, 0, 0, 0],
+    }
+}
+
+// Puts the five rows in.
+fn put_five(tree: &mut Tree<Store>) -> Option<Result<(), TreeFault>> {
+    let schema = tree.schema();
+    if schema.dims() != 2 || schema.measures() != 1 {
+        return None;
+    }
+    let rows = [
+        row(1, 1, 10),
+        row(2, 3, 20),
+        row(3, 0, 5),
+        row(0, 2, 7),
+        row(2, 3, 1),
+    ];
+    Some(put_rows(tree, &rows))
+}
+
+// Whether this is what a query of all rows writes, and the tree has failed where that is nothing.
+fn shows(alloc: Global, tree: &mut Tree<Store>, text: &str) -> bool {
+    let mut out = Over::new(Vec::new(alloc));
+    let ended = run(alloc, tree, b"SELECT * FROM t;", &mut out);
+    ended.is_ok() != tree.has_failed() && are(out.into_inner().as_slice(), &[text])
+}
+
+// What is answered, and whether this stands then, where the k-th call of the store fails.
+fn told(alloc: Global, k: u64, text: &str) -> Option<(Result<(), TreeFault>, bool)> {
+    let schema = schema().ok()?;
+    let mut tree = Tree::create(alloc, FaultyStore::new(MemStore::new(alloc), k), &schema).ok()?;
+    let put = put_five(&mut tree)?;
+    Some((put, shows(alloc, &mut tree, text)))
+}
+
+#[test]
+fn those_before_a_fault_are_in(rt: HostRuntime) {
+    for (k, wanted, text) in &CALLS {
+        assert!(rt;
+            told(rt.alloc(), *k, text) == Some((*wanted, true)),
+            "call {k}"
+        );
+    }
+}
