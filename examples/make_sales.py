@@ -7,6 +7,7 @@ usage: python3 examples/make_sales.py > examples/sales.csv
 sale      the number of the till's slip: 1, 2, 3 ..
 date      2026-01-01 to 2026-06-30, in order
 shop      1 to 12; the first shops are the busiest
+ware      what was sold, of six
 pieces    how many were sold
 euros     with two decimals; below zero where the money was paid back
 """
@@ -15,6 +16,8 @@ import datetime
 SALES = 1200
 FIRST = datetime.date(2026, 1, 1)
 DAYS = 181
+# From the cheapest to the dearest, each 35 cents more than the one before it.
+WARES = ["roll", "pretzel", "bun", "croissant", "slice", "bread"]
 
 
 def numbers(seed):
@@ -31,13 +34,14 @@ def main():
         return next(draw) // 64 % n
 
     days = sorted(below(DAYS) for _ in range(SALES))
-    print("sale,date,shop,pieces,euros")
+    print("sale,date,shop,ware,pieces,euros")
     for sale, day in enumerate(days, 1):
         shop = 1 + min(below(12), below(12))
         pieces = 1 + min(below(30), below(30))
-        cents = pieces * (90 + 35 * below(6))
+        ware = below(len(WARES))
+        cents = pieces * (90 + 35 * ware)
         paid = "-" if below(60) == 0 else ""
-        print(f"{sale},{FIRST + datetime.timedelta(day)},{shop},{pieces},{paid}{cents // 100}.{cents % 100:02}")
+        print(f"{sale},{FIRST + datetime.timedelta(day)},{shop},{WARES[ware]},{pieces},{paid}{cents // 100}.{cents % 100:02}")
 
 
 main()

@@ -3,7 +3,8 @@
 
 The model is a list of rows and a list of regions, into which rows are put and out of which they are taken by the rules of `ub_region` (specs/Rows.antt, Joins.antt): so the
 number of each row, the rows of each query, and the pages and regions that it tells, are those of the table that the statements before it
-left. Every second script is one run on a table in memory; the others are parted among several runs on a table file.
+left. Every second script is one run on a table in memory; the others are parted among several runs on a table file, between which rows of a
+CSV text are appended to it, in the place of a third of the INSERTs.
 
 Run by hand: tests/changes.py [HOW MANY [SEED [PROGRAM]]]. It prints how many scripts were right and wrong, and which statements they had.
 With `--transcript` as the first word it prints the scripts, and what they must write, as a transcript for crates/transcripts, whose program
@@ -65,12 +66,28 @@ class Table:
 # Each of these gives a statement and what tells its lines, where `at` is the place in the script at which the statement begins.
 
 
-def insertion(rng, table):
-    row = list(random_row(rng, table.dims))
+def new_row(rng, dims):
+    row = list(random_row(rng, dims))
     if rng.random() < 0.1:
-        row[rng.randrange(table.dims)] = rng.choice([GREATEST, GREATEST - 1, 8, 100])
+        row[rng.randrange(dims)] = rng.choice([GREATEST, GREATEST - 1, 8, 100])
     if rng.random() < 0.1:
         row[-1] = rng.choice([2**63 - 1, -(2**63), -1])
+    return row
+
+
+def appending(rng, table):
+    """A CSV text of some rows, its columns in any order, and the line of appending it, by which the table has them."""
+    rows = [new_row(rng, table.dims) for _ in range(rng.choice([0, 1, 1, 2, 5]))]
+    order = rng.sample(range(table.dims + 1), table.dims + 1)
+    names = names_of(table.dims)
+    for row in rows:
+        table.insert(tuple(row))
+    lines = [",".join(names[place] for place in order)] + [",".join(str(row[place]) for place in order) for row in rows]
+    return "\n".join(lines) + "\n", f"-- appended {len(rows)}, rows {len(table.rows)}\n"
+
+
+def insertion(rng, table):
+    row = new_row(rng, table.dims)
     return f"INSERT INTO t VALUES ({', '.join(map(str, row))});", lambda at: [f"-- inserted {table.insert(tuple(row))}"]
 
 
@@ -172,8 +189,13 @@ def refused(rng, table):
 KINDS = [(insertion, 45), (deletion, 16), (query, 22), (everything, 4), (explanation, 8), (refused, 5)]
 
 
+def told(lines):
+    return "".join(line + "\n" for line in lines)
+
+
 def example(rng, parts, counts):
-    """The words for a table, its text, the line of its loading, and so many runs: scripts, each with what it must write and its status."""
+    """The words for a table, its text, the line of its loading, and so many runs, parted by appends where they are several: the words of each, the
+    text that they name, what it must write, and its status."""
     dims = rng.randint(1, 3)
     size = rng.choice([2, 2, 3, 4, 5])
     rows = [random_row(rng, dims) for _ in range(rng.choice([0, 0, 3, 8, 14]))]
@@ -184,12 +206,18 @@ def example(rng, parts, counts):
         script, text, status = "", [], 0
         kinds = rng.choices([kind for kind, _ in KINDS], [weight for _, weight in KINDS], k=rng.randint(1, 15))
         for kind in kinds + [everything] * last:
+            if kind is insertion and parts > 1 and rng.randrange(3) == 0:
+                runs.append(("run table.ub script.sql", script, told(text), status))
+                script, text, status = "", [], 0
+                runs.append(("append table.ub script.sql", *appending(rng, table), 0))
+                counts["appending"] += 1
+                continue
             statement, lines = kind(rng, table)
             counts[kind.__name__] += 1
             status |= kind is refused
             text += lines(len(script))
             script += statement + rng.choice([" ", "\n", " -- INSERT\n"])
-        runs.append((script, "".join(line + "\n" for line in text), status))
+        runs.append(("run table.ub script.sql", script, told(text), status))
     return f"--dims {dims} --page-rows {size}", csv_of(rows, dims), loaded, runs
 
 
@@ -199,9 +227,9 @@ def cases(count, rng, counts):
         parts = rng.randint(2, 4) if i % 2 else 1
         words, data, loaded, runs = example(rng, parts, counts)
         if parts == 1:
-            yield data, [(f"try data.csv script.sql {words}", *runs[0])]
+            yield data, [(f"try data.csv script.sql {words}", *runs[0][1:])]
         else:
-            yield data, [(f"load data.csv table.ub {words}", "", loaded, 0)] + [("run table.ub script.sql", *run) for run in runs]
+            yield data, [(f"load data.csv table.ub {words}", "", loaded, 0)] + runs
 
 
 def print_transcript(count, rng, counts):

@@ -60,6 +60,17 @@ misses() {
     judge "it tells that it can't $wanted" "$is"
 }
 
+# A query: the status that is wanted, its answers on standard output and its notes on standard error, and then the words behind `query`.
+asks() {
+    local what=$1 status=$2 answers=$3 notes=$4 code is=no
+    shift 4
+    "$ubq" query "$@" >out 2>err
+    code=$?
+    if [ "$code" -eq "$status" ] && printf -- "$answers" | cmp -s - out && printf -- "$notes" | cmp -s - err; then is=yes; fi
+    cat err >>out
+    judge "$what (status $code)" "$is"
+}
+
 skip() { # what can't be tried, and why
     echo "skipped: $1: $2"
 }
@@ -155,12 +166,13 @@ try 'answers the same' 0 all "$row1" run both.ub row1.sql
 
 # ---- what a table file tells by its header
 facts_of_s='table t\ndimension x\ndimension y\nmeasure m\nrows 5\nnext 6\nregions 3\npage-rows 2\n'
-try 'a table file is described' 0 all "${facts_of_s}levels 1\nformat 3\n" describe s.ub
+load_of_s='load-with --dims 2 --signed 0 --page-rows 2 --name t\n'
+try 'a table file is described' 0 all "${facts_of_s}levels 1\nformat 3\n${load_of_s}" describe s.ub
 holds 'and stays as it was' cmp -s before.ub s.ub
-try 'one of format 1' 0 all "${facts_of_s}directory-pages 1\nformat 1\n" describe "$root/tests/old/s.ub"
-try 'one of format 2' 0 all "${facts_of_s}levels 1\nformat 2\n" describe "$root/tests/old/format_2/s.ub"
+try 'one of format 1' 0 all "${facts_of_s}directory-pages 1\nformat 1\n${load_of_s}" describe "$root/tests/old/s.ub"
+try 'one of format 2' 0 all "${facts_of_s}levels 1\nformat 2\n${load_of_s}" describe "$root/tests/old/format_2/s.ub"
 head -c 4096 "$root/tests/old/s.ub" >cut.ub
-try 'of whose pages there is the first alone' 0 all "${facts_of_s}directory-pages 1\nformat 1\n" describe cut.ub
+try 'of whose pages there is the first alone' 0 all "${facts_of_s}directory-pages 1\nformat 1\n${load_of_s}" describe cut.ub
 try 'a table file that is not there' 4 all '! Device\n' describe missing.ub
 try 'a folder' 4 all '! Device\n' describe .
 try 'a text' 3 all '! BadSize\n' describe s.csv
@@ -259,7 +271,7 @@ if "${as[@]}" "$ubq" --version >out 2>err; then
     chmod a=r s.ub
     try 'a table file that can only be read' 0 all "$row1" run s.ub row1.sql
     try 'and is checked' 0 all '-- rows 5, regions 3\n' check s.ub
-    try 'and is described' 0 all "${facts_of_s}levels 1\nformat 3\n" describe s.ub
+    try 'and is described' 0 all "${facts_of_s}levels 1\nformat 3\n${load_of_s}" describe s.ub
     try 'and is not loaded into' 4 all '! Device\n' load s.csv s.ub --dims 2
     try 'no row is put into it' 4 all '! Device\n' run s.ub insert.sql
     denied='Permission denied (os error 13)'
@@ -360,6 +372,45 @@ if command -v cc >/dev/null; then
 else
     skip 'a sync that fails' 'there is no cc'
 fi
+
+# ---- queries, and rows of a CSV file behind those of a table
+"$ubq" load s.csv asked.ub --dims 2 --page-rows 2 >/dev/null
+asks 'answers and notes stand apart' 0 'COUNT(*)\n5\n' '-- rows 1, pages 3\n' asked.ub 'SELECT COUNT(*) FROM t;'
+asks 'a refused statement is noted, and the next one answered' 1 'COUNT(*)\n5\n' '! UnknownTable at 14\n-- rows 1, pages 3\n' \
+    asked.ub 'SELECT * FROM u; SELECT COUNT(*) FROM t;'
+asks 'no table' 4 '' "! Device\nubq: can't open nix.ub: No such file or directory (os error 2)\n" nix.ub 'SELECT * FROM t;'
+asks 'a point with no row lies in one region' 0 'm\n' '-- rows 0, pages 1\n' asked.ub 'SELECT m FROM t WHERE x = 77 AND y = 77;'
+"$ubq" query asked.ub 'SELECT * FROM t' >export.csv 2>/dev/null
+holds 'an export is the CSV file again' cmp -s s.csv export.csv
+"$ubq" load export.csv again.ub --dims 2 --page-rows 2 >/dev/null
+holds 'and the same table, byte for byte' cmp -s asked.ub again.ub
+holds 'a pipe that is closed after a line has that line' test "$("$ubq" query asked.ub 'SELECT * FROM t' 2>/dev/null | head -n 1)" = x,y,m
+if [ -e /dev/full ]; then
+    "$ubq" query asked.ub 'SELECT COUNT(*) FROM t' >/dev/full 2>err
+    holds 'answers that can not be written: a failed output, and no note' test $? -eq 4 -a ! -s err
+    "$ubq" query asked.ub 'SELECT COUNT(*) FROM t' >out 2>/dev/full
+    holds 'notes that can not be written are let go' test $? -eq 0
+    holds 'and the answers stand' test "$(tail -n 1 out)" = 5
+fi
+printf 'm,y,x\n-4,3,2\n9,0,0\n' >more.csv
+cp asked.ub was.ub
+try 'rows with their columns in another order' 0 all '-- appended 2, rows 7\n' append asked.ub more.csv
+asks 'stand behind those of the table' 0 'm\n20\n1\n-4\n' '-- rows 3, pages 2\n' asked.ub 'SELECT m FROM t WHERE x = 2 AND y = 3;'
+try 'rows from standard input' 0 all '-- appended 2, rows 9\n' append asked.ub - <more.csv
+for wrong_data in 'x,y\n1,2\n/! ColumnCount' 'x,y,z,m\n1,2,3,4\n/! BadName column 3' 'x,x,m\n1,2,3\n/! BadName column 2' '1,2,3\n/! BadName column 1' \
+    'm,y,x\n1,2,-3\n/! OutOfRange row 1 column 3' 'x,y,m\n1,2,3\n4,a,5\n/! BadNumber row 2 column 2' 'x,y,m\n1,2\n/! Csv' '/! NoHeader'; do
+    printf "${wrong_data%/*}" >wrong.csv
+    cp was.ub kept.ub
+    try "refused data: ${wrong_data#*/}" 3 line "${wrong_data#*/}" append kept.ub wrong.csv
+    holds 'and the table is byte for byte as it was' cmp -s was.ub kept.ub
+done
+printf 'x,y,m\n' >none.csv
+try 'a header alone' 0 all '-- appended 0, rows 5\n' append kept.ub none.csv
+holds 'leaves the table byte for byte' cmp -s was.ub kept.ub
+"$ubq" query kept.ub 'SELECT * FROM t' 2>/dev/null | timeout 60 "$ubq" append kept.ub - >out 2>err
+holds 'a table is appended to itself, with no wait for its own lock' test "$(cat out)" = '-- appended 5, rows 10'
+"$ubq" check kept.ub >out 2>err
+holds 'and is sound' test $? -eq 0
 
 echo "$right right, $wrong wrong"
 [ "$wrong" -eq 0 ]
