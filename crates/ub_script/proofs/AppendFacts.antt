@@ -11,6 +11,7 @@ use Rattle.ub_script.specs.Basis.{Basis, on_stand, over_any, IsBasisOf, IsRestOf
 use Rattle.ub_script.specs.Changes.{HasPutRow, PutsIn}
 use Rattle.ub_script.specs.Faults.{Runs, fault_of_tree}
 use Rattle.ub_script.specs.Formed.{IsSameBut}
+use Rattle.ub_script.specs.Loop.{OnEach}
 use Rattle.ub_script.specs.Laws.{AppendedRowsAreLast}
 use Rattle.ub_table.specs.Region.{measures_of}
 use Rattle.ub_table.specs.Table.{Table}
@@ -34,7 +35,7 @@ put_over seen a b row result same puts_in = record {
 }
 
 -- a row was put in, and this is left
-put_one : (basis : Basis) (a b : TreeView) (row : Row) (n : ℕ) → IsBasisOf a basis → PutsIn (numbered a.next row) a b (Ok n)
+pub put_one : (basis : Basis) (a b : TreeView) (row : Row) (n : ℕ) → IsBasisOf a basis → PutsIn (numbered a.next row) a b (Ok n)
     → (IsSound a → IsInserted (numbered a.next row) a b) → (now : Basis) × IsPutIn basis row now × IsBasisOf b now
 put_one (on_stand s) a b row n is puts_in inserts =
     let put : IsInserted (numbered s.next row) a b = subst (λ (k : ℕ). IsInserted (numbered k row) a b) (sym is.next_is) (inserts is.sound) in (
@@ -53,7 +54,7 @@ put_one (over_any seen) a b row n is puts_in inserts = (
 )
 
 -- a fault came of it, and this is left
-put_none : (basis : Basis) (a b : TreeView) (row : Row) (e : TreeFault) → IsBasisOf a basis → PutsIn (numbered a.next row) a b (Err e)
+pub put_none : (basis : Basis) (a b : TreeView) (row : Row) (e : TreeFault) → IsBasisOf a basis → PutsIn (numbered a.next row) a b (Err e)
     → (now : Basis) × IsPutEnd basis row e now × IsRestOf b now
 put_none (on_stand s) a b row e is puts_in = (on_stand s, refl, λ working. change_stand a b s e is puts_in.effect.left working)
 put_none (over_any seen) a b row e is puts_in = (over_any b, (b, put_over seen a b row (Err e) is puts_in, refl), refl)
@@ -75,17 +76,17 @@ pub suits_at : (a b : TreeView) (rows : List Row) (i : ℕ) (d : Row) → All (S
 suits_at a b rows i d all same within = subst (λ (s : Schema). Suits s.dims (measures_of s) (slice_index_or rows i d)) (sym same) (all i d within)
 
 module _ (a b c : TreeView) (rows : List Row) (i : ℕ) (d : Row) (basis : Basis) (within : i < length rows) (so_far : HavePut a b (take i rows) basis) where
-  pub put_next : (n : ℕ) → PutsIn (numbered b.next (slice_index_or rows i d)) b c (Ok n) → (IsSound b → IsInserted (numbered b.next (slice_index_or rows i d)) b c)
-      → HavePut a c (take (i + 1) rows) basis
-  put_next n puts_in inserts =
+  pub put_next : OnEach b (λ mid. (now : Basis) × IsPutIn mid (slice_index_or rows i d) now × IsBasisOf c now) → HavePut a c (take (i + 1) rows) basis
+  put_next puts =
       let (mid, put, is) = so_far in
-      let (now, one, left) = put_one mid b c (slice_index_or rows i d) n is puts_in inserts in
+      let (now, one, left) = puts mid is in
       (now, subst (λ (rs : List Row). ArePutIn basis rs now) (sym (take_more rows i d within)) (put_more basis mid now (take i rows) (slice_index_or rows i d) put one), left)
 
-  pub put_stopped : (e : TreeFault) → PutsIn (numbered b.next (slice_index_or rows i d)) b c (Err e) → (now : Basis) × ArePutUpTo basis rows e now × IsRestOf c now
-  put_stopped e puts_in =
+  pub put_stopped : (e : TreeFault) → OnEach b (λ mid. (now : Basis) × IsPutEnd mid (slice_index_or rows i d) e now × IsRestOf c now)
+      → (now : Basis) × ArePutUpTo basis rows e now × IsRestOf c now
+  put_stopped e ends =
       let (mid, put, is) = so_far in
-      let (now, ended, left) = put_none mid b c (slice_index_or rows i d) e is puts_in in (
+      let (now, ended, left) = ends mid is in (
         now,
         record {
           count = i;

@@ -2,7 +2,7 @@
 
 ghost use Rattle.std.specs.Prelude.{OnOk, IfErr};
 ghost use Rattle.std.specs.List.{All};
-ghost use Rattle.ub_script.specs.Appending.{ArePutIn, ArePutUpTo, ran};
+ghost use Rattle.ub_script.specs.Appending.{ArePutIn, ArePutUpTo, IsPutEnd, IsPutIn, ran};
 ghost use Rattle.ub_script.specs.Basis.{Basis, IsBasisOf, IsRestOf};
 ghost use Rattle.ub_script.specs.Faults.{Runs};
 ghost use Rattle.ub_script.specs.Loop.{OnEach};
@@ -32,7 +32,21 @@ pub fn put_rows<S: PageStore>(tree: &mut Tree<S>, rows: &[Row]) -> Result<(), Tr
     ensures effect { Runs tree.old tree.new (ran result) }
 {
     for row in rows {
-        tree.insert_row(row)?;
+        put_row(tree, row)?;
     }
+    Ok(())
+}
+
+// Puts a row in, as the table's last one with the number that is next.
+fn put_row<S: PageStore>(tree: &mut Tree<S>, row: &Row) -> Result<(), TreeFault>
+    requires { Suits tree.old.schema.dims (measures_of tree.old.schema) row.now }
+    ensures put { OnEach tree.old (λ basis. OnOk result
+        ((now : Basis) × IsPutIn basis row.now now × IsBasisOf tree.new now)) }
+    ensures stopped { OnEach tree.old (λ basis. IfErr result (λ fault.
+        (now : Basis) × IsPutEnd basis row.now fault now × IsRestOf tree.new now)) }
+    ensures trace { KeepsTrace tree.old tree.new }
+    ensures effect { Runs tree.old tree.new (ran result) }
+{
+    tree.insert_row(row)?;
     Ok(())
 }

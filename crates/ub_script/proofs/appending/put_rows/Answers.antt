@@ -1,7 +1,7 @@
-use Rattle.std.proofs.Common.{Ok, Err, refl}
-use Rattle.ub_script.proofs.AppendFacts.{put_whole, put_next, put_stopped, ran_err, suits_at, trace_on}
-use Rattle.ub_script.proofs.ChangeFacts.{if_err, runs_change}
-use Rattle.ub_script.proofs.EndFacts.{no_answer, runs_put}
+use Rattle.std.proofs.Common.{◌∙◌, Ok, Err, refl}
+use Rattle.ub_script.proofs.AppendFacts.{put_whole, put_next, put_stopped, ran_err, suits_at}
+use Rattle.ub_script.proofs.ChangeFacts.{if_err}
+use Rattle.ub_script.proofs.EndFacts.{no_answer}
 use Rattle.ub_script.proofs.KeptFacts.{runs_more, runs_none}
 use Rattle.ub_script.proofs.appending.put_rows.Goals as goal
 
@@ -12,40 +12,35 @@ loop-row-init g c = record {
   runs = runs_none (tt {0}) _;
 }
 
-pub insert_row-requires : goal.insert_row-requires
-insert_row-requires g c = suits_at c.args.tree.now c.loop-row.tree c.args.rows.now c.loop-row.row-index _ c.requires c.loop-row.invariant.runs.schema c.loop-row-test.true
+pub put_row-requires : goal.put_row-requires
+put_row-requires g c = suits_at c.args.tree.now c.loop-row.tree c.args.rows.now c.loop-row.row-index _ c.requires c.loop-row.invariant.runs.schema c.loop-row-test.true
 
 pub loop-row-preserved : goal.loop-row-preserved
 loop-row-preserved g c =
     let inv = c.loop-row.invariant in
-    let said = c.in_ok-insert_row.ensures in
+    let said = c.in_ok-put_row.ensures in
     record {
       put = λ basis is.
-          put_next c.args.tree.now c.loop-row.tree c.insert_row.new.self c.args.rows.now c.loop-row.row-index _ basis c.loop-row-test.true (inv.put basis is) c.in_ok-insert_row.field-0
-          (record { number = said.number; counted = said.counted; failed = said.failed; refused = said.refused; effect = said.effect })
-          said.inserted;
-      trace = trace_on c.args.tree.now c.loop-row.tree c.insert_row.new.self _ inv.trace said.effect;
-      runs = runs_more (tt {0}) (Ok (tt {0})) _ _ _ inv.runs (runs_put (tt {0}) c.in_ok-insert_row.field-0 _ _ _ said.inserted said.effect);
+          put_next c.args.tree.now c.loop-row.tree c.put_row.new.tree c.args.rows.now c.loop-row.row-index _ basis c.loop-row-test.true (inv.put basis is) said.put;
+      trace = said.trace ∙ inv.trace;
+      runs = runs_more (tt {0}) (Ok (tt {0})) _ _ _ inv.runs said.effect;
     }
 
-pub returns-in_err-insert_row-clause-put : goal.returns-in_err-insert_row-clause-put
-returns-in_err-insert_row-clause-put g c basis is = no_answer c.from_residual.result _ _ c.from_residual.ensures.1
+pub returns-in_err-put_row-clause-put : goal.returns-in_err-put_row-clause-put
+returns-in_err-put_row-clause-put g c basis is = no_answer c.from_residual.result _ _ c.from_residual.ensures.1
 
-pub returns-in_err-insert_row-clause-stopped : goal.returns-in_err-insert_row-clause-stopped
-returns-in_err-insert_row-clause-stopped g c basis is =
-    let said = c.in_err-insert_row.ensures in
+pub returns-in_err-put_row-clause-stopped : goal.returns-in_err-put_row-clause-stopped
+returns-in_err-put_row-clause-stopped g c basis is =
     if_err c.from_residual.result _ _ c.from_residual.ensures.1
-    (put_stopped c.args.tree.now c.loop-row.tree c.insert_row.new.self c.args.rows.now c.loop-row.row-index _ basis c.loop-row-test.true (c.loop-row.invariant.put basis is)
-    c.in_err-insert_row.field-0.0
-    (record { number = said.number; counted = said.counted; failed = said.failed; refused = said.refused; effect = said.effect }))
+    (put_stopped c.args.tree.now c.loop-row.tree c.put_row.new.tree c.args.rows.now c.loop-row.row-index _ basis c.loop-row-test.true (c.loop-row.invariant.put basis is)
+    c.in_err-put_row.field-0.0 c.in_err-put_row.ensures.stopped)
 
-pub returns-in_err-insert_row-clause-trace : goal.returns-in_err-insert_row-clause-trace
-returns-in_err-insert_row-clause-trace g c = trace_on c.args.tree.now c.loop-row.tree c.insert_row.new.self _ c.loop-row.invariant.trace c.in_err-insert_row.ensures.effect
+pub returns-in_err-put_row-clause-trace : goal.returns-in_err-put_row-clause-trace
+returns-in_err-put_row-clause-trace g c = c.in_err-put_row.ensures.trace ∙ c.loop-row.invariant.trace
 
-pub returns-in_err-insert_row-clause-effect : goal.returns-in_err-insert_row-clause-effect
-returns-in_err-insert_row-clause-effect g c =
-    ran_err c.from_residual.result _ _ _ c.from_residual.ensures.1
-    (runs_more (tt {0}) (Err _) _ _ _ c.loop-row.invariant.runs (runs_change (Unit {0}) _ _ _ c.in_err-insert_row.ensures.effect))
+pub returns-in_err-put_row-clause-effect : goal.returns-in_err-put_row-clause-effect
+returns-in_err-put_row-clause-effect g c =
+    ran_err c.from_residual.result _ _ _ c.from_residual.ensures.1 (runs_more (tt {0}) (Err _) _ _ _ c.loop-row.invariant.runs c.in_err-put_row.ensures.effect)
 
 pub returns-clause-put : goal.returns-clause-put
 returns-clause-put g c basis is =
