@@ -4,8 +4,8 @@ use Rattle.std.proofs.lemmas.Bool.{cases_Bool}
 use Rattle.std.proofs.lemmas.Slice.Eq.{bytes_eq-Decides}
 use Rattle.std.specs.Prelude.{Err, Ok, OnErr, OnOk, Result}
 use Rattle.std.specs.Str.{bytes_eq}
-use Rattle.ub_files.specs.Clock.{Folder, IsSameBut, IsSameFolder, Lasts, Runs}
-use Rattle.ub_files.specs.Files.{FilesFacts, HasPages, Held, standard_input, untold}
+use Rattle.ub_files.specs.Clock.{Folder, IsSameBut, IsSameFolder, Runs}
+use Rattle.ub_files.specs.Files.{FilesFacts, Held, standard_input, untold}
 use Rattle.ub_memory_files.specs.Memory.{clock_in_memory, held_in, IsReadIn, KeepsOthers}
 use Rattle.ub_memory_files.specs.declared.entries.Entry.{Entry}
 
@@ -51,11 +51,6 @@ pub either_of : {E : Type 0} (Is : Held → Type 0) (result : Result (Unit {0}) 
 either_of Is (Ok x) held was none done either = inr done
 either_of Is (Err e) held was none done (inl same) = inl same
 either_of Is (Err e) held was none done (inr left) = inr (subst Is (sym left) none)
-
--- the pages that a path is told to hold last
-pub lasts_in : (path : List ℕ) (all : List (List ℕ)) (files : FilesFacts) (entries : List Entry) → HasPages (held_in entries path) all
-    → Lasts path all files (clock_in_memory entries)
-lasts_in path all files entries has = λ honest c left ne. subst (λ held. HasPages held all) (sym (left path ne)) has
 
 -- one of two is one of three
 pub or_more : {A B C : Type 0} → A ⊎ B → A ⊎ (B ⊎ C)
