@@ -1,6 +1,6 @@
 #!/usr/bin/env python3
 """Makes each allocation of the program fail in turn, by hand. It runs `try`, `load` and `run` on the table of five rows and a script with a statement of every kind, and then
-`run` of a script that changes the table, each time on a new copy of it; `describe` and `check` of it, and of the same in format 1; and `upgrade` of that table in formats 1 and 2. It says how many runs told `! Memory` after whole texts of
+`run` of a script that changes the table, `append` of two rows, of which one parts a region, and `query` of an INSERT, each time on a new copy of it; `describe` and `check` of it, and of the same in format 1; and `upgrade` of that table in formats 1 and 2. It says how many runs told `! Memory` after whole texts of
 first statements, how many did without, and how many did anything else (which is wrong). A table that was changed must then open, and hold what those statements left, but for the
 first rows of a DELETE that was stopped; where memory for a changed page was refused, which ends as `! Device`, it must be as it was. The old file of an upgrade must be as it was, and after a refusal the new one too, and so must each table that is described or checked.
 
@@ -40,9 +40,19 @@ INSERT INTO t VALUES (0, 0, 0);
 ROWS = {1: "1,1,10", 2: "2,3,20", 3: "3,0,5", 4: "0,2,7", 5: "2,3,1", 6: "2,3,-4", 7: "0,0,0"}
 FIVE, SIX, LEFT = (1, 2, 3, 4, 5), (1, 2, 3, 4, 5, 6), (1, 3, 4)
 # The numbers of the rows that a table may have after so many of these statements were told.
-AFTER = [[FIVE], [SIX], [SIX, (1, 3, 4, 5, 6), (1, 3, 4, 6), LEFT], [LEFT], [LEFT + (7,)]]
+AFTER = {
+    "run": [[FIVE], [SIX], [SIX, (1, 3, 4, 5, 6), (1, 3, 4, 6), LEFT], [LEFT], [LEFT + (7,)]],
+    # All rows are in, or none.
+    "append": [[FIVE], [SIX + (7,)]],
+    # Where memory for the text was refused, what the statement did stands, and isn't told.
+    "query": [[FIVE, SIX], [SIX]],
+}
+APPENDED = "m,y,x\n-4,3,2\n0,0,0\n"
+INSERTS = "INSERT INTO t VALUES (2, 3, -4);"
 # The commands that write one text, of a table that they leave as it is.
 ASKING = ["describe", "check"]
+# Those that write one text, and nothing where memory is refused.
+ONE_TEXT = ASKING + ["append"]
 MEMORY, DEVICE = 5, 4
 NOT_KEPT = "ubq: nothing was kept in copy.ub: "
 OLD = pathlib.Path(__file__).resolve().parent / "old"
@@ -55,7 +65,7 @@ def first_texts(text):
     texts, so_far = [""], ""
     for line in text.splitlines(True):
         so_far += line
-        if re.match(r"-- rows|-- inserted|-- deleted|regions |! ", line):
+        if re.match(r"-- rows|-- inserted|-- deleted|-- appended|regions |! ", line):
             texts.append(so_far)
     return texts
 
@@ -73,6 +83,7 @@ def main():
         pathlib.Path(work, "s.csv").write_text("x,y,m\n1,1,10\n2,3,20\n3,0,5\n0,2,7\n2,3,1\n")
         pathlib.Path(work, "every.sql").write_text(SCRIPT)
         pathlib.Path(work, "changes.sql").write_text(CHANGES)
+        pathlib.Path(work, "more.csv").write_text(APPENDED)
         pathlib.Path(work, "all.sql").write_text("SELECT * FROM t;")
 
         def run(words, due):
@@ -80,7 +91,13 @@ def main():
                 shutil.copy(pathlib.Path(work, "s.ub"), pathlib.Path(work, "copy.ub"))
             if words[0] == "upgrade":
                 pathlib.Path(work, "new.ub").write_text("what stood here")
-            return failing_memory.ended(library, [program] + words, due, work)
+            status, text, errors = failing_memory.ended(library, [program] + words, due, work)
+            if words[0] == "query":
+                # Its notes come behind its answers; what else is told of a file stands beside them.
+                lines = errors.splitlines(True)
+                text += "".join(line for line in lines if line.startswith(("-- ", "! ")))
+                errors = "".join(line for line in lines if not line.startswith(("-- ", "! ")))
+            return status, text, errors
 
         def is_upgraded_well(old, text):
             """Whether the old file is as it was, and the new one has its rows, or else is as it was where memory was refused."""
@@ -103,10 +120,11 @@ def main():
             if text.endswith("! Device\n"):
                 return status == 0 and has_rows(rows, FIVE)
             told = first_texts(text.removesuffix("! Memory\n"))
-            return status == 0 and any(has_rows(rows, numbers) for numbers in AFTER[len(told) - 1])
+            return status == 0 and any(has_rows(rows, numbers) for numbers in AFTER[words[0]][len(told) - 1])
 
         table = ["--dims", "2", "--page-rows", "2"]
         scripts = [["try", "s.csv", "every.sql"] + table, ["load", "s.csv", "s.ub"] + table, ["run", "s.ub", "every.sql"], ["run", "copy.ub", "changes.sql"]]
+        scripts += [["append", "copy.ub", "more.csv"], ["query", "copy.ub", INSERTS]]
         scripts += [[asking, "s.ub"] for asking in ASKING] + [["describe", "one.ub"]]
         for old, file in OLDER.items():
             shutil.copy(file, pathlib.Path(work, old))
@@ -116,7 +134,7 @@ def main():
                 run(["load", "s.csv", "s.ub"] + table, 0)
             asked = {name: pathlib.Path(work, name).read_bytes() for name in ["s.ub", "one.ub"] if words[0] in ASKING}
             status, text, _ = run(words, 0)
-            told = {first + "! Memory\n" for first in ([""] if words[0] in ASKING else first_texts(text))}
+            told = {first + "! Memory\n" for first in ([""] if words[0] in ONE_TEXT else first_texts(text))}
             refused = without = odd = due = since = 0
             while since < ROUND:
                 due += 1
