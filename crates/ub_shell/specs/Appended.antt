@@ -1,8 +1,9 @@
 -- What appending the rows of a CSV file leaves of a table file, and what is told.
-use Rattle.std.specs.Prelude.{◌≡◌, ◌≢◌, ◌⊎◌, ◌++◌, ℕ, List, Result, Ok, Err, codes, decimal, length, nat_lt, true, IfErr, IsOk, OnOk}
-use Rattle.ub_files.specs.Clock.{Folder, IsSameBut}
+use Rattle.std.specs.Prelude.{◌≡◌, ◌≢◌, ◌⊎◌, ◌++◌, ◌<◌, ℕ, List, Result, Ok, Err, codes, decimal, length, nat_lt, true, IfErr, IsOk, OnOk}
+use Rattle.ub_files.specs.Clock.{Endures, Folder, FolderClock, IsSameBut}
 use Rattle.ub_files.specs.Files.{FilesFacts, HasPages, Held, IsLent}
 use Rattle.ub_load.specs.Appending.{AreRowsOf, IsRowsFault}
+use Rattle.ub_load.specs.LoadedTable.{records_of}
 use Rattle.ub_load.specs.declared.fault.LoadFault.{LoadFault}
 use Rattle.ub_script.specs.Appending.{ArePutIn, ArePutUpTo, ran}
 use Rattle.ub_script.specs.Basis.{Basis, IsBasisOf, IsRestOf}
@@ -146,3 +147,17 @@ pub record HoldsAppended (table source : List ℕ) (old : FilesFacts) (out out_n
 -- what a crash leaves while rows are appended to a table file
 abbrev pub AppendsSafely : List ℕ → List ℕ → FilesFacts → OutFacts → OutFacts → Status → Folder → Folder → Type 0
 AppendsSafely table source old out out_now status = IsSameBut table (HoldsAppended table source old out out_now status)
+
+-- ---- what lasts after it
+
+-- a text has a record behind its header
+abbrev pub HasRows : List ℕ → Type 0
+HasRows text = 1 < length (records_of text)
+
+-- the text that a path holds was read, and where it has a row, each crash from now on leaves in the table file what is left of the table's store with
+-- the text's rows put in
+pub record AppendLasts (table source : List ℕ) (old : FilesFacts) (out out_now : OutFacts) (status : Status) (now : FolderClock) : Type 0 where
+  pub text : List ℕ
+  pub mid : FilesFacts
+  pub read : HasRead source text old mid
+  pub lasts : HasRows text → Endures table (HoldsAppended table source old out out_now status) old now

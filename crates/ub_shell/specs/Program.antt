@@ -3,6 +3,7 @@ use Rattle.std.specs.Prelude.{◌≡◌, ℕ, List}
 use Rattle.ub_files.specs.Clock.{FolderClock, IsSameFolder, Runs}
 use Rattle.ub_files.specs.Files.{FilesFacts}
 use Rattle.ub_script.specs.Output.{OutFacts}
+use Rattle.ub_shell.specs.Appended.{AppendLasts}
 use Rattle.ub_shell.specs.Commands.{axes_asked}
 use Rattle.ub_shell.specs.Crashes.{IsBeforeOrAfter, LoadLasts, QueryLasts, RunLasts, SaysAllDone, UpgradeLasts}
 use Rattle.ub_shell.specs.Ran.{HasEnded, HasNotRead}
@@ -11,7 +12,7 @@ use Rattle.ub_shell.specs.declared.status.Status.{Status}
 use Rattle.ub_shell.specs.declared.status.Status.TheVariants.{Done}
 use Rattle.ub_words.specs.Asked.{IsAskedBy}
 use Rattle.ub_words.specs.declared.words.Asked.{Asked}
-use Rattle.ub_words.specs.declared.words.Asked.TheVariants.{Load, Query, Run, Upgrade}
+use Rattle.ub_words.specs.declared.words.Asked.TheVariants.{Append, Load, Query, Run, Upgrade}
 
 -- what lasts of what is asked for, where the status says that all was done: in the table file that it names, what a whole run of it leaves
 abbrev pub LastsAs : Asked → FilesFacts → OutFacts → OutFacts → OutFacts → OutFacts → Status → FolderClock → Type 0
@@ -20,6 +21,7 @@ LastsAs (Query asked) old out out_now notes notes_now status now = QueryLasts as
 LastsAs (Load asked) old out out_now notes notes_now status now =
     status ≡ Done → LoadLasts asked.source.path.now asked.table.now asked.source.name.now (axes_asked asked.source) asked.source.page_rows old now
 LastsAs (Upgrade asked) old out out_now notes notes_now status now = status ≡ Done → UpgradeLasts asked.old.now asked.new.now old now
+LastsAs (Append asked) old out out_now notes notes_now status now = AppendLasts asked.table.now asked.data.now old out out_now status now
 LastsAs asked old out out_now notes notes_now status now = Unit {0}
 
 -- the words ask for this, and that lasts

@@ -1,7 +1,8 @@
-ghost use Rattle.std.specs.Prelude.{◌≡◌};
+ghost use Rattle.std.specs.Prelude.{◌≡◌, ◌<◌, length};
 ghost use Rattle.std.specs.List.{All};
-ghost use Rattle.ub_files.specs.Clock.{IsSameBut, Runs};
-ghost use Rattle.ub_shell.specs.Appended.{appended_line, AppendsFile, AppendsSafely, AppendsStore, AppendsText};
+ghost use Rattle.ub_files.specs.Clock.{Endures, IsSameBut, Runs};
+ghost use Rattle.ub_shell.specs.Appended.{appended_line, AppendLasts, AppendsFile, AppendsSafely, AppendsStore, AppendsText, HasRows};
+ghost use Rattle.ub_shell.specs.Crashes.{SaysAllDone};
 ghost use Rattle.ub_shell.specs.inner.Appending.{AppendsRows, AppendsTree, HoldsCount, HoldsMore, HoldsPut, HoldsRows, HoldsText, KeepsCount};
 ghost use Rattle.ub_table.specs.Region.{measures_of};
 ghost use Rattle.ub_tree.specs.Change.{Suits};
@@ -37,6 +38,8 @@ pub fn append_file<F: Files, W: Out>(
     ensures crash { Runs (AppendsSafely asked.entry.table.now asked.entry.data.now
         (F.facts files.old) (W.facts out.old) (W.facts out.new) result)
         (F.facts files.old) (F.clock files.old) (F.clock files.new) }
+    ensures lasts { SaysAllDone result → AppendLasts asked.entry.table.now asked.entry.data.now
+        (F.facts files.old) (W.facts out.old) (W.facts out.new) result (F.clock files.new) }
 {
     if is_same(asked.data, asked.table) {
         return tell(out, b"! SameFile\n", Status::CommandLine);
@@ -60,6 +63,9 @@ fn append_text<F: Files, W: Out>(
     ensures crash { Runs (IsSameBut path.now (HoldsText path.now text.now (F.facts files.old)
         (W.facts out.old) (W.facts out.new) result))
         (F.facts files.old) (F.clock files.old) (F.clock files.new) }
+    ensures lasts { HasRows text.now → SaysAllDone result
+        → Endures path.now (HoldsText path.now text.now (F.facts files.old)
+        (W.facts out.old) (W.facts out.new) result) (F.facts files.old) (F.clock files.new) }
 {
     match files.change(path) {
         Ok(store) => append_store(alloc, files, path, store, text, out),
@@ -81,6 +87,9 @@ fn append_store<F: Files, W: Out>(
     ensures crash { Runs (IsSameBut path.now (HoldsMore (F.Store.facts store) text.now
         (W.facts out.old) (W.facts out.new) result))
         (F.facts files.old) (F.clock files.old) (F.clock files.new) }
+    ensures lasts { HasRows text.now → SaysAllDone result
+        → Endures path.now (HoldsMore (F.Store.facts store) text.now
+        (W.facts out.old) (W.facts out.new) result) (F.facts files.old) (F.clock files.new) }
 {
     match Tree::open(alloc, store) {
         Ok(tree) => append_tree(alloc, files, path, tree, text, out),
@@ -105,6 +114,9 @@ fn append_tree<F: Files, W: Out>(
     ensures crash { Runs (IsSameBut path.now (HoldsRows tree text.now
         (W.facts out.old) (W.facts out.new) result))
         (F.facts files.old) (F.clock files.old) (F.clock files.new) }
+    ensures lasts { HasRows text.now → SaysAllDone result
+        → Endures path.now (HoldsRows tree text.now
+        (W.facts out.old) (W.facts out.new) result) (F.facts files.old) (F.clock files.new) }
 {
     match read_rows(alloc, text, tree.schema(), tree.next()) {
         Ok(rows) => append_rows(files, path, tree, rows.as_slice(), out),
@@ -129,6 +141,9 @@ fn append_rows<F: Files, W: Out>(
     ensures crash { Runs (IsSameBut path.now (HoldsPut tree rows.now
         (W.facts out.old) (W.facts out.new) result))
         (F.facts files.old) (F.clock files.old) (F.clock files.new) }
+    ensures lasts { 0 < length rows.now → SaysAllDone result
+        → Endures path.now (HoldsPut tree rows.now
+        (W.facts out.old) (W.facts out.new) result) (F.facts files.old) (F.clock files.new) }
 {
     let next = tree.next();
     match put_rows(&mut tree, rows) {
@@ -157,6 +172,9 @@ fn keep_rows<F: Files, W: Out>(
     ensures crash { Runs (IsSameBut path.now (HoldsCount tree count
         (W.facts out.old) (W.facts out.new) result))
         (F.facts files.old) (F.clock files.old) (F.clock files.new) }
+    ensures lasts { 0 < count → SaysAllDone result
+        → Endures path.now (HoldsCount tree count
+        (W.facts out.old) (W.facts out.new) result) (F.facts files.old) (F.clock files.new) }
 {
     let rows = tree.rows();
     match close_table(files, path, 0 < count, tree) {

@@ -1,6 +1,7 @@
 use Rattle.std.proofs.Common.{inl, inr, refl}
-use Rattle.ub_shell.proofs.AppendFacts.{append_same, append_still, appended_safely}
+use Rattle.ub_shell.proofs.AppendFacts.{append_same, append_still, appended_lasts, appended_safely}
 use Rattle.ub_shell.proofs.FileFacts.{has_read, not_read, not_so}
+use Rattle.ub_shell.proofs.LastFacts.{never_done, store_says}
 use Rattle.ub_shell.proofs.appending.append_file.Goals as goal
 
 pub returns-in-Ok-clause-appends : goal.returns-in-Ok-clause-appends
@@ -34,3 +35,19 @@ returns-then-is_same-clause-crash g c = append_still c.args.asked.table.now c.ar
 
 pub returns-in-Err-clause-crash : goal.returns-in-Err-clause-crash
 returns-in-Err-clause-crash g c = append_same c.args.asked.table.now c.args.asked.data.now (g.F.Files.facts c.args.files.now) _ _ (g.W.Out.facts c.args.out.now) (g.W.Out.facts c.tell_store_fault.new.out) c.tell_store_fault.result c.in-Err.ensures.crash
+
+pub returns-in-Ok-clause-lasts : goal.returns-in-Ok-clause-lasts
+returns-in-Ok-clause-lasts g c = λ done. record {
+  text = c.as_slice.result.now;
+  mid = g.F.Files.facts c.read.new.self;
+  read = has_read _ c.as_slice.result.now _ _ _ (rw c.as_slice.ensures.value c.in-Ok.ensures.text) c.in-Ok.ensures.effect;
+  lasts = λ some. appended_lasts c.args.asked.table.now c.args.asked.data.now c.as_slice.result.now (g.F.Files.facts c.args.files.now) (g.F.Files.facts c.read.new.self) (g.F.Files.clock c.append_text.new.files) (g.W.Out.facts c.args.out.now) (g.W.Out.facts c.append_text.new.out) c.append_text.result
+      (has_read _ c.as_slice.result.now _ _ _ (rw c.as_slice.ensures.value c.in-Ok.ensures.text) c.in-Ok.ensures.effect)
+      (c.append_text.ensures.lasts some done);
+}
+
+pub returns-then-is_same-clause-lasts : goal.returns-then-is_same-clause-lasts
+returns-then-is_same-clause-lasts g c = λ done. absurd (never_done _ _ _ _ c.tell.result c.tell.ensures refl done)
+
+pub returns-in-Err-clause-lasts : goal.returns-in-Err-clause-lasts
+returns-in-Err-clause-lasts g c = λ done. absurd (never_done _ _ _ _ c.tell_store_fault.result c.tell_store_fault.ensures (store_says c.in-Err.fault) done)

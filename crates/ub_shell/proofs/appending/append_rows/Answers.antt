@@ -1,5 +1,6 @@
 use Rattle.std.proofs.Common.{inl, inr, length}
-use Rattle.ub_shell.proofs.AppendFacts.{count_is, next_is, no_fewer, put_same, rows_kept, rows_safely}
+use Rattle.ub_shell.proofs.AppendFacts.{count_is, next_is, no_fewer, put_same, rows_kept, rows_lasts, rows_safely}
+use Rattle.ub_shell.proofs.LastFacts.{never_done, tree_says}
 use Rattle.ub_shell.proofs.appending.append_rows.Goals as goal
 
 pub put_rows-requires : goal.put_rows-requires
@@ -39,3 +40,13 @@ returns-in-Ok-clause-crash g c =
 pub returns-in-Err-clause-crash : goal.returns-in-Err-clause-crash
 returns-in-Err-clause-crash g c =
     put_same c.args.path.now c.args.rows.now c.args.tree (g.F.Files.facts c.args.files.now) _ _ (g.W.Out.facts c.args.out.now) (g.W.Out.facts c.tell_tree_fault.new.out) c.tell_tree_fault.result c.leave_table.ensures.crash
+
+pub returns-in-Ok-clause-lasts : goal.returns-in-Ok-clause-lasts
+returns-in-Ok-clause-lasts g c = λ some done.
+    rows_lasts c.args.path.now c.args.rows.now c.args.tree c.put_rows.new.tree _ (g.W.Out.facts c.args.out.now) (g.W.Out.facts c.keep_rows.new.out) c.keep_rows.result
+    (record { put = c.in-Ok.ensures.put; stopped = λ basis is. tt; effect = c.in-Ok.ensures.effect })
+    (count_is c.args.tree.next c.put_rows.new.tree.next c.next-next.result c.next.result _ c.next-next.ensures c.next.ensures (next_is c.args.tree c.put_rows.new.tree c.args.rows.now c.in-Ok.ensures.put))
+    (g.F.Files.facts c.args.files.now) (g.F.Files.clock c.keep_rows.new.files) some (λ more. c.keep_rows.ensures.lasts more done)
+
+pub returns-in-Err-clause-lasts : goal.returns-in-Err-clause-lasts
+returns-in-Err-clause-lasts g c = λ some done. absurd (never_done _ _ _ _ c.tell_tree_fault.result c.tell_tree_fault.ensures (tree_says c.in-Err.fault) done)

@@ -1,8 +1,9 @@
 use Rattle.std.proofs.Common.{ap, inl, inr}
 use Rattle.ub_files.specs.Files.{FilesFacts}
-use Rattle.ub_shell.proofs.AppendFacts.{text_safely, text_same}
+use Rattle.ub_shell.proofs.AppendFacts.{text_lasts, text_safely, text_same}
 use Rattle.ub_shell.proofs.CrashFacts.{still_honest}
 use Rattle.ub_shell.proofs.FileFacts.{not_ready, opened_to_change}
+use Rattle.ub_shell.proofs.LastFacts.{never_done, open_says}
 use Rattle.ub_shell.proofs.appending.append_text.Goals as goal
 
 pub returns-in-Ok-clause-appends : goal.returns-in-Ok-clause-appends
@@ -27,3 +28,12 @@ returns-in-Ok-clause-crash g c =
 pub returns-in-Err-clause-crash : goal.returns-in-Err-clause-crash
 returns-in-Err-clause-crash g c =
     text_same c.args.path.now c.args.text.now (g.W.Out.facts c.args.out.now) (g.W.Out.facts c.tell_open_fault.new.out) c.tell_open_fault.result (g.F.Files.facts c.args.files.now) _ _ c.in-Err.ensures.crash
+
+pub returns-in-Ok-clause-lasts : goal.returns-in-Ok-clause-lasts
+returns-in-Ok-clause-lasts g c = λ some done.
+    text_lasts c.args.path.now c.args.text.now (g.W.Out.facts c.args.out.now) (g.W.Out.facts c.append_store.new.out) c.append_store.result
+    (g.F.Store.PageStore.facts c.in-Ok.store) (g.F.Files.facts c.args.files.now) (g.F.Files.facts c.change.new.self) (g.F.Files.clock c.append_store.new.files) c.in-Ok.ensures.lent
+    (still_honest (g.F.Files.facts c.args.files.now) (g.F.Files.facts c.change.new.self) (ap (λ (f : FilesFacts). f.honest) c.in-Ok.ensures.effect.same)) (c.append_store.ensures.lasts some done)
+
+pub returns-in-Err-clause-lasts : goal.returns-in-Err-clause-lasts
+returns-in-Err-clause-lasts g c = λ some done. absurd (never_done _ _ _ _ c.tell_open_fault.result c.tell_open_fault.ensures (open_says c.in-Err.fault) done)

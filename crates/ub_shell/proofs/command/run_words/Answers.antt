@@ -100,5 +100,5 @@ returns-in-Ok-Append g c =
     record {
       ended = ended_alone _ _ _ _ _ _ _ (append_ends _ c.in-Ok-Append.field-0 c.in-Ok-Append.asked _ _ _ _ _ c.in-Ok-Append.field-0-is c.in-Ok-Append.ensures c.append_file.ensures.appends);
       crash = append_crash (map string_bytes c.args.words.now) c.in-Ok-Append.field-0 (g.F.Files.facts c.args.files.now) _ _ (g.W.Out.facts c.args.out.now) (g.W.Out.facts c.append_file.new.out) (g.N.Out.facts c.args.notes.now) (g.N.Out.facts c.args.notes.now) c.append_file.result c.in-Ok-Append.asked c.in-Ok-Append.field-0-is c.in-Ok-Append.ensures c.append_file.ensures.crash;
-      lasts = λ done. lasting_as (map string_bytes c.args.words.now) c.in-Ok-Append.field-0 (asked.Append c.in-Ok-Append.asked) (g.F.Files.facts c.args.files.now) (g.W.Out.facts c.args.out.now) (g.W.Out.facts c.append_file.new.out) (g.N.Out.facts c.args.notes.now) (g.N.Out.facts c.args.notes.now) c.append_file.result (g.F.Files.clock c.append_file.new.files) c.in-Ok-Append.field-0-is c.in-Ok-Append.ensures tt;
+      lasts = λ done. lasting_as (map string_bytes c.args.words.now) c.in-Ok-Append.field-0 (asked.Append c.in-Ok-Append.asked) (g.F.Files.facts c.args.files.now) (g.W.Out.facts c.args.out.now) (g.W.Out.facts c.append_file.new.out) (g.N.Out.facts c.args.notes.now) (g.N.Out.facts c.args.notes.now) c.append_file.result (g.F.Files.clock c.append_file.new.files) c.in-Ok-Append.field-0-is c.in-Ok-Append.ensures (c.append_file.ensures.lasts done);
     }
