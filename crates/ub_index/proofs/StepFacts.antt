@@ -1,24 +1,26 @@
 -- What a call leaves that brings a page, looks at it, and forgets it where it is refused.
-use Rattle.std.proofs.Common.{◌≡◌, ◌≤◌, ℕ, Bool, List, Option, Some, Result, slice_get, Ok, Err, IfOk, IfErr, IsTrue, length, ◌∙◌, sym, ap, subst, refl, arith}
+use Rattle.std.proofs.Common.{◌≡◌, ◌≤◌, ℕ, Bool, List, [], Option, Some, None, Result, slice_get, Ok, Err, IfOk, IfErr, IsTrue, length, ◌∙◌, sym, ap, subst, refl, arith}
 use Rattle.std.proofs.lemmas.Option.{slice_get_within}
 use Rattle.std.specs.Result.{IsErrAnd, IsErrOf}
 use Rattle.ub_page.specs.declared.entries.Entry.{Entry}
-use Rattle.ub_store.specs.Cache.{NoneMoreBut}
-use Rattle.ub_store.specs.Facts.{StoreFacts, Reads, counted, page_count}
+use Rattle.ub_store.specs.Cache.{NoneMoreBut, page_at}
+use Rattle.ub_store.specs.Facts.{StoreFacts, IsPage, Reads, counted, page_count}
 use Rattle.ub_store.specs.View.{PagerView, Trace}
 use Rattle.ub_store.specs.declared.fault.StoreFault.{StoreFault}
 use Rattle.ub_store.specs.declared.fault.StoreFault.TheVariants as store
 use Rattle.ub_table.specs.declared.row.Key.{Key}
+use Rattle.ub_index.specs.Bringing.{BringsFitting, IsBringFault}
 use Rattle.ub_index.specs.Changing.{IsNoGrowth}
 use Rattle.ub_index.specs.Descending.{IsStepFault, Steps}
-use Rattle.ub_index.specs.Index.{entries_of, Fits, NamesFitting}
-use Rattle.ub_index.specs.Opening.{IsOpenFault, IsPassing, Opens}
+use Rattle.ub_index.specs.Index.{entries_of, top, Fits, NamesFitting}
+use Rattle.ub_index.specs.Opening.{IsPassing, Opens}
 use Rattle.ub_index.specs.Searching.{GoesDown, store_after}
 use Rattle.ub_index.specs.View.{IndexView}
 use Rattle.ub_index.specs.declared.fault.IndexFault.{IndexFault}
 use Rattle.ub_index.specs.declared.fault.IndexFault.TheVariants.{Full, Page, Store}
 use Rattle.ub_index_page.specs.Index.{node_on}
-use Rattle.ub_index.proofs.FitFacts.{page_is}
+use Rattle.ub_index_page.specs.declared.index.Head.{Head}
+use Rattle.ub_index.proofs.FitFacts.{is_refused, page_is}
 use Rattle.ub_index.proofs.SearchFacts.{err_is, pager_with, same_store}
 
 -- nothing is said of what is answered where a call is refused
@@ -94,19 +96,24 @@ refused_as T U Sought index old new r e is h = subst (λ (x : Result T IndexFaul
   faults = h.faults;
 })
 
--- the root of an index isn't opened since its page isn't brought, and not for its number, where it stands there
-pub open_unbrought : {T : Type 0} (index : IndexView) (old new : PagerView) (r : Result T IndexFault) (fault : StoreFault) → IsErrAnd r (λ x. x ≡ Store fault)
-    → Reads {A = Bool} old.store new.store (Err fault) → new.trace ≡ old.trace → NoneMoreBut index.root old.cached new.cached
-    → (IsErrOf {T = Bool} (Err fault) store.NoPage → page_count old.store ≤ index.root) → ¬ (IsErrOf {T = Bool} (Err fault) store.BadSize) → Opens index old new r
-open_unbrought {T = T} index old new r fault is reads traces others missing size =
-    subst (λ (x : Result T IndexFault). Opens index old new x) (sym (err_is r (Store fault) is)) (record {
-      same = pager_so old new (store_after {A = T} (Err (Store fault)) old.store) (reads.same ∙ counts_so T Bool fault old.store) traces;
-      cached = others;
+-- a page isn't brought, and not for its number, where it stands there
+pub unbrought : (last level : ℕ) (entry : Entry) (end : Option Key) (old new : PagerView) (r : Result Head IndexFault) (fault : StoreFault) → IsErrAnd r (λ x. x ≡ Store fault)
+    → Reads {A = Bool} old.store new.store (Err fault) → new.trace ≡ old.trace → NoneMoreBut entry.page old.cached new.cached
+    → (IsErrOf {T = Bool} (Err fault) store.NoPage → page_count old.store ≤ entry.page) → ¬ (IsErrOf {T = Bool} (Err fault) store.BadSize)
+    → BringsFitting last level entry end old new r
+unbrought last level entry end old new r fault is reads traces others missing size =
+    subst (λ (x : Result Head IndexFault). BringsFitting last level entry end old new x) (sym (err_is r (Store fault) is)) (record {
+      same = pager_so old new (store_after {A = Head} (Err (Store fault)) old.store) (reads.same ∙ counts_so Head Bool fault old.store) traces;
+      cached = tt;
+      fits = tt;
+      named = λ honest. tt;
+      others = others;
+      forgotten = tt;
       faults = by_fault fault reads.device missing size;
     })
   where
-    by_fault : (f : StoreFault) → (IsErrOf {T = Bool} (Err f) store.Device → IsTrue old.store.can_fail) → (IsErrOf {T = Bool} (Err f) store.NoPage → page_count old.store ≤ index.root)
-        → ¬ (IsErrOf {T = Bool} (Err f) store.BadSize) → IsOpenFault index old.store (Store f)
+    by_fault : (f : StoreFault) → (IsErrOf {T = Bool} (Err f) store.Device → IsTrue old.store.can_fail) → (IsErrOf {T = Bool} (Err f) store.NoPage → page_count old.store ≤ entry.page)
+        → ¬ (IsErrOf {T = Bool} (Err f) store.BadSize) → IsBringFault last old.store level entry end (Store f)
     by_fault store.Memory device gone large = tt
     by_fault store.Device device gone large = device refl
     by_fault store.NoPage device gone large = gone refl
@@ -121,6 +128,49 @@ unbrought_passes {T = T} pages n page r fault is at missing size = if_err IsPass
     by_fault store.Device gone large = tt
     by_fault store.NoPage gone large = let near = slice_get_within pages n page at in let far = gone refl in absurd (omega arith)
     by_fault store.BadSize gone large = absurd (large refl)
+
+-- what the pager holds under a number is one page
+pub held_once : (held : List (ℕ × List ℕ)) (n : ℕ) (p q : List ℕ) → page_at held n ≡ Some p → page_at held n ≡ Some q → p ≡ q
+held_once held n p q one two = cc
+
+-- a step is made, or refused, as the page of its entry is brought
+module _ (last level : ℕ) (entry : Entry) (end : Option Key) (old new : PagerView) where
+  step_fault : (e : IndexFault) → IsBringFault last old.store level entry end e → IsStepFault last old.store [] level entry end e
+  step_fault (Page n fault) (same, page, at, unfit) = (
+    same,
+    λ honest. is_refused old.store.pages last level entry end page fault (subst (λ (m : ℕ). slice_get old.store.pages m ≡ Some page) same (at honest)) unfit,
+  )
+  step_fault (Store store.Memory) h = h
+  step_fault (Store store.Device) h = h
+  step_fault (Store store.NoPage) h = h
+  step_fault (Store store.BadSize) h = h
+  step_fault Full h = h
+
+  pub step_misfits : {T : Type 0} (r : Result T IndexFault) (e : IndexFault) → IsErrAnd r (λ x. x ≡ e) → BringsFitting last level entry end old new (Err e) → Steps last [] level entry end old new r
+  step_misfits {T = T} r e is h = subst (λ (x : Result T IndexFault). Steps last [] level entry end old new x) (sym (err_is r e is)) (record {
+    same = h.same ∙ ap (λ (s : StoreFacts). pager_with s old.trace new.cached) (same_store T Head e old.store);
+    faults = step_fault e h.faults;
+  })
+
+  pub step_fits : {T : Type 0} (head : Head) (x : T) → BringsFitting last level entry end old new (Ok head) → Steps last [] level entry end old new (Ok x)
+  step_fits head x h = record { same = h.same; faults = tt }
+
+  pub step_memory : {T : Type 0} (head : Head) (r : Result T IndexFault) → IsErrAnd r (λ x. x ≡ Store store.Memory) → BringsFitting last level entry end old new (Ok head)
+      → Steps last [] level entry end old new r
+  step_memory head r is h = memory_refused last [] level entry end old new r is (ap (λ (p : PagerView). p.store) h.same) (ap (λ (p : PagerView). p.trace) h.same)
+
+  -- and the page that is held then stood there
+  pub brought_page : (head : Head) (page : List ℕ) → BringsFitting last level entry end old new (Ok head) → IsPage new.store entry.page page → IsPage old.store entry.page page
+  brought_page head page h = subst (λ (s : StoreFacts). IsPage s entry.page page) (ap (λ (p : PagerView). p.store) h.same)
+
+-- the root of an index isn't opened, as its page isn't brought
+pub open_misfits : {T : Type 0} (index : IndexView) (old new : PagerView) (r : Result T IndexFault) (e : IndexFault) → IsErrAnd r (λ x. x ≡ e)
+    → BringsFitting index.last index.levels (top index.root) None old new (Err e) → Opens index old new r
+open_misfits {T = T} index old new r e is h = subst (λ (x : Result T IndexFault). Opens index old new x) (sym (err_is r e is)) (record {
+  same = h.same ∙ ap (λ (s : StoreFacts). pager_with s old.trace new.cached) (same_store T Head e old.store);
+  cached = h.others;
+  faults = h.faults;
+})
 
 -- a step that is refused is so not for want of pages, nor of levels
 pub step_no_growth : (last : ℕ) (old : StoreFacts) (held : List (ℕ × List ℕ)) (level : ℕ) (entry : Entry) (end : Option Key) (e : IndexFault) → IsStepFault last old held level entry end e → IsNoGrowth e

@@ -6,6 +6,7 @@ pub mod Way
 pub mod View
 pub mod Searching
 pub mod Descending
+pub mod Bringing
 pub mod Changing
 pub mod Preparing
 pub mod Lowering

@@ -1,15 +1,15 @@
 -- Opening an index that stands on a store, and making one of a single region.
 use Rattle.std.specs.Prelude.{◌≡◌, ◌≤◌, ℕ, IsTrue, List, [], ◌∷◌, None, Result, IfErr}
-use Rattle.ub_index.specs.Fitting.{IsUnfit}
+use Rattle.ub_index.specs.Bringing.{IsBringFault}
 use Rattle.ub_index.specs.Index.{Fits, NamesFitting, top}
 use Rattle.ub_index.specs.Preparing.{IsReachedOnce, pages_of_index}
 use Rattle.ub_index.specs.Searching.{store_after}
 use Rattle.ub_index.specs.View.{IndexView, IsIndexOn, entries_in}
 use Rattle.ub_index.specs.declared.fault.IndexFault.{IndexFault}
-use Rattle.ub_index.specs.declared.fault.IndexFault.TheVariants.{Full, Page, Store}
+use Rattle.ub_index.specs.declared.fault.IndexFault.TheVariants.{Store}
 use Rattle.ub_index_page.specs.Index.{index_page}
 use Rattle.ub_store.specs.Cache.{NoneMoreBut}
-use Rattle.ub_store.specs.Facts.{StoreFacts, IsPage, page_count}
+use Rattle.ub_store.specs.Facts.{StoreFacts, page_count}
 use Rattle.ub_store.specs.View.{Holds, PagerView}
 use Rattle.ub_store.specs.declared.fault.StoreFault.{StoreFault}
 use Rattle.ub_store.specs.declared.fault.StoreFault.TheVariants as store
@@ -24,16 +24,9 @@ pub record HoldsRoot (index : IndexView) (pager : PagerView) : Type 0 where
   pub held : Holds pager index.root page
   pub fits : Fits index.last page index.levels (top index.root) None
 
--- why an index isn't opened: memory was refused; the store failed, which it then can; it has no page of the root's number; or
--- the page that it has there is refused
+-- why an index isn't opened: as the page of its root isn't brought, or isn't taken
 abbrev pub IsOpenFault : IndexView → StoreFacts → IndexFault → Type 0
-IsOpenFault index old (Store store.Memory) = Unit {0}
-IsOpenFault index old (Store store.Device) = IsTrue old.can_fail
-IsOpenFault index old (Store store.NoPage) = page_count old ≤ index.root
-IsOpenFault index old (Store store.BadSize) = ⊥
-IsOpenFault index old Full = ⊥
-IsOpenFault index old (Page n fault) =
-    (n ≡ index.root) × (page : List ℕ) × IsPage old n page × IsUnfit index.last page index.levels (top index.root) None fault
+IsOpenFault index old = IsBringFault index.last old index.levels (top index.root) None
 
 -- memory was refused, or the store failed: the same call may succeed later
 abbrev pub IsPassing : IndexFault → Type 0

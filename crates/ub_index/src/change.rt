@@ -13,7 +13,7 @@ ghost use Rattle.ub_index.specs.Preparing.{Settles, IsSettleFault, TakesFew};
 ghost use Rattle.ub_index.specs.declared.told.Told.TheVariants.{Two};
 ghost use Rattle.ub_index_page.specs.declared.index.TheConstants.{MAX_LEVEL};
 
-use crate::descent::{fits, root_place};
+use crate::descent::bring_root;
 use crate::fault::IndexFault;
 use crate::making::extend_by;
 use crate::sheet::Sheet;
@@ -168,15 +168,8 @@ fn named_alone<S: PageStore>(
     if let Some(page) = sheets.find(root) {
         return Ok(sole_on(page));
     }
-    pager.bring(root)?;
-    let page = pager.cached(root);
-    match fits(page, last, level, &root_place(root)) {
-        Ok(_) => Ok(sole_on(page)),
-        Err(fault) => {
-            pager.forget(root);
-            Err(IndexFault::Page { page: root, fault })
-        }
-    }
+    bring_root(pager, last, level, root)?;
+    Ok(sole_on(pager.cached(root)))
 }
 
 // The page that a page of an index names alone, if it does, and it isn't page 0.

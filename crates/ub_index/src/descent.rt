@@ -1,8 +1,10 @@
 // The way down an index, step by step.
 ghost use Rattle.std.specs.Prelude.{◌≡◌, ◌+◌, ◌<◌, ◌≤◌, ◌↔◌, ◌⊎◌, None, Some, IfOk, IfErr, IsOk, IfSome, IsTrue, drop};
+ghost use Rattle.ub_index.specs.Bringing.{BringsFitting};
 ghost use Rattle.ub_index.specs.Descending.{GoesBack, HoldsLeaf, IsForgotten, KeepsChecked, Looks, LooksAt, Steps, StepsTo};
 ghost use Rattle.ub_index.specs.Fitting.{FallsTo, FitsAtEnds, FitsSo, IsRowRefused, IsUnfit, IsUnfitAtEnds, IsUnfitSo};
-ghost use Rattle.ub_index.specs.Index.{Fits, first_or, top};
+ghost use Rattle.ub_index.specs.Index.{Fits, NamesFitting, first_or, top};
+ghost use Rattle.ub_index.specs.Opening.{IsPassing};
 ghost use Rattle.ub_index.specs.Searching.{Aims, IsAim, IsAimless, at_least};
 ghost use Rattle.ub_index_page.specs.Index.{head_on, node_on};
 ghost use Rattle.ub_index_page.specs.Slots.{IsSlot};
@@ -58,6 +60,44 @@ pub fn root_place(root: u32) -> Place
     }
 }
 
+/// Brings the page that the entry of a place of this level names, and checks it in full, held or not. What its first bytes tell
+/// comes where it fits there; the pager then holds it. It forgets a page that is refused.
+pub fn bring_fitting<S: PageStore>(
+    pager: &mut Pager<S>,
+    last: u128,
+    level: u32,
+    place: &Place,
+) -> Result<Head, IndexFault>
+    ensures exact { IsHonest pager.old.store → NamesFitting last pager.old.store.pages
+        level place.now.entry place.now.next → IfErr result IsPassing }
+    ensures effect { BringsFitting last level place.now.entry place.now.next
+        pager.old pager.new result }
+{
+    let page = place.entry.page;
+    pager.bring(page)?;
+    match fits(pager.cached(page), last, level, place) {
+        Ok(head) => Ok(head),
+        Err(fault) => {
+            pager.forget(page);
+            Err(IndexFault::Page { page, fault })
+        }
+    }
+}
+
+/// The same of the page of a root.
+pub fn bring_root<S: PageStore>(
+    pager: &mut Pager<S>,
+    last: u128,
+    level: u32,
+    root: u32,
+) -> Result<Head, IndexFault>
+    ensures exact { IsHonest pager.old.store → NamesFitting last pager.old.store.pages
+        level (top root) None → IfErr result IsPassing }
+    ensures effect { BringsFitting last level (top root) None pager.old pager.new result }
+{
+    bring_fitting(pager, last, level, &root_place(root))
+}
+
 /// Goes down from a place of this level to that of the level below to which the key falls. Reads the page that the entry names,
 /// if it isn't held, and then checks it in full; of a page that is held its ends are looked at, and the entry to which the key
 /// falls: it is refused as BadRow where it names page 0, as it would be in full. The pager forgets a page that is refused.
@@ -78,6 +118,8 @@ pub fn step_down<S: PageStore>(
     ensures effect { Steps last pager.old.cached level place.now.entry place.now.next
         pager.old pager.new result }
 {
+    // Not by `bring_fitting`: a page that was held isn't checked in full here, and one on which the entry itself is refused is
+    // forgotten too.
     let number = place.entry.page;
     let is_read = pager.bring(number)?;
     let page = pager.cached(number);
@@ -132,6 +174,7 @@ pub fn look<S: PageStore>(
     ensures effect { Steps last pager.old.cached 1 leaf.now.place.entry leaf.now.place.next
         pager.old pager.new result }
 {
+    // Not by `bring_fitting`, as in `step_down`.
     let n = leaf.place.entry.page;
     let is_read = pager.bring(n)?;
     let page = pager.cached(n);
@@ -261,9 +304,9 @@ fn fits_so(
     }
 }
 
-/// What the first bytes tell of a page that fits the place from which an entry names it, all bytes of which are looked at. It
-/// is refused by its reader, or else as `fits_at_ends` refuses it.
-pub fn fits(page: &Page, last: u128, level: u32, place: &Place) -> Result<Head, PageFault>
+// What the first bytes tell of a page that fits the place from which an entry names it, all bytes of which are looked at. It
+// is refused by its reader, or else as `fits_at_ends` refuses it.
+fn fits(page: &Page, last: u128, level: u32, place: &Place) -> Result<Head, PageFault>
     ensures head { IfOk result (λ head. head ≡ head_on page.now) }
     ensures found { IfOk result
         (λ _. Fits last page.now level place.now.entry place.now.next) }

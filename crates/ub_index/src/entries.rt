@@ -6,7 +6,7 @@ ghost use Rattle.ub_index_page.specs.Index.{head_on, node_on};
 ghost use Rattle.ub_page.specs.declared.entries.TheConstants.{MAX_ENTRIES};
 ghost use Rattle.ub_store.specs.Facts.{IsHonest};
 
-use crate::descent::{Place, fits};
+use crate::descent::{Place, bring_fitting};
 use crate::fault::IndexFault;
 use std::alloc::{AllocError, Global};
 use ub_index_page::MAX_ENTRIES;
@@ -33,23 +33,12 @@ pub fn entries_at<S: PageStore>(
     ensures forgotten { IfErr result (IsForgotten pager.new) }
     ensures effect { Steps last [] level entry.now end pager.old pager.new result }
 {
-    let number = entry.page;
-    pager.bring(number)?;
-    let page = pager.cached(number);
     let place = Place {
         entry: *entry,
         next: end,
     };
-    match fits(page, last, level, &place) {
-        Ok(head) => Ok(copied(alloc, page, head.count)?),
-        Err(fault) => {
-            pager.forget(number);
-            Err(IndexFault::Page {
-                page: number,
-                fault,
-            })
-        }
-    }
+    let head = bring_fitting(pager, last, level, &place)?;
+    Ok(copied(alloc, pager.cached(entry.page), head.count)?)
 }
 
 // The entries of a page, which are so many.

@@ -7,7 +7,7 @@ ghost use Rattle.ub_index_page.specs.declared.index.TheConstants.{MAX_LEVEL};
 ghost use Rattle.ub_store.specs.Facts.{IsHonest, WritesAt, page_count};
 ghost use Rattle.ub_store.specs.View.{SameTrace};
 
-use crate::descent::{fits, root_place};
+use crate::descent::{bring_root, root_place};
 use crate::fault::IndexFault;
 use crate::index::Index;
 use ub_index_page::{Draft, write_index};
@@ -38,14 +38,8 @@ impl Index {
         ensures forgotten { IfErr result (IsForgotten pager.new) }
         ensures effect { Opens (index_view root levels last) pager.old pager.new result }
     {
-        pager.bring(root)?;
-        match fits(pager.cached(root), last, levels, &root_place(root)) {
-            Ok(_) => Ok(Index::new(root, levels, last)),
-            Err(fault) => {
-                pager.forget(root);
-                Err(IndexFault::Page { page: root, fault })
-            }
-        }
+        bring_root(pager, last, levels, root)?;
+        Ok(Index::new(root, levels, last))
     }
 
     /// Makes an index of one region, which stands on the page `page` and begins with the least key, in a space with this last

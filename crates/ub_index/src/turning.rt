@@ -8,7 +8,7 @@ ghost use Rattle.ub_index_page.specs.declared.index.TheConstants.{MAX_LEVEL};
 ghost use Rattle.ub_page.specs.declared.entries.TheConstants.{MAX_ENTRIES};
 ghost use Rattle.ub_store.specs.Facts.{IsHonest};
 
-use crate::descent::{Place, first_after, fits};
+use crate::descent::{Place, bring_fitting, first_after};
 use crate::fault::IndexFault;
 use crate::sheets::Sheets;
 use crate::told::{Told, with_added};
@@ -87,19 +87,9 @@ fn open<S: PageStore>(
     ensures forgotten { IfErr result (IsForgotten pager.new) }
     ensures effect { Steps last [] level place.now.entry place.now.next pager.old pager.new result }
 {
-    let number = place.entry.page;
-    pager.bring(number)?;
-    let page = pager.cached(number);
-    match fits(page, last, level, place) {
-        Ok(head) => Ok(opened_at(alloc, page, head.count, key, place.next)?),
-        Err(fault) => {
-            pager.forget(number);
-            Err(IndexFault::Page {
-                page: number,
-                fault,
-            })
-        }
-    }
+    let head = bring_fitting(pager, last, level, place)?;
+    let page = pager.cached(place.entry.page);
+    Ok(opened_at(alloc, page, head.count, key, place.next)?)
 }
 
 // The entries of a page, which are so many and end before `end`, around the one to which the key falls.

@@ -22,7 +22,7 @@ ghost use Rattle.ub_tree.specs.Told.{KeepsTold};
 ghost use Rattle.ub_tree.specs.View.{IsSound, region_count};
 ghost use Rattle.ub_writing.specs.Puts.{PutsTwo};
 
-use crate::fault::TreeFault;
+use crate::fault::{TreeFault, bad_count};
 use crate::reading::take_region;
 use crate::room::{Drafts, Room, list_rows, new_room};
 use crate::tree::Tree;
@@ -35,6 +35,15 @@ use ub_writing::{write_page, write_pages};
 
 // One above the last number that a row can have.
 const NEXT_END: u32 = MAX_ROW_NUMBER + 1;
+
+// The refusal of a call in which the store failed as it was changed: the tree has failed then.
+fn failing(is_failed: &mut bool, fault: StoreFault) -> TreeFault
+    ensures failed { is_failed.new ≡ true }
+    ensures fault { result ≡ TreeFault.Store fault }
+{
+    *is_failed = true;
+    TreeFault::Store(fault)
+}
 
 impl<S: PageStore> Tree<S> {
     // The room for a region, which is given back to `room` after use.
@@ -140,10 +149,7 @@ impl<S: PageStore> Tree<S> {
         let _root = self.index.root();
         match write_page(&mut self.pager, &mut self.mark, seat.page, page) {
             Ok(()) => Ok(()),
-            Err(fault) => {
-                self.is_failed = true;
-                Err(TreeFault::Store(fault))
-            }
+            Err(fault) => Err(failing(&mut self.is_failed, fault)),
         }
     }
 
@@ -154,10 +160,7 @@ impl<S: PageStore> Tree<S> {
     {
         // Its contract tells the proof how many pages there can be.
         let _pages = self.pager.pages();
-        TreeFault::Page {
-            page: 0,
-            fault: PageFault::BadCount,
-        }
+        bad_count()
     }
 
     // Gives the store the pages that a change needs. After a failure of the device the tree has failed.
@@ -167,10 +170,7 @@ impl<S: PageStore> Tree<S> {
     {
         match change.grow(&mut self.pager) {
             Ok(()) => Ok(()),
-            Err(StoreFault::Device) => {
-                self.is_failed = true;
-                Err(TreeFault::Store(StoreFault::Device))
-            }
+            Err(StoreFault::Device) => Err(failing(&mut self.is_failed, StoreFault::Device)),
             Err(StoreFault::Memory) => Err(TreeFault::Memory),
             Err(StoreFault::BadSize) => Err(TreeFault::Store(StoreFault::BadSize)),
             Err(StoreFault::NoPage) => Err(TreeFault::Store(StoreFault::NoPage)),
@@ -195,10 +195,7 @@ impl<S: PageStore> Tree<S> {
             (seat.page, drafts.page.page()),
         ) {
             Ok(()) => Ok(()),
-            Err(fault) => {
-                self.is_failed = true;
-                Err(TreeFault::Store(fault))
-            }
+            Err(fault) => Err(failing(&mut self.is_failed, fault)),
         }
     }
 
@@ -224,10 +221,7 @@ impl<S: PageStore> Tree<S> {
     {
         match self.index.commit(&mut self.pager, change) {
             Ok(()) => Ok(()),
-            Err(fault) => {
-                self.is_failed = true;
-                Err(TreeFault::Store(fault))
-            }
+            Err(fault) => Err(failing(&mut self.is_failed, fault)),
         }
     }
 

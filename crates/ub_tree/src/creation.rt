@@ -15,7 +15,7 @@ use std::num::NonZeroUsize;
 use ub_index::Index;
 use ub_store::{PageStore, Pager, Rejected};
 use ub_table::Schema;
-use ub_writing::{Mark, write_first_pages};
+use ub_writing::{Mark, first_header, write_first_pages};
 use ub_zaddr::last;
 
 // How many pages the cache of a tree holds.
@@ -45,18 +45,10 @@ impl<S: PageStore> Tree<S> {
             Err(refused) => return Err(refused),
         };
         match lay_out(&mut pager, schema) {
-            Ok(index) => Ok(Tree {
-                schema: schema.copy(),
-                index,
-                count: 1,
-                next: 1,
-                rows: 0,
-                mark: Mark::Written,
-                is_failed: false,
-                pager,
-                room: None,
-                alloc,
-            }),
+            Ok(index) => {
+                let header = first_header(schema);
+                Ok(Tree::over(alloc, header, index, Mark::Written, pager))
+            }
             Err(fault) => Err(Rejected {
                 store: pager.into_store(),
                 fault,

@@ -53,25 +53,7 @@ impl<S: PageStore> Tree<S> {
         match read_table(&mut pager) {
             Ok((header, index)) => {
                 let mark = Mark::due(&header);
-                let Header {
-                    schema,
-                    next,
-                    rows,
-                    regions,
-                    ..
-                } = header;
-                Ok(Tree {
-                    schema,
-                    index,
-                    count: regions,
-                    next,
-                    rows,
-                    mark,
-                    is_failed: false,
-                    pager,
-                    room: None,
-                    alloc,
-                })
+                Ok(Tree::over(alloc, header, index, mark, pager))
             }
             Err(fault) => Err(Rejected {
                 store: pager.into_store(),

@@ -14,12 +14,12 @@ ghost use Rattle.ub_tree.specs.Removal.{IsRemoved, IsRemovalFault};
 ghost use Rattle.ub_tree.specs.Told.{FallsTo};
 ghost use Rattle.ub_tree.specs.View.{IsSound, regions};
 
-use crate::fault::TreeFault;
+use crate::fault::{TreeFault, bad_count};
 use crate::room::{Drafts, Room};
 use crate::tree::Tree;
 use ub_index::Seat;
 use ub_store::PageStore;
-use ub_table::{Key, PageFault, Row};
+use ub_table::{Key, Row};
 
 impl<S: PageStore> Tree<S> {
     // Puts rows on the page of the region of a seat, among them those of the next region, which is then no more. After a fault of a
@@ -199,10 +199,7 @@ impl<S: PageStore> Tree<S> {
             return Ok(false);
         }
         if self.rows == 0 {
-            return Err(TreeFault::Page {
-                page: 0,
-                fault: PageFault::BadCount,
-            });
+            return Err(bad_count());
         }
         self.settle(&seat, room)?;
         self.rows -= 1;

@@ -1,4 +1,4 @@
-ghost use Rattle.std.specs.Prelude.{◌≡◌, ◌≤◌, [], IsTrue, Err, length, IfOk, IfSome, OnOk, option_copied};
+ghost use Rattle.std.specs.Prelude.{◌≡◌, ◌≤◌, [], false, IsTrue, Err, length, IfOk, IfSome, OnOk, option_copied};
 ghost use Rattle.std.specs.List.{Contains};
 ghost use Rattle.ub_page.specs.Region.{empty_region};
 ghost use Rattle.ub_store.specs.View.{emptied};
@@ -6,7 +6,9 @@ ghost use Rattle.ub_tree.specs.Calls.{StandsAt};
 ghost use Rattle.ub_tree.specs.Effects.{IsTakenIn, ReadsRegion, Searches};
 ghost use Rattle.ub_tree.specs.Spans.{IsLater, Meets, First};
 ghost use Rattle.ub_tree.specs.Told.{GivesNext, IsRegionOf};
+ghost use Rattle.ub_tree.specs.Tree.{IsTree, tree_view};
 ghost use Rattle.ub_tree.specs.View.{IsSound, level_count, region_count, spans_of};
+ghost use Rattle.ub_writing.specs.Marks.{is_written};
 
 use crate::fault::TreeFault;
 use crate::reading::take_region;
@@ -16,7 +18,7 @@ use std::marker::Model;
 use ub_bigmin::ZBox;
 use ub_directory::Region;
 use ub_index::Index;
-use ub_page::RegionPage;
+use ub_page::{Header, RegionPage};
 use ub_store::{PageStore, Pager};
 use ub_table::Schema;
 use ub_writing::Mark;
@@ -58,6 +60,32 @@ impl<S: PageStore> Model for Tree<S> {
 }
 
 impl<S: PageStore> Tree<S> {
+    // The tree of a table with the counts of this header, over the pages on which its index stands. It works, and holds no room.
+    pub(crate) fn over(
+        alloc: Global,
+        header: Header,
+        index: Index,
+        mark: Mark,
+        pager: Pager<S>,
+    ) -> Tree<S>
+        requires { IsTree header.schema index header.regions header.next header.rows mark }
+        ensures { result ≡ tree_view header.schema index header.regions header.next
+            header.rows (is_written mark) false pager }
+    {
+        Tree {
+            schema: header.schema,
+            index,
+            count: header.regions,
+            next: header.next,
+            rows: header.rows,
+            mark,
+            is_failed: false,
+            pager,
+            room: None,
+            alloc,
+        }
+    }
+
     /// What the table is made of.
     pub fn schema(&self) -> &Schema
         ensures { result.now ≡ self.now.schema }

@@ -1,7 +1,6 @@
 // A table of an older format, over a new store. First the new store is marked as changed; then all other pages are brought over,
 // the index that stands there is opened, and all pages are checked.
-ghost use Rattle.std.specs.Prelude.{◌≡◌, ◌≤◌, ◌+◌, ℕ, List, true, false, Err, IfOk, IfErr, MatchResult, OnErr, OnOk};
-ghost use Rattle.ub_page.specs.Header.{IsOldHeader};
+ghost use Rattle.std.specs.Prelude.{◌≡◌, ◌≤◌, ◌+◌, ℕ, List, Err, IfOk, IfErr, MatchResult, OnErr, OnOk};
 ghost use Rattle.ub_page.specs.declared.header.OldHeader as spec;
 ghost use Rattle.ub_store.specs.Facts.{page_count, IsHonest};
 ghost use Rattle.ub_table.specs.declared.schema.Schema.{Schema};
@@ -10,7 +9,6 @@ ghost use Rattle.ub_tree.specs.Effects.{read_store};
 ghost use Rattle.ub_tree.specs.Old.{AreOldPages, head_of};
 ghost use Rattle.ub_tree.specs.Opened.{IsPassing};
 ghost use Rattle.ub_tree.specs.Placed.{Placed};
-ghost use Rattle.ub_tree.specs.Tree.{tree_view};
 ghost use Rattle.ub_tree.specs.View.{IsSound};
 ghost use Rattle.ub_tree.specs.Upgrade.{HasTable, HasWorked, IsLeftBy, IsUnopened, IsUpgraded, IsUpgradeFault, IsUpgradePassing};
 ghost use Rattle.ub_tree.specs.inner.Upgrading.{Brings, IsCarried, root_in};
@@ -24,7 +22,7 @@ use crate::fault::TreeFault;
 use crate::tree::Tree;
 use std::alloc::{AllocError, Global};
 use ub_index::Index;
-use ub_page::{Header, OldHeader};
+use ub_page::OldHeader;
 use ub_store::{Page, PageStore, Pager, Rejected};
 use ub_upgrade::{bring_pages, read_head};
 use ub_writing::{Mark, write_mark};
@@ -70,7 +68,9 @@ impl<S: PageStore> Tree<S> {
             Err(refused) => return Err(refused),
         };
         match bring_over(alloc, old, &mut pager) {
-            Ok((head, index)) => tree_over(alloc, head, index, pager).checked(),
+            Ok((head, index)) => {
+                Tree::over(alloc, head.header, index, Mark::Written, pager).checked()
+            }
             Err(fault) => Err(Rejected {
                 store: pager.into_store(),
                 fault,
@@ -95,34 +95,6 @@ impl<S: PageStore> Tree<S> {
                 fault,
             }),
         }
-    }
-}
-
-// The tree of a table that is marked as changed, with the counts of this header, over the pages that were brought over.
-fn tree_over<S: PageStore>(alloc: Global, head: OldHeader, index: Index, pager: Pager<S>) -> Tree<S>
-    requires head { IsOldHeader head }
-    requires last { index.last ≡ last_address head.header.schema.dims }
-    ensures { result ≡ tree_view head.header.schema index head.header.regions head.header.next
-        head.header.rows true false pager }
-{
-    let Header {
-        schema,
-        next,
-        rows,
-        regions,
-        ..
-    } = head.header;
-    Tree {
-        schema,
-        index,
-        count: regions,
-        next,
-        rows,
-        mark: Mark::Written,
-        is_failed: false,
-        pager,
-        room: None,
-        alloc,
     }
 }
 

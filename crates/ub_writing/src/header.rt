@@ -9,6 +9,8 @@ pub fn first_header(schema: &Schema) -> Header
     ensures numbers { AreInRange (numbers_of result) }
     ensures unclean { result.unclean ≡ true }
     ensures schema { result.schema ≡ schema.now }
+    ensures counts { (result.next ≡ 1) × (result.rows ≡ 0) × (result.regions ≡ 1) }
+    ensures root { (result.root ≡ 2) × (result.levels ≡ 1) }
 {
     Header {
         schema: schema.copy(),

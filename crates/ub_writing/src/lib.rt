@@ -14,5 +14,6 @@ mod header;
 pub mod mark;
 mod order;
 
+pub use header::first_header;
 pub use mark::Mark;
 pub use order::{write_first_pages, write_mark, write_page, write_pages, write_table};

@@ -11,7 +11,8 @@ returns-in-Ok-lay_out-clause-made g c =
     let facts = g.S.PageStore.facts c.args.store in
     let made = c.in-Ok.ensures.made in
     let t = c.in-Ok-lay_out in
-    rw c.copy.ensures
+    let first = c.first_header-header.ensures in
+    rw (c.over.ensures, first.schema, first.counts.0, first.counts.1, first.counts.2)
     (created facts c.args.schema.now t.index c.lay_out.new.pager
     (t.ensures.left ∙ ap (λ (p : PagerView). record p.store { pages = c.lay_out.new.pager.store.pages; synced = c.lay_out.new.pager.store.synced }) made)
     t.ensures.index.0 t.ensures.count

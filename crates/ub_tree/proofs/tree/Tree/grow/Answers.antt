@@ -7,7 +7,7 @@ use Rattle.ub_tree.proofs.tree.Tree.grow.Goals as goal
 pub returns-in-Err-Device : goal.returns-in-Err-Device
 returns-in-Err-Device g c =
     let t = c.self.inside in
-    rw (← c.self.view_is) (grow_device t.schema t.index t.count t.next t.rows (is_written t.mark) t.is_failed t.pager c.grow.new.pager (c.args.change.now.next - c.args.change.now.start) c.grow.result
+    rw (c.failing.ensures.failed, c.failing.ensures.fault, ← c.self.view_is) (grow_device t.schema t.index t.count t.next t.rows (is_written t.mark) t.is_failed t.pager c.grow.new.pager (c.args.change.now.next - c.args.change.now.start) c.grow.result
     c.grow.ensures.grows c.grow.ensures.same c.grow.ensures.trace c.grow.ensures.refused (c.in-Err-Device.is ∙ ap (λ (f : StoreFault). Err f) c.in-Err-Device.field-0-is))
 
 pub returns-in-Err-Memory : goal.returns-in-Err-Memory

@@ -9,7 +9,7 @@ use Rattle.ub_tree.proofs.tree.Tree.open.Goals as goal
 pub returns-in-Ok-read_table-clause-opened : goal.returns-in-Ok-read_table-clause-opened
 returns-in-Ok-read_table-clause-opened g c =
     let t = c.in-Ok-read_table in
-    rw (c.due-mark.ensures.due, t.ensures.index)
+    rw (c.over.ensures, c.due-mark.ensures.due, t.ensures.index)
     (opened (g.S.PageStore.facts c.args.store) t.header c.in-Ok.pager c.read_table.new.pager c.in-Ok.ensures.made t.ensures.rooted
     (ap (λ (p : PagerView). p.store) t.ensures.effect.same) (ap (λ (p : PagerView). p.trace) t.ensures.effect.same))
 
@@ -20,7 +20,7 @@ returns-in-Ok-read_table-clause-sound g c = λ schema placed next honest s.
     let store_is : c.in-Ok.pager.store ≡ first = ap (λ (p : PagerView). p.store) c.in-Ok.ensures.made in
     let rooted = subst (λ (x : StoreFacts). IsHonest x → IsRooted x.pages t.header) store_is t.ensures.rooted honest in
     let kept = ap (λ (p : PagerView). p.store) t.ensures.effect.same ∙ store_is in
-    rw (c.due-mark.ensures.due, t.ensures.index) (opened_sound first honest t.header rooted c.read_table.new.pager kept schema placed next s)
+    rw (c.over.ensures, c.due-mark.ensures.due, t.ensures.index) (opened_sound first honest t.header rooted c.read_table.new.pager kept schema placed next s)
 
 pub returns-in-Ok-read_table-clause-unclean : goal.returns-in-Ok-read_table-clause-unclean
 returns-in-Ok-read_table-clause-unclean g c = λ schema honest mark.

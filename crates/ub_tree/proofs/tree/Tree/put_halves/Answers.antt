@@ -41,7 +41,7 @@ returns-in-Err-clause-effect g c =
     let page : c.args.seat.now.page < page_count t.pager.store = subst (λ (v : TreeView). c.args.seat.now.page < page_count v.store) (sym c.self.view_is) c.requires.seat in
     let number : c.args.number < page_count t.pager.store = subst (λ (v : TreeView). c.args.number < page_count v.store) (sym c.self.view_is) c.requires.there in
     let device = only_device {U = Unit {0}} c.in-Err.fault c.in-Err.ensures.faults (λ no_page. past_pages (length t.pager.store.pages) c.args.number c.args.seat.now.page number page (c.in-Err.ensures.missing no_page)) in
-    rw (← c.self.view_is) (record {
+    rw (c.failing.ensures.failed, c.failing.ensures.fault, ← c.self.view_is) (record {
       frame = wrote_tree t.schema t.index t.count t.next t.rows (is_written t.mark) (is_written c.write_pages.new.mark) t.is_failed true t.pager c.write_pages.new.pager {T = Unit {0}} (Err (Store c.in-Err.fault)) (c.in-Err.ensures.effect.same ∙ put_is (Unit {0}) (Unit {0}) c.in-Err.fault t.pager.store c.write_pages.new.pager.store) c.in-Err.ensures.trace;
       kept = c.write_pages.ensures.marks.kept;
       marked = λ not_first seat_not_first honest had is. marks_then t.schema t.mark c.write_pages.new.mark (c.args.number ∷ c.args.seat.now.page ∷ []) t.pager.store c.write_pages.new.pager.store

@@ -54,7 +54,7 @@ returns-in-Err-clause-effect g c =
     let new : TreeView = tree_view t.schema t.index t.count t.next t.rows (is_written c.write_page.new.mark) true c.write_page.new.pager in
     let there : IsSeatThere old c.args.seat.now = subst (λ (v : TreeView). IsSeatThere v c.args.seat.now) (sym c.self.view_is) c.requires.seat in
     let device = only_device {U = Unit {0}} c.in-Err.fault c.in-Err.ensures.faults (λ no_page. past_page (length t.pager.store.pages) c.args.seat.now.page there.there (c.in-Err.ensures.missing no_page)) in
-    rw (← c.self.view_is) (record {
+    rw (c.failing.ensures.failed, c.failing.ensures.fault, ← c.self.view_is) (record {
       frame = wrote_tree t.schema t.index t.count t.next t.rows (is_written t.mark) (is_written c.write_page.new.mark) t.is_failed true t.pager c.write_page.new.pager {T = Unit {0}} (Err (Store c.in-Err.fault)) (c.in-Err.ensures.effect.same ∙ put_is (Unit {0}) (Unit {0}) c.in-Err.fault t.pager.store c.write_page.new.pager.store) c.in-Err.ensures.trace;
       marked = marks_first t.schema t.index t.count t.next t.rows (is_written t.mark) (is_written c.write_page.new.mark) t.is_failed true t.pager c.write_page.new.pager t.mark c.write_page.new.mark (c.args.seat.now.page ∷ []) refl refl c.self.invariant.mark_is c.write_page.ensures.marks
           (λ sound. (own_seat old c.args.seat.now sound there.seat_is, tt));

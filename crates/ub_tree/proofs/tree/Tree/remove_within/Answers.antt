@@ -39,7 +39,8 @@ returns-then-self-eq0-clause-effect g c =
     let dims : c.shape.result ≡ a.schema.dims = c.shape.ensures ∙ ap (λ (v : TreeView). v.schema.dims) (c.self.view_is ∙ same) in
     let found : has_key a.schema.dims key rows ≡ true = rw (← dims) (sym c.remove.ensures.found ∙ c.if-not-remove.false) in
     let none : a.rows ≡ 0 = sym (ap (λ (v : TreeView). v.rows) (c.self.view_is ∙ same)) ∙ c.if-self-eq0.true in
-    subst (λ (v : TreeView). Changes {A = Bool} a v _) (sym same) (unchanged (Page 0 BadCount) a (some_counted a key seat rows held found none, inr (inr (inl (refl, refl, inl none))), refl))
+    rw c.bad_count.ensures
+    (subst (λ (v : TreeView). Changes {A = Bool} a v _) (sym same) (unchanged (Page 0 BadCount) a (some_counted a key seat rows held found none, inr (inr (inl (refl, refl, inl none))), refl)))
 
 pub returns-in_err-seat-clause-effect : goal.returns-in_err-seat-clause-effect
 returns-in_err-seat-clause-effect g c =
@@ -132,8 +133,9 @@ returns-then-self-eq0-clause-refused g c =
     let rows = c.rows_at.new.rows in
     let dims : c.shape.result ≡ a.schema.dims = c.shape.ensures ∙ ap (λ (v : TreeView). v.schema.dims) (c.self.view_is ∙ same) in
     let found : has_key a.schema.dims c.args.key.now rows ≡ true = rw (← dims) (sym c.remove.ensures.found ∙ c.if-not-remove.false) in
-    removal_answers a c.seat_of.new.self c.args.key.now c.in_ok-seat.seat c.in_ok-seat.ensures.effect.same c.in_ok-seat.ensures.falls rows c.in_ok-rows_at.ensures.taken
-    (Err (Page 0 BadCount)) (λ has zero. refl) (λ free. absurd (let bad : true ≡ false = sym found ∙ free in cc)) tt
+    rw c.bad_count.ensures
+    (removal_answers a c.seat_of.new.self c.args.key.now c.in_ok-seat.seat c.in_ok-seat.ensures.effect.same c.in_ok-seat.ensures.falls rows c.in_ok-rows_at.ensures.taken
+    (Err (Page 0 BadCount)) (λ has zero. refl) (λ free. absurd (let bad : true ≡ false = sym found ∙ free in cc)) tt)
 
 pub returns-in_err-settle-clause-refused : goal.returns-in_err-settle-clause-refused
 returns-in_err-settle-clause-refused g c =
@@ -239,7 +241,7 @@ pub returns-then-self-eq0-clause-faults : goal.returns-then-self-eq0-clause-faul
 returns-then-self-eq0-clause-faults g c =
     let same : c.rows_at.new.self ≡ c.args.self.now = c.in_ok-rows_at.ensures.effect.same ∙ c.in_ok-seat.ensures.effect.same in
     let none : c.args.self.now.rows ≡ 0 = sym (ap (λ (v : TreeView). v.rows) (c.self.view_is ∙ same)) ∙ c.if-self-eq0.true in
-    inr (inr (refl, refl, inl none))
+    rw c.bad_count.ensures (inr (inr (refl, refl, inl none)))
 
 pub returns-then-self-eq0-clause-stays : goal.returns-then-self-eq0-clause-stays
 returns-then-self-eq0-clause-stays g c = λ was. ap (λ (v : TreeView). v.is_changed) (c.in_ok-rows_at.ensures.effect.same ∙ c.in_ok-seat.ensures.effect.same) ∙ was

@@ -17,8 +17,8 @@ returns-in-Ok-bring_over-clause-made g c = λ version next schema placed honest 
     let here : IsHonest p.store = ap (λ (x : StoreFacts). x.honest) b.ensures.effect.left.new_is ∙ begun in
     let table = table_over schema placed next b.head b.index p (b.ensures.carried version next schema placed honest begun s) here
     (header_small from b.head b.ensures.header) b.ensures.last (b.ensures.marked begun) in
-    let there : HasTable schema placed next c.tree_over.result = subst (λ (v : TreeView). HasTable schema placed next v) (sym c.tree_over.ensures) table in
-    made_of (λ refused. refused.fault) (λ refused. g.S.PageStore.facts refused.store) c.checked.result c.tree_over.result (HasTable schema placed next) c.checked.ensures.same there (c.checked.ensures.sound there.sound)
+    let there : HasTable schema placed next c.over.result = subst (λ (v : TreeView). HasTable schema placed next v) (sym c.over.ensures) table in
+    made_of (λ refused. refused.fault) (λ refused. g.S.PageStore.facts refused.store) c.checked.result c.over.result (HasTable schema placed next) c.checked.ensures.same there (c.checked.ensures.sound there.sound)
 
 pub returns-in-Ok-bring_over-clause-begun : goal.returns-in-Ok-bring_over-clause-begun
 returns-in-Ok-bring_over-clause-begun g c =
@@ -29,23 +29,23 @@ returns-in-Ok-bring_over-clause-begun g c =
     let stands : IsHonest from → IsHonest new → StandsOver from b.head (over b.head b.index p) = λ honest new_honest.
     let begun : IsHonest c.in-Ok.pager.store = ap (λ (q : PagerView). q.store.honest) c.in-Ok.ensures.made ∙ new_honest in
     stands_over from b.head b.index p (ap (λ (x : StoreFacts). x.honest) b.ensures.effect.left.new_is ∙ begun) b.ensures.last b.ensures.root.1 b.ensures.size (b.ensures.stands honest begun) in
-    begun_of (λ refused. refused.fault) (λ refused. g.S.PageStore.facts refused.store) c.checked.result c.tree_over.result (IsHonest c.tree_over.result.store) (IsWell c.tree_over.result) (IsUpgraded from new)
+    begun_of (λ refused. refused.fault) (λ refused. g.S.PageStore.facts refused.store) c.checked.result c.over.result (IsHonest c.over.result.store) (IsWell c.over.result) (IsUpgraded from new)
     c.checked.ensures.same c.checked.ensures.well
-    (λ well. subst (IsUpgraded from new) (sym c.tree_over.ensures)
+    (λ well. subst (IsUpgraded from new) (sym c.over.ensures)
     (upgraded from new b.head b.index p b.ensures.header stands
     (λ new_honest.
     let begun : IsHonest c.in-Ok.pager.store = ap (λ (q : PagerView). q.store.honest) c.in-Ok.ensures.made ∙ new_honest in
     let here : IsHonest p.store = ap (λ (x : StoreFacts). x.honest) b.ensures.effect.left.new_is ∙ begun in
     sound_made b.head b.index p here b.ensures.root.0 b.ensures.root.1 b.ensures.last (header_small from b.head b.ensures.header) (b.ensures.marked begun)
-    (subst (λ (v : TreeView). IsHonest v.store → IsWell v) c.tree_over.ensures well here))
+    (subst (λ (v : TreeView). IsHonest v.store → IsWell v) c.over.ensures well here))
     (λ new_honest. b.ensures.marked (ap (λ (q : PagerView). q.store.honest) c.in-Ok.ensures.made ∙ new_honest)) (b.ensures.effect.trace ∙ ap (λ (q : PagerView). q.trace) c.in-Ok.ensures.made)))
 
 pub returns-in-Ok-bring_over-clause-unopened : goal.returns-in-Ok-bring_over-clause-unopened
 returns-in-Ok-bring_over-clause-unopened g c = λ new_honest.
     let b = c.in-Ok-bring_over in
     let begun : IsHonest c.in-Ok.pager.store = ap (λ (q : PagerView). q.store.honest) c.in-Ok.ensures.made ∙ new_honest in
-    unopened_of (λ refused. refused.fault) (λ refused. g.S.PageStore.facts refused.store) c.checked.result c.tree_over.result c.checked.ensures.left
-    (subst (λ (v : TreeView). IsUnopened v.store) (sym c.tree_over.ensures) (inr (b.head.header.schema, b.ensures.marked begun)))
+    unopened_of (λ refused. refused.fault) (λ refused. g.S.PageStore.facts refused.store) c.checked.result c.over.result c.checked.ensures.left
+    (subst (λ (v : TreeView). IsUnopened v.store) (sym c.over.ensures) (inr (b.head.header.schema, b.ensures.marked begun)))
 
 pub returns-in-Ok-bring_over-clause-refused : goal.returns-in-Ok-bring_over-clause-refused
 returns-in-Ok-bring_over-clause-refused g c =
@@ -57,10 +57,10 @@ returns-in-Ok-bring_over-clause-refused g c =
     ap (λ (x : StoreFacts). x.honest) b.ensures.effect.left.new_is ∙ ap (λ (q : PagerView). q.store.honest) c.in-Ok.ensures.made ∙ new_honest in
     let stands : IsHonest from → IsHonest new → StandsOver from b.head (over b.head b.index p) = λ honest new_honest.
     stands_over from b.head b.index p (still new_honest) b.ensures.last b.ensures.root.1 b.ensures.size (b.ensures.stands honest (ap (λ (q : PagerView). q.store.honest) c.in-Ok.ensures.made ∙ new_honest)) in
-    refused_of (λ refused. refused.fault) (λ refused. g.S.PageStore.facts refused.store) c.checked.result c.tree_over.result (IsUpgradeFault from new) c.checked.ensures.refused
+    refused_of (λ refused. refused.fault) (λ refused. g.S.PageStore.facts refused.store) c.checked.result c.over.result (IsUpgradeFault from new) c.checked.ensures.refused
     (λ f h. check_fault from new b.head b.index p b.ensures.header b.ensures.root.0 b.ensures.last still
     (ap (λ (x : StoreFacts). x.can_fail) b.ensures.effect.left.new_is ∙ ap (λ (q : PagerView). q.store.can_fail) c.in-Ok.ensures.made)
-    b.ensures.count stands f (subst (λ (v : TreeView). IsCheckFault v f) c.tree_over.ensures h))
+    b.ensures.count stands f (subst (λ (v : TreeView). IsCheckFault v f) c.over.ensures h))
 
 pub returns-in-Err-bring_over-clause-made : goal.returns-in-Err-bring_over-clause-made
 returns-in-Err-bring_over-clause-made g c = λ version next schema placed honest new_honest s.

@@ -1,0 +1,39 @@
+-- Bringing the page that an entry names, where it fits that entry in full.
+use Rattle.std.specs.Prelude.{◌≡◌, ◌≤◌, ℕ, IsTrue, List, Option, Result, IfOk, IfErr, OnOk}
+use Rattle.ub_index.specs.Descending.{IsForgotten}
+use Rattle.ub_index.specs.Fitting.{IsUnfit}
+use Rattle.ub_index.specs.Index.{Fits, NamesFitting}
+use Rattle.ub_index.specs.Searching.{store_after}
+use Rattle.ub_index.specs.declared.fault.IndexFault.{IndexFault}
+use Rattle.ub_index.specs.declared.fault.IndexFault.TheVariants.{Full, Page, Store}
+use Rattle.ub_index_page.specs.Index.{head_on}
+use Rattle.ub_index_page.specs.declared.index.Head.{Head}
+use Rattle.ub_page.specs.declared.entries.Entry.{Entry}
+use Rattle.ub_store.specs.Cache.{NoneMoreBut}
+use Rattle.ub_store.specs.Facts.{StoreFacts, IsHonest, IsPage, page_count}
+use Rattle.ub_store.specs.View.{Holds, IsCached, PagerView}
+use Rattle.ub_store.specs.declared.fault.StoreFault.TheVariants as store
+use Rattle.ub_table.specs.declared.row.Key.{Key}
+
+-- why the page that an entry of this level names isn't brought, or isn't taken: memory was refused; the store failed, which it
+-- then can; it has no page of that number; or the page that it has there is refused
+abbrev pub IsBringFault : ℕ → StoreFacts → ℕ → Entry → Option Key → IndexFault → Type 0
+IsBringFault last old level entry end (Store store.Memory) = Unit {0}
+IsBringFault last old level entry end (Store store.Device) = IsTrue old.can_fail
+IsBringFault last old level entry end (Store store.NoPage) = page_count old ≤ entry.page
+IsBringFault last old level entry end (Store store.BadSize) = ⊥
+IsBringFault last old level entry end Full = ⊥
+IsBringFault last old level entry end (Page n fault) =
+    (n ≡ entry.page) × (page : List ℕ) × IsPage old n page × IsUnfit last page level entry end fault
+
+-- a page is brought with this result: the pager then holds one of that number, which fits, and what its first bytes tell is the
+-- result; it holds no other page more, and none that was refused. With the device's fault the store has one failed read more,
+-- and else nothing has changed
+pub record BringsFitting (last level : ℕ) (entry : Entry) (end : Option Key) (old new : PagerView) (result : Result Head IndexFault) : Type 0 where
+  pub same : new ≡ record old { store = store_after result old.store; cached = new.cached }
+  pub cached : OnOk result (IsCached new entry.page)
+  pub fits : IfOk result (λ head. (page : List ℕ) → Holds new entry.page page → (head ≡ head_on page) × Fits last page level entry end)
+  pub named : IsHonest old.store → OnOk result (NamesFitting last old.store.pages level entry end)
+  pub others : NoneMoreBut entry.page old.cached new.cached
+  pub forgotten : IfErr result (IsForgotten new)
+  pub faults : IfErr result (IsBringFault last old.store level entry end)
