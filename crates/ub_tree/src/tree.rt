@@ -9,11 +9,11 @@ ghost use Rattle.ub_tree.specs.Told.{GivesNext, IsRegionOf};
 ghost use Rattle.ub_tree.specs.View.{IsSound, level_count, region_count, spans_of};
 
 use crate::fault::TreeFault;
-use crate::reading::take_region;
 use crate::room::Room;
 use std::alloc::Global;
 use std::marker::Model;
 use ub_bigmin::ZBox;
+use ub_check::take_region;
 use ub_directory::Region;
 use ub_index::Index;
 use ub_page::RegionPage;
@@ -190,6 +190,7 @@ impl<S: PageStore> Tree<S> {
             region.page,
             self.pager.cached(region.page),
             page,
-        )
+        )?;
+        Ok(())
     }
 }
