@@ -2,6 +2,7 @@
 -- regions by their first keys, and the one from the other by their kinds.
 use Rattle.std.proofs.Common.{◌≡◌, ◌≢◌, ◌≤◌, ◌<◌, ◌^◌, ◌++◌, ℕ, zero, suc, List, [], ◌∷◌, Option, Some, None, IfSome, nat_eq, map, slice_get, ap, refl, sym, ◌∙◌, arith, subst}
 use Rattle.std.specs.List.{AllByRecursion, IsDistinct, flat_map}
+use Rattle.ub_check.proofs.PlacedFacts.{one_region}
 use Rattle.ub_index.proofs.FitFacts.{page_is}
 use Rattle.ub_index.proofs.KeyFacts.{le_trans}
 use Rattle.ub_index.proofs.Lists.{ascend_first}
@@ -150,18 +151,12 @@ pub record IsOnPage (schema : Schema) (pages : List (List ℕ)) (p : Placed) : T
   pub some : 1 ≤ p.page
 
 module _ (schema : Schema) (pages : List (List ℕ)) where
-  -- what stands on one page is one region
-  pub one_region : (n : ℕ) (a b : Region) → slice_get pages n ≡ Some (region_page schema a) → IsRegion schema a → slice_get pages n ≡ Some (region_page schema b) → IsRegion schema b → a ≡ b
-  one_region n a b at_a is_a at_b is_b =
-      sym (region_parts schema a (region_page schema a) is_a refl).on
-      ∙ (region_parts schema b (region_page schema a) is_b (some_key (slice_get pages n) (region_page schema a) (region_page schema b) at_a at_b)).on
-
   others : (p : Placed) (ps : List Placed) → IsOnPage schema pages p → AllByRecursion (IsOnPage schema pages) ps → AllByRecursion (IsBefore p.region.first) (firsts_of (regions_in ps))
       → IsOutside p.page (map (λ q. q.page) ps)
   others p [] on all up = tt
   others p (q ∷ ps) on all up = (
     (λ same.
-        let one = one_region p.page p.region q.region on.spelled on.is (ap (slice_get pages) same ∙ all.0.spelled) all.0.is in
+        let one = one_region schema pages p.page p.region q.region on.spelled on.is (ap (slice_get pages) same ∙ all.0.spelled) all.0.is in
         not_before_self p.region.first (subst (λ (k : Key). IsBefore p.region.first k) (sym (ap (λ (r : Region). r.first) one)) up.0)),
     others p ps on all.1 up.1,
   )

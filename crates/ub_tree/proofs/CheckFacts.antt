@@ -1,138 +1,176 @@
--- The check of a tree: what its walk from the root comes to.
-use Rattle.std.proofs.Common.{◌≡◌, ◌<◌, ◌^◌, inl, inr, ℕ, Bool, false, List, [], Some, None, Result, Ok, Err, IfErr, length, min, ap, refl, sym, ◌∙◌, arith, subst}
+-- The check of a tree, by that of its table: what it comes to, and that its first fault is one.
+use Rattle.std.proofs.Common.{◌≡◌, ◌<◌, ◌^◌, ◌⊎◌, inl, inr, ℕ, Bool, false, List, [], None, Result, Ok, Err, IfErr, OnOk, ap, refl, sym, ◌∙◌, subst}
 use Rattle.std.specs.Result.{IsErrAnd}
-use Rattle.ub_index.specs.Index.{top, under}
+use Rattle.ub_check.proofs.OnceFacts as once
+use Rattle.ub_check.proofs.TakenFacts.{walk_taken}
+use Rattle.ub_check.specs.Calls.{Checks, IsCheckFault as IsTableFault, asked_in}
+use Rattle.ub_check.specs.Checking.{Asked, AreWell, IsFirst, asked_for}
+use Rattle.ub_check.specs.declared.checking.Told.{Told}
+use Rattle.ub_index.specs.Index.{under, top}
 use Rattle.ub_index.specs.View.{IndexView}
-use Rattle.ub_page.specs.declared.entries.Entry.{Entry}
-use Rattle.ub_region.specs.Regions.{rows_of}
+use Rattle.ub_index.specs.declared.fault.IndexFault.TheVariants as index
+use Rattle.ub_index.specs.declared.fault.IndexFault.{IndexFault}
 use Rattle.ub_store.specs.Facts.{IsHonest}
-use Rattle.ub_store.specs.View.{PagerView, SameTrace}
+use Rattle.ub_store.specs.View.{PagerView}
 use Rattle.ub_store.specs.declared.fault.StoreFault.TheVariants as store
-use Rattle.ub_table.specs.declared.fault.PageFault.TheVariants.{BadCount}
 use Rattle.ub_table.specs.declared.schema.Schema.{Schema}
+use Rattle.ub_tree.proofs.EffectFacts.{refused_none}
 use Rattle.ub_tree.proofs.ReadingFacts.{searched_tree}
-use Rattle.ub_tree.proofs.SearchFacts.{known_is}
-use Rattle.ub_tree.proofs.TakenFacts.{walk_taken}
-use Rattle.ub_tree.proofs.OnceFacts.{well_first}
-use Rattle.ub_tree.specs.Checking.{Asked, ChecksPages, IsCheckFault, IsWell, StopsIn, TakesAll, TakesTree, asked_for, asked_of}
+use Rattle.ub_tree.proofs.SearchFacts.{known_is, stores_alike}
+use Rattle.ub_tree.proofs.WellFacts.{sound_well}
+use Rattle.ub_tree.specs.Checking.{ChecksPages, IsCheckFault, IsFirstFault, IsWell, asked_of, told_of}
 use Rattle.ub_tree.specs.Effects.{read_store}
+use Rattle.ub_tree.specs.Faults.{index_fault}
+use Rattle.ub_tree.specs.Holding.{Answers}
 use Rattle.ub_tree.specs.Indexed.{entries_on}
 use Rattle.ub_tree.specs.Opened.{IsPassing}
-use Rattle.ub_tree.specs.Placed.{Placed, placed_of, regions_in}
+use Rattle.ub_tree.specs.Placed.{Placed, placed_of}
 use Rattle.ub_tree.specs.Tree.{tree_view}
-use Rattle.ub_tree.specs.View.{TreeView}
-use Rattle.ub_tree.specs.declared.checking.Walk.{Walk}
+use Rattle.ub_tree.specs.View.{TreeView, IsSound}
 use Rattle.ub_tree.specs.declared.fault.TreeFault.{TreeFault}
 use Rattle.ub_tree.specs.declared.fault.TreeFault.TheVariants.{Full, Page, Store, Failed as HasFailed, Memory}
-use Rattle.ub_tree.specs.inner.Checking.{HasTaken, IsWalkFault, TakesOn, Walks, asked_by}
+use Rattle.ub_zaddr.specs.Address.{last_address}
 
--- a count that isn't at its end is exact
-unsaturated : (n rows count : ℕ) → rows ≡ min n 4294967295 → rows ≡ count → count < 4294967295 → count ≡ n
-unsaturated n rows count is same less = omega arith
+-- the first fault of a tree's check is one
+module _ (t : TreeView) (small : t.inner.index.last < 2 ^ 128) where
+  abbrev as_told : IndexFault → TreeFault
+  as_told (index.Page n fault) = Page n fault
+  as_told (index.Store fault) = Store fault
+  as_told index.Full = Full
 
-exact_count : (n rows count : ℕ) → rows ≡ min n 4294967295 → count < 4294967295 → count ≡ n → rows ≡ count
-exact_count n rows count is less same = omega arith
+  told_once : (f g : IndexFault) → IsFirst (asked_of t) (told_of t) f → IsFirst (asked_of t) (told_of t) g → as_told f ≡ as_told g
+  told_once f g h k = ap (λ (x : IndexFault). as_told x) (once.first_once (asked_of t) (told_of t) small f g h k)
 
-module _ (schema : Schema) (index : IndexView) (count next rows : ℕ) (changed failed : Bool) (old : PagerView) (last : ℕ) (walk : Walk) (last_is : last ≡ index.last)
-    (bound : walk.numbers.bound ≡ next) (has : HasTaken count walk []) (level : ℕ) (entry : Entry) (level_is : level ≡ index.levels) (entry_is : entry ≡ top index.root) where
+  pub first_once : (f g : TreeFault) → IsFirstFault t f → IsFirstFault t g → f ≡ g
+  first_once (Page n a) (Page m b) h k = told_once (index.Page n a) (index.Page m b) h k
+  first_once (Page n a) (Store b) h k = told_once (index.Page n a) (index.Store b) h k
+  first_once (Store a) (Page m b) h k = told_once (index.Store a) (index.Page m b) h k
+  first_once (Store a) (Store b) h k = told_once (index.Store a) (index.Store b) h k
+  first_once Full g h k = absurd h
+  first_once HasFailed g h k = absurd h
+  first_once Memory g h k = absurd h
+  first_once (Page n a) Full h k = absurd k
+  first_once (Page n a) HasFailed h k = absurd k
+  first_once (Page n a) Memory h k = absurd k
+  first_once (Store a) Full h k = absurd k
+  first_once (Store a) HasFailed h k = absurd k
+  first_once (Store a) Memory h k = absurd k
+
+  -- where the pages are well there is none
+  pub well_first : IsWell t → (fault : TreeFault) → ¬ (IsFirstFault t fault)
+  well_first well (Page n a) h = once.well_first (asked_of t) (told_of t) small t.placed well (index.Page n a) h
+  well_first well (Store a) h = once.well_first (asked_of t) (told_of t) small t.placed well (index.Store a) h
+  well_first well Full h = h
+  well_first well HasFailed h = h
+  well_first well Memory h = h
+
+  -- and it is what the check answers, but for what passes
+  fault_first : t.is_failed ≡ false → IsHonest t.store → (fault : TreeFault) → IsFirstFault t fault → (f : TreeFault) → IsCheckFault t f → (f ≡ fault) ⊎ IsPassing f
+  fault_first works honest fault first Full h = absurd h
+  fault_first works honest fault first HasFailed h = cc
+  fault_first works honest fault first Memory h = inr (inl refl)
+  fault_first works honest fault first (Page n a) h = inl (first_once (Page n a) fault (h honest) first)
+  fault_first works honest fault first (Store store.Device) h = inr (inr refl)
+  fault_first works honest fault first (Store store.Memory) h = absurd h
+  fault_first works honest fault first (Store store.BadSize) h = absurd h
+  fault_first works honest fault first (Store store.NoPage) h = inl (first_once (Store store.NoPage) fault (h honest) first)
+
+  pub first_answered : {T : Type 0} (r : Result T TreeFault) → t.is_failed ≡ false → IsHonest t.store → IfErr r (IsCheckFault t) → OnOk r (IsWell t)
+      → (fault : TreeFault) → IsFirstFault t fault → Answers r fault
+  first_answered (Ok x) works honest faults well fault first = absurd (well_first well fault first)
+  first_answered (Err f) works honest faults well fault first = fault_first works honest fault first f faults
+
+  -- a tree whose pages are well is checked to its end
+  well_fault : t.is_failed ≡ false → IsHonest t.store → IsWell t → (f : TreeFault) → IsCheckFault t f → IsPassing f
+  well_fault works honest well Full h = absurd h
+  well_fault works honest well HasFailed h = cc
+  well_fault works honest well Memory h = inl refl
+  well_fault works honest well (Page n fault) h = absurd (well_first well (Page n fault) (h honest))
+  well_fault works honest well (Store store.Device) h = inr refl
+  well_fault works honest well (Store store.Memory) h = absurd h
+  well_fault works honest well (Store store.BadSize) h = absurd h
+  well_fault works honest well (Store store.NoPage) h = absurd (well_first well (Store store.NoPage) (h honest))
+
+  pub well_passes : {T : Type 0} (r : Result T TreeFault) → t.is_failed ≡ false → IsHonest t.store → IsWell t → IfErr r (IsCheckFault t) → IfErr r IsPassing
+  well_passes (Ok x) works honest well faults = tt
+  well_passes (Err f) works honest well faults = well_fault works honest well f faults
+
+-- what the check of a tree answers
+pub record IsChecked {A : Type 0} (old new : TreeView) (result : Result A TreeFault) : Type 0 where
+  pub well : IsHonest old.store → OnOk result (IsWell old)
+  pub exact : IsHonest old.store → IsWell old → old.is_failed ≡ false → IfErr result IsPassing
+  pub sound : IsSound old → IfErr result IsPassing
+  pub stopped : (fault : TreeFault) → IsHonest old.store → old.is_failed ≡ false → IsFirstFault old fault → Answers result fault
+  pub effect : ChecksPages old new result
+
+checked_by : {A : Type 0} (old new : TreeView) (result : Result A TreeFault) → old.inner.index.last < 2 ^ 128 → (IsHonest old.store → OnOk result (IsWell old))
+    → ChecksPages old new result → IsChecked old new result
+checked_by old new result small well effect = record {
+  well = well;
+  exact = λ honest is works. well_passes old small result works honest is effect.faults;
+  sound = λ sound. well_passes old small result sound.working sound.honest (sound_well old sound) effect.faults;
+  stopped = λ fault honest works first. first_answered old small result works honest effect.faults (well honest) fault first;
+  effect = effect;
+}
+
+-- the check of a tree's table, as one of the tree
+module _ (schema : Schema) (index_at : IndexView) (count next rows : ℕ) (changed failed : Bool) (old new : PagerView) (last_is : index_at.last ≡ last_address schema.dims)
+    (small : index_at.last < 2 ^ 128) (told : Told) where
   abbrev tree : TreeView
-  tree = tree_view schema index count next rows changed failed old
+  tree = tree_view schema index_at count next rows changed failed old
 
-  asked_is : asked_by schema last count walk old.store ≡ asked_of tree
-  asked_is =
-      ap (λ (n : ℕ). asked_for schema n count walk.numbers.bound old.store.pages) last_is ∙ ap (λ (n : ℕ). asked_for schema index.last count n old.store.pages) bound
+  module _ (told_is : told ≡ told_of tree) where
+    asked_is : asked_in schema told old.store ≡ asked_of tree
+    asked_is =
+        ap (λ (t : Told). asked_in schema t old.store) told_is ∙ ap (λ (n : ℕ). asked_for schema n count next old.store.pages) (sym last_is)
 
-  walk_fault : (f : TreeFault) → IsWalkFault schema last index.levels (top index.root) None old.store walk f → IsCheckFault tree f
-  walk_fault Full h = absurd h
-  walk_fault HasFailed h = absurd h
-  walk_fault Memory h = tt
-  walk_fault (Page n fault) h = λ honest. inl (subst (λ (a : Asked). StopsIn a index.levels (top index.root) None [] n (Some fault)) asked_is (h count [] honest has))
-  walk_fault (Store store.Device) h = h
-  walk_fault (Store store.Memory) h = absurd h
-  walk_fault (Store store.BadSize) h = absurd h
-  walk_fault (Store store.NoPage) h = λ honest.
-      let stops = h count [] honest has in
-      (stops.0, subst (λ (a : Asked). StopsIn a index.levels (top index.root) None [] stops.0 None) asked_is stops.1)
+    first_is : (f : IndexFault) → IsFirst (asked_in schema told old.store) told f → IsFirst (asked_of tree) (told_of tree) f
+    first_is f h = subst (λ (t : Told). IsFirst (asked_of tree) t f) told_is (subst (λ (a : Asked). IsFirst a told f) asked_is h)
 
-  -- it isn't walked through
-  pub run_refused : {T U : Type 0} (r : Result T TreeFault) (f : TreeFault) (new : PagerView) → IsErrAnd r (λ x. x ≡ f)
-      → Walks {A = U} schema last level entry None walk old new (Err f) → ChecksPages tree (tree_view schema index count next rows changed failed new) r
-  run_refused (Ok x) f new is h = absurd is
-  run_refused {T = T} {U = U} (Err g) f new is h = record {
-    same = searched_tree {T = T} (Err g) schema index count next rows changed failed old new
-        (ap (λ (p : PagerView). p.store) h.same ∙ ap (λ (x : TreeFault). read_store {A = T} (Err x) old.store) (sym is))
-        (ap (λ (p : PagerView). p.trace) h.same);
-    faults = subst (λ (x : TreeFault). IsCheckFault tree x) (sym is) (walk_fault f (subst (λ (n : ℕ). IsWalkFault schema last n (top index.root) None old.store walk f) level_is
-        (subst (λ (e : Entry). IsWalkFault schema last level e None old.store walk f) entry_is h.faults)));
-  }
+    check_fault : (f : IndexFault) → IsTableFault schema told old.store f → IsCheckFault tree (index_fault f)
+    check_fault index.Full h = absurd h
+    check_fault (index.Page n fault) h = λ honest. first_is (index.Page n fault) (h honest)
+    check_fault (index.Store store.Memory) h = tt
+    check_fault (index.Store store.Device) h = h
+    check_fault (index.Store store.BadSize) h = absurd h
+    check_fault (index.Store store.NoPage) h = λ honest. first_is (index.Store store.NoPage) (h honest)
 
-  -- other regions are taken, or other rows, than are counted
-  pub run_ends : {T : Type 0} (f : TreeFault) (new : PagerView) → f ≡ Page 0 BadCount → new.store ≡ old.store → SameTrace old new → IsCheckFault tree (Page 0 BadCount)
-      → ChecksPages {A = T} tree (tree_view schema index count next rows changed failed new) (Err f)
-  run_ends {T = T} f new is stores trace h =
-      subst (λ (x : TreeFault). ChecksPages {A = T} tree (tree_view schema index count next rows changed failed new) (Err x)) (sym is) (record {
-        same = searched_tree {T = T} (Err (Page 0 BadCount)) schema index count next rows changed failed old new stores trace;
-        faults = h;
-      })
+    -- the table's check is refused
+    run_refused : {T U : Type 0} (r : Result T TreeFault) (f : IndexFault) → IsErrAnd r (λ x. x ≡ index_fault f)
+        → Checks {A = U} schema told old new (Err f) → ChecksPages tree (tree_view schema index_at count next rows changed failed new) r
+    run_refused (Ok x) f is h = absurd is
+    run_refused {T = T} {U = U} (Err g) f is h = record {
+      same = searched_tree {T = T} (Err g) schema index_at count next rows changed failed old new
+          (ap (λ (p : PagerView). p.store) h.same ∙ (stores_alike T U f old.store ∙ ap (λ (x : TreeFault). read_store {A = T} (Err x) old.store) (sym is)))
+          (ap (λ (p : PagerView). p.trace) h.same);
+      faults = subst (λ (x : TreeFault). IsCheckFault tree x) (sym is) (check_fault f h.faults);
+    }
 
-  -- it is
-  module _ (to : Walk) (takes : TakesOn schema last level entry None old.store walk to) (few : rows < 4294967295) where
-    run_taken : IsHonest old.store → (after : List Placed) × TakesTree tree after × HasTaken count to after
-    run_taken honest =
-        let h = (subst (λ (n : ℕ). TakesOn schema last n (top index.root) None old.store walk to) level_is
-        (subst (λ (e : Entry). TakesOn schema last level e None old.store walk to) entry_is takes)) count [] honest has in
-        (h.0, subst (λ (a : Asked). TakesAll a index.levels (top index.root) None [] h.0) asked_is h.1, h.2)
+    -- it isn't
+    run_done : {T U : Type 0} (x : T) (y : U) → Checks {A = U} schema told old new (Ok y)
+        → ChecksPages tree (tree_view schema index_at count next rows changed failed new) (Ok x)
+    run_done {T = T} x y h = record {
+      same = searched_tree {T = T} (Ok x) schema index_at count next rows changed failed old new
+          (ap (λ (p : PagerView). p.store) h.same) (ap (λ (p : PagerView). p.trace) h.same);
+      faults = tt;
+    }
 
-    pub run_well : to.left ≡ 0 → to.rows ≡ rows → IsHonest old.store → IsWell tree
-    run_well none same honest =
-        let h = run_taken honest in
+    run_well : {U : Type 0} (y : U) → Checks {A = U} schema told old new (Ok y) → IsHonest old.store → IsWell tree
+    run_well y h honest =
+        let found = h.well honest in
+        let well : AreWell (asked_of tree) (told_of tree) found.0 =
+        subst (λ (t : Told). AreWell (asked_of tree) t found.0) told_is (subst (λ (a : Asked). AreWell a told found.0) asked_is found.1) in
         let known = known_is old.store honest in
-        let told : h.0 ≡ placed_of schema old.store.pages (under old.store.pages index.levels (top index.root)) = (walk_taken (asked_of tree) index.levels (top index.root) None [] h.0 h.1).1.after_is in
-        let placed : tree.placed ≡ h.0 = ap (λ (ps : List (List ℕ)). placed_of schema ps (entries_on index ps)) known ∙ sym told in
-        let left = h.2.left in
-        let long : count ≡ length h.0 = omega arith in
-        record {
-          takes = subst (λ (ps : List Placed). TakesTree tree ps) (sym placed) h.1;
-          count_is = long ∙ ap (λ (ps : List Placed). length ps) (sym placed);
-          rows_are = unsaturated (length (rows_of (regions_in h.0))) to.rows rows h.2.rows same few ∙ ap (λ (ps : List Placed). length (rows_of (regions_in ps))) (sym placed);
-        }
+        let taken : found.0 ≡ placed_of schema old.store.pages (under old.store.pages index_at.levels (top index_at.root)) =
+        (walk_taken (asked_of tree) index_at.levels (top index_at.root) None [] found.0 well.takes).1.after_is in
+        let placed : tree.placed ≡ found.0 = ap (λ (ps : List (List ℕ)). placed_of schema ps (entries_on index_at ps)) known ∙ sym taken in
+        subst (λ (ps : List Placed). AreWell (asked_of tree) (told_of tree) ps) (sym placed) well
 
-    pub run_fewer : (to.left ≡ 0 → ⊥) → IsCheckFault tree (Page 0 BadCount)
-    run_fewer some honest =
-        let h = run_taken honest in
-        let left = h.2.left in
-        let less : length h.0 < count = omega arith in
-        inr (record { after = h.0; takes = h.1; counts = inl less; page_is = refl; fault_is = refl })
+    pub checked_refused : {T U : Type 0} (r : Result T TreeFault) (f : IndexFault) → IsErrAnd r (λ x. x ≡ index_fault f)
+        → Checks {A = U} schema told old new (Err f) → IsChecked tree (tree_view schema index_at count next rows changed failed new) r
+    checked_refused r f is h =
+        checked_by tree (tree_view schema index_at count next rows changed failed new) r small (λ honest. refused_none (IsWell tree) r (index_fault f) is) (run_refused r f is h)
 
-    pub run_other : to.left ≡ 0 → (to.rows ≡ rows → ⊥) → IsCheckFault tree (Page 0 BadCount)
-    run_other none other honest =
-        let h = run_taken honest in
-        let left = h.2.left in
-        let long : length h.0 ≡ count = omega arith in
-        inr (record {
-          after = h.0;
-          takes = h.1;
-          counts = inr (long, λ same. other (exact_count (length (rows_of (regions_in h.0))) to.rows rows h.2.rows few same));
-          page_is = refl;
-          fault_is = refl;
-        })
-
--- nothing is changed by a check that hasn't begun
-pub not_begun : {T : Type 0} (r : Result T TreeFault) (a b : TreeView) → IsErrAnd r (λ x. x ≡ Memory) → b ≡ a → ChecksPages a b r
-not_begun (Ok x) a b is same = absurd is
-not_begun (Err f) a b is same = rw is (record { same = same; faults = tt })
-
--- a tree whose pages are well is checked to its end
-pub well_passes : (t : TreeView) → t.inner.index.last < 2 ^ 128 → t.is_failed ≡ false → IsHonest t.store → IsWell t → (f : TreeFault) → IsCheckFault t f → IsPassing f
-well_passes t small works honest well Full h = absurd h
-well_passes t small works honest well HasFailed h = cc
-well_passes t small works honest well Memory h = inl refl
-well_passes t small works honest well (Page n fault) h = absurd (well_first t small well (Page n fault) (h honest))
-well_passes t small works honest well (Store store.Device) h = inr refl
-well_passes t small works honest well (Store store.Memory) h = absurd h
-well_passes t small works honest well (Store store.BadSize) h = absurd h
-well_passes t small works honest well (Store store.NoPage) h = absurd (well_first t small well (Store store.NoPage) (h honest))
-
-pub err_passes : {T : Type 0} (r : Result T TreeFault) (P : TreeFault → Type 0) → IfErr r P → ((f : TreeFault) → P f → IsPassing f) → IfErr r IsPassing
-err_passes (Ok x) P h k = tt
-err_passes (Err f) P h k = k f h
+    pub checked_done : {T U : Type 0} (x : T) (y : U) → Checks {A = U} schema told old new (Ok y)
+        → IsChecked tree (tree_view schema index_at count next rows changed failed new) (Ok x)
+    checked_done x y h = checked_by tree (tree_view schema index_at count next rows changed failed new) (Ok x) small (run_well y h) (run_done x y h)

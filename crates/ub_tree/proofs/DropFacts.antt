@@ -5,6 +5,7 @@ use Rattle.std.proofs.lemmas.List.{length-map}
 use Rattle.std.proofs.lemmas.List.Elements.{recursion_from_All}
 use Rattle.std.proofs.lemmas.Option.{slice_get_past, slice_get_within}
 use Rattle.std.specs.List.{AllByRecursion, IsDistinct, remove as remove_at_index}
+use Rattle.ub_check.proofs.StandingFacts.{each_get}
 use Rattle.ub_directory.specs.Writing.{Grows}
 use Rattle.ub_index.proofs.Numbers.{apart_swap, within_store}
 use Rattle.ub_index.proofs.OwnFacts.{count_replaced, own_apart, own_dropped}
@@ -32,7 +33,7 @@ use Rattle.ub_tree.proofs.PutFacts.{put_placed}
 use Rattle.ub_tree.proofs.ShrinkFacts.{map_removed, placed_without, put_joined, regions_put}
 use Rattle.ub_tree.proofs.SplitFacts.{committed, new_are, new_indexed, new_placed, pages_by}
 use Rattle.ub_tree.proofs.StoredFacts.{IsSpelled, IsTold}
-use Rattle.ub_tree.proofs.TreeFacts.{all_get, each_get, region_get, seat_placed, seat_within}
+use Rattle.ub_tree.proofs.TreeFacts.{all_get, region_get, seat_placed, seat_within}
 use Rattle.ub_tree.specs.Indexed.{HasIndex, entries_on, reserved}
 use Rattle.ub_tree.specs.Others.{AreOthersKept}
 use Rattle.ub_tree.specs.Placed.{Placed, ArePlaced, entry_of, placed_of, regions_in}

@@ -1,6 +1,7 @@
 -- How full the pages of a tree's index are, where the page of a region was put.
 use Rattle.std.proofs.Common.{◌≡◌, ◌∙◌, ◌++◌, ℕ, List, [], ◌∷◌, Result, map, nat_eq, ap, sym, subst}
 use Rattle.std.specs.List.{AllByRecursion, IsDistinct}
+use Rattle.ub_check.proofs.StandingFacts.{each_get}
 use Rattle.ub_index.proofs.StandFacts.{stands_filled}
 use Rattle.ub_index.proofs.OwnFacts.{own_apart}
 use Rattle.ub_index.specs.Changing.{IsOutside}
@@ -13,7 +14,6 @@ use Rattle.ub_tree.proofs.CallFacts.{stored_on}
 use Rattle.ub_tree.proofs.IndexedFacts.{reached_once}
 use Rattle.ub_tree.proofs.PutFacts.{page_at}
 use Rattle.ub_tree.proofs.SplitFacts.{pages_by}
-use Rattle.ub_tree.proofs.TreeFacts.{each_get}
 use Rattle.ub_tree.specs.Indexed.{reserved}
 use Rattle.ub_tree.specs.Placed.{Placed}
 use Rattle.ub_tree.specs.View.{TreeView}

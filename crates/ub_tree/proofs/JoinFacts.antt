@@ -5,6 +5,7 @@ use Rattle.std.proofs.lemmas.Bool.{cases_lt}
 use Rattle.std.proofs.lemmas.List.{length-map}
 use Rattle.std.proofs.lemmas.Option.{slice_get_past}
 use Rattle.std.specs.Result.{IsErrAnd}
+use Rattle.ub_check.proofs.StandingFacts.{each_get}
 use Rattle.ub_index.proofs.Numbers.{distinct_first, distinct_left}
 use Rattle.ub_index.specs.Changed.{Replaces}
 use Rattle.ub_index.specs.Changing.{AreOnce, IsOutside, IsUnspelled, Stand}
@@ -34,7 +35,6 @@ use Rattle.ub_tree.proofs.EffectFacts.{left_by, sound_stored, writes_both, write
 use Rattle.ub_tree.proofs.IndexedFacts.{seat_of_key}
 use Rattle.ub_tree.proofs.PutFacts.{view_placed}
 use Rattle.ub_tree.proofs.RoomFacts.{begins_before}
-use Rattle.ub_tree.proofs.TreeFacts.{each_get}
 use Rattle.ub_tree.specs.Effects.{Changes, HasEnded, IsLeft, written_store}
 use Rattle.ub_tree.specs.Faults.{index_fault}
 use Rattle.ub_tree.specs.Indexed.{HasIndex, Inner, entries_on, reserved}

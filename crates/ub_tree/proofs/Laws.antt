@@ -11,8 +11,8 @@ use Rattle.ub_region.specs.Spans.{span_end}
 use Rattle.ub_table.specs.Region.{Region}
 use Rattle.ub_tree.proofs.AnswerFacts.{answers_up, next_later}
 use Rattle.ub_tree.proofs.CallFacts.{last_small}
+use Rattle.ub_tree.proofs.CheckFacts.{first_once}
 use Rattle.ub_tree.proofs.IndexedFacts.{contained_told, first_given, sound_index, spans_told, told_contained}
-use Rattle.ub_tree.proofs.OnceFacts.{first_once}
 use Rattle.ub_tree.proofs.WalkFacts.{answers_are_those, those_few}
 use Rattle.ub_bigmin.specs.Box.{Corners}
 use Rattle.ub_index.proofs.FillFacts.{filled_low_levels}

@@ -1,7 +1,4 @@
-pub mod NumberFacts
-pub mod CheckingFacts
 pub mod ApartFacts
-pub mod TakenFacts
 pub mod TreeFacts
 pub mod WayFacts
 pub mod NewFacts
@@ -39,12 +36,10 @@ pub mod CreationFacts
 pub mod ReadFacts
 pub mod ChainFacts
 pub mod UpgradeFacts
-pub mod StopFacts
 pub mod OldFacts
 pub mod BroughtFacts
 pub mod UpgradedFacts
 pub mod WellFacts
-pub mod OnceFacts
 pub mod CheckFacts
 pub mod Example
 pub mod Laws

@@ -3,6 +3,7 @@
 use Rattle.std.proofs.Common.{◌≡◌, ◌≢◌, ◌<◌, ◌≤◌, ◌+◌, ◌-◌, ◌∙◌, ◌++◌, inl, inr, ◌⊎◌, ℕ, zero, suc, Some, Bool, true, false, List, [], ◌∷◌, Ok, Err, Result, map, sym, ap, subst, refl, arith, slice_get}
 use Rattle.std.specs.List.{AllByRecursion}
 use Rattle.std.specs.Result.{IsErrAnd}
+use Rattle.ub_check.proofs.StandingFacts.{each_get}
 use Rattle.ub_index.proofs.Numbers.{distinct_first, distinct_left}
 use Rattle.ub_index.specs.Changing.{IsOutside, IsUnspelled}
 use Rattle.ub_index.specs.Index.{pages_under, top}
@@ -22,7 +23,6 @@ use Rattle.ub_table.specs.declared.row.Key.{Key}
 use Rattle.ub_table.specs.declared.schema.Schema.{Schema}
 use Rattle.ub_tree.proofs.EffectFacts.{left_by, sound_stored, writes_both, writes_told, writes_wider}
 use Rattle.ub_tree.proofs.IndexedFacts.{seat_of_key}
-use Rattle.ub_tree.proofs.TreeFacts.{each_get}
 use Rattle.ub_tree.specs.Effects.{Changes, HasEnded, IsFull, IsLeft, IsMarkedFirst, written_store}
 use Rattle.ub_tree.specs.Holding.{AnswersSeat, HasNoRoom}
 use Rattle.ub_tree.specs.Indexed.{Inner}

@@ -5,6 +5,7 @@ use Rattle.std.proofs.lemmas.List.{map-append, take-map, drop-map, length-map}
 use Rattle.std.proofs.lemmas.List.Elements.{recursion_from_All}
 use Rattle.std.proofs.lemmas.Option.{slice_get_within}
 use Rattle.std.specs.List.{All, AllByRecursion, IsDistinct}
+use Rattle.ub_check.proofs.PlacedFacts.{placed_at}
 use Rattle.ub_index.proofs.Changes.{kept_index, kept_under, same_page, same_entries as under_same}
 use Rattle.ub_index.proofs.HeldFacts.{ends_of}
 use Rattle.ub_index.proofs.Numbers.{distinct_apart, distinct_first, kept_pages}
@@ -32,7 +33,7 @@ use Rattle.ub_tree.proofs.IndexedFacts.{seat_of_key}
 use Rattle.ub_tree.proofs.SearchFacts.{known_is}
 use Rattle.ub_tree.proofs.SplitFacts.{apart_after_two, apart_before_two, pages_by}
 use Rattle.ub_tree.proofs.StoredFacts.{IsKept, IsSpelled, IsTold, parted, placed_changed, spelled_changed}
-use Rattle.ub_tree.proofs.TreeFacts.{entries_back, placed_at}
+use Rattle.ub_tree.proofs.TreeFacts.{entries_back}
 use Rattle.ub_tree.specs.Indexed.{HasIndex, entries_on, reserved}
 use Rattle.ub_tree.specs.Placed.{Placed, ArePlaced, entry_of, placed_of}
 use Rattle.ub_tree.specs.Spans.{Region as Span}

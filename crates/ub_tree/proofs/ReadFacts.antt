@@ -3,6 +3,7 @@ use Rattle.std.proofs.Common.{◌≡◌, ◌≢◌, ◌≤◌, ◌∙◌, inl, i
 use Rattle.std.specs.Result.{IsErrAnd}
 use Rattle.ub_bigmin.specs.Box.{Corners, HoldsAny}
 use Rattle.ub_bigmin.specs.Extremes.{LeastFrom}
+use Rattle.ub_check.specs.Standing.{IsRegionRefused}
 use Rattle.ub_store.specs.declared.fault.StoreFault.TheVariants as store
 use Rattle.ub_index.specs.Searching.{Gives, GivesFrom, IsFrom, region_of}
 use Rattle.ub_index.specs.Index.{top}
@@ -12,7 +13,7 @@ use Rattle.ub_store.specs.Facts.{IsPage, page_count}
 use Rattle.ub_store.specs.View.{Trace, emptied}
 use Rattle.ub_table.specs.declared.fault.PageFault.{PageFault}
 use Rattle.ub_table.specs.declared.row.Key.{Key}
-use Rattle.ub_tree.specs.Effects.{IsReadFault, IsIndexRefused, IsPageRefused, IsPageMissing, IsRegionRefused, IsStopped, raised_by}
+use Rattle.ub_tree.specs.Effects.{IsReadFault, IsIndexRefused, IsPageRefused, IsPageMissing, IsStopped, raised_by}
 use Rattle.ub_tree.specs.Indexed.{Inner}
 use Rattle.ub_tree.specs.Reading.{IsGiven, ReadsTree, SearchesTree, counted, fault_of_tree}
 use Rattle.ub_tree.specs.Spans.{Region}

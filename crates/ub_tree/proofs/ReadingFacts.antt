@@ -2,12 +2,16 @@
 use Rattle.std.proofs.Common.{◌⊎◌, inl, inr, ◌≡◌, ℕ, suc, Bool, IsTrue, List, Option, Some, IfSome, Result, Ok, Err, IfErr, IsOk, MatchResult, OnOk, ap, sym, subst, refl, slice_get, map, ◌≤◌, ◌<◌, ◌∙◌, arith}
 use Rattle.std.specs.List.{AllByRecursion}
 use Rattle.std.specs.Result.{IsErrAnd, IsErrOf}
+use Rattle.ub_check.proofs.StandingFacts.{each_get}
+use Rattle.ub_check.specs.Standing.{IsRegionRefused, IsHeldBy}
 use Rattle.ub_index.specs.Searching.{region_of}
 use Rattle.ub_index.specs.View.{IndexView}
+use Rattle.ub_index.specs.declared.fault.IndexFault.TheVariants as index
+use Rattle.ub_index.specs.declared.fault.IndexFault.{IndexFault}
 use Rattle.ub_index.specs.declared.seat.Seat.{Seat}
 use Rattle.ub_page.specs.Region.{region_page}
 use Rattle.ub_region.specs.Regions.{firsts_of, index_holding}
-use Rattle.ub_store.specs.Facts.{StoreFacts, IsPage, Reads, page_count, counted as counted_there}
+use Rattle.ub_store.specs.Facts.{StoreFacts, IsPage, page_count, counted as counted_there}
 use Rattle.ub_store.specs.View.{PagerView, SameTrace}
 use Rattle.ub_store.specs.declared.fault.StoreFault.{StoreFault}
 use Rattle.ub_store.specs.declared.fault.StoreFault.TheVariants as store
@@ -17,26 +21,18 @@ use Rattle.ub_table.specs.declared.fault.PageFault.{PageFault}
 use Rattle.ub_table.specs.declared.row.Key.{Key}
 use Rattle.ub_table.specs.declared.schema.Schema.{Schema}
 use Rattle.ub_tree.proofs.IndexedFacts.{seat_of_key}
-use Rattle.ub_tree.proofs.TreeFacts.{all_get, apart_next, each_get, firsts_placed, region_get, seat_placed}
-use Rattle.ub_tree.specs.Effects.{IsPageMissing, IsPageRefused, IsReadFault, IsRegionRefused, IsSpanFault, IsTakenIn, Searches, read_store}
-use Rattle.ub_tree.specs.Faults.{tree_fault}
+use Rattle.ub_tree.proofs.TreeFacts.{all_get, apart_next, firsts_placed, region_get, seat_placed}
+use Rattle.ub_tree.specs.Effects.{IsPageMissing, IsPageRefused, IsReadFault, IsSpanFault, IsTakenIn, Searches, read_store}
+use Rattle.ub_tree.specs.Faults.{index_fault, tree_fault}
 use Rattle.ub_tree.specs.Opened.{IsPassing}
 use Rattle.ub_tree.specs.Placed.{entry_of}
 use Rattle.ub_tree.specs.Spans.{first_keys, Region as Span}
 use Rattle.ub_tree.specs.Told.{IsRegionOf}
-use Rattle.ub_tree.specs.Tree.{IsHeldBy, tree_view}
+use Rattle.ub_tree.specs.Tree.{tree_view}
 use Rattle.ub_tree.specs.View.{TreeView, IsSound, regions}
 use Rattle.ub_tree.specs.declared.fault.TreeFault.{TreeFault}
 use Rattle.ub_tree.specs.declared.fault.TreeFault.TheVariants.{Failed, Page}
 use Rattle.ub_tree.specs.inner.Change.{IsOnSeat, IsSeatIn, IsSeatOf, IsSeatThere}
-
--- a page of a store that was read is one of the store before
-pub page_still : {A : Type 0} (result : Result A StoreFault) (old new : StoreFacts) (n : ℕ) (page : List ℕ) → Reads old new result → IsPage new n page → IsPage old n page
-page_still result old new n page reads is = subst (λ (s : StoreFacts). IsPage s n page) reads.same is
-
-pub on_ok_by : {T E : Type 0} (r : Result T E) {P : Type 0} → P → OnOk r P
-on_ok_by (Ok x) p = p
-on_ok_by (Err e) p = tt
 
 -- the region of a seat, as the tree tells of it
 pub seat_told : (t : TreeView) (seat : Seat) → IsSeatOf t seat → IsRegionOf t (region_of t.inner.index.last seat)
@@ -77,6 +73,17 @@ sound_seat t seat sound told = sound_on t (index_holding told.0 (first_keys (map
 -- a fault of a page of this number, of which this is known
 abbrev pub IsTold : ℕ → (PageFault → Type 0) → TreeFault → Type 0
 IsTold number Q fault = (of_page : PageFault) × (fault ≡ Page number of_page) × Q of_page
+
+-- a fault of the index of which this is known, as the tree tells it
+abbrev pub IsToldBelow : ℕ → (PageFault → Type 0) → IndexFault → Type 0
+IsToldBelow number Q fault = (of_page : PageFault) × (fault ≡ index.Page number of_page) × Q of_page
+
+pub told_above : (Q : PageFault → Type 0) (number : ℕ) (e : IndexFault) → IsToldBelow number Q e → IsTold number Q (index_fault e)
+told_above Q number e h = (h.0, ap (λ (x : IndexFault). index_fault x) h.1, h.2)
+
+pub if_told : {T : Type 0} (Q : PageFault → Type 0) (r : Result T TreeFault) (number : ℕ) (e : IndexFault) → IsErrAnd r (λ x. x ≡ index_fault e) → IsToldBelow number Q e → IfErr r (IsTold number Q)
+if_told Q (Ok x) number e is h = absurd is
+if_told Q (Err f) number e is h = subst (λ (x : TreeFault). IsTold number Q x) (sym is) (told_above Q number e h)
 
 pub page_refused : {T : Type 0} (Q : PageFault → Type 0) (r : Result T TreeFault) (number : ℕ) (old : TreeView) → IfErr r (IsTold number Q)
     → (IsSound old → IsOk r) → ((f : PageFault) → Q f → IsPageRefused old number f) → IfErr r (IsReadFault old)

@@ -5,6 +5,7 @@ use Rattle.std.proofs.lemmas.List.{map-append, take-map, drop-map}
 use Rattle.std.proofs.lemmas.List.Elements.{All-from_recursion, recursion_from_All}
 use Rattle.std.proofs.lemmas.Option.{slice_get_within}
 use Rattle.std.specs.List.{All, AllByRecursion, IsDistinct}
+use Rattle.ub_check.proofs.PlacedFacts.{placed_at}
 use Rattle.ub_directory.specs.Writing.{Grows}
 use Rattle.ub_index.proofs.MadeFacts.{made}
 use Rattle.ub_index.proofs.Numbers.{distinct_apart, distinct_first, distinct_right, within_store}
@@ -24,7 +25,7 @@ use Rattle.ub_store.specs.Facts.{StoreFacts, IsHonest, page_count}
 use Rattle.ub_table.specs.declared.schema.Schema.{Schema}
 use Rattle.ub_tree.proofs.IndexedFacts.{index_on}
 use Rattle.ub_tree.proofs.StoredFacts.{IsKept, IsSpelled, IsTold, parted, placed_changed, spelled_changed}
-use Rattle.ub_tree.proofs.TreeFacts.{entries_back, placed_at}
+use Rattle.ub_tree.proofs.TreeFacts.{entries_back}
 use Rattle.ub_tree.specs.Indexed.{HasIndex, entries_on, reserved}
 use Rattle.ub_tree.specs.Placed.{Placed, ArePlaced, entry_of, placed_of}
 use Rattle.ub_tree.specs.inner.Change.{placed_with}

@@ -1,23 +1,19 @@
 -- What a change of some pages leaves of the regions that stand on the others.
 use Rattle.std.proofs.Common.{◌≡◌, ℕ, zero, suc, List, [], ◌∷◌, ◌++◌, Some, map, take, drop, ◌∙◌, sym, ap, refl, slice_get, slice_index_or}
-use Rattle.std.proofs.lemmas.List.{map-append}
 use Rattle.std.proofs.lemmas.Option.{get_or_from_slice_get, unwrap_or-slice_get}
 use Rattle.std.proofs.lemmas.List.Elements.{All-from_recursion}
 use Rattle.std.specs.List.{All, AllByRecursion}
 use Rattle.std.specs.Option.{unwrap_or}
+use Rattle.ub_check.proofs.PlacedFacts.{placed_append, placed_at}
 use Rattle.ub_page.specs.Region.{region_on, region_page}
 use Rattle.ub_page.specs.declared.entries.Entry.{Entry}
 use Rattle.ub_region.proofs.Laws.{all_more, all_append}
 use Rattle.ub_table.specs.Region.{Region}
 use Rattle.ub_table.specs.declared.schema.Schema.{Schema}
 use Rattle.ub_tree.specs.Placed.{Placed, placed_of, entry_of}
-use Rattle.ub_tree.proofs.TreeFacts.{placed_at}
 
 index_same : (xs ys : List (List ℕ)) (n : ℕ) → slice_get xs n ≡ slice_get ys n → slice_index_or xs n [] ≡ slice_index_or ys n []
 index_same xs ys n same = sym (unwrap_or-slice_get xs n []) ∙ ap (λ o. unwrap_or o []) same ∙ unwrap_or-slice_get ys n []
-
-pub placed_append : (schema : Schema) (pages : List (List ℕ)) (xs ys : List Entry) → placed_of schema pages (xs ++ ys) ≡ placed_of schema pages xs ++ placed_of schema pages ys
-placed_append schema pages xs ys = map-append (placed_at schema pages) xs ys
 
 -- a page is as it was
 abbrev pub IsKept : List (List ℕ) → List (List ℕ) → Entry → Type 0

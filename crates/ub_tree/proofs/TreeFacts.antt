@@ -1,8 +1,11 @@
 -- A tree's regions, by its entries and the pages of its store.
-use Rattle.std.proofs.Common.{◌≡◌, ◌≢◌, ◌<◌, ◌-◌, ◌↔◌, ℕ, zero, suc, Bool, true, List, [], ◌∷◌, Option, Some, None, IfSome, length, map, ◌∙◌, sym, ap, subst, refl, arith, slice_get, slice_index_or}
+use Rattle.std.proofs.Common.{◌≡◌, ◌<◌, ℕ, zero, suc, List, [], ◌∷◌, Option, Some, None, IfSome, length, map, ◌∙◌, sym, ap, subst, refl, arith, slice_get, slice_index_or}
 use Rattle.std.proofs.lemmas.List.{length-map}
 use Rattle.std.proofs.lemmas.Option.{slice_get_read, slice_get_within, get_or_from_slice_get}
 use Rattle.std.specs.List.{All, AllByRecursion, Contains}
+use Rattle.ub_check.proofs.PlacedFacts.{placed_at}
+use Rattle.ub_check.proofs.StandingFacts.{each_get}
+use Rattle.ub_check.specs.Standing.{IsHeldBy}
 use Rattle.ub_zaddr.specs.Address.{last_address}
 use Rattle.ub_page.specs.Region.{region_on, region_page}
 use Rattle.ub_index.specs.View.{IsSeatAt}
@@ -10,21 +13,15 @@ use Rattle.ub_index.specs.declared.seat.Seat.{Seat}
 use Rattle.ub_page.specs.declared.entries.Entry.{Entry}
 use Rattle.ub_region.specs.Regions.{AreRegions, AreApart, firsts_of}
 use Rattle.ub_region.specs.Spans.{span_end}
-use Rattle.ub_table.proofs.Laws.{before_of, precedes_of, before_trans}
-use Rattle.ub_table.specs.Keys.{IsBefore, AreKeysAscending, precedes}
-use Rattle.ub_table.specs.Region.{Region, IsRegion, key_of, keys_of}
+use Rattle.ub_table.specs.Keys.{IsBefore}
+use Rattle.ub_table.specs.Region.{Region, IsRegion, keys_of}
 use Rattle.ub_table.specs.declared.row.Key.{Key}
 use Rattle.ub_table.specs.declared.row.Row.{Row}
 use Rattle.ub_table.specs.declared.schema.Schema.{Schema}
 use Rattle.ub_tree.specs.Spans.{first_keys, regions_of, Region as Span}
-use Rattle.ub_tree.specs.Tree.{IsHeldBy}
 use Rattle.ub_tree.specs.Placed.{Placed, ArePlaced, placed_of, regions_in, entry_of}
 use Rattle.ub_tree.specs.View.{spans_in}
 use Rattle.ub_directory.proofs.Laws.{region_with}
-
--- the region of an entry, with the rows of its page
-abbrev pub placed_at : Schema → List (List ℕ) → Entry → Placed
-placed_at schema pages e = record { page = e.page; region = record { first = e.first; rows = (region_on schema (slice_index_or pages e.page [])).rows } }
 
 pub entries_back : (schema : Schema) (pages : List (List ℕ)) (entries : List Entry) → map entry_of (placed_of schema pages entries) ≡ entries
 entries_back schema pages [] = refl
@@ -51,11 +48,6 @@ region_get (q ∷ placed) zero p at = let same : q ≡ p = cc in rw same refl
 region_get (q ∷ placed) (suc i) p at = region_get placed i p at
 
 module _ {X : Type 0} (P : X → Type 0) where
-  pub each_get : (xs : List X) (i : ℕ) (x : X) → AllByRecursion P xs → slice_get xs i ≡ Some x → P x
-  each_get [] i x all at = cc
-  each_get (y ∷ xs) zero x all at = let same : y ≡ x = cc in subst P same all.0
-  each_get (y ∷ xs) (suc i) x all at = each_get xs i x all.1 at
-
   pub all_get : (xs : List X) (i : ℕ) (x : X) → All P xs → slice_get xs i ≡ Some x → P x
   all_get xs i x all at = subst P (get_or_from_slice_get xs i x x at) (all i x (slice_get_within xs i x at))
 
@@ -119,33 +111,6 @@ span_known schema entries pages next last reserved span regions placed found =
         );
       },
     )
-
--- before a key is each of ascending keys, where the last is
-pub before_last : (key : Key) (keys : List Key) (i : ℕ) (end : Key) → AreKeysAscending keys → length keys ≡ suc i → slice_get keys i ≡ Some end → IsBefore end key
-    → AllByRecursion (λ k. IsBefore k key) keys
-before_last key [] i end up long at before = tt
-before_last key (k ∷ []) zero end up long at before = let same : k ≡ end = cc in (subst (λ (j : Key). IsBefore j key) (sym same) before, tt)
-before_last key (k ∷ []) (suc i) end up long at before = cc
-before_last key (k ∷ j ∷ keys) zero end up long at before = absurd (omega arith)
-before_last key (k ∷ j ∷ keys) (suc i) end up long at before =
-    let rest = before_last key (j ∷ keys) i end up.1 (omega arith) at before in
-    (before_trans k j key up.0 rest.0, rest)
-
-pub all_before : (key : Key) (keys : List Key) (i : ℕ) (end : Key) → AreKeysAscending keys → length keys ≡ suc i → slice_get keys i ≡ Some end
-    → IsBefore end key ↔ AllByRecursion (λ k. IsBefore k key) keys
-all_before key keys i end up long at = (before_last key keys i end up long at, λ all. each_get (λ k. IsBefore k key) keys i end all at)
-
-pub last_tells : (key end : Key) (dims len : ℕ) (rows : List Row) (b : Bool) → AreKeysAscending (keys_of dims rows) → len ≡ length rows → len ≢ 0
-    → slice_get (keys_of dims rows) (len - 1) ≡ Some end → b ≡ precedes end key → (b ≡ true) ↔ AllByRecursion (λ k. IsBefore k key) (keys_of dims rows)
-last_tells key end dims len rows b up is some at tells =
-    let long = length-map rows (key_of dims) in
-    let all = all_before key (keys_of dims rows) (len - 1) end up (omega arith) at in
-    (λ t. all.0 (before_of end key (sym tells ∙ t)), λ h. tells ∙ precedes_of end key (all.1 h))
-
--- a region whose rows are before the next one's first key
-pub held_before : (dims : ℕ) (first next : Key) (region : Region) (b : Bool) → region.first ≡ first
-    → (b ≡ true) ↔ AllByRecursion (λ k. IsBefore k next) (keys_of dims region.rows) → (b ≡ true) ↔ IsHeldBy dims first (Some next) region
-held_before dims first next region b same tells = (λ t. (same, tells.0 t), λ h. tells.1 h.1)
 
 -- the region of a seat
 pub seat_within : (placed : List Placed) (i : ℕ) (seat : Seat) → IsSeatAt (map entry_of placed) i seat → i < length placed

@@ -4,6 +4,7 @@ use Rattle.std.proofs.lemmas.List.Elements.{All-from_recursion, recursion_from_A
 use Rattle.std.proofs.lemmas.Option.{get_or_from_slice_get, slice_get_within}
 use Rattle.std.specs.List.{All, AllByRecursion}
 use Rattle.std.specs.Result.{IsErrAnd}
+use Rattle.ub_check.specs.Checking.{StopsIn}
 use Rattle.ub_index.proofs.Changes.{kept_index, kept_under}
 use Rattle.ub_index.proofs.Numbers.{distinct_apart, distinct_cons, distinct_first, distinct_join, distinct_left, distinct_right, kept_pages}
 use Rattle.ub_index.specs.Changed.{PagesStay}
@@ -24,7 +25,7 @@ use Rattle.ub_store.specs.View.{PagerView}
 use Rattle.ub_store.specs.declared.fault.StoreFault.TheVariants as store
 use Rattle.ub_table.specs.declared.fault.PageFault.{PageFault}
 use Rattle.ub_table.specs.declared.schema.Schema.{Schema}
-use Rattle.ub_tree.specs.Checking.{StopsIn, StopsTree, asked_of}
+use Rattle.ub_tree.specs.Checking.{StopsTree, asked_of}
 use Rattle.ub_tree.specs.Faults.{index_fault, upgrade_fault}
 use Rattle.ub_tree.specs.Indexed.{HasIndex, reserved}
 use Rattle.ub_tree.specs.Old.{AreOldPages, head_of}

@@ -3,6 +3,7 @@ use Rattle.std.proofs.Common.{◌≡◌, ◌≤◌, ◌<◌, ◌^◌, ◌∙◌,
 use Rattle.std.proofs.lemmas.List.Elements.{recursion_from_All}
 use Rattle.std.proofs.lemmas.Option.{slice_get_within}
 use Rattle.std.specs.List.{AllByRecursion}
+use Rattle.ub_check.proofs.StopFacts.{stops_low, stops_there}
 use Rattle.ub_index.specs.Index.{top}
 use Rattle.ub_index.specs.View.{IndexView}
 use Rattle.ub_page.proofs.PageLaws.{region_parts}
@@ -19,7 +20,6 @@ use Rattle.ub_table.specs.declared.schema.Schema.{Schema}
 use Rattle.ub_tree.proofs.CallFacts.{last_small}
 use Rattle.ub_tree.proofs.OldFacts.{old_are}
 use Rattle.ub_tree.proofs.SearchFacts.{known_is}
-use Rattle.ub_tree.proofs.StopFacts.{stops_low, stops_there}
 use Rattle.ub_tree.proofs.StoredFacts.{IsSpelled, IsTold, placed_told}
 use Rattle.ub_tree.proofs.UpgradeFacts.{over, passing_up, versions}
 use Rattle.ub_tree.proofs.WellFacts.{well_index, well_placed, well_regions}

@@ -3,6 +3,10 @@ use Rattle.std.proofs.Common.{◌≡◌, ◌≤◌, ◌<◌, ◌^◌, ℕ, List,
 use Rattle.std.proofs.lemmas.List.Elements.{All-from_recursion, recursion_from_All}
 use Rattle.std.proofs.lemmas.Option.{slice_get_within}
 use Rattle.std.specs.List.{AllByRecursion}
+use Rattle.ub_check.proofs.PlacedFacts.{placed_at}
+use Rattle.ub_check.proofs.TakenFacts.{IsTaken, new_below, new_differ, new_of, taken_walk, walk_taken}
+use Rattle.ub_check.specs.Checking.{Asked, StandsHere, numbers_in, numbers_of}
+use Rattle.ub_check.specs.Numbers.{AreNew, IsNone}
 use Rattle.ub_directory.specs.Spans.{first_keys}
 use Rattle.ub_index.proofs.Numbers.{within_store}
 use Rattle.ub_index.proofs.PlaceFacts.{begins, each_entry, up}
@@ -21,12 +25,10 @@ use Rattle.ub_table.specs.declared.row.Key.{Key}
 use Rattle.ub_table.specs.declared.row.Row.{Row}
 use Rattle.ub_table.specs.declared.schema.Schema.{Schema}
 use Rattle.ub_tree.proofs.ApartFacts.{IsOnPage, all_differ, under_differ, under_from}
-use Rattle.ub_tree.proofs.TakenFacts.{IsTaken, new_below, new_differ, new_of, taken_walk, walk_taken}
-use Rattle.ub_tree.specs.Checking.{Asked, IsWell, StandsHere, TakesTree, asked_of, numbers_in, numbers_of}
-use Rattle.ub_tree.specs.Numbers.{AreNew, IsNone}
+use Rattle.ub_tree.specs.Checking.{IsWell, TakesTree, asked_of}
 use Rattle.ub_page.proofs.PageLaws.{region_parts}
 use Rattle.ub_tree.proofs.StoredFacts.{IsSpelled, IsTold, placed_told}
-use Rattle.ub_tree.proofs.TreeFacts.{entries_back, firsts_back, placed_at}
+use Rattle.ub_tree.proofs.TreeFacts.{entries_back, firsts_back}
 use Rattle.ub_tree.specs.Indexed.{HasIndex, reserved}
 use Rattle.ub_tree.proofs.CallFacts.{last_small}
 use Rattle.ub_tree.specs.Opened.{IsOpened, IsRooted}

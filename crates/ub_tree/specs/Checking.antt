@@ -1,134 +1,40 @@
--- What a check of a table's pages comes to, page by page, and where it stops.
-use Rattle.std.specs.Prelude.{◌≡◌, ◌≤◌, ◌<◌, ◌⊎◌, ◌++◌, ℕ, zero, suc, IsTrue, List, [], ◌∷◌, Option, Some, None, Result, IfErr, length, map, slice_get}
-use Rattle.ub_index.specs.Fitting.{IsNotTaken}
-use Rattle.ub_index.specs.Index.{NamesFitting, entries_of, first_or, top}
-use Rattle.ub_page.specs.Region.{region_page}
-use Rattle.ub_page.specs.declared.entries.Entry.{Entry}
-use Rattle.ub_region.specs.Regions.{rows_of}
+-- What a check of a tree's pages comes to, and where it stops.
+use Rattle.std.specs.Prelude.{◌≡◌, ℕ, IsTrue, List, Option, Result, IfErr}
+use Rattle.ub_check.specs.Checking.{Asked, AreWell, IsFirst, StopsTable, TakesTable, asked_for}
+use Rattle.ub_check.specs.declared.checking.Told.{Told}
+use Rattle.ub_index.specs.declared.fault.IndexFault.TheVariants as index
 use Rattle.ub_store.specs.Facts.{IsHonest}
 use Rattle.ub_store.specs.declared.fault.StoreFault.TheVariants as store
-use Rattle.ub_table.specs.Region.{Region, IsRegion}
-use Rattle.ub_table.specs.declared.fault.PageFault.TheVariants.{BadCount, BadRow}
 use Rattle.ub_table.specs.declared.fault.PageFault.{PageFault}
-use Rattle.ub_table.specs.declared.row.Key.{Key}
-use Rattle.ub_table.specs.declared.row.Row.{Row}
-use Rattle.ub_table.specs.declared.schema.Schema.{Schema}
-use Rattle.ub_tree.specs.Numbers.{AreNew}
-use Rattle.ub_tree.specs.Effects.{IsRegionRefused, read_store}
-use Rattle.ub_tree.specs.Placed.{Placed, regions_in}
-use Rattle.ub_tree.specs.Tree.{IsHeldBy}
-use Rattle.ub_tree.specs.View.{TreeView, region_count, tree_rows}
+use Rattle.ub_tree.specs.Effects.{read_store}
+use Rattle.ub_tree.specs.Placed.{Placed}
+use Rattle.ub_tree.specs.View.{TreeView, region_count}
 use Rattle.ub_tree.specs.declared.fault.TreeFault.{TreeFault}
 use Rattle.ub_tree.specs.declared.fault.TreeFault.TheVariants.{Full, Page, Store, Failed, Memory}
 
--- what is checked against: the table's schema and the last address of its space, how many regions are counted, the number that
--- the next row gets, and the pages
-pub record Asked : Type 0 where
-  pub schema : Schema
-  pub last : ℕ
-  pub count : ℕ
-  pub next : ℕ
-  pub pages : List (List ℕ)
-
-abbrev pub asked_for : Schema → ℕ → ℕ → ℕ → List (List ℕ) → Asked
-asked_for schema last count next pages = record { schema = schema; last = last; count = count; next = next; pages = pages }
-
-abbrev pub numbers_of : List Row → List ℕ
-numbers_of rows = map (λ row. row.number) rows
-
--- the numbers of the rows of these regions
-abbrev pub numbers_in : List Placed → List ℕ
-numbers_in placed = numbers_of (rows_of (regions_in placed))
-
--- a region stands where an entry tells, up to where the next one begins
-pub record StandsHere (asked : Asked) (entry : Entry) (end : Option Key) (region : Region) : Type 0 where
-  pub is : IsRegion asked.schema region
-  pub spelled : slice_get asked.pages entry.page ≡ Some (region_page asked.schema region)
-  pub held : IsHeldBy asked.schema.dims entry.first end region
-
--- after these regions a region is taken where an entry tells: it isn't one more than counted, and its rows' numbers are below
--- the next, and new
-pub record TakesRegion (asked : Asked) (entry : Entry) (end : Option Key) (before after : List Placed) : Type 0 where
-  pub counted : length before < asked.count
-  pub region : Region
-  pub stands : StandsHere asked entry end region
-  pub new : AreNew asked.next (numbers_in before) (numbers_of region.rows)
-  pub after_is : after ≡ before ++ record { page = entry.page; region = region } ∷ []
-
--- after these regions none is taken there: it is one more than counted, which is told of page 0; or there is no such page, or it
--- is refused; or one of its rows has a number that isn't below the next, or was met before
-abbrev pub StopsAtRegion : Asked → Entry → Option Key → List Placed → ℕ → Option PageFault → Type 0
-StopsAtRegion asked entry end before n fault =
-    ((asked.count ≤ length before) × (n ≡ 0) × (fault ≡ Some BadCount))
-    ⊎ ((length before < asked.count) × (n ≡ entry.page)
-    × (((fault ≡ None) × (length asked.pages ≤ entry.page))
-    ⊎ ((page : List ℕ) × (slice_get asked.pages entry.page ≡ Some page)
-    × (of_page : PageFault) × (fault ≡ Some of_page) × IsRegionRefused asked.schema entry.first end page of_page)
-    ⊎ ((fault ≡ Some BadRow) × (region : Region) × StandsHere asked entry end region
-    × (¬ (AreNew asked.next (numbers_in before) (numbers_of region.rows))))))
-
--- what is done entry by entry, each up to where the next one begins
-abbrev pub Takes : Type 1
-Takes = Entry → Option Key → List Placed → List Placed → Type 0
-
-abbrev pub TakesEach : Takes → List Entry → Option Key → List Placed → List Placed → Type 0
-TakesEach T [] end before after = after ≡ before
-TakesEach T (entry ∷ entries) end before after =
-    (between : List Placed) × T entry (first_or entries end) before between × TakesEach T entries end between after
-
-abbrev pub StopsEach : Takes → (Entry → Option Key → List Placed → ℕ → Option PageFault → Type 0) → List Entry → Option Key → List Placed
-    → ℕ → Option PageFault → Type 0
-StopsEach T S [] end before n fault = ⊥
-StopsEach T S (entry ∷ entries) end before n fault =
-    S entry (first_or entries end) before n fault
-    ⊎ ((between : List Placed) × T entry (first_or entries end) before between × StopsEach T S entries end between n fault)
-
--- all regions that an entry of this level leads to are taken, one after the other; each page of the index on the way fits
-abbrev pub TakesAll : Asked → ℕ → Entry → Option Key → List Placed → List Placed → Type 0
-TakesAll asked zero entry end before after = TakesRegion asked entry end before after
-TakesAll asked (suc level) entry end before after =
-    NamesFitting asked.last asked.pages (suc level) entry end
-    × TakesEach (TakesAll asked level) (entries_of asked.pages entry.page) end before after
-
--- on the way through all that an entry of this level leads to, a check stops at the page n, which isn't there or is refused;
--- all that comes before it is taken
-abbrev pub StopsIn : Asked → ℕ → Entry → Option Key → List Placed → ℕ → Option PageFault → Type 0
-StopsIn asked zero entry end before n fault = StopsAtRegion asked entry end before n fault
-StopsIn asked (suc level) entry end before n fault =
-    ((n ≡ entry.page) × IsNotTaken asked.last asked.pages [] (suc level) entry end fault)
-    ⊎ (NamesFitting asked.last asked.pages (suc level) entry end
-    × StopsEach (TakesAll asked level) (StopsIn asked level) (entries_of asked.pages entry.page) end before n fault)
-
--- what a check of a tree asks
+-- what a check of a tree asks, and what is told of its table
 abbrev pub asked_of : TreeView → Asked
 asked_of t = asked_for t.schema t.inner.index.last (region_count t) t.next t.store.pages
 
+abbrev pub told_of : TreeView → Told
+told_of t = record { root = t.inner.index.root; levels = t.inner.index.levels; regions = region_count t; rows = t.rows; next = t.next }
+
 -- the check of a tree takes these regions, from the root of its index on
 abbrev pub TakesTree : TreeView → List Placed → Type 0
-TakesTree t after = TakesAll (asked_of t) t.inner.index.levels (top t.inner.index.root) None [] after
+TakesTree t after = TakesTable (asked_of t) (told_of t) after
 
 -- a tree's pages are well: its regions are taken, as many as it counts, with as many rows
-pub record IsWell (t : TreeView) : Type 0 where
-  pub takes : TakesTree t t.placed
-  pub count_is : region_count t ≡ length t.placed
-  pub rows_are : t.rows ≡ length (tree_rows t)
-
--- other regions are taken than are counted, or other rows, which is told of page 0
-pub record EndsMiscounted (t : TreeView) (n : ℕ) (fault : PageFault) : Type 0 where
-  pub after : List Placed
-  pub takes : TakesTree t after
-  pub counts : (length after < region_count t) ⊎ ((length after ≡ region_count t) × (¬ (t.rows ≡ length (rows_of (regions_in after)))))
-  pub page_is : n ≡ 0
-  pub fault_is : fault ≡ BadCount
+abbrev pub IsWell : TreeView → Type 0
+IsWell t = AreWell (asked_of t) (told_of t) t.placed
 
 -- where the check of a tree stops
 abbrev pub StopsTree : TreeView → ℕ → Option PageFault → Type 0
-StopsTree t n fault = StopsIn (asked_of t) t.inner.index.levels (top t.inner.index.root) None [] n fault
+StopsTree t n fault = StopsTable (asked_of t) (told_of t) n fault
 
 -- the fault at which the check of a tree stops, the first on the walk, or that of the counts at its end; there is no other
 abbrev pub IsFirstFault : TreeView → TreeFault → Type 0
-IsFirstFault t (Page n fault) = StopsTree t n (Some fault) ⊎ EndsMiscounted t n fault
-IsFirstFault t (Store store.NoPage) = (n : ℕ) × StopsTree t n None
+IsFirstFault t (Page n fault) = IsFirst (asked_of t) (told_of t) (index.Page n fault)
+IsFirstFault t (Store fault) = IsFirst (asked_of t) (told_of t) (index.Store fault)
 IsFirstFault t _ = ⊥
 
 -- what a check can answer: over an honest store the fault of a page, or that there is none, is the first

@@ -1,6 +1,7 @@
 -- What the calls of a tree leave, in a few words: a call that searches, one that reads regions, one that changes the tree.
-use Rattle.std.specs.Prelude.{◌+◌, ◌≡◌, ◌<◌, ◌≤◌, ◌⊎◌, ℕ, true, IsTrue, Result, Ok, Err, IfErr, OnOk, List, Option, Some, None}
+use Rattle.std.specs.Prelude.{◌+◌, ◌≡◌, ◌<◌, ◌≤◌, ◌⊎◌, ℕ, true, IsTrue, Result, Ok, Err, IfErr, OnOk, List, Some, None}
 use Rattle.std.specs.List.{Contains}
+use Rattle.ub_check.specs.Standing.{IsHeldBy, IsRegionRefused}
 use Rattle.ub_directory.specs.Writing.{Grows}
 use Rattle.ub_index.specs.Lowering.{IsDropFault}
 use Rattle.ub_index.specs.Preparing.{HasFullWay, NeedsPages}
@@ -11,15 +12,13 @@ use Rattle.ub_store.specs.Facts.{StoreFacts, IsHonest, IsPage, page_count, raise
 use Rattle.ub_store.specs.View as trace
 use Rattle.ub_store.specs.View.{Notes}
 use Rattle.ub_table.specs.declared.row.TheConstants.{MAX_ROW_NUMBER}
-use Rattle.ub_page.specs.Region.{IsRegionFault, region_page}
+use Rattle.ub_page.specs.Region.{region_page}
 use Rattle.ub_table.specs.Region.{Region, IsRegion}
 use Rattle.ub_table.specs.declared.fault.PageFault.{PageFault}
 use Rattle.ub_table.specs.declared.fault.PageFault.TheVariants.{BadCount, BadOrder, OutOfRegion}
 use Rattle.ub_table.specs.declared.row.Key.{Key}
 use Rattle.ub_table.specs.declared.row.Row.{Row}
-use Rattle.ub_table.specs.declared.schema.Schema.{Schema}
 use Rattle.ub_tree.specs.Others.{WritesOneRegion}
-use Rattle.ub_tree.specs.Tree.{IsHeldBy}
 use Rattle.ub_writing.specs.Marks.{HasMark, KeepsUnless}
 use Rattle.ub_tree.specs.Told.{HasOverlap, IsRegionOf, TellsStill}
 use Rattle.ub_tree.specs.View.{TreeView, IsSound, KeepsTrace, region_count}
@@ -44,14 +43,6 @@ read_store result old = record old { failed_reads = counted result old.failed_re
 -- a store after a call with this result that only writes, extends and syncs, with the pages that it then has
 abbrev pub written_store : {A : Type 0} → Result A TreeFault → StoreFacts → StoreFacts → StoreFacts
 written_store result old new = record old { pages = new.pages; synced = new.synced; failed_writes = counted result old.failed_writes }
-
--- why a page is refused where a region is due that begins with this key, and the next one, if there is one, with that: its
--- reader refuses it, or it tells of a region that begins with another key or has rows that are not before the next one
-abbrev pub IsRegionRefused : Schema → Key → Option Key → List ℕ → PageFault → Type 0
-IsRegionRefused schema first next page fault =
-    IsRegionFault schema page fault
-    ⊎ ((fault ≡ OutOfRegion) × (region : Region) × IsRegion schema region × (page ≡ region_page schema region)
-    × (¬ (IsHeldBy schema.dims first next region)))
 
 -- a way to some key stops at the page of this number, which is refused; or it is the root's, and two ways lead to seats that overlap. Over
 -- a sound tree neither comes, whichever pages are held

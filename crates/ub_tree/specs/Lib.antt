@@ -19,7 +19,6 @@ pub mod Upgrade
 pub mod Others
 pub mod Holding
 pub mod Removal
-pub mod Numbers
 pub mod Checking
 pub mod Laws
 pub mod inner

@@ -1,14 +1,10 @@
 -- A tree's parts, as contracts see them together.
-use Rattle.std.specs.Prelude.{◌+◌, ◌≡◌, ◌≤◌, ◌<◌, ◌^◌, ℕ, Bool, if◌then◌else◌, List, [], Option, IfSome}
-use Rattle.std.specs.List.{AllByRecursion}
+use Rattle.std.specs.Prelude.{◌+◌, ◌≡◌, ◌≤◌, ◌<◌, ◌^◌, ℕ, Bool, if◌then◌else◌, List, []}
 use Rattle.ub_table.specs.declared.row.TheConstants.{MAX_ROW_NUMBER}
 use Rattle.ub_zaddr.specs.Address.{last_address}
 use Rattle.ub_index.specs.View.{IndexView}
 use Rattle.ub_store.specs.Facts.{StoreFacts}
 use Rattle.ub_store.specs.View.{PagerView}
-use Rattle.ub_table.specs.Keys.{IsBefore}
-use Rattle.ub_table.specs.Region.{Region, keys_of}
-use Rattle.ub_table.specs.declared.row.Key.{Key}
 use Rattle.ub_table.specs.declared.schema.Schema.{Schema}
 use Rattle.ub_tree.specs.Indexed.{entries_on}
 use Rattle.ub_tree.specs.Placed.{Placed, placed_of}
@@ -46,9 +42,3 @@ pub record IsTree (schema : Schema) (index : IndexView) (count next rows : ℕ) 
   pub fewer : rows < next
   pub last_next : next ≤ MAX_ROW_NUMBER + 1
   pub mark_is : IsMarkOf schema mark
-
--- the region begins with this first key, and its rows are before the next region's, where there is one
-abbrev pub IsHeldBy : ℕ → Key → Option Key → Region → Type 0
-IsHeldBy dims first next region =
-    (region.first ≡ first)
-    × IfSome next (λ end. AllByRecursion (λ key. IsBefore key end) (keys_of dims region.rows))

@@ -1,5 +1,4 @@
 -- What the clauses of a tree's steps say, and its public ones do not.
 pub mod Change
-pub mod Checking
 pub mod Opening
 pub mod Upgrading

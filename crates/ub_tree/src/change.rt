@@ -23,9 +23,9 @@ ghost use Rattle.ub_tree.specs.View.{IsSound, region_count};
 ghost use Rattle.ub_writing.specs.Puts.{PutsTwo};
 
 use crate::fault::{TreeFault, bad_count};
-use crate::reading::take_region;
 use crate::room::{Drafts, Room, list_rows, new_room};
 use crate::tree::Tree;
+use ub_check::take_region;
 use ub_index::{Change, Seat};
 use ub_page::{Draft, Page, RegionPage, write_region};
 use ub_region::{Halves, Rows, index_in, is_equal};

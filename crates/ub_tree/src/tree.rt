@@ -11,11 +11,11 @@ ghost use Rattle.ub_tree.specs.View.{IsSound, level_count, region_count, spans_o
 ghost use Rattle.ub_writing.specs.Marks.{is_written};
 
 use crate::fault::TreeFault;
-use crate::reading::take_region;
 use crate::room::Room;
 use std::alloc::Global;
 use std::marker::Model;
 use ub_bigmin::ZBox;
+use ub_check::take_region;
 use ub_directory::Region;
 use ub_index::Index;
 use ub_page::{Header, RegionPage};
@@ -218,6 +218,7 @@ impl<S: PageStore> Tree<S> {
             region.page,
             self.pager.cached(region.page),
             page,
-        )
+        )?;
+        Ok(())
     }
 }

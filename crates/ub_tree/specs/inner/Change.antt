@@ -1,6 +1,7 @@
 -- What the steps of a change of one region do to a tree, and what they need.
 use Rattle.std.specs.Prelude.{IfSome, ◌≡◌, ◌≢◌, ◌+◌, ◌<◌, ◌≤◌, ◌++◌, ◌⊎◌, ℕ, suc, true, false, List, [], ◌∷◌, Option, IsTrue, Result, Err, IfErr, OnOk, length, map, take, drop}
 use Rattle.std.specs.List.{AllByRecursion}
+use Rattle.ub_check.specs.Standing.{IsHeldBy}
 use Rattle.ub_directory.specs.Writing.{Grows}
 use Rattle.ub_index.specs.Changed.{Replaces}
 use Rattle.ub_index.specs.Changing.{IsOutside}
@@ -27,7 +28,6 @@ use Rattle.ub_tree.specs.Indexed.{HasIndex, reserved}
 use Rattle.ub_tree.specs.Others.{AddsEntry, DropsEntry, KeepsEntries, KeepsOthers, WritesIndex, WritesPage}
 use Rattle.ub_tree.specs.Placed.{Placed, ArePlaced, entry_of}
 use Rattle.ub_tree.specs.Told.{FallsTo}
-use Rattle.ub_tree.specs.Tree.{IsHeldBy}
 use Rattle.ub_tree.specs.View.{TreeView, IsSound, region_count, regions}
 use Rattle.ub_tree.specs.declared.fault.TreeFault.{TreeFault}
 use Rattle.ub_tree.specs.declared.fault.TreeFault.TheVariants.{Full, Memory, Page, Store}

@@ -1,42 +1,9 @@
-use Rattle.std.proofs.Common.{◌≡◌, ◌<◌, ◌^◌, ◌∙◌, inl, [], true, false, ap, refl, subst, sym}
+use Rattle.std.proofs.Common.{◌≡◌, ◌<◌, ◌^◌, ◌∙◌, ℕ, true, false, ap, refl, subst, sym}
+use Rattle.ub_check.specs.declared.checking.Told.{Told}
 use Rattle.ub_tree.proofs.CallFacts.{last_small}
-use Rattle.ub_tree.proofs.CheckFacts.{err_passes, not_begun, well_passes}
-use Rattle.ub_tree.proofs.EffectFacts.{refused_none}
-use Rattle.ub_tree.proofs.OnceFacts.{first_answered, well_first}
-use Rattle.ub_tree.proofs.UpgradeFacts.{err_refused}
-use Rattle.ub_tree.proofs.WellFacts.{sound_well}
-use Rattle.ub_tree.specs.Checking.{IsCheckFault}
-use Rattle.ub_tree.specs.Opened.{IsPassing}
-use Rattle.ub_tree.specs.View.{TreeView, region_count}
-use Rattle.ub_tree.specs.declared.fault.TreeFault.TheVariants.{Memory}
-use Rattle.ub_tree.specs.inner.Checking.{HasTaken}
+use Rattle.ub_tree.proofs.CheckFacts.{checked_done, checked_refused}
+use Rattle.ub_writing.specs.Marks.{is_written}
 use Rattle.ub_tree.proofs.tree.Tree.check.Goals as goal
-
-pub returns-clause-exact : goal.returns-clause-exact
-returns-clause-exact g c = λ honest well works.
-    let t = c.self.inside in
-    let here : t.index.last < 2 ^ 128 = subst (λ n. n < 2 ^ 128) (sym c.self.invariant.last_is) (last_small t.schema.dims t.schema.counts.few_dims) in
-    let small = subst (λ (v : TreeView). v.inner.index.last < 2 ^ 128) c.self.view_is here in
-    err_passes c.check_with.result (IsCheckFault c.args.self.now) c.check_with.ensures.effect.faults (well_passes c.args.self.now small works honest well)
-
-pub returns-clause-sound : goal.returns-clause-sound
-returns-clause-sound g c = λ sound.
-    let t = c.self.inside in
-    let here : t.index.last < 2 ^ 128 = subst (λ n. n < 2 ^ 128) (sym c.self.invariant.last_is) (last_small t.schema.dims t.schema.counts.few_dims) in
-    let small = subst (λ (v : TreeView). v.inner.index.last < 2 ^ 128) c.self.view_is here in
-    err_passes c.check_with.result (IsCheckFault c.args.self.now) c.check_with.ensures.effect.faults
-    (well_passes c.args.self.now small sound.working sound.honest (sound_well c.args.self.now sound))
-
-pub returns-clause-stopped : goal.returns-clause-stopped
-returns-clause-stopped g c = λ fault honest works first.
-    let t = c.self.inside in
-    let here : t.index.last < 2 ^ 128 = subst (λ n. n < 2 ^ 128) (sym c.self.invariant.last_is) (last_small t.schema.dims t.schema.counts.few_dims) in
-    let small = subst (λ (v : TreeView). v.inner.index.last < 2 ^ 128) c.self.view_is here in
-    first_answered c.args.self.now small c.check_with.result works honest c.check_with.ensures.effect.faults (c.check_with.ensures.well honest) fault first
-    (λ well. well_first c.args.self.now small well fault)
-
-pub returns-then-has_failed-clause-well : goal.returns-then-has_failed-clause-well
-returns-then-has_failed-clause-well g c = λ honest. tt
 
 pub returns-then-has_failed-clause-exact : goal.returns-then-has_failed-clause-exact
 returns-then-has_failed-clause-exact g c = λ honest well works.
@@ -53,44 +20,107 @@ returns-then-has_failed-clause-stopped g c = λ fault honest works first.
     let failed : c.args.self.now.is_failed ≡ true = sym c.has_failed.ensures ∙ c.if-has_failed.true in
     absurd (let bad : true ≡ false = sym failed ∙ works in cc)
 
-pub returns-then-has_failed-clause-failed : goal.returns-then-has_failed-clause-failed
-returns-then-has_failed-clause-failed g c = λ is. refl
-
 pub returns-then-has_failed-clause-effect : goal.returns-then-has_failed-clause-effect
 returns-then-has_failed-clause-effect g c =
     let failed : c.args.self.now.is_failed ≡ true = sym c.has_failed.ensures ∙ c.if-has_failed.true in
     record { same = refl; faults = failed }
 
-pub returns-in_err-walk-clause-well : goal.returns-in_err-walk-clause-well
-returns-in_err-walk-clause-well g c = λ honest. refused_none _ c.from_residual.result Memory c.from_residual.ensures.1
+pub returns-in_err-check_pages-clause-well : goal.returns-in_err-check_pages-clause-well
+returns-in_err-check_pages-clause-well g c =
+    let t = c.self.inside in
+    let told : Told = record { root = c.root-root.result.0; levels = c.root-root.result.1; regions = t.count; rows = t.rows; next = t.next } in
+    let told_is = ap (λ (r : ℕ × ℕ). record { root = r.0; levels = r.1; regions = t.count; rows = t.rows; next = t.next }) c.root-root.ensures.root in
+    let small : t.index.last < 2 ^ 128 = subst (λ n. n < 2 ^ 128) (sym c.self.invariant.last_is) (last_small t.schema.dims t.schema.counts.few_dims) in
+    rw (← c.self.view_is) (checked_refused t.schema t.index t.count t.next t.rows (is_written t.mark) t.is_failed t.pager c.check_pages.new.pager c.self.invariant.last_is small told told_is
+    c.from_residual.result c.in_err-check_pages.field-0.0 c.from_residual.ensures.1 c.in_err-check_pages.ensures).well
 
-pub returns-in_err-walk-clause-exact : goal.returns-in_err-walk-clause-exact
-returns-in_err-walk-clause-exact g c = λ honest well works. err_refused c.from_residual.result IsPassing Memory c.from_residual.ensures.1 (inl refl)
+pub returns-in_err-check_pages-clause-exact : goal.returns-in_err-check_pages-clause-exact
+returns-in_err-check_pages-clause-exact g c =
+    let t = c.self.inside in
+    let told : Told = record { root = c.root-root.result.0; levels = c.root-root.result.1; regions = t.count; rows = t.rows; next = t.next } in
+    let told_is = ap (λ (r : ℕ × ℕ). record { root = r.0; levels = r.1; regions = t.count; rows = t.rows; next = t.next }) c.root-root.ensures.root in
+    let small : t.index.last < 2 ^ 128 = subst (λ n. n < 2 ^ 128) (sym c.self.invariant.last_is) (last_small t.schema.dims t.schema.counts.few_dims) in
+    rw (← c.self.view_is) (checked_refused t.schema t.index t.count t.next t.rows (is_written t.mark) t.is_failed t.pager c.check_pages.new.pager c.self.invariant.last_is small told told_is
+    c.from_residual.result c.in_err-check_pages.field-0.0 c.from_residual.ensures.1 c.in_err-check_pages.ensures).exact
 
-pub returns-in_err-walk-clause-sound : goal.returns-in_err-walk-clause-sound
-returns-in_err-walk-clause-sound g c = λ sound. err_refused c.from_residual.result IsPassing Memory c.from_residual.ensures.1 (inl refl)
+pub returns-in_err-check_pages-clause-sound : goal.returns-in_err-check_pages-clause-sound
+returns-in_err-check_pages-clause-sound g c =
+    let t = c.self.inside in
+    let told : Told = record { root = c.root-root.result.0; levels = c.root-root.result.1; regions = t.count; rows = t.rows; next = t.next } in
+    let told_is = ap (λ (r : ℕ × ℕ). record { root = r.0; levels = r.1; regions = t.count; rows = t.rows; next = t.next }) c.root-root.ensures.root in
+    let small : t.index.last < 2 ^ 128 = subst (λ n. n < 2 ^ 128) (sym c.self.invariant.last_is) (last_small t.schema.dims t.schema.counts.few_dims) in
+    rw (← c.self.view_is) (checked_refused t.schema t.index t.count t.next t.rows (is_written t.mark) t.is_failed t.pager c.check_pages.new.pager c.self.invariant.last_is small told told_is
+    c.from_residual.result c.in_err-check_pages.field-0.0 c.from_residual.ensures.1 c.in_err-check_pages.ensures).sound
 
-pub returns-in_err-walk-clause-failed : goal.returns-in_err-walk-clause-failed
-returns-in_err-walk-clause-failed g c = λ is.
+pub returns-in_err-check_pages-clause-stopped : goal.returns-in_err-check_pages-clause-stopped
+returns-in_err-check_pages-clause-stopped g c =
+    let t = c.self.inside in
+    let told : Told = record { root = c.root-root.result.0; levels = c.root-root.result.1; regions = t.count; rows = t.rows; next = t.next } in
+    let told_is = ap (λ (r : ℕ × ℕ). record { root = r.0; levels = r.1; regions = t.count; rows = t.rows; next = t.next }) c.root-root.ensures.root in
+    let small : t.index.last < 2 ^ 128 = subst (λ n. n < 2 ^ 128) (sym c.self.invariant.last_is) (last_small t.schema.dims t.schema.counts.few_dims) in
+    rw (← c.self.view_is) (checked_refused t.schema t.index t.count t.next t.rows (is_written t.mark) t.is_failed t.pager c.check_pages.new.pager c.self.invariant.last_is small told told_is
+    c.from_residual.result c.in_err-check_pages.field-0.0 c.from_residual.ensures.1 c.in_err-check_pages.ensures).stopped
+
+pub returns-in_err-check_pages-clause-effect : goal.returns-in_err-check_pages-clause-effect
+returns-in_err-check_pages-clause-effect g c =
+    let t = c.self.inside in
+    let told : Told = record { root = c.root-root.result.0; levels = c.root-root.result.1; regions = t.count; rows = t.rows; next = t.next } in
+    let told_is = ap (λ (r : ℕ × ℕ). record { root = r.0; levels = r.1; regions = t.count; rows = t.rows; next = t.next }) c.root-root.ensures.root in
+    let small : t.index.last < 2 ^ 128 = subst (λ n. n < 2 ^ 128) (sym c.self.invariant.last_is) (last_small t.schema.dims t.schema.counts.few_dims) in
+    rw (← c.self.view_is) (checked_refused t.schema t.index t.count t.next t.rows (is_written t.mark) t.is_failed t.pager c.check_pages.new.pager c.self.invariant.last_is small told told_is
+    c.from_residual.result c.in_err-check_pages.field-0.0 c.from_residual.ensures.1 c.in_err-check_pages.ensures).effect
+
+pub returns-in_err-check_pages-clause-failed : goal.returns-in_err-check_pages-clause-failed
+returns-in_err-check_pages-clause-failed g c = λ is.
     let works : c.args.self.now.is_failed ≡ false = sym c.has_failed.ensures ∙ c.if-has_failed.false in
     absurd (let bad : true ≡ false = sym is ∙ works in cc)
 
-pub returns-in_err-walk-clause-effect : goal.returns-in_err-walk-clause-effect
-returns-in_err-walk-clause-effect g c = not_begun c.from_residual.result c.args.self.now c.args.self.now c.from_residual.ensures.1 refl
-
-pub check_with-requires-clause-begun : goal.check_with-requires-clause-begun
-check_with-requires-clause-begun g c = subst (λ (v : TreeView). HasTaken (region_count v) c.in_ok-walk.walk []) c.self.view_is c.in_ok-walk.ensures.begun
-
-pub check_with-requires-clause-bound : goal.check_with-requires-clause-bound
-check_with-requires-clause-bound g c = c.in_ok-walk.ensures.bound ∙ ap (λ (v : TreeView). v.next) c.self.view_is
-
 pub returns-clause-well : goal.returns-clause-well
-returns-clause-well g c = c.check_with.ensures.well
+returns-clause-well g c =
+    let t = c.self.inside in
+    let told : Told = record { root = c.root-root.result.0; levels = c.root-root.result.1; regions = t.count; rows = t.rows; next = t.next } in
+    let told_is = ap (λ (r : ℕ × ℕ). record { root = r.0; levels = r.1; regions = t.count; rows = t.rows; next = t.next }) c.root-root.ensures.root in
+    let small : t.index.last < 2 ^ 128 = subst (λ n. n < 2 ^ 128) (sym c.self.invariant.last_is) (last_small t.schema.dims t.schema.counts.few_dims) in
+    rw (← c.self.view_is) (checked_done t.schema t.index t.count t.next t.rows (is_written t.mark) t.is_failed t.pager c.check_pages.new.pager c.self.invariant.last_is small told told_is
+    {T = Unit {0}} {U = Unit {0}} tt tt c.in_ok-check_pages.ensures).well
+
+pub returns-clause-exact : goal.returns-clause-exact
+returns-clause-exact g c =
+    let t = c.self.inside in
+    let told : Told = record { root = c.root-root.result.0; levels = c.root-root.result.1; regions = t.count; rows = t.rows; next = t.next } in
+    let told_is = ap (λ (r : ℕ × ℕ). record { root = r.0; levels = r.1; regions = t.count; rows = t.rows; next = t.next }) c.root-root.ensures.root in
+    let small : t.index.last < 2 ^ 128 = subst (λ n. n < 2 ^ 128) (sym c.self.invariant.last_is) (last_small t.schema.dims t.schema.counts.few_dims) in
+    rw (← c.self.view_is) (checked_done t.schema t.index t.count t.next t.rows (is_written t.mark) t.is_failed t.pager c.check_pages.new.pager c.self.invariant.last_is small told told_is
+    {T = Unit {0}} {U = Unit {0}} tt tt c.in_ok-check_pages.ensures).exact
+
+pub returns-clause-sound : goal.returns-clause-sound
+returns-clause-sound g c =
+    let t = c.self.inside in
+    let told : Told = record { root = c.root-root.result.0; levels = c.root-root.result.1; regions = t.count; rows = t.rows; next = t.next } in
+    let told_is = ap (λ (r : ℕ × ℕ). record { root = r.0; levels = r.1; regions = t.count; rows = t.rows; next = t.next }) c.root-root.ensures.root in
+    let small : t.index.last < 2 ^ 128 = subst (λ n. n < 2 ^ 128) (sym c.self.invariant.last_is) (last_small t.schema.dims t.schema.counts.few_dims) in
+    rw (← c.self.view_is) (checked_done t.schema t.index t.count t.next t.rows (is_written t.mark) t.is_failed t.pager c.check_pages.new.pager c.self.invariant.last_is small told told_is
+    {T = Unit {0}} {U = Unit {0}} tt tt c.in_ok-check_pages.ensures).sound
+
+pub returns-clause-stopped : goal.returns-clause-stopped
+returns-clause-stopped g c =
+    let t = c.self.inside in
+    let told : Told = record { root = c.root-root.result.0; levels = c.root-root.result.1; regions = t.count; rows = t.rows; next = t.next } in
+    let told_is = ap (λ (r : ℕ × ℕ). record { root = r.0; levels = r.1; regions = t.count; rows = t.rows; next = t.next }) c.root-root.ensures.root in
+    let small : t.index.last < 2 ^ 128 = subst (λ n. n < 2 ^ 128) (sym c.self.invariant.last_is) (last_small t.schema.dims t.schema.counts.few_dims) in
+    rw (← c.self.view_is) (checked_done t.schema t.index t.count t.next t.rows (is_written t.mark) t.is_failed t.pager c.check_pages.new.pager c.self.invariant.last_is small told told_is
+    {T = Unit {0}} {U = Unit {0}} tt tt c.in_ok-check_pages.ensures).stopped
+
+pub returns-clause-effect : goal.returns-clause-effect
+returns-clause-effect g c =
+    let t = c.self.inside in
+    let told : Told = record { root = c.root-root.result.0; levels = c.root-root.result.1; regions = t.count; rows = t.rows; next = t.next } in
+    let told_is = ap (λ (r : ℕ × ℕ). record { root = r.0; levels = r.1; regions = t.count; rows = t.rows; next = t.next }) c.root-root.ensures.root in
+    let small : t.index.last < 2 ^ 128 = subst (λ n. n < 2 ^ 128) (sym c.self.invariant.last_is) (last_small t.schema.dims t.schema.counts.few_dims) in
+    rw (← c.self.view_is) (checked_done t.schema t.index t.count t.next t.rows (is_written t.mark) t.is_failed t.pager c.check_pages.new.pager c.self.invariant.last_is small told told_is
+    {T = Unit {0}} {U = Unit {0}} tt tt c.in_ok-check_pages.ensures).effect
 
 pub returns-clause-failed : goal.returns-clause-failed
 returns-clause-failed g c = λ is.
     let works : c.args.self.now.is_failed ≡ false = sym c.has_failed.ensures ∙ c.if-has_failed.false in
     absurd (let bad : true ≡ false = sym is ∙ works in cc)
-
-pub returns-clause-effect : goal.returns-clause-effect
-returns-clause-effect g c = c.check_with.ensures.effect

@@ -1,11 +1,13 @@
 use Rattle.std.proofs.Common.{◌≡◌, ◌<◌, ℕ, Bool, List, Ok, Some, ap, subst, sym, arith, slice_get}
 use Rattle.std.proofs.lemmas.Option.{slice_get_within}
+use Rattle.ub_check.proofs.StandingFacts.{page_still}
+use Rattle.ub_check.specs.Standing.{IsRegionRefused}
 use Rattle.ub_page.specs.Region.{RegionView, region_page}
 use Rattle.ub_store.specs.Facts.{IsHonest, IsPage, page_count}
 use Rattle.ub_tree.proofs.EffectFacts.{refused_none}
-use Rattle.ub_tree.proofs.ReadingFacts.{missing_there, page_refused_by, page_still, passing_there, read_page_by, read_there, refused_there, searched_tree, sound_seat, store_refused}
+use Rattle.ub_tree.proofs.ReadingFacts.{missing_there, page_refused_by, passing_there, read_page_by, read_there, refused_there, searched_tree, sound_seat, store_refused, told_above}
 use Rattle.ub_tree.proofs.SeatFacts.{seat_rows}
-use Rattle.ub_tree.specs.Effects.{IsRegionRefused}
+use Rattle.ub_tree.specs.Faults.{index_fault}
 use Rattle.ub_tree.specs.Tree.{tree_view}
 use Rattle.ub_tree.specs.View.{TreeView}
 use Rattle.ub_tree.specs.inner.Change.{IsOnSeat, IsReadAt, IsSeatOf}
@@ -40,10 +42,10 @@ returns-in_err-take_region-clause-effect g c =
     let told : IsSeatOf old c.args.seat.now = subst (λ (v : TreeView). IsSeatOf v c.args.seat.now) (sym c.self.view_is) c.requires in
     rw (← c.self.view_is) (record {
       same = searched_tree c.from_residual-in_err-take_region.result t.schema t.index t.count t.next t.rows (is_written t.mark) t.is_failed t.pager c.bring.new.self
-          (read_page_by (IsRegionRefused t.schema c.args.seat.now.first c.args.seat.now.next c.cached.result.now) c.from_residual-in_err-take_region.result c.in_err-take_region.field-0.0 c.args.seat.now.page t.pager.store c.bring.new.self.store
-          c.from_residual-in_err-take_region.ensures.1 c.in_err-take_region.ensures.refused c.in_ok-bring.ensures.effect.same) c.in_ok-bring.ensures.trace;
-      faults = page_refused_by (IsRegionRefused t.schema c.args.seat.now.first c.args.seat.now.next c.cached.result.now) c.from_residual-in_err-take_region.result c.in_err-take_region.field-0.0 c.args.seat.now.page old
-          c.from_residual-in_err-take_region.ensures.1 c.in_err-take_region.ensures.refused
+          (read_page_by (IsRegionRefused t.schema c.args.seat.now.first c.args.seat.now.next c.cached.result.now) c.from_residual-in_err-take_region.result (index_fault c.in_err-take_region.field-0.0) c.args.seat.now.page t.pager.store c.bring.new.self.store
+          c.from_residual-in_err-take_region.ensures.1 (told_above (IsRegionRefused t.schema c.args.seat.now.first c.args.seat.now.next c.cached.result.now) c.args.seat.now.page c.in_err-take_region.field-0.0 c.in_err-take_region.ensures.refused) c.in_ok-bring.ensures.effect.same) c.in_ok-bring.ensures.trace;
+      faults = page_refused_by (IsRegionRefused t.schema c.args.seat.now.first c.args.seat.now.next c.cached.result.now) c.from_residual-in_err-take_region.result (index_fault c.in_err-take_region.field-0.0) c.args.seat.now.page old
+          c.from_residual-in_err-take_region.ensures.1 (told_above (IsRegionRefused t.schema c.args.seat.now.first c.args.seat.now.next c.cached.result.now) c.args.seat.now.page c.in_err-take_region.field-0.0 c.in_err-take_region.ensures.refused)
           (λ sound.
           let on = sound_seat old c.args.seat.now sound told in
           let at : slice_get t.pager.store.pages c.args.seat.now.page ≡ Some c.cached.result.now = (page_still _ _ _ _ _ c.in_ok-bring.ensures.effect c.cached.ensures.page) sound.honest in
@@ -71,13 +73,13 @@ pub returns-in_err-bring-clause-rows : goal.returns-in_err-bring-clause-rows
 returns-in_err-bring-clause-rows g c = λ i p honest at there. refused_none _ c.from_residual.result _ c.from_residual.ensures.1
 
 pub returns-in_err-take_region-clause-read : goal.returns-in_err-take_region-clause-read
-returns-in_err-take_region-clause-read g c = refused_none _ c.from_residual-in_err-take_region.result c.in_err-take_region.field-0.0 c.from_residual-in_err-take_region.ensures.1
+returns-in_err-take_region-clause-read g c = refused_none _ c.from_residual-in_err-take_region.result (index_fault c.in_err-take_region.field-0.0) c.from_residual-in_err-take_region.ensures.1
 
 pub returns-in_err-take_region-clause-there : goal.returns-in_err-take_region-clause-there
-returns-in_err-take_region-clause-there g c = refused_none _ c.from_residual-in_err-take_region.result c.in_err-take_region.field-0.0 c.from_residual-in_err-take_region.ensures.1
+returns-in_err-take_region-clause-there g c = refused_none _ c.from_residual-in_err-take_region.result (index_fault c.in_err-take_region.field-0.0) c.from_residual-in_err-take_region.ensures.1
 
 pub returns-in_err-take_region-clause-rows : goal.returns-in_err-take_region-clause-rows
-returns-in_err-take_region-clause-rows g c = λ i p honest at there. refused_none _ c.from_residual-in_err-take_region.result c.in_err-take_region.field-0.0 c.from_residual-in_err-take_region.ensures.1
+returns-in_err-take_region-clause-rows g c = λ i p honest at there. refused_none _ c.from_residual-in_err-take_region.result (index_fault c.in_err-take_region.field-0.0) c.from_residual-in_err-take_region.ensures.1
 
 pub returns-in_err-bring-clause-taken : goal.returns-in_err-bring-clause-taken
 returns-in_err-bring-clause-taken g c = λ honest r on.

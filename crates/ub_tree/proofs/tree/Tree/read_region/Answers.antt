@@ -1,11 +1,12 @@
-use Rattle.std.proofs.Common.{◌≡◌, ◌<◌, Some, inr, refl, rules, arith, slice_get}
+use Rattle.std.proofs.Common.{◌≡◌, ◌<◌, Ok, Some, inr, refl, rules, arith, slice_get}
 use Rattle.std.proofs.lemmas.Option.{slice_get_within}
+use Rattle.ub_check.proofs.StandingFacts.{page_still}
+use Rattle.ub_check.specs.Standing.{IsRegionRefused}
 use Rattle.ub_page.specs.Region.{region_page}
 use Rattle.ub_store.specs.Facts.{page_count}
-use Rattle.ub_tree.proofs.ReadingFacts.{never_failed, on_ok_by, page_refused, page_still, read_page, read_there, read_tree, span_refused, span_unread, store_refused, told_failed}
+use Rattle.ub_tree.proofs.ReadingFacts.{if_told, never_failed, page_refused, read_page, read_there, read_tree, span_refused, span_unread, store_refused, told_failed}
 use Rattle.ub_tree.proofs.SearchFacts.{known_is}
 use Rattle.ub_tree.proofs.SeatFacts.{sound_span, tree_known}
-use Rattle.ub_tree.specs.Effects.{IsRegionRefused}
 use Rattle.ub_tree.specs.Tree.{tree_view}
 use Rattle.ub_tree.specs.View.{TreeView}
 use Rattle.ub_writing.specs.Marks.{is_written}
@@ -35,6 +36,31 @@ returns-in_err-bring_region-clause-effect g c =
           c.in_err-bring_region.ensures.no_size;
     })
 
+pub returns-in_err-take_region-clause-effect : goal.returns-in_err-take_region-clause-effect
+returns-in_err-take_region-clause-effect g c =
+    let t = c.self.inside in
+    let old : TreeView = tree_view t.schema t.index t.count t.next t.rows (is_written t.mark) t.is_failed t.pager in
+    let r = c.from_residual-in_err-take_region.result in
+    let refused = if_told (IsRegionRefused t.schema c.args.region.now.first c.args.region.now.next c.cached.result.now) r c.args.region.now.page c.in_err-take_region.field-0.0 c.from_residual-in_err-take_region.ensures.1 c.in_err-take_region.ensures.refused in
+    rw (← c.self.view_is) (record {
+      same = read_tree r t.schema t.index t.count t.next t.rows (is_written t.mark) t.is_failed t.pager c.bring_region.new.self
+          (read_page (IsRegionRefused t.schema c.args.region.now.first c.args.region.now.next c.cached.result.now) r c.args.region.now.page t.pager.store c.bring_region.new.self.store refused c.in_ok-bring_region.ensures.effect.same);
+      noted = search rules;
+      listed = search rules;
+      failed = told_failed (IsRegionRefused t.schema c.args.region.now.first c.args.region.now.next c.cached.result.now) r c.args.region.now.page old _ refused;
+      refused = span_refused (IsRegionRefused t.schema c.args.region.now.first c.args.region.now.next c.cached.result.now) r c.args.region.now old refused (λ f why. (refl, c.cached.result.now, (page_still _ _ _ _ _ c.in_ok-bring_region.ensures.effect c.cached.ensures.page), why));
+      faults = λ told. page_refused (IsRegionRefused t.schema c.args.region.now.first c.args.region.now.next c.cached.result.now) r c.args.region.now.page old refused
+          (λ sound.
+          let on = sound_span old c.args.region.now sound told in
+          let at : slice_get t.pager.store.pages c.args.region.now.page ≡ Some c.cached.result.now = (page_still _ _ _ _ _ c.in_ok-bring_region.ensures.effect c.cached.ensures.page) sound.honest in
+          let spelled : slice_get t.pager.store.pages c.args.region.now.page ≡ Some (region_page t.schema on.0) = on.1.2 sound.honest in
+          let page : c.cached.result.now ≡ region_page t.schema on.0 = cc in
+          let good = c.take_region.ensures.exact on.0 on.1.0 page on.1.1 in
+          let bad = rw c.in_err-take_region.was at good.0 in
+          cc)
+          (λ f why. inr (c.args.region.now, told, refl, c.cached.result.now, (page_still _ _ _ _ _ c.in_ok-bring_region.ensures.effect c.cached.ensures.page), why));
+    })
+
 pub returns-clause-stands : goal.returns-clause-stands
 returns-clause-stands g c =
     let t = c.self.inside in
@@ -46,25 +72,16 @@ returns-clause-stands g c =
     let spelled : slice_get t.pager.store.pages c.args.region.now.page ≡ Some (region_page t.schema k.0.region) = rw known at k.1.spelled in
     let page : c.cached.result.now ≡ region_page t.schema k.0.region = cc in
     let taken = c.take_region.ensures.exact k.0.region k.1.region page k.1.held in
-    on_ok_by c.take_region.result (rw taken.1 (k.0, k.1.there, k.1.page, refl)))
+    rw taken.1 (k.0, k.1.there, k.1.page, refl))
 
 pub returns-clause-effect : goal.returns-clause-effect
 returns-clause-effect g c =
     let t = c.self.inside in
-    let old : TreeView = tree_view t.schema t.index t.count t.next t.rows (is_written t.mark) t.is_failed t.pager in
     rw (← c.self.view_is) (record {
-      same = read_tree c.take_region.result t.schema t.index t.count t.next t.rows (is_written t.mark) t.is_failed t.pager c.bring_region.new.self
-          (read_page (IsRegionRefused t.schema c.args.region.now.first c.args.region.now.next c.cached.result.now) c.take_region.result c.args.region.now.page t.pager.store c.bring_region.new.self.store c.take_region.ensures.refused c.in_ok-bring_region.ensures.effect.same);
+      same = read_tree {T = Unit {0}} (Ok tt) t.schema t.index t.count t.next t.rows (is_written t.mark) t.is_failed t.pager c.bring_region.new.self c.in_ok-bring_region.ensures.effect.same;
       noted = search rules;
       listed = search rules;
-      failed = told_failed (IsRegionRefused t.schema c.args.region.now.first c.args.region.now.next c.cached.result.now) c.take_region.result c.args.region.now.page old _ c.take_region.ensures.refused;
-      refused = span_refused (IsRegionRefused t.schema c.args.region.now.first c.args.region.now.next c.cached.result.now) c.take_region.result c.args.region.now old c.take_region.ensures.refused (λ f refused. (refl, c.cached.result.now, (page_still _ _ _ _ _ c.in_ok-bring_region.ensures.effect c.cached.ensures.page), refused));
-      faults = λ told. page_refused (IsRegionRefused t.schema c.args.region.now.first c.args.region.now.next c.cached.result.now) c.take_region.result c.args.region.now.page old c.take_region.ensures.refused
-          (λ sound.
-          let on = sound_span old c.args.region.now sound told in
-          let at : slice_get t.pager.store.pages c.args.region.now.page ≡ Some c.cached.result.now = (page_still _ _ _ _ _ c.in_ok-bring_region.ensures.effect c.cached.ensures.page) sound.honest in
-          let spelled : slice_get t.pager.store.pages c.args.region.now.page ≡ Some (region_page t.schema on.0) = on.1.2 sound.honest in
-          let page : c.cached.result.now ≡ region_page t.schema on.0 = cc in
-          (c.take_region.ensures.exact on.0 on.1.0 page on.1.1).0)
-          (λ f refused. inr (c.args.region.now, told, refl, c.cached.result.now, (page_still _ _ _ _ _ c.in_ok-bring_region.ensures.effect c.cached.ensures.page), refused));
+      failed = λ bad. cc;
+      faults = λ told. tt;
+      refused = tt;
     })

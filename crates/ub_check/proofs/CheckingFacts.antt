@@ -1,0 +1,348 @@
+-- The steps of a check: numbers that are put into a set, and entries of a page that are walked through.
+use Rattle.std.proofs.Common.{◌≡◌, ◌≤◌, ◌<◌, ◌+◌, ◌-◌, ◌++◌, inl, inr, ℕ, zero, suc, IsTrue, List, [], ◌∷◌, Option, Some, None, Result, Ok, Err, OnOk, length, take, drop, map, min, slice_get, ◌^◌, ap, refl, sym, ◌∙◌, arith, subst}
+use Rattle.std.proofs.lemmas.List.{append-nil, append_assoc, length-append, map-append}
+use Rattle.std.specs.Result.{IsErrAnd, IsErrOf}
+use Rattle.ub_index.specs.Descending.{IsStepFault, Steps}
+use Rattle.ub_index.specs.Index.{NamesFitting, entries_of, first_or}
+use Rattle.ub_index.specs.declared.fault.IndexFault.{IndexFault}
+use Rattle.ub_index.specs.declared.fault.IndexFault.TheVariants.{Full, Page, Store}
+use Rattle.ub_page.specs.declared.entries.Entry.{Entry}
+use Rattle.ub_index.proofs.FitFacts.{not_zero}
+use Rattle.ub_index.proofs.SearchFacts.{same_store as same_read}
+use Rattle.ub_region.specs.Regions.{rows_of}
+use Rattle.ub_store.specs.Facts.{StoreFacts, IsHonest, page_count, counted as counted_there}
+use Rattle.ub_store.specs.View.{PagerView, SameTrace, Trace}
+use Rattle.ub_store.specs.declared.fault.StoreFault.{StoreFault}
+use Rattle.ub_store.specs.declared.fault.StoreFault.TheVariants as store
+use Rattle.ub_table.specs.Region.{Region, keys_of}
+use Rattle.ub_table.specs.declared.fault.PageFault.TheVariants.{BadRow}
+use Rattle.ub_table.specs.declared.fault.PageFault.{PageFault}
+use Rattle.ub_table.specs.declared.row.Key.{Key}
+use Rattle.ub_table.specs.declared.row.Row.{Row}
+use Rattle.ub_table.specs.declared.schema.Schema.{Schema}
+use Rattle.ub_check.specs.Checking.{Asked, StandsHere, StopsEach, StopsIn, TakesAll, TakesEach, asked_for, numbers_in, numbers_of}
+use Rattle.ub_index.specs.Searching.{count_with, store_after}
+use Rattle.ub_check.specs.Numbers.{AreNew, HasJust, IsNone, NumbersView}
+use Rattle.ub_check.specs.Placed.{Placed, regions_in}
+use Rattle.ub_check.specs.declared.walk.Walk.{Walk}
+use Rattle.ub_check.specs.inner.Checking.{HasTaken, IsPutTo, IsWalkFault, IsWalkedTo, TakesOn, Walks, asked_by}
+
+-- a call that was refused gives nothing
+pub refused_none : {T E : Type 0} (P : Type 0) (r : Result T E) (e : E) → IsErrAnd r (λ x. x ≡ e) → OnOk r P
+refused_none P (Ok x) e is = absurd is
+refused_none P (Err f) e is = tt
+
+module _ {X : Type 0} where
+  pub drop_at : (xs : List X) (i : ℕ) (x : X) → slice_get xs i ≡ Some x → drop i xs ≡ x ∷ drop (suc i) xs
+  drop_at [] i x at = cc
+  drop_at (y ∷ xs) zero x at = let same : y ≡ x = cc in ap (λ (z : X). z ∷ xs) same
+  drop_at (y ∷ xs) (suc i) x at = drop_at xs i x at
+
+  pub take_at : (xs : List X) (i : ℕ) (x : X) → slice_get xs i ≡ Some x → take (suc i) xs ≡ take i xs ++ x ∷ []
+  take_at [] i x at = cc
+  take_at (y ∷ xs) zero x at = let same : y ≡ x = cc in ap (λ (z : X). z ∷ []) same
+  take_at (y ∷ xs) (suc i) x at = ap (λ (zs : List X). y ∷ zs) (take_at xs i x at)
+
+  pub drop_end : (xs : List X) (i : ℕ) → length xs ≤ i → drop i xs ≡ []
+  drop_end [] zero le = refl
+  drop_end [] (suc i) le = refl
+  drop_end (x ∷ xs) zero le = absurd (omega arith)
+  drop_end (x ∷ xs) (suc i) le = drop_end xs i (omega arith)
+
+  pub take_end : (xs : List X) (i : ℕ) → length xs ≤ i → take i xs ≡ xs
+  take_end [] zero le = refl
+  take_end [] (suc i) le = refl
+  take_end (x ∷ xs) zero le = absurd (omega arith)
+  take_end (x ∷ xs) (suc i) le = ap (λ (zs : List X). x ∷ zs) (take_end xs i (omega arith))
+
+-- no number was put yet
+pub put_none : (ns : List ℕ) (set : NumbersView) → IsPutTo ns set set 0
+put_none ns set = record {
+  bound = refl;
+  goes = λ met has.
+      let same : met ≡ met ++ [] = sym (append-nil met) in (
+        subst (λ (zs : List ℕ). HasJust set zs) same has,
+        (λ new. subst (λ (zs : List ℕ). AreNew set.bound zs ns) same new, λ new. subst (λ (zs : List ℕ). AreNew set.bound zs ns) (sym same) new),
+      );
+}
+
+module _ (ns : List ℕ) (from now : NumbersView) (i n : ℕ) (h : IsPutTo ns from now i) (at : slice_get ns i ≡ Some n) where
+  -- one more was put
+  pub put_more : (to : NumbersView) → to.bound ≡ now.bound
+      → ((met : List ℕ) → HasJust now met → (n < now.bound) × IsNone n met × HasJust to (met ++ n ∷ [])) → IsPutTo ns from to (suc i)
+  put_more to same put = record {
+    bound = same ∙ h.bound;
+    goes = λ met has.
+        let so_far = h.goes met has in
+        let new = put (met ++ take i ns) so_far.0 in
+        let more : (met ++ take i ns) ++ n ∷ [] ≡ met ++ take (suc i) ns = append_assoc met (take i ns) (n ∷ []) ∙ ap (λ (zs : List ℕ). met ++ zs) (sym (take_at ns i n at)) in (
+          subst (λ (zs : List ℕ). HasJust to zs) more new.2,
+          (
+            (λ all.
+                let rest = subst (λ (zs : List ℕ). AreNew from.bound (met ++ take i ns) zs) (drop_at ns i n at) (so_far.1.0 all) in
+                subst (λ (zs : List ℕ). AreNew from.bound zs (drop (suc i) ns)) more rest.2),
+            λ rest.
+                so_far.1.1 (subst (λ (zs : List ℕ). AreNew from.bound (met ++ take i ns) zs) (sym (drop_at ns i n at))
+                (subst (λ (b : ℕ). n < b) h.bound new.0, new.1, subst (λ (zs : List ℕ). AreNew from.bound zs (drop (suc i) ns)) (sym more) rest)),
+          ),
+        );
+  }
+
+  -- one wasn't new
+  pub put_not : ((met : List ℕ) → HasJust now met → n < now.bound → ¬ (IsNone n met)) → (met : List ℕ) → HasJust from met → ¬ (AreNew from.bound met ns)
+  put_not old met has all =
+      let so_far = h.goes met has in
+      let rest = subst (λ (zs : List ℕ). AreNew from.bound (met ++ take i ns) zs) (drop_at ns i n at) (so_far.1.0 all) in
+      old (met ++ take i ns) so_far.0 (subst (λ (b : ℕ). n < b) (sym h.bound) rest.0) rest.1
+
+-- all were put
+pub put_all : (ns : List ℕ) (from to : NumbersView) (i : ℕ) → length ns ≤ i → IsPutTo ns from to i → (met : List ℕ) → HasJust from met → AreNew from.bound met ns × HasJust to (met ++ ns)
+put_all ns from to i le h met has =
+    let so_far = h.goes met has in (
+      so_far.1.1 (subst (λ (zs : List ℕ). AreNew from.bound (met ++ take i ns) zs) (sym (drop_end ns i le)) tt),
+      subst (λ (zs : List ℕ). HasJust to (met ++ zs)) (take_end ns i le) so_far.0,
+    )
+
+pub numbers_at : (keys : List Key) (i : ℕ) (key : Key) → slice_get keys i ≡ Some key → slice_get (map (λ k. k.number) keys) i ≡ Some key.number
+numbers_at [] i key at = cc
+numbers_at (k ∷ keys) zero key at = let same : k ≡ key = cc in ap (λ (x : Key). Some x.number) same
+numbers_at (k ∷ keys) (suc i) key at = numbers_at keys i key at
+
+-- no entry was walked through yet
+pub walked_none : (schema : Schema) (last level : ℕ) (entries : List Entry) (end : Option Key) (old : PagerView) (from : Walk) → IsWalkedTo schema last level entries end old old from from 0
+walked_none schema last level entries end old from = record {
+  same = refl;
+  bound = refl;
+  goes = λ count before honest has. (
+    before,
+    has,
+    (λ after takes. takes),
+    λ n fault stops. stops,
+  );
+}
+
+module _ (schema : Schema) (last level : ℕ) (entries : List Entry) (end : Option Key) (old now : PagerView) (from to : Walk) (i : ℕ) (e : Entry) (next : Option Key)
+    (h : IsWalkedTo schema last level entries end old now from to i) (at : slice_get entries i ≡ Some e) (next_is : next ≡ first_or (drop (suc i) entries) end) where
+  still_honest : IsHonest old.store → IsHonest now.store
+  still_honest honest = subst (λ (p : PagerView). IsHonest p.store) (sym h.same) honest
+
+  same_asked : (count : ℕ) → asked_by schema last count to now.store ≡ asked_by schema last count from old.store
+  same_asked count =
+      ap (λ (p : PagerView). asked_by schema last count to p.store) h.same ∙ ap (λ (b : ℕ). asked_for schema last count b old.store.pages) h.bound
+
+  -- one more is taken
+  pub walked_more : (later : PagerView) (more : Walk) → later ≡ record now { cached = later.cached } → more.numbers.bound ≡ to.numbers.bound
+      → TakesOn schema last level e next now.store to more → IsWalkedTo schema last level entries end old later from more (suc i)
+  walked_more later more same bound takes = record {
+    same = same ∙ ap (λ (p : PagerView). record p { cached = later.cached }) h.same;
+    bound = bound ∙ h.bound;
+    goes = λ count before honest has.
+        let so_far = h.goes count before honest has in
+        let asked = asked_by schema last count from old.store in
+        let one = takes count so_far.0 (still_honest honest) so_far.1 in
+        let taken : TakesAll asked level e (first_or (drop (suc i) entries) end) so_far.0 one.0 =
+        subst (λ (o : Option Key). TakesAll asked level e o so_far.0 one.0) next_is (subst (λ (a : Asked). TakesAll a level e next so_far.0 one.0) (same_asked count) one.1) in (
+          one.0,
+          one.2,
+          (λ after rest.
+              so_far.2 after (subst (λ (es : List Entry). TakesEach (TakesAll asked level) es end so_far.0 after) (sym (drop_at entries i e at)) (one.0, taken, rest))),
+          λ n fault rest.
+              so_far.3 n fault (subst (λ (es : List Entry). StopsEach (TakesAll asked level) (StopsIn asked level) es end so_far.0 n fault) (sym (drop_at entries i e at)) (inr (one.0, taken, rest))),
+        );
+  }
+
+  -- one isn't taken
+  pub stops_here : (count : ℕ) (before : List Placed) (honest : IsHonest old.store) (has : HasTaken count from before) (n : ℕ) (fault : Option PageFault)
+      → StopsIn (asked_by schema last count to now.store) level e next (h.goes count before honest has).0 n fault
+      → StopsEach (TakesAll (asked_by schema last count from old.store) level) (StopsIn (asked_by schema last count from old.store) level) entries end before n fault
+  stops_here count before honest has n fault stops =
+      let so_far = h.goes count before honest has in
+      let asked = asked_by schema last count from old.store in
+      let here : StopsIn asked level e (first_or (drop (suc i) entries) end) so_far.0 n fault =
+      subst (λ (o : Option Key). StopsIn asked level e o so_far.0 n fault) next_is (subst (λ (a : Asked). StopsIn a level e next so_far.0 n fault) (same_asked count) stops) in
+      so_far.3 n fault (subst (λ (es : List Entry). StopsEach (TakesAll asked level) (StopsIn asked level) es end so_far.0 n fault) (sym (drop_at entries i e at)) (inl here))
+
+-- a pager whose store was read
+pager_read : (old new : PagerView) (s : StoreFacts) → new.store ≡ s → SameTrace old new → new ≡ record old { store = s; cached = new.cached }
+pager_read old new s stores trace =
+    ap (λ (x : StoreFacts). record new { store = x }) stores ∙ ap (λ (t : Trace). record { store = s; trace = t; cached = new.cached }) trace
+
+keys_numbers : (dims : ℕ) (rows : List Row) → map (λ k. k.number) (keys_of dims rows) ≡ numbers_of rows
+keys_numbers dims [] = refl
+keys_numbers dims (row ∷ rows) = ap (λ (ns : List ℕ). row.number ∷ ns) (keys_numbers dims rows)
+
+pub numbers_append : (before : List Placed) (p : Placed) → numbers_in (before ++ p ∷ []) ≡ numbers_in before ++ numbers_of p.region.rows
+numbers_append [] p = ap (λ (rows : List Row). numbers_of rows) (append-nil p.region.rows)
+numbers_append (q ∷ before) p =
+    map-append (λ row. row.number) q.region.rows (rows_of (regions_in (before ++ p ∷ [])))
+    ∙ (ap (λ (ns : List ℕ). numbers_of q.region.rows ++ ns) (numbers_append before p)
+    ∙ (sym (append_assoc (numbers_of q.region.rows) (numbers_in before) (numbers_of p.region.rows))
+    ∙ ap (λ (ns : List ℕ). ns ++ numbers_of p.region.rows) (sym (map-append (λ row. row.number) q.region.rows (rows_of (regions_in before))))))
+
+count_append : (before : List Placed) (p : Placed) → length (rows_of (regions_in (before ++ p ∷ []))) ≡ length (rows_of (regions_in before)) + length p.region.rows
+count_append [] p =
+    let one : length (p.region.rows ++ []) ≡ length p.region.rows = ap (λ (rows : List Row). length rows) (append-nil p.region.rows) in
+    omega arith
+count_append (q ∷ before) p =
+    let one = length-append q.region.rows (rows_of (regions_in (before ++ p ∷ []))) in
+    let two = length-append q.region.rows (rows_of (regions_in before)) in
+    let rest = count_append before p in
+    omega arith
+
+saturated : (a b c d : ℕ) → c ≡ min a 18446744073709551615 → d ≡ min (c + b) (2 ^ 64 - 1) → d ≡ min (a + b) 18446744073709551615
+saturated a b c d first second = omega arith
+
+-- a failed read, as the store counts it and as a check does
+count_read : (T U : Type 0) (e : StoreFault) (n : ℕ) → counted_there {A = U} (Err e) n ≡ count_with {A = T} (Err (Store e)) n
+count_read T U store.Device n = refl
+count_read T U store.NoPage n = refl
+count_read T U store.Memory n = refl
+count_read T U store.BadSize n = refl
+
+-- the region of an entry
+module _ (schema : Schema) (last : ℕ) (entry : Entry) (end : Option Key) (from : Walk) (old : PagerView) (some : from.left ≡ 0 → ⊥) where
+  few : (count : ℕ) (before : List Placed) → HasTaken count from before → length before < count
+  few count before has = let left = has.left in let one = not_zero from.left some in omega arith
+
+  module _ {U : Type 0} where
+    unread_fault : (e : StoreFault) → (IsErrOf {T = U} (Err e) store.Device → IsTrue old.store.can_fail) → (IsErrOf {T = U} (Err e) store.NoPage → page_count old.store ≤ entry.page)
+        → (¬ (IsErrOf {T = U} (Err e) store.BadSize)) → IsWalkFault schema last 0 entry end old.store from (Store e)
+    unread_fault store.Device device missing size = device refl
+    unread_fault store.NoPage device missing size = λ count before honest has. (entry.page, inr (few count before has, refl, inl (refl, missing refl)))
+    unread_fault store.Memory device missing size = tt
+    unread_fault store.BadSize device missing size = absurd (size refl)
+
+    -- its page isn't read
+    pub region_unread : {T : Type 0} (r : Result T IndexFault) (e : StoreFault) (new : PagerView) → IsErrAnd r (λ x. x ≡ Store e)
+        → new.store ≡ record old.store { failed_reads = counted_there {A = U} (Err e) old.store.failed_reads } → SameTrace old new
+        → (IsErrOf {T = U} (Err e) store.Device → IsTrue old.store.can_fail) → (IsErrOf {T = U} (Err e) store.NoPage → page_count old.store ≤ entry.page)
+        → (¬ (IsErrOf {T = U} (Err e) store.BadSize)) → Walks schema last 0 entry end from old new r
+    region_unread (Ok x) e new is same trace device missing size = absurd is
+    region_unread {T = T} (Err f) e new is same trace device missing size = record {
+      same = pager_read old new (store_after {A = T} (Err f) old.store) (same
+          ∙ ap (λ (n : ℕ). record old.store { failed_reads = n }) (count_read T U e old.store.failed_reads)
+          ∙ ap (λ (x : IndexFault). store_after {A = T} (Err x) old.store) (sym is)) trace;
+      faults = subst (λ (x : IndexFault). IsWalkFault schema last 0 entry end old.store from x) (sym is) (unread_fault e device missing size);
+    }
+
+  module _ (region : Region) (stands : (count : ℕ) → IsHonest old.store → StandsHere (asked_by schema last count from old.store) entry end region) where
+    -- one of its rows has a number that isn't new
+    pub region_not_new : ((met : List ℕ) → HasJust from.numbers met → ¬ (AreNew from.numbers.bound met (numbers_of region.rows)))
+        → IsWalkFault schema last 0 entry end old.store from (Page entry.page BadRow)
+    region_not_new not = λ count before honest has.
+        inr (few count before has, refl, inr (inr (refl, region, stands count honest, not (numbers_in before) has.numbers)))
+
+    -- it is taken
+    pub region_taken : (to : Walk) → to.left ≡ from.left - 1 → to.rows ≡ min (from.rows + length region.rows) (2 ^ 64 - 1)
+        → ((met : List ℕ) → HasJust from.numbers met → AreNew from.numbers.bound met (numbers_of region.rows) × HasJust to.numbers (met ++ numbers_of region.rows))
+        → TakesOn schema last 0 entry end old.store from to
+    region_taken to left rows put count before honest has =
+        let p : Placed = record { page = entry.page; region = region } in
+        let new = put (numbers_in before) has.numbers in
+        let one = not_zero from.left some in
+        let was = has.left in
+        let long = length-append before (record { page = entry.page; region = region } ∷ []) in (
+          before ++ record { page = entry.page; region = region } ∷ [],
+          record {
+            counted = few count before has;
+            region = region;
+            stands = stands count honest;
+            new = new.0;
+            after_is = refl;
+          },
+          record {
+            left = omega arith;
+            rows = saturated (length (rows_of (regions_in before))) (length region.rows) from.rows to.rows has.rows rows
+                ∙ ap (λ (n : ℕ). min n 18446744073709551615) (sym (count_append before (record { page = entry.page; region = region })));
+            numbers = subst (λ (ns : List ℕ). HasJust to.numbers ns) (sym (numbers_append before (record { page = entry.page; region = region }))) new.1;
+          },
+        )
+
+-- the rows that stand on a region's page, by the numbers of their keys
+pub keyed : (keys : List Key) (dims : ℕ) (rows : List Row) → keys ≡ keys_of dims rows → map (λ k. k.number) keys ≡ numbers_of rows
+keyed keys dims rows are = ap (λ (ks : List Key). map (λ k. k.number) ks) are ∙ keys_numbers dims rows
+
+-- a page of the index, with the regions that it leads to
+module _ (schema : Schema) (last level : ℕ) (entry : Entry) (end : Option Key) (from : Walk) (old : PagerView) where
+  step_fault : (e : IndexFault) → IsStepFault last old.store [] (suc level) entry end e → IsWalkFault schema last (suc level) entry end old.store from e
+  step_fault (Page n fault) h = λ count before honest has. inl (h.0, h.1 honest)
+  step_fault Full h = absurd h
+  step_fault (Store store.Memory) h = tt
+  step_fault (Store store.Device) h = h
+  step_fault (Store store.BadSize) h = absurd h
+  step_fault (Store store.NoPage) h = λ count before honest has. (entry.page, inl (refl, h))
+
+  -- it is refused
+  pub page_stops : {T : Type 0} (U : Type 0) (r : Result T IndexFault) (e : IndexFault) (new : PagerView) → IsErrAnd r (λ x. x ≡ e)
+      → Steps {A = U} last [] (suc level) entry end old new (Err e) → Walks schema last (suc level) entry end from old new r
+  page_stops U (Ok x) e new is h = absurd is
+  page_stops {T = T} U (Err f) e new is h = record {
+    same = h.same ∙ ap (λ (s : StoreFacts). record old { store = s; cached = new.cached }) (same_read T U e old.store ∙ ap (λ (x : IndexFault). store_after {A = T} (Err x) old.store) (sym is));
+    faults = subst (λ (x : IndexFault). IsWalkFault schema last (suc level) entry end old.store from x) (sym is) (step_fault e h.faults);
+  }
+
+  module _ (entries : List Entry) (mid : PagerView) (read : mid ≡ record old { cached = mid.cached }) (named : IsHonest old.store → NamesFitting last old.store.pages (suc level) entry end)
+      (entries_are : IsHonest old.store → entries ≡ entries_of old.store.pages entry.page) where
+    still : IsHonest old.store → IsHonest mid.store
+    still honest = subst (λ (p : PagerView). IsHonest p.store) (sym read) honest
+
+    same_store : mid.store ≡ old.store
+    same_store = ap (λ (p : PagerView). p.store) read
+
+    -- all regions that it leads to were taken
+    pub page_taken : (now : PagerView) (to : Walk) (i : ℕ) → length entries ≤ i → IsWalkedTo schema last level entries end mid now from to i → TakesOn schema last (suc level) entry end old.store from to
+    page_taken now to i le h count before honest has =
+        let so_far = h.goes count before (still honest) has in
+        let asked = asked_by schema last count from mid.store in
+        let all : TakesEach (TakesAll asked level) entries end before so_far.0 =
+        so_far.2 so_far.0 (subst (λ (es : List Entry). TakesEach (TakesAll asked level) es end so_far.0 so_far.0) (sym (drop_end entries i le)) refl) in
+        let here = subst (λ (s : StoreFacts). TakesEach (TakesAll (asked_by schema last count from s) level) entries end before so_far.0) same_store all in (
+          so_far.0,
+          (named honest, subst (λ (es : List Entry). TakesEach (TakesAll (asked_by schema last count from old.store) level) es end before so_far.0) (entries_are honest) here),
+          so_far.1,
+        )
+
+    -- one of them isn't
+    module _ (now : PagerView) (to : Walk) (i : ℕ) (e : Entry) (next : Option Key) (h : IsWalkedTo schema last level entries end mid now from to i)
+        (at : slice_get entries i ≡ Some e) (next_is : next ≡ first_or (drop (suc i) entries) end) where
+      now_honest : IsHonest old.store → IsHonest now.store
+      now_honest honest = subst (λ (p : PagerView). IsHonest p.store) (sym h.same) (still honest)
+
+      now_store : now.store ≡ old.store
+      now_store = ap (λ (p : PagerView). p.store) h.same ∙ same_store
+
+      stops_in : (count : ℕ) (before : List Placed) (honest : IsHonest old.store) (has : HasTaken count from before) (n : ℕ) (fault : Option PageFault)
+          → StopsIn (asked_by schema last count to now.store) level e next (h.goes count before (still honest) has).0 n fault
+          → StopsIn (asked_by schema last count from old.store) (suc level) entry end before n fault
+      stops_in count before honest has n fault stops =
+          let each = stops_here schema last level entries end mid now from to i e next h at next_is count before (still honest) has n fault stops in
+          let here = subst (λ (s : StoreFacts). StopsEach (TakesAll (asked_by schema last count from s) level) (StopsIn (asked_by schema last count from s) level) entries end before n fault) same_store each in
+          inr (
+            named honest,
+            subst (λ (es : List Entry). StopsEach (TakesAll (asked_by schema last count from old.store) level) (StopsIn (asked_by schema last count from old.store) level) es end before n fault) (entries_are honest) here,
+          )
+
+      below_fault : (f : IndexFault) → IsWalkFault schema last level e next now.store to f → IsWalkFault schema last (suc level) entry end old.store from f
+      below_fault Full k = absurd k
+      below_fault (Page n fault) k = λ count before honest has.
+          let so_far = h.goes count before (still honest) has in
+          stops_in count before honest has n (Some fault) (k count so_far.0 (now_honest honest) so_far.1)
+      below_fault (Store store.Device) k = subst (λ (s : StoreFacts). IsTrue s.can_fail) now_store k
+      below_fault (Store store.Memory) k = tt
+      below_fault (Store store.BadSize) k = absurd k
+      below_fault (Store store.NoPage) k = λ count before honest has.
+          let so_far = h.goes count before (still honest) has in
+          let stops = k count so_far.0 (now_honest honest) so_far.1 in
+          (stops.0, stops_in count before honest has stops.0 None stops.1)
+
+      pub below_stops : {T U : Type 0} (r : Result T IndexFault) (f : IndexFault) (new : PagerView) → IsErrAnd r (λ x. x ≡ f)
+          → Walks {A = U} schema last level e next to now new (Err f) → Walks schema last (suc level) entry end from old new r
+      below_stops (Ok x) f new is k = absurd is
+      below_stops {T = T} {U = U} (Err g) f new is k = record {
+        same = k.same
+            ∙ (ap (λ (p : PagerView). record p { store = store_after {A = U} (Err f) p.store; cached = new.cached }) h.same
+            ∙ (ap (λ (p : PagerView). record p { store = store_after {A = U} (Err f) p.store; cached = new.cached }) read
+            ∙ ap (λ (s : StoreFacts). record old { store = s; cached = new.cached })
+            (same_read T U f old.store ∙ ap (λ (x : IndexFault). store_after {A = T} (Err x) old.store) (sym is))));
+        faults = subst (λ (x : IndexFault). IsWalkFault schema last (suc level) entry end old.store from x) (sym is) (below_fault f k.faults);
+      }

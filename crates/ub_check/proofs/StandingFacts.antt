@@ -1,0 +1,49 @@
+-- Whether a region stands where one is due.
+use Rattle.std.proofs.Common.{◌≡◌, ◌≢◌, ◌-◌, ◌↔◌, ℕ, zero, suc, Bool, true, List, [], ◌∷◌, Some, Result, length, ◌∙◌, sym, subst, arith, slice_get}
+use Rattle.std.proofs.lemmas.List.{length-map}
+use Rattle.std.specs.List.{AllByRecursion}
+use Rattle.ub_check.specs.Standing.{IsHeldBy}
+use Rattle.ub_store.specs.Facts.{StoreFacts, IsPage, Reads}
+use Rattle.ub_store.specs.declared.fault.StoreFault.{StoreFault}
+use Rattle.ub_table.proofs.Laws.{before_of, precedes_of, before_trans}
+use Rattle.ub_table.specs.Keys.{IsBefore, AreKeysAscending, precedes}
+use Rattle.ub_table.specs.Region.{Region, key_of, keys_of}
+use Rattle.ub_table.specs.declared.row.Key.{Key}
+use Rattle.ub_table.specs.declared.row.Row.{Row}
+
+-- a page of a store that was read is one of the store before
+pub page_still : {A : Type 0} (result : Result A StoreFault) (old new : StoreFacts) (n : ℕ) (page : List ℕ) → Reads old new result → IsPage new n page → IsPage old n page
+page_still result old new n page reads is = subst (λ (s : StoreFacts). IsPage s n page) reads.same is
+
+module _ {X : Type 0} (P : X → Type 0) where
+  pub each_get : (xs : List X) (i : ℕ) (x : X) → AllByRecursion P xs → slice_get xs i ≡ Some x → P x
+  each_get [] i x all at = cc
+  each_get (y ∷ xs) zero x all at = let same : y ≡ x = cc in subst P same all.0
+  each_get (y ∷ xs) (suc i) x all at = each_get xs i x all.1 at
+
+-- before a key is each of ascending keys, where the last is
+pub before_last : (key : Key) (keys : List Key) (i : ℕ) (end : Key) → AreKeysAscending keys → length keys ≡ suc i → slice_get keys i ≡ Some end → IsBefore end key
+    → AllByRecursion (λ k. IsBefore k key) keys
+before_last key [] i end up long at before = tt
+before_last key (k ∷ []) zero end up long at before = let same : k ≡ end = cc in (subst (λ (j : Key). IsBefore j key) (sym same) before, tt)
+before_last key (k ∷ []) (suc i) end up long at before = cc
+before_last key (k ∷ j ∷ keys) zero end up long at before = absurd (omega arith)
+before_last key (k ∷ j ∷ keys) (suc i) end up long at before =
+    let rest = before_last key (j ∷ keys) i end up.1 (omega arith) at before in
+    (before_trans k j key up.0 rest.0, rest)
+
+pub all_before : (key : Key) (keys : List Key) (i : ℕ) (end : Key) → AreKeysAscending keys → length keys ≡ suc i → slice_get keys i ≡ Some end
+    → IsBefore end key ↔ AllByRecursion (λ k. IsBefore k key) keys
+all_before key keys i end up long at = (before_last key keys i end up long at, λ all. each_get (λ k. IsBefore k key) keys i end all at)
+
+pub last_tells : (key end : Key) (dims len : ℕ) (rows : List Row) (b : Bool) → AreKeysAscending (keys_of dims rows) → len ≡ length rows → len ≢ 0
+    → slice_get (keys_of dims rows) (len - 1) ≡ Some end → b ≡ precedes end key → (b ≡ true) ↔ AllByRecursion (λ k. IsBefore k key) (keys_of dims rows)
+last_tells key end dims len rows b up is some at tells =
+    let long = length-map rows (key_of dims) in
+    let all = all_before key (keys_of dims rows) (len - 1) end up (omega arith) at in
+    (λ t. all.0 (before_of end key (sym tells ∙ t)), λ h. tells ∙ precedes_of end key (all.1 h))
+
+-- a region whose rows are before the next one's first key
+pub held_before : (dims : ℕ) (first next : Key) (region : Region) (b : Bool) → region.first ≡ first
+    → (b ≡ true) ↔ AllByRecursion (λ k. IsBefore k next) (keys_of dims region.rows) → (b ≡ true) ↔ IsHeldBy dims first (Some next) region
+held_before dims first next region b same tells = (λ t. (same, tells.0 t), λ h. tells.1 h.1)

@@ -1,0 +1,84 @@
+-- The page at which a check stops: it is there, or isn't, and isn't the first, but where there is one region more than is counted.
+use Rattle.std.proofs.Common.{◌≡◌, ◌≤◌, ◌<◌, ◌^◌, ◌⊎◌, inl, inr, ℕ, zero, suc, List, [], ◌∷◌, Option, Some, None, length, slice_get, sym, subst, arith}
+use Rattle.std.specs.List.{AllByRecursion, flat_map}
+use Rattle.ub_index.proofs.WayFacts.{named_not_refused}
+use Rattle.ub_index.specs.Fitting.{IsNotTaken}
+use Rattle.ub_index.specs.Index.{entries_of, first_or, page_in, EachTo, IsUnder, under}
+use Rattle.ub_page.specs.Entries.{IsEntry}
+use Rattle.ub_page.specs.Region.{region_page}
+use Rattle.ub_page.specs.declared.entries.Entry.{Entry}
+use Rattle.ub_region.proofs.Laws.{all_left, all_right}
+use Rattle.ub_table.specs.Keys.{origin}
+use Rattle.ub_table.specs.declared.fault.PageFault.{PageFault}
+use Rattle.ub_table.specs.declared.fault.PageFault.TheVariants.{BadCount}
+use Rattle.ub_table.specs.declared.row.Key.{Key}
+use Rattle.ub_check.specs.Checking.{Asked, StopsAtRegion, StopsEach, StopsIn, TakesAll}
+use Rattle.ub_check.specs.Placed.{Placed}
+
+-- a page that is refused is there, and else it isn't
+abbrev pub IsThere : List (List ℕ) → ℕ → Option PageFault → Type 0
+IsThere pages n None = length pages ≤ n
+IsThere pages n (Some fault) = (page : List ℕ) × (slice_get pages n ≡ Some page)
+
+-- it is told of page 0 that there is one region more than is counted
+abbrev pub IsOneMore : ℕ → Option PageFault → Type 0
+IsOneMore n fault = (n ≡ 0) × (fault ≡ Some BadCount)
+
+abbrev pub StopsThere : List (List ℕ) → ℕ → Option PageFault → Type 0
+StopsThere pages n fault = IsOneMore n fault ⊎ ((1 ≤ n) × IsThere pages n fault)
+
+module _ (asked : Asked) where
+  there_at : (n m : ℕ) (a b : Option PageFault) → n ≡ m → a ≡ b → 1 ≤ m → IsThere asked.pages m b → StopsThere asked.pages n a
+  there_at n m a b is fault some h = inr (omega arith, subst (λ (x : Option PageFault). IsThere asked.pages n x) (sym fault) (subst (λ (k : ℕ). IsThere asked.pages k b) (sym is) h))
+
+  at_region : (e : Entry) (end : Option Key) (before : List Placed) (n : ℕ) (fault : Option PageFault) → 1 ≤ e.page → StopsAtRegion asked e end before n fault → StopsThere asked.pages n fault
+  at_region e end before n fault some (inl full) = inl (full.1, full.2)
+  at_region e end before n fault some (inr (less, is, inl (none, past))) = there_at n e.page fault None is none some past
+  at_region e end before n fault some (inr (less, is, inr (inl (page, at, of_page, fault_is, refused)))) = there_at n e.page fault (Some of_page) is fault_is some (page, at)
+  at_region e end before n fault some (inr (less, is, inr (inr (fault_is, region, stands, old)))) =
+      there_at n e.page fault _ is fault_is some (region_page asked.schema region, stands.spelled)
+
+  at_index : (level : ℕ) (e : Entry) (end : Option Key) (fault : Option PageFault) → IsNotTaken asked.last asked.pages [] level e end fault → IsThere asked.pages e.page fault
+  at_index level e end None h = h
+  at_index level e end (Some fault) h = (page_in asked.pages e.page, h.0)
+
+  each_there : (level : ℕ) → ((e : Entry) (end : Option Key) (before : List Placed) (n : ℕ) (fault : Option PageFault) → 1 ≤ e.page → StopsIn asked level e end before n fault
+      → StopsThere asked.pages n fault)
+      → (xs : List Entry) (end : Option Key) (before : List Placed) (n : ℕ) (fault : Option PageFault) → AllByRecursion (IsEntry asked.last) xs
+      → StopsEach (TakesAll asked level) (StopsIn asked level) xs end before n fault → StopsThere asked.pages n fault
+  each_there level one [] end before n fault all h = absurd h
+  each_there level one (x ∷ xs) end before n fault all (inl h) = one x (first_or xs end) before n fault all.0.some_page h
+  each_there level one (x ∷ xs) end before n fault all (inr (between, takes, h)) = each_there level one xs end between n fault all.1 h
+
+  pub stops_there : (level : ℕ) (e : Entry) (end : Option Key) (before : List Placed) (n : ℕ) (fault : Option PageFault) → 1 ≤ e.page → StopsIn asked level e end before n fault
+      → StopsThere asked.pages n fault
+  stops_there zero e end before n fault some h = at_region e end before n fault some h
+  stops_there (suc level) e end before n fault some (inl (is, refused)) =
+      inr (omega arith, subst (λ (k : ℕ). IsThere asked.pages k fault) (sym is) (at_index (suc level) e end fault refused))
+  stops_there (suc level) e end before n fault some (inr (named, h)) =
+      each_there level (stops_there level) (entries_of asked.pages e.page) end before n fault named.fits.is.is.entries h
+
+  -- where an index stands whose entries name pages below some number, it stops below that
+  module _ (small : asked.last < 2 ^ 128) (most : ℕ) where
+    abbrev IsLow : Entry → Type 0
+    IsLow e = e.page < most
+
+    region_low : (e : Entry) (end : Option Key) (before : List Placed) (n : ℕ) (fault : Option PageFault) → IsLow e → StopsAtRegion asked e end before n fault → IsOneMore n fault ⊎ (n < most)
+    region_low e end before n fault low (inl full) = inl (full.1, full.2)
+    region_low e end before n fault low (inr h) = let is = h.1 in inr (omega arith)
+
+    each_low : (level : ℕ) → ((e : Entry) (end : Option Key) (before : List Placed) (n : ℕ) (fault : Option PageFault) → IsUnder asked.last asked.pages level e end
+        → AllByRecursion IsLow (under asked.pages level e) → StopsIn asked level e end before n fault → IsOneMore n fault ⊎ (n < most))
+        → (xs : List Entry) (end : Option Key) (before : List Placed) (n : ℕ) (fault : Option PageFault) → EachTo (IsUnder asked.last asked.pages level) xs end
+        → AllByRecursion IsLow (flat_map (under asked.pages level) xs) → StopsEach (TakesAll asked level) (StopsIn asked level) xs end before n fault → IsOneMore n fault ⊎ (n < most)
+    each_low level one [] end before n fault each low h = absurd h
+    each_low level one (x ∷ xs) end before n fault each low (inl h) =
+        one x (first_or xs end) before n fault each.0 (all_left IsLow (under asked.pages level x) (flat_map (under asked.pages level) xs) low) h
+    each_low level one (x ∷ xs) end before n fault each low (inr (between, takes, h)) =
+        each_low level one xs end between n fault each.1 (all_right IsLow (under asked.pages level x) (flat_map (under asked.pages level) xs) low) h
+
+    pub stops_low : (level : ℕ) (e : Entry) (end : Option Key) (before : List Placed) (n : ℕ) (fault : Option PageFault) → IsUnder asked.last asked.pages level e end
+        → AllByRecursion IsLow (under asked.pages level e) → StopsIn asked level e end before n fault → IsOneMore n fault ⊎ (n < most)
+    stops_low zero e end before n fault is low h = region_low e end before n fault low.0 h
+    stops_low (suc level) e end before n fault is low (inl refused) = absurd (named_not_refused asked.last small asked.pages [] origin (suc level) e end fault is.0 refused.1)
+    stops_low (suc level) e end before n fault is low (inr h) = each_low level (stops_low level) (entries_of asked.pages e.page) end before n fault is.1 low h.1

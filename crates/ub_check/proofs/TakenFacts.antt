@@ -1,0 +1,270 @@
+-- What a check takes is what stands under an entry: an index, and on its regions' pages the regions, with new numbers. And where
+-- that stands a check stops nowhere.
+use Rattle.std.proofs.Common.{◌≡◌, ◌≢◌, ◌≤◌, ◌<◌, ◌+◌, ◌^◌, ◌++◌, inl, inr, ℕ, zero, suc, List, [], ◌∷◌, Option, Some, nat_eq, false, length, slice_get, slice_index_or, ap, refl, sym, ◌∙◌, arith, subst}
+use Rattle.std.proofs.lemmas.Grind.{flat_map-append}
+use Rattle.std.proofs.lemmas.List.{append-nil, append_assoc, length-append, map-append}
+use Rattle.std.proofs.lemmas.Option.{get_or_from_slice_get, slice_get_within}
+use Rattle.std.specs.List.{AllByRecursion, IsDistinct, flat_map}
+use Rattle.ub_index.proofs.Lists.{each_join, each_left, each_right}
+use Rattle.ub_index.proofs.Numbers.{differs, distinct_cons}
+use Rattle.ub_index.proofs.OrderFacts.{first_more, under_first}
+use Rattle.ub_index.proofs.WayFacts.{named_not_refused}
+use Rattle.ub_index.specs.Index.{entries_of, first_or, EachTo, IsUnder, under}
+use Rattle.ub_page.proofs.PageLaws.{region_parts}
+use Rattle.ub_page.proofs.RegionFacts.{not_refused}
+use Rattle.ub_page.specs.Region.{region_on, region_page}
+use Rattle.ub_page.specs.declared.entries.Entry.{Entry}
+use Rattle.ub_region.proofs.Laws.{all_append, all_both, all_left, all_more, all_right}
+use Rattle.ub_region.specs.Regions.{rows_of}
+use Rattle.ub_table.specs.Keys.{origin}
+use Rattle.ub_table.specs.Region.{Region}
+use Rattle.ub_table.specs.declared.fault.PageFault.{PageFault}
+use Rattle.ub_table.specs.declared.row.Key.{Key}
+use Rattle.ub_table.specs.declared.row.Row.{Row}
+use Rattle.ub_check.specs.Checking.{Asked, StandsHere, StopsAtRegion, StopsEach, StopsIn, TakesAll, TakesEach, TakesRegion, numbers_in, numbers_of}
+use Rattle.ub_check.specs.Numbers.{AreNew, IsNone}
+use Rattle.ub_check.proofs.PlacedFacts.{one_region, placed_append, placed_at}
+use Rattle.ub_check.specs.Standing.{IsHeldBy, IsRegionRefused}
+use Rattle.ub_check.specs.Placed.{Placed, placed_of, regions_in}
+
+-- numbers that are new, in two parts
+pub new_join : (bound : ℕ) (met xs ys : List ℕ) → AreNew bound met xs → AreNew bound (met ++ xs) ys → AreNew bound met (xs ++ ys)
+new_join bound met [] ys h k = subst (λ (zs : List ℕ). AreNew bound zs ys) (append-nil met) k
+new_join bound met (x ∷ xs) ys h k = (h.0, h.1, new_join bound (met ++ x ∷ []) xs ys h.2 (subst (λ (zs : List ℕ). AreNew bound zs ys) (sym (append_assoc met (x ∷ []) xs)) k))
+
+pub new_left : (bound : ℕ) (met xs ys : List ℕ) → AreNew bound met (xs ++ ys) → AreNew bound met xs
+new_left bound met [] ys h = tt
+new_left bound met (x ∷ xs) ys h = (h.0, h.1, new_left bound (met ++ x ∷ []) xs ys h.2)
+
+pub new_right : (bound : ℕ) (met xs ys : List ℕ) → AreNew bound met (xs ++ ys) → AreNew bound (met ++ xs) ys
+new_right bound met [] ys h = subst (λ (zs : List ℕ). AreNew bound zs ys) (sym (append-nil met)) h
+new_right bound met (x ∷ xs) ys h = subst (λ (zs : List ℕ). AreNew bound zs ys) (append_assoc met (x ∷ []) xs) (new_right bound (met ++ x ∷ []) xs ys h.2)
+
+-- they are below the bound, and differ, and none was met
+pub new_below : (bound : ℕ) (met ns : List ℕ) → AreNew bound met ns → AllByRecursion (λ n. n < bound) ns
+new_below bound met [] h = tt
+new_below bound met (n ∷ ns) h = (h.0, new_below bound (met ++ n ∷ []) ns h.2)
+
+pub new_none : (bound : ℕ) (met ns : List ℕ) → AreNew bound met ns → AllByRecursion (λ n. IsNone n met) ns
+new_none bound met [] h = tt
+new_none bound met (n ∷ ns) h =
+    (h.1, all_more (λ m. IsNone m (met ++ n ∷ [])) (λ m. IsNone m met) (λ m k. all_left (λ o. m ≢ o) met (n ∷ []) k) ns (new_none bound (met ++ n ∷ []) ns h.2))
+
+pub new_differ : (bound : ℕ) (met ns : List ℕ) → AreNew bound met ns → IsDistinct nat_eq ns
+unfolding IsDistinct
+new_differ bound met [] h = tt
+new_differ bound met (n ∷ ns) h =
+    distinct_cons n ns
+    (all_more (λ m. IsNone m (met ++ n ∷ [])) (λ m. n ≢ m) (λ m k same. (all_right (λ o. m ≢ o) met (n ∷ []) k).0 (sym same)) ns (new_none bound (met ++ n ∷ []) ns h.2))
+    (new_differ bound (met ++ n ∷ []) ns h.2)
+
+pub new_of : (bound : ℕ) (met ns : List ℕ) → AllByRecursion (λ n. n < bound) ns → AllByRecursion (λ n. IsNone n met) ns → IsDistinct nat_eq ns → AreNew bound met ns
+unfolding IsDistinct
+new_of bound met [] below none differ = tt
+new_of bound met (n ∷ ns) below none differ = (
+  below.0,
+  none.0,
+  new_of bound (met ++ n ∷ []) ns below.1
+      (all_both (λ m. IsNone m met) (λ m. nat_eq n m ≡ false) (λ m. IsNone m (met ++ n ∷ []))
+      (λ m k other. all_append (λ o. m ≢ o) met (n ∷ []) k ((λ same. differs n m other (sym same)), tt)) ns none.1 differ.0)
+      differ.1,
+)
+
+regions_join : (ps qs : List Placed) → regions_in (ps ++ qs) ≡ regions_in ps ++ regions_in qs
+regions_join ps qs = map-append (λ p. p.region) ps qs
+
+pub numbers_join : (ps qs : List Placed) → numbers_in (ps ++ qs) ≡ numbers_in ps ++ numbers_in qs
+numbers_join ps qs =
+    ap (λ (rs : List Region). numbers_of (rows_of rs)) (regions_join ps qs)
+    ∙ (ap (λ (rows : List Row). numbers_of rows) (flat_map-append (λ r. r.rows) (regions_in ps) (regions_in qs))
+    ∙ map-append (λ row. row.number) (rows_of (regions_in ps)) (rows_of (regions_in qs)))
+
+-- these regions' entries, up to an end, are taken after others: each region stands where its entry tells, and its rows have new
+-- numbers
+pub record IsTaken (asked : Asked) (entries : List Entry) (end : Option Key) (before after : List Placed) : Type 0 where
+  pub stands : EachTo (λ e o. StandsHere asked e o (placed_at asked.schema asked.pages e).region) entries end
+  pub new : AreNew asked.next (numbers_in before) (numbers_in (placed_of asked.schema asked.pages entries))
+  pub after_is : after ≡ before ++ placed_of asked.schema asked.pages entries
+
+module _ (asked : Asked) where
+  -- the region that stands where an entry tells is the one that its page tells of
+  pub told_is : (e : Entry) (end : Option Key) (region : Region) → StandsHere asked e end region → (placed_at asked.schema asked.pages e).region ≡ region
+  told_is e end region h =
+      let page : slice_index_or asked.pages e.page [] ≡ region_page asked.schema region = get_or_from_slice_get asked.pages e.page (region_page asked.schema region) [] h.spelled in
+      let on : region_on asked.schema (slice_index_or asked.pages e.page []) ≡ region =
+      ap (λ (p : List ℕ). region_on asked.schema p) page ∙ (region_parts asked.schema region (region_page asked.schema region) h.is refl).on in
+      ap (λ (r : Region). record { first = e.first; rows = r.rows }) on ∙ ap (λ (k : Key). record { first = k; rows = region.rows }) (sym h.held.0)
+
+  pub taken_none : (end : Option Key) (before : List Placed) → IsTaken asked [] end before before
+  taken_none end before = record { stands = tt; new = tt; after_is = sym (append-nil before) }
+
+  pub taken_one : (e : Entry) (end : Option Key) (before after : List Placed) → TakesRegion asked e end before after → IsTaken asked (e ∷ []) end before after
+  taken_one e end before after h =
+      let same = told_is e end h.region h.stands in
+      record {
+        stands = (subst (λ (r : Region). StandsHere asked e end r) (sym same) h.stands, tt);
+        new = subst (λ (r : Region). AreNew asked.next (numbers_in before) (numbers_in (record { page = e.page; region = r } ∷ []))) (sym same)
+            (subst (λ (rows : List Row). AreNew asked.next (numbers_in before) (numbers_of rows)) (sym (append-nil h.region.rows)) h.new);
+        after_is = h.after_is ∙ ap (λ (r : Region). before ++ record { page = e.page; region = r } ∷ []) (sym same);
+      }
+
+  pub taken_join : (xs ys : List Entry) (end : Option Key) (before between after : List Placed) → IsTaken asked xs (first_or ys end) before between → IsTaken asked ys end between after
+      → IsTaken asked (xs ++ ys) end before after
+  taken_join xs ys end before between after h k =
+      let parts = placed_append asked.schema asked.pages xs ys in
+      record {
+        stands = each_join (λ e o. StandsHere asked e o (placed_at asked.schema asked.pages e).region) xs ys end h.stands k.stands;
+        new = subst (λ (ns : List ℕ). AreNew asked.next (numbers_in before) ns)
+            (sym (ap (λ (ps : List Placed). numbers_in ps) parts ∙ numbers_join (placed_of asked.schema asked.pages xs) (placed_of asked.schema asked.pages ys)))
+            (new_join asked.next (numbers_in before) (numbers_in (placed_of asked.schema asked.pages xs)) (numbers_in (placed_of asked.schema asked.pages ys)) h.new
+            (subst (λ (ns : List ℕ). AreNew asked.next ns (numbers_in (placed_of asked.schema asked.pages ys)))
+            (ap (λ (ps : List Placed). numbers_in ps) h.after_is ∙ numbers_join before (placed_of asked.schema asked.pages xs)) k.new));
+        after_is = k.after_is ∙ (ap (λ (ps : List Placed). ps ++ placed_of asked.schema asked.pages ys) h.after_is
+            ∙ (append_assoc before (placed_of asked.schema asked.pages xs) (placed_of asked.schema asked.pages ys) ∙ ap (λ (ps : List Placed). before ++ ps) (sym parts)));
+      }
+
+  -- and cut
+  pub taken_left : (xs ys : List Entry) (end : Option Key) (before after : List Placed) → IsTaken asked (xs ++ ys) end before after
+      → IsTaken asked xs (first_or ys end) before (before ++ placed_of asked.schema asked.pages xs)
+  taken_left xs ys end before after h =
+      let parts = placed_append asked.schema asked.pages xs ys in
+      let new = subst (λ (ns : List ℕ). AreNew asked.next (numbers_in before) ns)
+      (ap (λ (ps : List Placed). numbers_in ps) parts ∙ numbers_join (placed_of asked.schema asked.pages xs) (placed_of asked.schema asked.pages ys)) h.new in
+      record {
+        stands = each_left (λ e o. StandsHere asked e o (placed_at asked.schema asked.pages e).region) xs ys end h.stands;
+        new = new_left asked.next (numbers_in before) (numbers_in (placed_of asked.schema asked.pages xs)) (numbers_in (placed_of asked.schema asked.pages ys)) new;
+        after_is = refl;
+      }
+
+  pub taken_right : (xs ys : List Entry) (end : Option Key) (before after : List Placed) → IsTaken asked (xs ++ ys) end before after
+      → IsTaken asked ys end (before ++ placed_of asked.schema asked.pages xs) after
+  taken_right xs ys end before after h =
+      let parts = placed_append asked.schema asked.pages xs ys in
+      let new = subst (λ (ns : List ℕ). AreNew asked.next (numbers_in before) ns)
+      (ap (λ (ps : List Placed). numbers_in ps) parts ∙ numbers_join (placed_of asked.schema asked.pages xs) (placed_of asked.schema asked.pages ys)) h.new in
+      record {
+        stands = each_right (λ e o. StandsHere asked e o (placed_at asked.schema asked.pages e).region) xs ys end h.stands;
+        new = subst (λ (ns : List ℕ). AreNew asked.next ns (numbers_in (placed_of asked.schema asked.pages ys))) (sym (numbers_join before (placed_of asked.schema asked.pages xs)))
+            (new_right asked.next (numbers_in before) (numbers_in (placed_of asked.schema asked.pages xs)) (numbers_in (placed_of asked.schema asked.pages ys)) new);
+        after_is = h.after_is ∙ (ap (λ (ps : List Placed). before ++ ps) parts ∙ sym (append_assoc before (placed_of asked.schema asked.pages xs) (placed_of asked.schema asked.pages ys)));
+      }
+
+  -- what entries lead to begins where they begin
+  pub first_under : (level : ℕ) (xs : List Entry) (end : Option Key) → EachTo (IsUnder asked.last asked.pages level) xs end
+      → first_or (flat_map (under asked.pages level) xs) end ≡ first_or xs end
+  first_under level [] end each = refl
+  first_under level (x ∷ xs) end each =
+      first_more (under asked.pages level x) (flat_map (under asked.pages level) xs) end x.first (under_first asked.last asked.pages level x (first_or xs end) each.0)
+
+  each_taken : (level : ℕ) → ((e : Entry) (end : Option Key) (before after : List Placed) → TakesAll asked level e end before after
+      → IsUnder asked.last asked.pages level e end × IsTaken asked (under asked.pages level e) end before after)
+      → (xs : List Entry) (end : Option Key) (before after : List Placed) → TakesEach (TakesAll asked level) xs end before after
+      → EachTo (IsUnder asked.last asked.pages level) xs end × IsTaken asked (flat_map (under asked.pages level) xs) end before after
+  each_taken level one [] end before after h = (tt, subst (λ (ps : List Placed). IsTaken asked [] end before ps) (sym h) (taken_none end before))
+  each_taken level one (x ∷ xs) end before after h =
+      let first = one x (first_or xs end) before h.0 h.1 in
+      let rest = each_taken level one xs end h.0 after h.2 in (
+        (first.0, rest.0),
+        taken_join (under asked.pages level x) (flat_map (under asked.pages level) xs) end before h.0 after
+            (subst (λ (o : Option Key). IsTaken asked (under asked.pages level x) o before h.0) (sym (first_under level xs end rest.0)) first.1) rest.1,
+      )
+
+  -- what is taken stands under the entry
+  pub walk_taken : (level : ℕ) (e : Entry) (end : Option Key) (before after : List Placed) → TakesAll asked level e end before after
+      → IsUnder asked.last asked.pages level e end × IsTaken asked (under asked.pages level e) end before after
+  walk_taken zero e end before after h = (tt, taken_one e end before after h)
+  walk_taken (suc level) e end before after h =
+      let each = each_taken level (walk_taken level) (entries_of asked.pages e.page) end before after h.1 in
+      ((h.0, each.0), each.1)
+
+  -- and where that stands a check doesn't stop
+  pub region_good : (e : Entry) (end : Option Key) (region : Region) (page : List ℕ) (fault : PageFault) → StandsHere asked e end region
+      → slice_get asked.pages e.page ≡ Some page → ¬ (IsRegionRefused asked.schema e.first end page fault)
+  region_good e end region page fault h at (inl refused) =
+      let same : page ≡ region_page asked.schema region = (let spelled = h.spelled in cc) in
+      not_refused asked.schema region page h.is same fault refused
+  region_good e end region page fault h at (inr (is, other, is_other, spelled, not_held)) =
+      let same = one_region asked.schema asked.pages e.page region other h.spelled h.is (at ∙ ap (λ (p : List ℕ). Some p) spelled) is_other in
+      not_held (subst (λ (r : Region). IsHeldBy asked.schema.dims e.first end r) same h.held)
+
+  one_more : (before : List Placed) (p : Placed) → length (before ++ p ∷ []) ≡ length before + 1
+  one_more before p = length-append before (p ∷ [])
+
+  never_at : (e : Entry) (end : Option Key) (before after : List Placed) (n : ℕ) (fault : Option PageFault) → IsTaken asked (e ∷ []) end before after
+      → length after ≤ asked.count → ¬ (StopsAtRegion asked e end before n fault)
+  never_at e end before after n fault h few (inl full) =
+      let many = full.0 in
+      let long = ap (λ (ps : List Placed). length ps) h.after_is ∙ one_more before (placed_at asked.schema asked.pages e) in
+      omega arith
+  never_at e end before after n fault h few (inr (less, is, inl (none, past))) =
+      let there = slice_get_within asked.pages e.page (region_page asked.schema (placed_at asked.schema asked.pages e).region) h.stands.0.spelled in
+      omega arith
+  never_at e end before after n fault h few (inr (less, is, inr (inl (page, at, of_page, fault_is, refused)))) =
+      region_good e end (placed_at asked.schema asked.pages e).region page of_page h.stands.0 at refused
+  never_at e end before after n fault h few (inr (less, is, inr (inr (fault_is, region, stands, old)))) =
+      let same = told_is e end region stands in
+      old (subst (λ (r : Region). AreNew asked.next (numbers_in before) (numbers_of r.rows)) same
+      (subst (λ (rows : List Row). AreNew asked.next (numbers_in before) (numbers_of rows)) (append-nil (placed_at asked.schema asked.pages e).region.rows) h.new))
+
+  module _ (small : asked.last < 2 ^ 128) where
+    each_never : (level : ℕ) → ((e : Entry) (end : Option Key) (before after : List Placed) (n : ℕ) (fault : Option PageFault) → IsUnder asked.last asked.pages level e end
+        → IsTaken asked (under asked.pages level e) end before after → length after ≤ asked.count → ¬ (StopsIn asked level e end before n fault))
+        → (xs : List Entry) (end : Option Key) (before after : List Placed) (n : ℕ) (fault : Option PageFault) → EachTo (IsUnder asked.last asked.pages level) xs end
+        → IsTaken asked (flat_map (under asked.pages level) xs) end before after → length after ≤ asked.count
+        → ¬ (StopsEach (TakesAll asked level) (StopsIn asked level) xs end before n fault)
+    each_never level one [] end before after n fault each h few stops = stops
+    each_never level one (x ∷ xs) end before after n fault each h few (inl stops) =
+        let first = taken_left (under asked.pages level x) (flat_map (under asked.pages level) xs) end before after h in
+        let rest = taken_right (under asked.pages level x) (flat_map (under asked.pages level) xs) end before after h in
+        let long = ap (λ (ps : List Placed). length ps) rest.after_is
+        ∙ length-append (before ++ placed_of asked.schema asked.pages (under asked.pages level x)) (placed_of asked.schema asked.pages (flat_map (under asked.pages level) xs)) in
+        one x (first_or xs end) before (before ++ placed_of asked.schema asked.pages (under asked.pages level x)) n fault each.0
+        (subst (λ (o : Option Key). IsTaken asked (under asked.pages level x) o before (before ++ placed_of asked.schema asked.pages (under asked.pages level x))) (first_under level xs end each.1) first)
+        (omega arith) stops
+    each_never level one (x ∷ xs) end before after n fault each h few (inr (between, takes, stops)) =
+        let rest = taken_right (under asked.pages level x) (flat_map (under asked.pages level) xs) end before after h in
+        let is = (walk_taken level x (first_or xs end) before between takes).1.after_is in
+        each_never level one xs end between after n fault each.1
+        (subst (λ (ps : List Placed). IsTaken asked (flat_map (under asked.pages level) xs) end ps after) (sym is) rest) few stops
+
+    pub walk_never : (level : ℕ) (e : Entry) (end : Option Key) (before after : List Placed) (n : ℕ) (fault : Option PageFault) → IsUnder asked.last asked.pages level e end
+        → IsTaken asked (under asked.pages level e) end before after → length after ≤ asked.count → ¬ (StopsIn asked level e end before n fault)
+    walk_never zero e end before after n fault is h few stops = never_at e end before after n fault h few stops
+    walk_never (suc level) e end before after n fault is h few (inl refused) =
+        named_not_refused asked.last small asked.pages [] origin (suc level) e end fault is.0 refused.1
+    walk_never (suc level) e end before after n fault is h few (inr stops) =
+        each_never level (walk_never level) (entries_of asked.pages e.page) end before after n fault is.1 h few stops.1
+
+  -- and takes all
+  take_one : (e : Entry) (end : Option Key) (before after : List Placed) → IsTaken asked (e ∷ []) end before after → length after ≤ asked.count → TakesRegion asked e end before after
+  take_one e end before after h few =
+      let long = ap (λ (ps : List Placed). length ps) h.after_is ∙ one_more before (placed_at asked.schema asked.pages e) in
+      record {
+        counted = omega arith;
+        region = (placed_at asked.schema asked.pages e).region;
+        stands = h.stands.0;
+        new = subst (λ (rows : List Row). AreNew asked.next (numbers_in before) (numbers_of rows)) (append-nil (placed_at asked.schema asked.pages e).region.rows) h.new;
+        after_is = h.after_is;
+      }
+
+  take_each : (level : ℕ) → ((e : Entry) (end : Option Key) (before after : List Placed) → IsUnder asked.last asked.pages level e end
+      → IsTaken asked (under asked.pages level e) end before after → length after ≤ asked.count → TakesAll asked level e end before after)
+      → (xs : List Entry) (end : Option Key) (before after : List Placed) → EachTo (IsUnder asked.last asked.pages level) xs end
+      → IsTaken asked (flat_map (under asked.pages level) xs) end before after → length after ≤ asked.count → TakesEach (TakesAll asked level) xs end before after
+  take_each level one [] end before after each h few = h.after_is ∙ append-nil before
+  take_each level one (x ∷ xs) end before after each h few =
+      let first = taken_left (under asked.pages level x) (flat_map (under asked.pages level) xs) end before after h in
+      let rest = taken_right (under asked.pages level x) (flat_map (under asked.pages level) xs) end before after h in
+      let long = ap (λ (ps : List Placed). length ps) rest.after_is
+      ∙ length-append (before ++ placed_of asked.schema asked.pages (under asked.pages level x)) (placed_of asked.schema asked.pages (flat_map (under asked.pages level) xs)) in (
+        before ++ placed_of asked.schema asked.pages (under asked.pages level x),
+        one x (first_or xs end) before (before ++ placed_of asked.schema asked.pages (under asked.pages level x)) each.0
+            (subst (λ (o : Option Key). IsTaken asked (under asked.pages level x) o before (before ++ placed_of asked.schema asked.pages (under asked.pages level x))) (first_under level xs end each.1) first)
+            (omega arith),
+        take_each level one xs end (before ++ placed_of asked.schema asked.pages (under asked.pages level x)) after each.1 rest few,
+      )
+
+  pub taken_walk : (level : ℕ) (e : Entry) (end : Option Key) (before after : List Placed) → IsUnder asked.last asked.pages level e end
+      → IsTaken asked (under asked.pages level e) end before after → length after ≤ asked.count → TakesAll asked level e end before after
+  taken_walk zero e end before after is h few = take_one e end before after h few
+  taken_walk (suc level) e end before after is h few = (is.0, take_each level (taken_walk level) (entries_of asked.pages e.page) end before after is.1 h few)
