@@ -20,6 +20,7 @@ program.sh $ubq
 statuses.sh
 tutorial.py $ubq
 terminal.py $ubq
+hints.py $ubq
 completions.py $ubq
 damaged_index.py $ubq
 limits.py $ubq
