@@ -96,13 +96,17 @@ def at_a_terminal(env, tried):
     judge("it begins with a prompt", terminal.until(FIRST) == FIRST)
     asks(terminal, "a statement is asked", "SELECT x, y FROM t WHERE x = 2;", "x,y\n2,3\n2,3\n-- rows 2, pages 3\n")
     asks(terminal, "its schema", ".schema", told)
-    asks(terminal, "a refused one", "SELECT nix FROM t; ", "! UnknownColumn at 7\n")
+    asks(terminal, "a refused one, with the hint that a terminal gets", "SELECT nix FROM t; ",
+         "! UnknownColumn at 7\nubq: line 1, column 8: 'nix' is no column: the table has x, y, m\n"
+         "    SELECT nix FROM t; \n           ^\n")
     asks(terminal, "a comment alone", "-- how many are there;", "")
     terminal.types("SELECT COUNT(*)\n")
     judge("it goes on to the semicolon", terminal.until(MORE) == "SELECT COUNT(*)\n" + MORE)
     terminal.types(".schema\n")
     judge("and .schema is one at the beginning alone", terminal.until(MORE) == ".schema\n" + MORE)
-    asks(terminal, "what was typed is one text", ";", "! BadByte at 16\n")
+    asks(terminal, "what was typed is one text", ";",
+         "! BadByte at 16\nubq: line 2, column 1: '.' is no sign of the language\n    .schema\n    ^\n"
+         "    there are no decimals, and no table's name stands before a column\n")
     asks(terminal, "two statements in a line", "SELECT MIN(x) FROM t; SELECT MAX(m) FROM t;",
          "MIN(x)\n0\nMAX(m)\n20\n-- rows 1, pages 3\n-- rows 1, pages 3\n")
     terminal.types(UP + UP + UP + UP + "\n")

@@ -21,6 +21,8 @@ mod failing;
 #[cfg(test)]
 mod faults;
 #[cfg(test)]
+mod hints;
+#[cfg(test)]
 mod lexer;
 #[cfg(test)]
 mod loads;

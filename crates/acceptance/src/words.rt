@@ -4,7 +4,7 @@ use std::str;
 use ub_words::{Asked, read_words};
 
 // The words of a command line, the first of which is the program's name.
-fn words_of(alloc: Global, line: &str) -> Result<Vec<String>, AllocError> {
+pub(crate) fn words_of(alloc: Global, line: &str) -> Result<Vec<String>, AllocError> {
     let mut words = Vec::new(alloc);
     for word in line.split_whitespace() {
         words.push(String::from_str(alloc, word)?)?;

@@ -19,6 +19,9 @@ use ub_words::STANDARD_INPUT;
 // The system's number for memory that is refused.
 const NO_MEMORY: i32 = 12;
 
+// How many bytes of standard input are kept at most: 16 MiB.
+const MOST_KEPT: usize = 16_777_216;
+
 /// The files of the system. What they hold is not told, and that they are honest is a premise. Standard input is read as the
 /// system's device for it.
 ///
@@ -30,6 +33,8 @@ pub struct HostFiles<'r, R> {
     reads: u64,
     tables: u64,
     missed: Option<Missed>,
+    keeps_input: bool,
+    input: Option<Vec<u8>>,
 }
 
 impl<'r, R: rt::Files + AllocGlobal + Eprint> HostFiles<'r, R>
@@ -45,6 +50,35 @@ where
             reads: 0,
             tables: 0,
             missed: None,
+            keeps_input: false,
+            input: None,
+        }
+    }
+
+    /// Keeps from now on what is read of standard input, which can't be read twice, where it isn't longer than 16 MiB and there is memory
+    /// for it.
+    pub fn keep_input(&mut self)
+        ensures { ⟦<HostFiles<'r, R> as Files>⟧.facts self.new
+            ≡ ⟦<HostFiles<'r, R> as Files>⟧.facts self.old }
+    {
+        self.keeps_input = true;
+    }
+
+    /// Takes what was kept of standard input, if it was read and kept.
+    pub fn take_input(&mut self) -> Option<Vec<u8>>
+        ensures { ⟦<HostFiles<'r, R> as Files>⟧.facts self.new
+            ≡ ⟦<HostFiles<'r, R> as Files>⟧.facts self.old }
+    {
+        self.input.take()
+    }
+
+    // Keeps these bytes of standard input, if they are to be kept and can be.
+    fn keep_bytes(&mut self, path: &str, bytes: &[u8])
+        ensures reads { self.new.reads ≡ self.old.reads }
+        ensures tables { self.new.tables ≡ self.old.tables }
+    {
+        if self.keeps_input && path == STANDARD_INPUT && bytes.len() <= MOST_KEPT {
+            self.input = Vec::from_slice(self.rt.alloc(), bytes).ok();
         }
     }
 
@@ -171,7 +205,10 @@ where
             (path, path)
         };
         match fs::read(self.rt, device) {
-            Ok(bytes) => Ok(bytes),
+            Ok(bytes) => {
+                self.keep_bytes(path, bytes.as_slice());
+                Ok(bytes)
+            }
             Err(why) => {
                 let fault = fault_of(&why);
                 if fault == StoreFault::Device {

@@ -1,17 +1,23 @@
 // The program `ubq`: what touches the process, its words, its standard output, the notes of a query on standard error, the status that
-// it ends with, and a line on standard error where a file couldn't be had. All else is `run_program` of the crate `ub_shell`.
+// it ends with, and two things that are for people, on standard error: a line where a file couldn't be had, and, where that is a
+// terminal, hints on what was refused. All else is `run_program` of the crate `ub_shell`, and `hint` of `ub_hints`.
 #![tactic(auto)]
 
-use std::io;
+use std::io::{self, IsTerminal};
 use std::process::ExitCode;
+use ub_hints::hint;
 use ub_host_files::HostFiles;
-use ub_shell::{program_words, run_program};
+use ub_shell::{Over, program_words, run_program};
 
 // The status where a file or the output failed.
 const FAILED: u8 = 4;
 
 fn main(rt: HostRuntime) -> ExitCode {
     let mut files = HostFiles::new(&rt);
+    let is_terminal = rt.stderr().is_terminal();
+    if is_terminal {
+        files.keep_input();
+    }
     let words = program_words(&rt);
     let status = run_program(rt.alloc(), &mut files, words, io::writer(&rt), rt.stderr()).0;
     if status == FAILED {
@@ -19,5 +25,25 @@ fn main(rt: HostRuntime) -> ExitCode {
             let _ = eprintln!(rt; "ubq: {missed}");
         }
     }
+    if is_terminal {
+        tell_hints(&rt, &mut files, status);
+    }
     ExitCode::from(status)
+}
+
+// Tells on standard error what people want to know of what was refused.
+fn tell_hints(rt: &HostRuntime, files: &mut HostFiles<'_, HostRuntime>, status: u8) {
+    let Ok(words) = program_words(rt) else {
+        return;
+    };
+    let input = files.take_input();
+    let mut to = Over::new(rt.stderr());
+    hint(
+        rt.alloc(),
+        files,
+        words.as_slice(),
+        input.as_deref(),
+        status,
+        &mut to,
+    );
 }
