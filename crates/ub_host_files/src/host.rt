@@ -11,6 +11,7 @@ use std::os::fd::{AsFd, AsRawFd};
 use std::os::unix::fs::FileExt;
 use std::{fs, io, rt};
 use ub_files::{Files, OpenFault};
+use ub_journal::Place;
 use ub_keeping::PlaceStore;
 use ub_overlay::Overlay;
 use ub_store::{MemStore, StoreFault};
@@ -183,6 +184,30 @@ where
     }
 }
 
+// The place below a store that is put back, and whether changes were held that go with it.
+fn taken_apart<P: Place>(store: Overlay<PlaceStore<P>>) -> (P, bool) {
+    let is_changed = store.is_changed();
+    (store.into_store().into_place(), is_changed)
+}
+
+// What couldn't be done at a place that is put back: the changes that were held weren't kept, or the table file couldn't be used.
+fn left_at<R: rt::Files + AllocGlobal>(
+    is_changed: bool,
+    path: &str,
+    place: &HostPlace<'_, R>,
+) -> Option<Missed>
+where
+    R::File: FileExt + AsFd,
+{
+    if is_changed && place.is_alone() {
+        return Some(missed_at(Deed::Keep, path, place));
+    }
+    if place.why().is_some() {
+        return Some(missed_at(Deed::Use, path, place));
+    }
+    None
+}
+
 #[tactic(auto, unfolding(crate::specs::Host::is_honest_host))]
 impl<'r, R: rt::Files + AllocGlobal + Eprint> Files for HostFiles<'r, R>
 where
@@ -273,12 +298,9 @@ where
     }
 
     fn put_back(&mut self, path: &str, store: Overlay<PlaceStore<HostPlace<'r, R>>>) {
-        let is_changed = store.is_changed();
-        let place = store.into_store().into_place();
-        if is_changed && place.is_alone() {
-            self.missed = Some(missed_at(Deed::Keep, path, &place));
-        } else if place.why().is_some() {
-            self.missed = Some(missed_at(Deed::Use, path, &place));
-        }
+        let (place, is_changed) = taken_apart(store);
+        let missed = left_at(is_changed, path, &place);
+        drop(place);
+        self.missed = missed.or(self.missed);
     }
 }
