@@ -10,6 +10,9 @@ root=$(cd "$(dirname "$(readlink -f "${BASH_SOURCE[0]}")")/.." && pwd)
 ubq=$(readlink -f "${1:-$root/crates/ubq/out/ubq}")
 shift || true
 said=$(mktemp -d "${TMPDIR:-/tmp}/ubq-tests-XXXXXX") || exit 2
+# The help has the name by which the program is run.
+mkdir "$said/bin" && cp "$ubq" "$said/bin/ubq" || exit 2
+ubq=$said/bin/ubq
 export UBQ=$ubq
 well=0 badly=0
 
