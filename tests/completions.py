@@ -14,7 +14,7 @@ import shutil
 import subprocess
 import sys
 
-from program import TOP, program
+from program import TOP, counts, judge, program
 
 BASH = os.path.join(TOP, "completions", "ubq.bash")
 ZSH = os.path.join(TOP, "completions", "_ubq")
@@ -79,14 +79,6 @@ LINES = [
     ("ubq next 2,2 ''", []),
     ("ubq unknown ''", []),
 ]
-
-counts = {"right": 0, "wrong": 0}
-
-
-def judge(what, is_right, told=""):
-    counts["right" if is_right else "wrong"] += 1
-    if not is_right:
-        print(f"WRONG: {what}: {told}")
 
 
 def same(what, found, wanted):

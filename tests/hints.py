@@ -11,22 +11,13 @@ import subprocess
 import sys
 import tempfile
 
-from program import program
+from program import counts, judge, program
 
 LOAD = ["load", "new.csv", "new.ub", "--dims", "2", "--name", "trips"]
 GOOD = b"zone,date,fare\n1,3,5\n"
 BAD = b"zone,date,fare\n1,3,5\n2,2026-01-01,7\n"
 DATE = "line 3, row 2, column 2 (date): '2026-01-01' is no whole number\n"
 MOST = 16 * 1024 * 1024
-counts = {"right": 0, "wrong": 0}
-
-
-def judge(what, is_right, seen=""):
-    counts["right" if is_right else "wrong"] += 1
-    if not is_right:
-        print(f"WRONG: {what}")
-        for line in str(seen).splitlines():
-            print("    | " + line)
 
 
 def at_a_terminal(tried, words, typed):

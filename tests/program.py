@@ -8,6 +8,18 @@ import tempfile
 
 TOP = os.path.dirname(os.path.dirname(os.path.abspath(__file__)))
 
+# How many things were right and wrong, by `judge`.
+counts = {"right": 0, "wrong": 0}
+
+
+def judge(what, is_right, seen=""):
+    """Counts what was seen, and shows it where it is wrong."""
+    counts["right" if is_right else "wrong"] += 1
+    if not is_right:
+        print(f"WRONG: {what}")
+        for line in str(seen).splitlines():
+            print("    | " + line)
+
 
 def program(named):
     """The program of this path, or, where none is named, the proved one, which is proved and built first."""

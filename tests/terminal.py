@@ -17,21 +17,12 @@ import tempfile
 import termios
 import time
 
-from program import TOP, program
+from program import TOP, counts, judge, program
 
 ASK = os.path.join(TOP, "examples", "ubq-ask")
 WORDS = os.path.join(TOP, "examples", "words.py")
 FIRST, MORE = "ubq> ", "...> "
 UP, CTRL_C, CTRL_D = "\x10", "\x03", "\x04"
-counts = {"right": 0, "wrong": 0}
-
-
-def judge(what, is_right, seen=""):
-    counts["right" if is_right else "wrong"] += 1
-    if not is_right:
-        print(f"WRONG: {what}")
-        for line in str(seen).splitlines():
-            print("    | " + line)
 
 
 class Terminal:

@@ -22,18 +22,11 @@ import sys
 import tempfile
 from decimal import Decimal
 
-from program import TOP, program
+from program import TOP, counts, judge, program
 
 WORDS = os.path.join(TOP, "examples", "words.py")
 BYTES = {"encoding": "utf-8", "errors": "surrogateescape"}
 COMPARED = {"=": operator.eq, "<>": operator.ne, "!=": operator.ne, "<": operator.lt, "<=": operator.le, ">": operator.gt, ">=": operator.ge}
-counts = {"right": 0, "wrong": 0}
-
-
-def judge(what, is_right, seen=""):
-    counts["right" if is_right else "wrong"] += 1
-    if not is_right:
-        print(f"WRONG: {what}\n    {seen!r}")
 
 
 def run(words, text="", **more):
@@ -51,6 +44,7 @@ def line_of(texts):
 
 
 # ---- random files
+
 
 class Kind:
     """A column of a random file: how it is named to words.py, a random text of it, and what a text of it is compared by."""
@@ -187,6 +181,7 @@ def try_case(rng, made, tried, work):
 
 
 # ---- by hand
+
 
 def has(answer, status, text, said):
     return answer == (status, text, said)
