@@ -110,6 +110,9 @@ way_passing i facts key seat small honest given (index.Store store.NoPage) h = l
 pub one_seat : (i : IndexView) (facts : StoreFacts) (key : Key) (found seat : Seat) → IsHonest facts → Gives i facts key found → Gives i facts key seat → found ≡ seat
 one_seat i facts key found seat honest a b = ways_are_one i facts key found seat (a.way honest) (b.way honest)
 
+pub one_falls : (t : TreeView) (key : Key) (found seat : Seat) → IsHonest t.store → FallsTo t key found → FallsTo t key seat → found ≡ seat
+one_falls t key found seat honest a b = one_seat t.inner.index t.store key found seat honest a b
+
 -- where the index stays, and each page but the first that is of an index by its first byte, a key falls to the seat to which it fell
 pub kept_falls : (old new : TreeView) (key : Key) (seat : Seat) → new.inner.index ≡ old.inner.index → (IsHonest new.store → IsHonest old.store) → 1 ≤ old.inner.index.root
     → old.inner.index.last < 2 ^ 128 → (IsHonest old.store → KeepsIndexKinds old.store.pages new.store.pages) → FallsTo old key seat → FallsTo new key seat

@@ -22,7 +22,7 @@ use Rattle.ub_table.specs.declared.fault.PageFault.{PageFault}
 use Rattle.ub_table.specs.declared.fault.PageFault.TheVariants.{BadCount}
 use Rattle.ub_table.specs.declared.row.Key.{Key}
 use Rattle.ub_table.specs.declared.row.Row.{Row}
-use Rattle.ub_tree.proofs.CallFacts.{falls_surely}
+use Rattle.ub_tree.proofs.CallFacts.{one_falls}
 use Rattle.ub_tree.proofs.EffectFacts.{sound_stored}
 use Rattle.ub_tree.proofs.HoldingFacts.{on_seat}
 use Rattle.ub_tree.proofs.RemovalFacts.{IsHolder, seat_at}
@@ -297,7 +297,7 @@ added_answers {A} a b key seat read r same to taken none answers honest number r
     let taken_a = subst (λ (v : TreeView). IsHonest v.store → (q : Region) → IsOnSeat v seat q → read ≡ q) same taken in
     let read_is : read ≡ region = taken_a honest region on.0 in
     let h = subst (λ (v : TreeView). AnswersSeat (length read.rows ≡ v.schema.page_rows) v seat r) same answers in
-    let one : seat ≡ into.seat = falls_surely a key seat into.seat honest to into.falls in
+    let one : seat ≡ into.seat = one_falls a key seat into.seat honest to into.falls in
     let sure_key : FallsTo a key seat = subst (λ (s : Seat). FallsTo a key s) (sym one) into.falls in
     let leads = sure_key.way honest in
     let holds = ways_hold a.inner.index a.store key seat leads in

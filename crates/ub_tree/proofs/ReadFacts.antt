@@ -105,7 +105,7 @@ Keeps-more a b c h k = Keeps-by a c (k.traced ∙ ap (λ (t : TreeView). record 
 -- ---- a call's fault, seen from before an earlier call that only read
 
 page_refused_before : (a b : TreeView) (number : ℕ) (fault : PageFault) → IsTraced a b → IsPageRefused b number fault → IsPageRefused a number fault
-page_refused_before a b number fault h (inl stops) = inl (retraced_refused a b.trace number fault (subst (λ (t : TreeView). IsIndexRefused t number fault) h stops))
+page_refused_before a b number fault h (inl stops) = inl (subst (λ (t : TreeView). IsIndexRefused t number fault) h stops)
 page_refused_before a b number fault h (inr (span, told, same, page, is, refused)) =
     inr (
       span,

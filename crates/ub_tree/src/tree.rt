@@ -211,6 +211,19 @@ impl<S: PageStore> Tree<S> {
             return Err(TreeFault::Failed);
         }
         self.pager.bring_region(region.page)?;
-        self.take(&region.first, region.next, region.page, page)
+        match take_region(
+            &self.schema,
+            &region.first,
+            region.next,
+            region.page,
+            self.pager.cached(region.page),
+            page,
+        ) {
+            Ok(()) => Ok(()),
+            Err(fault) => {
+                self.pager.forget(region.page);
+                Err(TreeFault::from(fault))
+            }
+        }
     }
 }
