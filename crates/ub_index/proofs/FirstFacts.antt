@@ -21,7 +21,7 @@ one_of : (P : Entry → Type 0) (before : List Entry) (x : Entry) (after : List 
 one_of P [] x after all = all.0
 one_of P (y ∷ before) x after all = one_of P before x after all.1
 
-below_some : (last : ℕ) (pages : List (List ℕ)) (key : Key) (level : ℕ) (entry : Entry) (end : Option Key) (below : Entry) (next : Option Key) → NamesFitting last pages level entry end
+pub below_some : (last : ℕ) (pages : List (List ℕ)) (key : Key) (level : ℕ) (entry : Entry) (end : Option Key) (below : Entry) (next : Option Key) → NamesFitting last pages level entry end
     → FallsTo key (entries_of pages entry.page) end below next → 1 ≤ below.page
 below_some last pages key level entry end below next named falls =
     (one_of (IsEntry last) falls.before below falls.after (subst (λ (xs : List Entry). AllByRecursion (IsEntry last) xs) falls.parts named.fits.is.is.entries)).some_page

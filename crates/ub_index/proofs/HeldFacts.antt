@@ -67,29 +67,29 @@ err_by (Err f) e Q is h = subst Q (sym is) h
 -- what begins otherwise is refused for that
 unfit_other : (last : ℕ) (page : List ℕ) (level : ℕ) (entry : Entry) (end : Option Key) (fault : PageFault) → ¬ (IsIndexKind page) → IsUnfitAtEnds page level entry end fault
     → IsUnfit last page level entry end fault
-unfit_other last page level entry end WrongKind no h = h
-unfit_other last page level entry end BadCount no (inl h) = absurd (no h.0)
-unfit_other last page level entry end BadCount no (inr h) = absurd (no h.0)
-unfit_other last page level entry end OutOfRegion no h = absurd (no h.0)
-unfit_other last page level entry end BadRow no h = absurd h
-unfit_other last page level entry end BadOrder no h = absurd h
-unfit_other last page level entry end BadPadding no h = absurd h
-unfit_other last page level entry end OldFormat no h = absurd h
-unfit_other last page level entry end Unclean no h = absurd h
-unfit_other last page level entry end BadName no h = absurd h
+unfit_other last page level entry end WrongKind other h = h
+unfit_other last page level entry end BadCount other (inl h) = absurd (other h.0)
+unfit_other last page level entry end BadCount other (inr h) = absurd (other h.0)
+unfit_other last page level entry end OutOfRegion other h = absurd (other h.0)
+unfit_other last page level entry end BadRow other h = absurd h
+unfit_other last page level entry end BadOrder other h = absurd h
+unfit_other last page level entry end BadPadding other h = absurd h
+unfit_other last page level entry end OldFormat other h = absurd h
+unfit_other last page level entry end Unclean other h = absurd h
+unfit_other last page level entry end BadName other h = absurd h
 
 -- of a page that was checked the ends tell whether it fits, and why it is refused
 module _ (last : ℕ) (page : List ℕ) (level : ℕ) (entry : Entry) (end : Option Key) (was : IsIndexPage last page ⊎ (¬ (IsIndexKind page))) where
   pub fits_checked : FitsAtEnds page level entry end → Fits last page level entry end
   fits_checked ends = elim was [
     | inl is ↦ fits_of last page level entry end is ends
-    | inr no ↦ absurd (no ends.kind)
+    | inr other ↦ absurd (other ends.kind)
   ]
 
   pub unfit_checked : (fault : PageFault) → IsUnfitAtEnds page level entry end fault → IsUnfit last page level entry end fault
   unfit_checked fault h = elim was [
     | inl is ↦ unfit_of last page level entry end fault is h
-    | inr no ↦ unfit_other last page level entry end fault no h
+    | inr other ↦ unfit_other last page level entry end fault other h
   ]
 
 -- the pages that are held stay checked where none is held more, or but one that is checked

@@ -152,8 +152,8 @@ falls_in last key x (y ∷ ys) end all from = elim (cases_Bool (precedes key y.f
 module _ (last : ℕ) (pages : List (List ℕ)) (key : Key) where
   way_there : (level : ℕ) (entry : Entry) (end : Option Key) → IsUnder last pages level entry end → ¬ (IsBefore key entry.first)
       → (found : Entry) × (next : Option Key) × LeadsTo last pages key level entry end found next
-  way_there zero entry is from = (entry, end, (refl, refl))
-  way_there (suc level) entry is from = by_entries (way_there level) (entries_of pages entry.page) refl
+  way_there zero entry end is from = (entry, end, (refl, refl))
+  way_there (suc level) entry end is from = by_entries (way_there level) (entries_of pages entry.page) refl
     where
       by_entries : ((below : Entry) (beyond : Option Key) → IsUnder last pages level below beyond → ¬ (IsBefore key below.first)
           → (found : Entry) × (next : Option Key) × LeadsTo last pages key level below beyond found next)

@@ -85,4 +85,4 @@ root_not_refused last small old later n (suc level) fault some is same refused =
       there = sym same ∙ (is.0.there ∙ ap (λ (p : List ℕ). Some p) (sym page));
       fits = subst (λ (p : List ℕ). Fits last p (suc level) (top n) None) (sym page) is.0.fits;
     } in
-    named_not_refused last small old [] origin (suc level) (top n) None fault named refused
+    named_not_refused last small old origin (suc level) (top n) None fault named refused

@@ -62,10 +62,10 @@ spread_pages last small level entry entries end from to (Two left right) high h 
     )
 
 -- what is told of an entry is in order from its key on up to the end, and in range
-record IsOrderly (last : ℕ) (entry : Entry) (end : Option Key) (told : Told) : Type 0 where
-  up : AscendTo (named_as told entry) end
-  later : BeginFrom entry.first (named_as told entry)
-  all : AllByRecursion (IsEntry last) (named_as told entry)
+pub record IsOrderly (last : ℕ) (entry : Entry) (end : Option Key) (told : Told) : Type 0 where
+  pub up : AscendTo (named_as told entry) end
+  pub later : BeginFrom entry.first (named_as told entry)
+  pub all : AllByRecursion (IsEntry last) (named_as told entry)
 
 -- the entry that names entries in order is before their end
 named_before : (n : ℕ) (entries : List Entry) (entry : Entry) (end : Option Key) → NamesPage n entries entry → AscendTo entries end → IfSome end (IsBefore entry.first)
@@ -114,78 +114,87 @@ spread_orderly last level entry entries end from to told h is low all up later b
         subst (λ (o : Option Key). IfSome o (λ key. ¬ (IsBefore key entry.first))) (first_named entry.page (take 86 entries) (drop 86 entries) left None h.2)
         (subst (λ (xs : List Entry). BeginFrom entry.first xs) parts later)
 
-module _ (last : ℕ) (small : last < 2 ^ 128) (pages : List (List ℕ)) (key : Key) (added : Option Entry) where
-  -- what a turn tells is in order, and what it spells is pages of an index
-  pub turned : (level : ℕ) (entry : Entry) (end : Option Key) (from to : Spelled) (told : Told) → 1 ≤ from.next → IsEntry last entry → IfSome end (IsBefore entry.first)
-      → ((found : Entry) (next : Option Key) → LeadsTo last pages key level entry end found next → IsFine last added found next) → AreIndexPages last from.sheets
-      → Turns last pages key added level entry end from to told → IsOrderly last entry end told × AreIndexPages last to.sheets × (from.next ≤ to.next)
-  turned zero entry end from to told some is before fine good h =
-      let f = fine entry end (refl, refl) in (
-        subst (λ (t : Told). IsOrderly last entry end t) (sym h.0) (record { up = f.up; later = f.later; all = f.entries }),
-        subst (λ (s : Spelled). AreIndexPages last s.sheets) (sym h.1) good,
-        (let e = ap (λ (s : Spelled). s.next) h.1 in omega arith),
-      )
-  turned (suc level) entry end from to told some is before fine good (named, below, next, falls, middle, news, turns, mends) =
-      by_news news r.0 mends
-    where
-      up_all : AscendTo (falls.before ++ (below ∷ falls.after)) end
-      up_all = subst (λ (xs : List Entry). AscendTo xs end) falls.parts named.fits.ascends
+-- what an entry's page tells once the entry below has become what is told in order, and what is spelled then
+module _ (last : ℕ) (small : last < 2 ^ 128) (pages : List (List ℕ)) (key : Key) (level : ℕ) (entry : Entry) (end : Option Key) (from middle to : Spelled) (told : Told)
+    (some : 1 ≤ from.next) (is : IsEntry last entry) (before : IfSome end (IsBefore entry.first)) (named : NamesFitting last pages (suc level) entry end)
+    (below : Entry) (next : Option Key) (falls : FallsTo key (entries_of pages entry.page) end below next) where
+  up_all : AscendTo (falls.before ++ (below ∷ falls.after)) end
+  up_all = subst (λ (xs : List Entry). AscendTo xs end) falls.parts named.fits.ascends
 
-      from_below : AscendTo (below ∷ falls.after) end
-      from_below = ascend_right falls.before (below ∷ falls.after) end up_all
+  from_below : AscendTo (below ∷ falls.after) end
+  from_below = ascend_right falls.before (below ∷ falls.after) end up_all
 
-      all_parts : AllByRecursion (IsEntry last) (falls.before ++ (below ∷ falls.after))
-      all_parts = subst (λ (xs : List Entry). AllByRecursion (IsEntry last) xs) falls.parts named.fits.is.is.entries
+  all_parts : AllByRecursion (IsEntry last) (falls.before ++ (below ∷ falls.after))
+  all_parts = subst (λ (xs : List Entry). AllByRecursion (IsEntry last) xs) falls.parts named.fits.is.is.entries
 
-      high : suc level ≤ 16
-      high = let h = named.fits.is.is.high in let e : (node_on (page_in pages entry.page)).level ≡ suc level = named.fits.level_is in omega arith
+  pub below_whole : IsEntry last below
+  below_whole = (all_right (IsEntry last) falls.before (below ∷ falls.after) all_parts).0
 
-      r : IsOrderly last below next news × AreIndexPages last middle.sheets × (from.next ≤ middle.next)
-      r = turned level below next from middle news some (all_right (IsEntry last) falls.before (below ∷ falls.after) all_parts).0
-          (subst (λ (o : Option Key). IfSome o (IsBefore below.first)) (sym falls.next_is) from_below.0)
-          (λ found after leads. fine found after (named, below, next, falls, leads)) good turns
+  pub below_before : IfSome next (IsBefore below.first)
+  below_before = subst (λ (o : Option Key). IfSome o (IsBefore below.first)) (sym falls.next_is) from_below.0
 
-      abbrev mended : Told → List Entry
-      mended t = falls.before ++ (named_as t below ++ falls.after)
+  high : suc level ≤ 16
+  high = let h = named.fits.is.is.high in let e : (node_on (page_in pages entry.page)).level ≡ suc level = named.fits.level_is in omega arith
 
-      mended_all : (t : Told) → IsOrderly last below next t → AllByRecursion (IsEntry last) (mended t)
-      mended_all t o =
-          all_append (IsEntry last) falls.before (named_as t below ++ falls.after) (all_left (IsEntry last) falls.before (below ∷ falls.after) all_parts)
-          (all_append (IsEntry last) (named_as t below) falls.after o.all (all_right (IsEntry last) falls.before (below ∷ falls.after) all_parts).1)
+  abbrev mended : Told → List Entry
+  mended t = falls.before ++ (named_as t below ++ falls.after)
 
-      mended_up : (t : Told) → IsOrderly last below next t → AscendTo (mended t) end
-      mended_up t o =
-          let no_sooner = not_before below (named_as t below) falls.after end o.later from_below.0 in
-          ascend_join falls.before (named_as t below ++ falls.after) end
-          (ascend_later falls.before (Some below.first) (first_or (named_as t below ++ falls.after) end) (ascend_left falls.before (below ∷ falls.after) end up_all) no_sooner)
-          (ascend_join (named_as t below) falls.after end (subst (λ (n : Option Key). AscendTo (named_as t below) n) falls.next_is o.up) from_below.1)
+  mended_all : (t : Told) → IsOrderly last below next t → AllByRecursion (IsEntry last) (mended t)
+  mended_all t o =
+      all_append (IsEntry last) falls.before (named_as t below ++ falls.after) (all_left (IsEntry last) falls.before (below ∷ falls.after) all_parts)
+      (all_append (IsEntry last) (named_as t below) falls.after o.all (all_right (IsEntry last) falls.before (below ∷ falls.after) all_parts).1)
 
-      mended_later : (t : Told) → IsOrderly last below next t → BeginFrom entry.first (mended t)
-      mended_later t o =
-          first_of below falls.before (named_as t below) falls.after entry.first (subst (λ (xs : List Entry). first_or xs None ≡ Some entry.first) falls.parts named.fits.begins) o.later
-          (ascend_later (below ∷ falls.after) end None from_below (no_end end))
+  mended_up : (t : Told) → IsOrderly last below next t → AscendTo (mended t) end
+  mended_up t o =
+      let no_sooner = not_before below (named_as t below) falls.after end o.later from_below.0 in
+      ascend_join falls.before (named_as t below ++ falls.after) end
+      (ascend_later falls.before (Some below.first) (first_or (named_as t below ++ falls.after) end) (ascend_left falls.before (below ∷ falls.after) end up_all) no_sooner)
+      (ascend_join (named_as t below) falls.after end (subst (λ (n : Option Key). AscendTo (named_as t below) n) falls.next_is o.up) from_below.1)
 
-      spread : (t : Told) → IsOrderly last below next t → Spreads (suc level) entry (mended t) middle to told
-          → IsOrderly last entry end told × AreIndexPages last to.sheets × (from.next ≤ to.next)
-      spread t o h =
-          let more = r.2 in (
-            spread_orderly last (suc level) entry (mended t) end middle to told h is (omega arith) (mended_all t o) (mended_up t o) (mended_later t o) before,
-            subst (λ (xs : List Sheet). AreIndexPages last xs) (sym (spread_sheets (suc level) entry (mended t) middle to told h))
-                (all_append (λ (s : Sheet). IsIndexPage last s.page) middle.sheets (new_sheets (suc level) entry (mended t) middle.next told) r.1
-                (spread_pages last small level entry (mended t) end middle to told high h (mended_all t o) (mended_up t o))),
-            (let h' = spread_next (suc level) entry (mended t) middle to told h in omega arith),
-          )
+  mended_later : (t : Told) → IsOrderly last below next t → BeginFrom entry.first (mended t)
+  mended_later t o =
+      first_of below falls.before (named_as t below) falls.after entry.first (subst (λ (xs : List Entry). first_or xs None ≡ Some entry.first) falls.parts named.fits.begins) o.later
+      (ascend_later (below ∷ falls.after) end None from_below (no_end end))
 
-      by_news : (t : Told) → IsOrderly last below next t → Mends (suc level) entry falls.before below falls.after t middle to told
-          → IsOrderly last entry end told × AreIndexPages last to.sheets × (from.next ≤ to.next)
-      by_news Same o m = (
-        subst (λ (t : Told). IsOrderly last entry end t) (sym m.0) (record { up = (before, tt); later = not_before_self entry.first; all = (is, tt) }),
-        subst (λ (s : Spelled). AreIndexPages last s.sheets) (sym m.1) r.1,
-        (let e = ap (λ (s : Spelled). s.next) m.1 in let more = r.2 in omega arith),
-      )
-      by_news Gone o m = spread Gone o m
-      by_news (One other) o m = spread (One other) o m
-      by_news (Two left right) o m = spread (Two left right) o m
+  module _ (good : AreIndexPages last middle.sheets) (grown : from.next ≤ middle.next) where
+    spread : (t : Told) → IsOrderly last below next t → Spreads (suc level) entry (mended t) middle to told
+        → IsOrderly last entry end told × AreIndexPages last to.sheets × (from.next ≤ to.next)
+    spread t o h = (
+      spread_orderly last (suc level) entry (mended t) end middle to told h is (omega arith) (mended_all t o) (mended_up t o) (mended_later t o) before,
+      subst (λ (xs : List Sheet). AreIndexPages last xs) (sym (spread_sheets (suc level) entry (mended t) middle to told h))
+          (all_append (λ (s : Sheet). IsIndexPage last s.page) middle.sheets (new_sheets (suc level) entry (mended t) middle.next told) good
+          (spread_pages last small level entry (mended t) end middle to told high h (mended_all t o) (mended_up t o))),
+      (let h' = spread_next (suc level) entry (mended t) middle to told h in omega arith),
+    )
+
+    pub turned_up : (news : Told) → IsOrderly last below next news → Mends (suc level) entry falls.before below falls.after news middle to told
+        → IsOrderly last entry end told × AreIndexPages last to.sheets × (from.next ≤ to.next)
+    turned_up Same o m = (
+      subst (λ (t : Told). IsOrderly last entry end t) (sym m.0) (record { up = (before, tt); later = not_before_self entry.first; all = (is, tt) }),
+      subst (λ (s : Spelled). AreIndexPages last s.sheets) (sym m.1) good,
+      (let e = ap (λ (s : Spelled). s.next) m.1 in omega arith),
+    )
+    turned_up Gone o m = spread Gone o m
+    turned_up (One other) o m = spread (One other) o m
+    turned_up (Two left right) o m = spread (Two left right) o m
+
+-- what a turn tells is in order, and what it spells is pages of an index
+pub turned : (last : ℕ) → last < 2 ^ 128 → (pages : List (List ℕ)) (key : Key) (added : Option Entry) (level : ℕ) (entry : Entry) (end : Option Key) (from to : Spelled) (told : Told)
+    → 1 ≤ from.next → IsEntry last entry → IfSome end (IsBefore entry.first)
+    → ((found : Entry) (next : Option Key) → LeadsTo last pages key level entry end found next → IsFine last added found next) → AreIndexPages last from.sheets
+    → Turns last pages key added level entry end from to told → IsOrderly last entry end told × AreIndexPages last to.sheets × (from.next ≤ to.next)
+turned last small pages key added zero entry end from to told some is before fine good h =
+    let f = fine entry end (refl, refl) in (
+      subst (λ (t : Told). IsOrderly last entry end t) (sym h.0) (record { up = f.up; later = f.later; all = f.entries }),
+      subst (λ (s : Spelled). AreIndexPages last s.sheets) (sym h.1) good,
+      (let e = ap (λ (s : Spelled). s.next) h.1 in omega arith),
+    )
+turned last small pages key added (suc level) entry end from to told some is before fine good (named, below, next, falls, middle, news, turns, mends) =
+    let r = turned last small pages key added level below next from middle news some
+    (below_whole last small pages key level entry end from middle to told some is before named below next falls)
+    (below_before last small pages key level entry end from middle to told some is before named below next falls)
+    (λ found after leads. fine found after (named, below, next, falls, leads)) good turns in
+    turned_up last small pages key level entry end from middle to told some is before named below next falls r.1 r.2 news r.0 mends
 
 -- each page that a change of an index spells is one of an index
 module _ (index : IndexView) (store : StoreFacts) (small : index.last < 2 ^ 128) (low : 1 ≤ index.levels) (some : 1 ≤ index.root) (few : page_count store < 4294967296)
@@ -217,9 +226,11 @@ module _ (index : IndexView) (store : StoreFacts) (small : index.last < 2 ^ 128)
       by_told (Two left right) o s =
           let high = s.0 in
           subst (λ (c : ChangeView). AreIndexPages index.last c.sheets) (sym s.2)
-          (all_append (λ (x : Sheet). IsIndexPage index.last x.page) middle.sheets (sheet_of middle.next (index.levels + 1) (left ∷ right ∷ []) ∷ []) r.1
-          (node_is index.last small (node (index.levels + 1) (left ∷ right ∷ []))
-          (record { low = omega arith; high = omega arith; some = omega arith; few = omega arith; entries = o.all; ascending = (o.up.0, tt) }), tt))
+          (all_append (λ (x : Sheet). IsIndexPage index.last x.page) middle.sheets (sheet_of middle.next (index.levels + 1) (left ∷ right ∷ []) ∷ []) r.1 (
+            node_is index.last small (node (index.levels + 1) (left ∷ right ∷ []))
+                (record { low = omega arith; high = omega arith; some = omega arith; few = omega arith; entries = o.all; ascending = (o.up.0, tt) }),
+            tt,
+          ))
 
 -- where a region comes within that of a seat
 pub added_pages : (index : IndexView) (store : StoreFacts) (seat : Seat) (first : Key) (change : ChangeView) → index.last < 2 ^ 128 → 1 ≤ index.levels → 1 ≤ index.root

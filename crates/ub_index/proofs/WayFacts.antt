@@ -28,24 +28,24 @@ module _ (store now : StoreFacts) (same : now ≡ store) (last : ℕ) (key : Key
   -- what lies below a step lies on the way from above it
   pub leads_on : (level : ℕ) (entry below found : Entry) (end next after : Option Key) → 0 < level → StepsTo last now key level entry end below next
       → LeadsTo last store.pages key (level - 1) below next found after → LeadsTo last store.pages key level entry end found after
-  leads_on zero entry below end next after some step h = absurd (omega arith)
-  leads_on (suc level) entry below end next after some step h =
+  leads_on zero entry below found end next after some step h = absurd (omega arith)
+  leads_on (suc level) entry below found end next after some step h =
       let one : suc level - 1 ≡ level = omega arith in
       let h' = subst (λ (s : StoreFacts). StepsTo last s key (suc level) entry end below next) same step in
       (h'.named, below, next, h'.falls, subst (λ (n : ℕ). LeadsTo last store.pages key n below next found after) one h)
 
   pub stops_on : (level : ℕ) (entry below : Entry) (end next : Option Key) (n : ℕ) (fault : Option PageFault) → 0 < level → StepsTo last now key level entry end below next
       → StopsAt last store.pages key (level - 1) below next n fault → StopsAt last store.pages key level entry end n fault
-  stops_on zero entry below next n fault some step h = absurd (omega arith)
-  stops_on (suc level) entry below next n fault some step h =
+  stops_on zero entry below end next n fault some step h = absurd (omega arith)
+  stops_on (suc level) entry below end next n fault some step h =
       let one : suc level - 1 ≡ level = omega arith in
       let h' = subst (λ (s : StoreFacts). StepsTo last s key (suc level) entry end below next) same step in
       inr (h'.named, below, next, h'.falls, subst (λ (m : ℕ). StopsAt last store.pages key m below next n fault) one h)
 
   pub stops_here : (level : ℕ) (entry : Entry) (end : Option Key) (fault : Option PageFault) → 0 < level → IsNotTaken last now.pages level entry end fault
       → StopsAt last store.pages key level entry end entry.page fault
-  stops_here zero entry end some h = absurd (omega arith)
-  stops_here (suc level) entry end some h = inl (refl, subst (λ (s : StoreFacts). IsNotTaken last s.pages (suc level) entry end fault) same h)
+  stops_here zero entry end fault some h = absurd (omega arith)
+  stops_here (suc level) entry end fault some h = inl (refl, subst (λ (s : StoreFacts). IsNotTaken last s.pages (suc level) entry end fault) same h)
 
 pub ends_here : (last : ℕ) (pages : List (List ℕ)) (key : Key) (level : ℕ) (entry : Entry) (end : Option Key) → level ≤ 0 → LeadsTo last pages key level entry end entry end
 ends_here last pages key zero entry end h = (refl, refl)

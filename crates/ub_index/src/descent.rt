@@ -108,8 +108,7 @@ fn bring_next<S: PageStore>(
     place: &Place,
 ) -> Result<Head, IndexFault>
     requires { AreChecked last pager.old }
-    ensures effect { BringsNext last level place.now.entry place.now.next pager.old pager.new
-        result }
+    ensures { BringsNext last level place.now.entry place.now.next pager.old pager.new result }
 {
     let page = place.entry.page;
     let is_read = pager.bring(page)?;
@@ -166,14 +165,7 @@ pub fn look<S: PageStore>(
 }
 
 // What is found on the page of a leaf, among its entries, which are so many.
-fn looked(
-    page: &Page,
-    count: usize,
-    last: u128,
-    leaf: &Leaf,
-    key: &Key,
-    goal: &Goal,
-) -> Found
+fn looked(page: &Page, count: usize, last: u128, leaf: &Leaf, key: &Key, goal: &Goal) -> Found
     requires count { count ≡ (head_on page.now).count }
     requires some { 1 ≤ count }
     requires few { count ≤ MAX_ENTRIES }
@@ -181,7 +173,7 @@ fn looked(
 {
     let end = leaf.place.next;
     let slot = slot_in(page, count, key);
-    let Some(from) = first_after(page, count, slot, end) else {
+    let Some(from) = place_in(page, count, slot, end).next else {
         return Found::Nothing;
     };
     match aim(goal, last, &from) {

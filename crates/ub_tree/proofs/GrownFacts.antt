@@ -137,8 +137,8 @@ module _ (schema : Schema) (index : IndexView) (count next rows : ℕ) (changed 
       falls = (
         is.falls.0,
         record {
-          holds = is.falls.1.holds;
-          way = λ honest. (let was = sym honesty ∙ honest in (ways_stay index old.store new.store is.falls.0 is.key is.seat (λ m lt out. grows.kept was m lt)).0 (is.falls.1.way was));
+          holds = is.falls.holds;
+          way = λ honest. (let was = sym honesty ∙ honest in (ways_stay index old.store new.store is.falls.0 is.key is.seat (λ m lt out. grows.kept was m lt)).0 (is.falls.way was));
         },
       );
       region_is = is.region_is;

@@ -24,7 +24,6 @@ use Rattle.ub_tree.specs.Laws.{SpansAscend, PagesDiffer, SpansCoverTheSpace, Row
 use Rattle.ub_tree.specs.Placed.{Placed, entry_of, regions_in}
 use Rattle.ub_tree.specs.Indexed.{reserved}
 use Rattle.ub_tree.specs.Spans.{first_keys, regions_of, First, IsLater, Meets, Region as Span}
-use Rattle.ub_tree.specs.Told.{pager_of}
 use Rattle.ub_tree.specs.View.{TreeView, IsSound, regions, spans_of}
 use Rattle.ub_tree.proofs.WellFacts.{opened_pages, opened_sound, sound_well}
 use Rattle.ub_zaddr.specs.Address.{last_address}
@@ -146,7 +145,7 @@ regions_are_told t span sound = (λ told. told_contained t sound span told, λ t
 pub next_is_the_first : NextIsTheFirst
 next_is_the_first t boxes after found sound gives =
     subst (λ (spans : List Span). First (λ r. IsLater after r × Meets boxes r) spans found) (spans_told t sound)
-    (first_given t.inner.index (pager_of t gives.held) (sound_index t sound) boxes after found gives.given)
+    (first_given t.inner.index t.store (sound_index t sound) boxes after found gives.given)
 
 pub next_is_later : NextIsLater
 next_is_later t boxes after span gives = next_later boxes t after span gives

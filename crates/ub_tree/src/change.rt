@@ -96,15 +96,20 @@ impl<S: PageStore> Tree<S> {
     {
         let number = seat.page;
         self.pager.bring(number)?;
-        take_region(
+        match take_region(
             &self.schema,
             &seat.first,
             seat.next,
             number,
             self.pager.cached(number),
             region,
-        )?;
-        Ok(())
+        ) {
+            Ok(()) => Ok(()),
+            Err(fault) => {
+                self.pager.forget(number);
+                Err(TreeFault::from(fault))
+            }
+        }
     }
 
     // Puts these rows on the page of the region of a seat. After a fault the tree has failed.

@@ -56,7 +56,7 @@ impl<S: PageStore> Model for Tree<S> {
 
     ghost view = { λ t. tree_view t.schema t.index t.count t.next t.rows (is_written t.mark) t.is_failed t.pager };
 
-    ghost invariant = { λ t. IsTree t.schema t.index t.count t.next t.rows t.mark };
+    ghost invariant = { λ t. IsTree t.schema t.index t.count t.next t.rows t.mark t.pager };
 }
 
 impl<S: PageStore> Tree<S> {
@@ -68,7 +68,7 @@ impl<S: PageStore> Tree<S> {
         mark: Mark,
         pager: Pager<S>,
     ) -> Tree<S>
-        requires { IsTree header.schema index header.regions header.next header.rows mark }
+        requires { IsTree header.schema index header.regions header.next header.rows mark pager }
         ensures { result ≡ tree_view header.schema index header.regions header.next
             header.rows (is_written mark) false pager }
     {
@@ -211,14 +211,19 @@ impl<S: PageStore> Tree<S> {
             return Err(TreeFault::Failed);
         }
         self.pager.bring_region(region.page)?;
-        take_region(
+        match take_region(
             &self.schema,
             &region.first,
             region.next,
             region.page,
             self.pager.cached(region.page),
             page,
-        )?;
-        Ok(())
+        ) {
+            Ok(()) => Ok(()),
+            Err(fault) => {
+                self.pager.forget(region.page);
+                Err(TreeFault::from(fault))
+            }
+        }
     }
 }

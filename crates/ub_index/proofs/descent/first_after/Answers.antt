@@ -7,4 +7,4 @@ pub returns-then-slot-count : goal.returns-then-slot-count
 returns-then-slot-count c = ap (λ (k : Key). Some k) c.first_at.ensures ∙ after_first c.args.page.now _ c.args.end (omega arith)
 
 pub returns-else-slot-count : goal.returns-else-slot-count
-returns-else-slot-count c = after_none c.args.page.now _.store c.args.end (omega arith)
+returns-else-slot-count c = after_none c.args.page.now _ c.args.end (omega arith)

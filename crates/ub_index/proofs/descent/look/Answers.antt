@@ -15,12 +15,12 @@ looked-requires-clause-count g c = ap (λ (h : Head). h.count) (c.in_ok-head.ens
 pub looked-requires-clause-some : goal.looked-requires-clause-some
 looked-requires-clause-some g c =
     let here = c.in_ok-head.ensures.ends c.cached-page.result.now c.cached-page.ensures.held in
-    subst (λ (h : Head). 1 ≤ h.count) (sym here.0) here.1.head.1.0
+    subst (λ (h : Head). 1 ≤ h.count) (sym here.0) here.1.head.1
 
 pub looked-requires-clause-few : goal.looked-requires-clause-few
 looked-requires-clause-few g c =
     let here = c.in_ok-head.ensures.ends c.cached-page.result.now c.cached-page.ensures.held in
-    subst (λ (h : Head). h.count ≤ 170) (sym here.0) here.1.head.1.1
+    subst (λ (h : Head). h.count ≤ 170) (sym here.0) here.1.head.2
 
 pub returns-clause-looks : goal.returns-clause-looks
 returns-clause-looks g c = record {

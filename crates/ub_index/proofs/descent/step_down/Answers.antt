@@ -16,12 +16,12 @@ fall-requires-clause-count g c = ap (λ (h : Head). h.count) (c.in_ok-head.ensur
 pub fall-requires-clause-some : goal.fall-requires-clause-some
 fall-requires-clause-some g c =
     let here = c.in_ok-head.ensures.ends c.cached-page.result.now c.cached-page.ensures.held in
-    subst (λ (h : Head). 1 ≤ h.count) (sym here.0) here.1.head.1.0
+    subst (λ (h : Head). 1 ≤ h.count) (sym here.0) here.1.head.1
 
 pub fall-requires-clause-few : goal.fall-requires-clause-few
 fall-requires-clause-few g c =
     let here = c.in_ok-head.ensures.ends c.cached-page.result.now c.cached-page.ensures.held in
-    subst (λ (h : Head). h.count ≤ 170) (sym here.0) here.1.head.1.1
+    subst (λ (h : Head). h.count ≤ 170) (sym here.0) here.1.head.2
 
 pub returns-clause-holds : goal.returns-clause-holds
 returns-clause-holds g c =

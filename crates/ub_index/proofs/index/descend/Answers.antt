@@ -53,5 +53,5 @@ returns-clause-effect g c =
     (ap (λ (p : PagerView). p.trace) c.in_ok-place.ensures.effect.same ∙ ap (λ (p : PagerView). p.trace) c.in_ok-leaf.ensures.effect.same)
     (keeps_on c.args.last c.args.pager.now c.leaf_of.new.pager c.step_down.new.pager c.in_ok-leaf.ensures.effect.checked c.in_ok-place.ensures.effect.checked)
 
-pub step_down-place-requires-clause-checked : goal.step_down-place-requires-clause-checked
-step_down-place-requires-clause-checked g c = c.in_ok-leaf.ensures.effect.checked c.requires.checked
+pub step_down-requires-clause-checked : goal.step_down-requires-clause-checked
+step_down-requires-clause-checked g c = c.in_ok-leaf.ensures.effect.checked c.requires.checked

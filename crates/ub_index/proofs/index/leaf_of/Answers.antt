@@ -37,5 +37,5 @@ returns-clause-leads g c = λ honest.
     let one : c.loop-level.level ≡ 1 = (let some = c.loop-level.invariant.some in omega (arith, c.loop-level-test.false)) in
     subst (λ (n : ℕ). LeadsDown (index_view c.args.root c.args.levels c.args.last) c.args.pager.now.store c.args.key.now n c.loop-level.leaf) one (c.loop-level.invariant.down honest)
 
-pub step_down-place-requires-clause-checked : goal.step_down-place-requires-clause-checked
-step_down-place-requires-clause-checked g c = c.loop-level.invariant.kept c.requires.checked
+pub step_down-requires-clause-checked : goal.step_down-requires-clause-checked
+step_down-requires-clause-checked g c = c.loop-level.invariant.kept c.requires.checked

@@ -141,8 +141,8 @@ returns-in_ok-seat_of-in-Beyond-clause-effect g c =
     (keeps_on c.self.inside.last c.args.pager.now c.leaf_of.new.pager c.look.new.pager c.in_ok-leaf.ensures.effect.checked c.in_ok-look.ensures.effect.checked))
     c.in_ok-seat_of-in-Beyond.ensures.effect.checked)
 
-pub leaf_of-leaf-requires-clause-checked : goal.leaf_of-leaf-requires-clause-checked
-leaf_of-leaf-requires-clause-checked g c = subst (λ (v : IndexView). AreChecked v.last c.args.pager.now) (sym c.self.view_is) c.requires
+pub leaf_of-requires-clause-checked : goal.leaf_of-requires-clause-checked
+leaf_of-requires-clause-checked g c = subst (λ (v : IndexView). AreChecked v.last c.args.pager.now) (sym c.self.view_is) c.requires
 
 pub look-requires : goal.look-requires
 look-requires g c = c.in_ok-leaf.ensures.effect.checked (subst (λ (v : IndexView). AreChecked v.last c.args.pager.now) (sym c.self.view_is) c.requires)

@@ -8,7 +8,6 @@ use Rattle.ub_tree.proofs.CallFacts.{gives_next, last_small}
 use Rattle.ub_tree.proofs.IndexedFacts.{sound_index, spans_told}
 use Rattle.ub_tree.proofs.SearchFacts.{search_refused, searched_there}
 use Rattle.ub_tree.specs.Spans.{First, IsLater, Meets, Region}
-use Rattle.ub_tree.specs.Told.{pager_of}
 use Rattle.ub_tree.specs.View.{TreeView}
 use Rattle.ub_writing.specs.Marks.{is_written}
 use Rattle.ub_tree.proofs.tree.Tree.next_meeting.Goals as goal
@@ -22,9 +21,8 @@ returns-clause-found g c = λ sound.
 
 pub returns-clause-gives : goal.returns-clause-gives
 returns-clause-gives g c =
-    let held = c.self.inside.pager.cached in
-    let given = subst (λ (v : TreeView). GivesAfter v.inner.index (pager_of v held) (λ from. LeastFrom (HoldsAny c.args.boxes.now) from.z) (option_copied c.args.after) c.in_ok-found.found) c.self.view_is c.in_ok-found.ensures.given in
-    gives_next c.args.boxes.now c.args.self.now held (option_copied c.args.after) c.in_ok-found.found given c.in_ok-found.ensures.later c.in_ok-found.ensures.small
+    let given = subst (λ (v : TreeView). GivesAfter v.inner.index v.store (λ from. LeastFrom (HoldsAny c.args.boxes.now) from.z) (option_copied c.args.after) c.in_ok-found.found) c.self.view_is c.in_ok-found.ensures.given in
+    gives_next c.args.boxes.now c.args.self.now (option_copied c.args.after) c.in_ok-found.found given c.in_ok-found.ensures.later c.in_ok-found.ensures.small
 
 pub returns-in_err-found-clause-effect : goal.returns-in_err-found-clause-effect
 returns-in_err-found-clause-effect g c =

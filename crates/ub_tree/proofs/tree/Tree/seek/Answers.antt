@@ -6,7 +6,6 @@ use Rattle.ub_tree.proofs.CallFacts.{last_small, seek_told}
 use Rattle.ub_tree.proofs.IndexedFacts.{sound_index, spans_told}
 use Rattle.ub_tree.proofs.SearchFacts.{search_refused, searched_there}
 use Rattle.ub_tree.specs.Spans.{First, IsLater, Region}
-use Rattle.ub_tree.specs.Told.{pager_of}
 use Rattle.ub_tree.specs.View.{TreeView}
 use Rattle.ub_writing.specs.Marks.{is_written}
 use Rattle.ub_tree.proofs.tree.Tree.seek.Goals as goal
@@ -20,9 +19,8 @@ returns-clause-found g c = λ sound.
 
 pub returns-clause-later : goal.returns-clause-later
 returns-clause-later g c =
-    let held = c.self.inside.pager.cached in
-    let given = subst (λ (v : TreeView). GivesAfter v.inner.index (pager_of v held) (λ _ to. to ≡ Some c.args.z) (option_copied c.args.after) c.in_ok-found.found) c.self.view_is c.in_ok-found.ensures.given in
-    seek_told c.args.self.now held c.args.z (option_copied c.args.after) c.in_ok-found.found given c.in_ok-found.ensures.later
+    let given = subst (λ (v : TreeView). GivesAfter v.inner.index v.store (λ _ to. to ≡ Some c.args.z) (option_copied c.args.after) c.in_ok-found.found) c.self.view_is c.in_ok-found.ensures.given in
+    seek_told c.args.self.now c.args.z (option_copied c.args.after) c.in_ok-found.found given c.in_ok-found.ensures.later
 
 pub returns-in_err-found-clause-effect : goal.returns-in_err-found-clause-effect
 returns-in_err-found-clause-effect g c =
