@@ -7,7 +7,6 @@ use Rattle.ub_index.specs.Index.{NamesFitting, entries_of, first_or}
 use Rattle.ub_index.specs.declared.fault.IndexFault.{IndexFault}
 use Rattle.ub_index.specs.declared.fault.IndexFault.TheVariants.{Full, Page, Store}
 use Rattle.ub_page.specs.declared.entries.Entry.{Entry}
-use Rattle.ub_index.proofs.FitFacts.{not_zero}
 use Rattle.ub_index.proofs.SearchFacts.{same_store as same_read}
 use Rattle.ub_region.specs.Regions.{rows_of}
 use Rattle.ub_store.specs.Facts.{StoreFacts, IsHonest, page_count, counted as counted_there}
@@ -192,6 +191,10 @@ count_append (q ∷ before) p =
 saturated : (a b c d : ℕ) → c ≡ min a 18446744073709551615 → d ≡ min (c + b) (2 ^ 64 - 1) → d ≡ min (a + b) 18446744073709551615
 saturated a b c d first second = omega arith
 
+not_zero : (n : ℕ) → (n ≡ 0 → ⊥) → 1 ≤ n
+not_zero zero h = absurd (h refl)
+not_zero (suc n) h = omega arith
+
 -- a failed read, as the store counts it and as a check does
 count_read : (T U : Type 0) (e : StoreFault) (n : ℕ) → counted_there {A = U} (Err e) n ≡ count_with {A = T} (Err (Store e)) n
 count_read T U store.Device n = refl
@@ -264,7 +267,7 @@ keyed keys dims rows are = ap (λ (ks : List Key). map (λ k. k.number) ks) are 
 
 -- a page of the index, with the regions that it leads to
 module _ (schema : Schema) (last level : ℕ) (entry : Entry) (end : Option Key) (from : Walk) (old : PagerView) where
-  step_fault : (e : IndexFault) → IsStepFault last old.store [] (suc level) entry end e → IsWalkFault schema last (suc level) entry end old.store from e
+  step_fault : (e : IndexFault) → IsStepFault last old.store (suc level) entry end e → IsWalkFault schema last (suc level) entry end old.store from e
   step_fault (Page n fault) h = λ count before honest has. inl (h.0, h.1 honest)
   step_fault Full h = absurd h
   step_fault (Store store.Memory) h = tt
@@ -274,7 +277,7 @@ module _ (schema : Schema) (last level : ℕ) (entry : Entry) (end : Option Key)
 
   -- it is refused
   pub page_stops : {T : Type 0} (U : Type 0) (r : Result T IndexFault) (e : IndexFault) (new : PagerView) → IsErrAnd r (λ x. x ≡ e)
-      → Steps {A = U} last [] (suc level) entry end old new (Err e) → Walks schema last (suc level) entry end from old new r
+      → Steps {A = U} last (suc level) entry end old new (Err e) → Walks schema last (suc level) entry end from old new r
   page_stops U (Ok x) e new is h = absurd is
   page_stops {T = T} U (Err f) e new is h = record {
     same = h.same ∙ ap (λ (s : StoreFacts). record old { store = s; cached = new.cached }) (same_read T U e old.store ∙ ap (λ (x : IndexFault). store_after {A = T} (Err x) old.store) (sym is));

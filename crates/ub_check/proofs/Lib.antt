@@ -1,5 +1,6 @@
 pub mod NumberFacts
 pub mod StandingFacts
+pub mod CheckedFacts
 pub mod PlacedFacts
 pub mod CheckingFacts
 pub mod TakenFacts

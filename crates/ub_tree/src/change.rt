@@ -1,9 +1,10 @@
 ghost use Rattle.std.specs.Int.{w64};
 ghost use Rattle.std.specs.Prelude.{FitsSigned, ℕ, map, ◌≡◌, ◌≢◌, ◌+◌, ◌-◌, pos, replicate, ◌<◌, ◌≤◌, ◌++◌, ◌∷◌, [], true, false, IsTrue, Some, Err, length, slice_get, IfOk, IfErr, MatchResult, OnOk};
 ghost use Rattle.std.specs.List.{AllByRecursion, insert, list_any};
-ghost use Rattle.ub_index.specs.Changing.{AreOnce, Stand};
+ghost use Rattle.ub_index.specs.Changing.{AreIndexPages, AreOnce, Stand};
 ghost use Rattle.ub_index.specs.Making.{PutsSheets, changed};
 ghost use Rattle.ub_index.specs.Preparing.{IsWithinSeat};
+ghost use Rattle.ub_index_page.specs.Index.{IsIndexKind};
 ghost use Rattle.ub_page.specs.Bytes.{padded};
 ghost use Rattle.ub_page.specs.Region.{region_page};
 ghost use Rattle.ub_region.specs.Rows.{insert_row};
@@ -187,6 +188,8 @@ impl<S: PageStore> Tree<S> {
     fn put_halves(&mut self, seat: &Seat, number: u32, drafts: &Drafts) -> Result<(), TreeFault>
         requires seat { seat.now.page < page_count self.old.store }
         requires there { number < page_count self.old.store }
+        requires kinds { (¬ (IsIndexKind (padded drafts.now.other)))
+            × (¬ (IsIndexKind (padded drafts.now.page))) }
         ensures same { OnOk result (IsPut self.old self.new) }
         ensures put { OnOk result (PutsTwo number (padded drafts.now.other) seat.now.page
             (padded drafts.now.page)
@@ -206,6 +209,8 @@ impl<S: PageStore> Tree<S> {
 
     // Puts the pages of the index that a change spells, and takes over its root. After a fault the tree has failed.
     pub(crate) fn put_index(&mut self, change: &Change) -> Result<(), TreeFault>
+        requires { facts.IsHonest self.old.store
+            → AreIndexPages self.old.inner.index.last change.now.sheets }
         ensures now { OnOk result (self.new ≡ record self.old {
           placed = self.new.placed;
           store = self.new.store;
