@@ -1,6 +1,5 @@
 pub mod NumberFacts
 pub mod StandingFacts
-pub mod CheckedFacts
 pub mod PlacedFacts
 pub mod CheckingFacts
 pub mod TakenFacts

@@ -1,19 +1,15 @@
 -- Whether a region stands where one is due.
-use Rattle.std.proofs.Common.{◌≡◌, ◌≢◌, ◌-◌, ◌↔◌, ℕ, zero, suc, Bool, true, List, [], ◌∷◌, Some, Result, length, ◌∙◌, sym, subst, refl, arith, slice_get}
+use Rattle.std.proofs.Common.{◌≡◌, ◌≢◌, ◌-◌, ◌↔◌, ℕ, zero, suc, Bool, true, List, [], ◌∷◌, Some, Result, length, ◌∙◌, sym, subst, arith, slice_get}
 use Rattle.std.proofs.lemmas.List.{length-map}
 use Rattle.std.specs.List.{AllByRecursion}
 use Rattle.ub_check.specs.Standing.{IsHeldBy}
-use Rattle.ub_index_page.specs.Index.{IsIndexKind}
-use Rattle.ub_page.proofs.PageLaws.{region_parts}
-use Rattle.ub_page.specs.Region.{region_page}
 use Rattle.ub_store.specs.Facts.{StoreFacts, IsPage, Reads}
 use Rattle.ub_store.specs.declared.fault.StoreFault.{StoreFault}
 use Rattle.ub_table.proofs.Laws.{before_of, precedes_of, before_trans}
 use Rattle.ub_table.specs.Keys.{IsBefore, AreKeysAscending, precedes}
-use Rattle.ub_table.specs.Region.{Region, IsRegion, key_of, keys_of}
+use Rattle.ub_table.specs.Region.{Region, key_of, keys_of}
 use Rattle.ub_table.specs.declared.row.Key.{Key}
 use Rattle.ub_table.specs.declared.row.Row.{Row}
-use Rattle.ub_table.specs.declared.schema.Schema.{Schema}
 
 -- a page of a store that was read is one of the store before
 pub page_still : {A : Type 0} (result : Result A StoreFault) (old new : StoreFacts) (n : ℕ) (page : List ℕ) → Reads old new result → IsPage new n page → IsPage old n page
@@ -51,10 +47,3 @@ last_tells key end dims len rows b up is some at tells =
 pub held_before : (dims : ℕ) (first next : Key) (region : Region) (b : Bool) → region.first ≡ first
     → (b ≡ true) ↔ AllByRecursion (λ k. IsBefore k next) (keys_of dims region.rows) → (b ≡ true) ↔ IsHeldBy dims first (Some next) region
 held_before dims first next region b same tells = (λ t. (same, tells.0 t), λ h. tells.1 h.1)
-
--- the page of a region doesn't begin as one of an index
-pub region_no_kind : (schema : Schema) (region : Region) → IsRegion schema region → ¬ (IsIndexKind (region_page schema region))
-region_no_kind schema region is other =
-    let kind = (region_parts schema region (region_page schema region) is refl).kind in
-    let e = sym kind ∙ other in
-    absurd (omega arith)

@@ -4,10 +4,8 @@ ghost use Rattle.std.specs.Prelude.{◌≡◌, ◌≤◌, ◌++◌, ℕ, [], Lis
 ghost use Rattle.ub_check.specs.Calls.{Checks};
 ghost use Rattle.ub_check.specs.Numbers.{AreNew, HasJust};
 ghost use Rattle.ub_check.specs.inner.Checking.{HasTaken, TakesOn, Walks};
-ghost use Rattle.ub_index.specs.Held.{KeepsChecked};
 ghost use Rattle.ub_index.specs.Index.{first_or, top};
 ghost use Rattle.ub_index_page.specs.declared.index.TheConstants.{MAX_LEVEL};
-ghost use Rattle.ub_zaddr.specs.Address.{last_address};
 
 use crate::numbers::Numbers;
 use crate::reading::take_region;
@@ -54,8 +52,7 @@ pub fn check_pages<S: PageStore>(
     told: &Told,
 ) -> Result<(), IndexFault>
     requires { told.now.levels ≤ MAX_LEVEL }
-    ensures checked { KeepsChecked (last_address schema.now.dims) pager.old pager.new }
-    ensures effect { Checks schema.now told.now pager.old pager.new result }
+    ensures { Checks schema.now told.now pager.old pager.new result }
 {
     let mut walk = new_walk(alloc, told.regions, told.next, schema.shape())?;
     check_with(alloc, pager, schema, told, &mut walk)
@@ -72,8 +69,7 @@ fn check_with<S: PageStore>(
     requires low { told.now.levels ≤ MAX_LEVEL }
     requires begun { HasTaken told.now.regions walk.old [] }
     requires bound { walk.old.numbers.bound ≡ told.now.next }
-    ensures checked { KeepsChecked (last_address schema.now.dims) pager.old pager.new }
-    ensures effect { Checks schema.now told.now pager.old pager.new result }
+    ensures { Checks schema.now told.now pager.old pager.new result }
 {
     let last = last(schema.shape());
     let top = root_entry(told.root);
@@ -120,7 +116,6 @@ fn check_under<S: PageStore>(
     ensures bound { walk.new.numbers.bound ≡ walk.old.numbers.bound }
     ensures taken { OnOk result
         (TakesOn schema.now last level entry.now end pager.old.store walk.old walk.new) }
-    ensures checked { KeepsChecked last pager.old pager.new }
     ensures effect { Walks schema.now last level entry.now end walk.old pager.old pager.new
         result }
 {
@@ -167,7 +162,6 @@ fn check_region<S: PageStore>(
     ensures bound { walk.new.numbers.bound ≡ walk.old.numbers.bound }
     ensures taken { OnOk result
         (TakesOn schema.now last 0 entry.now end pager.old.store walk.old walk.new) }
-    ensures checked { KeepsChecked last pager.old pager.new }
     ensures effect { Walks schema.now last 0 entry.now end walk.old pager.old pager.new result }
 {
     if walk.left == 0 {
@@ -176,12 +170,9 @@ fn check_region<S: PageStore>(
     let number = entry.page;
     pager.bring(number)?;
     let page = pager.cached(number);
-    match take_region(schema, &entry.first, end, number, page, &mut walk.region) {
-        Ok(()) => {}
-        Err(fault) => {
-            pager.forget(number);
-            return Err(fault);
-        }
+    if let Err(fault) = take_region(schema, &entry.first, end, number, page, &mut walk.region) {
+        pager.forget(number);
+        return Err(fault);
     }
     if !put_numbers(walk.region.keys(), &mut walk.numbers) {
         return Err(IndexFault::Page {

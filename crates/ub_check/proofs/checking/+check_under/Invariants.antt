@@ -1,5 +1,4 @@
 use Rattle.std.proofs.Common.{◌-◌}
-use Rattle.ub_index.specs.Held.{KeepsChecked}
 use Rattle.ub_check.specs.inner.Checking.{IsWalkedTo}
 use Rattle.ub_check.proofs.checking.+check_under.Given as goal
 
@@ -7,7 +6,4 @@ abbrev pub decreases-check_under : goal.decreases-check_under
 decreases-check_under g l = l.level
 
 abbrev pub invariant-loop-i : goal.invariant-loop-i
-invariant-loop-i g l = record {
-  walked : IsWalkedTo l.schema l.last (l.level - 1) l.entries.items l.end l.initial.pager l.pager l.initial.walk l.walk l.i;
-  kept : KeepsChecked l.last l.initial.pager l.pager;
-}
+invariant-loop-i g l = IsWalkedTo l.schema l.last (l.level - 1) l.entries.items l.end l.initial.pager l.pager l.initial.walk l.walk l.i

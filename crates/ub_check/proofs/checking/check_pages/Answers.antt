@@ -1,8 +1,5 @@
 use Rattle.ub_check.proofs.CheckFacts.{not_begun}
 use Rattle.ub_check.proofs.checking.check_pages.Goals as goal
 
-pub returns-in_err-walk-clause-effect : goal.returns-in_err-walk-clause-effect
-returns-in_err-walk-clause-effect g c = not_begun c.args.schema.now c.args.told.now c.from_residual.result c.args.pager.now c.from_residual.ensures.1
-
-pub returns-in_err-walk-clause-checked : goal.returns-in_err-walk-clause-checked
-returns-in_err-walk-clause-checked g c = λ was. was
+pub returns-in_err-walk : goal.returns-in_err-walk
+returns-in_err-walk g c = not_begun c.args.schema.now c.args.told.now c.from_residual.result c.args.pager.now c.from_residual.ensures.1

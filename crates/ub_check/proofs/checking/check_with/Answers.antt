@@ -1,36 +1,23 @@
-use Rattle.std.proofs.Common.{◌∙◌, ℕ, ap, subst}
-use Rattle.ub_index.specs.Held.{KeepsChecked}
+use Rattle.std.proofs.Common.{◌∙◌, ap}
 use Rattle.ub_check.proofs.CheckFacts.{run_ends, run_refused, run_well}
 use Rattle.ub_zaddr.specs.Address.{last_address}
 use Rattle.ub_check.proofs.checking.check_with.Goals as goal
 
-pub returns-in_err-check_under-clause-effect : goal.returns-in_err-check_under-clause-effect
-returns-in_err-check_under-clause-effect g c =
+pub returns-in_err-check_under : goal.returns-in_err-check_under
+returns-in_err-check_under g c =
     let last_is = c.last-last.ensures ∙ ap last_address c.shape.ensures in
     run_refused c.args.schema.now c.args.told.now c.args.pager.now c.last-last.result c.args.walk.now last_is c.requires.bound c.requires.begun c.root_entry-top.result c.root_entry-top.ensures
     c.from_residual.result c.in_err-check_under.field-0.0 c.check_under.new.pager c.from_residual.ensures.1 c.in_err-check_under.ensures.effect
 
-pub returns-then-has_met_all-clause-effect : goal.returns-then-has_met_all-clause-effect
-returns-then-has_met_all-clause-effect g c =
+pub returns-then-has_met_all : goal.returns-then-has_met_all
+returns-then-has_met_all g c =
     let last_is = c.last-last.ensures ∙ ap last_address c.shape.ensures in
     run_well c.args.schema.now c.args.told.now c.args.pager.now c.last-last.result c.args.walk.now last_is c.requires.bound c.requires.begun c.root_entry-top.result c.root_entry-top.ensures
-    c.check_under.new.walk c.in_ok-check_under.ensures.taken c.check_under.new.pager c.in_ok-check_under.ensures.effect.same c.has_met_all.result c.has_met_all.ensures tt c.if-has_met_all.true
+    c.check_under.new.walk c.in_ok-check_under.ensures.taken c.check_under.new.pager c.in_ok-check_under.ensures.effect.same c.in_ok-check_under.ensures.effect.checked c.has_met_all.result c.has_met_all.ensures tt c.if-has_met_all.true
 
-pub returns-else-has_met_all-clause-effect : goal.returns-else-has_met_all-clause-effect
-returns-else-has_met_all-clause-effect g c =
+pub returns-else-has_met_all : goal.returns-else-has_met_all
+returns-else-has_met_all g c =
     let last_is = c.last-last.ensures ∙ ap last_address c.shape.ensures in
     run_ends c.args.schema.now c.args.told.now c.args.pager.now c.last-last.result c.args.walk.now last_is c.requires.bound c.requires.begun c.root_entry-top.result c.root_entry-top.ensures
-    c.check_under.new.walk c.in_ok-check_under.ensures.taken c.check_under.new.pager c.in_ok-check_under.ensures.effect.same c.has_met_all.result c.has_met_all.ensures
+    c.check_under.new.walk c.in_ok-check_under.ensures.taken c.check_under.new.pager c.in_ok-check_under.ensures.effect.same c.in_ok-check_under.ensures.effect.checked c.has_met_all.result c.has_met_all.ensures
     c.miscounted.result c.miscounted.ensures (λ all. let bad = c.if-has_met_all.false in cc)
-
-pub returns-in_err-check_under-clause-checked : goal.returns-in_err-check_under-clause-checked
-returns-in_err-check_under-clause-checked g c =
-    subst (λ (n : ℕ). KeepsChecked n c.args.pager.now c.check_under.new.pager) (c.last-last.ensures ∙ ap last_address c.shape.ensures) c.in_err-check_under.ensures.checked
-
-pub returns-then-has_met_all-clause-checked : goal.returns-then-has_met_all-clause-checked
-returns-then-has_met_all-clause-checked g c =
-    subst (λ (n : ℕ). KeepsChecked n c.args.pager.now c.check_under.new.pager) (c.last-last.ensures ∙ ap last_address c.shape.ensures) c.in_ok-check_under.ensures.checked
-
-pub returns-else-has_met_all-clause-checked : goal.returns-else-has_met_all-clause-checked
-returns-else-has_met_all-clause-checked g c =
-    subst (λ (n : ℕ). KeepsChecked n c.args.pager.now c.check_under.new.pager) (c.last-last.ensures ∙ ap last_address c.shape.ensures) c.in_ok-check_under.ensures.checked
