@@ -260,7 +260,6 @@ full_way_to last pages key other (suc level) entry end found next (named, below,
         next_is = falls.next_is;
         from = inr (le_trans below.first found.first other (ends_from last pages key level below beyond found next leads) h.from);
         to = to_of falls.after falls.next_is;
-        some = falls.some;
       },
       full_way_to last pages key other level below beyond found next leads h there,
     )

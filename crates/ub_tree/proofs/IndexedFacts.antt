@@ -18,7 +18,6 @@ use Rattle.ub_page.specs.declared.entries.Entry.{Entry}
 use Rattle.ub_region.specs.Regions.{index_holding}
 use Rattle.ub_region.specs.Spans.{span_end}
 use Rattle.ub_store.specs.Facts.{StoreFacts, IsHonest}
-use Rattle.ub_store.specs.View.{PagerView}
 use Rattle.ub_table.specs.declared.row.Key.{Key}
 use Rattle.ub_index.proofs.Numbers.{distinct_left}
 use Rattle.ub_tree.proofs.TreeFacts.{span_entry}
@@ -52,10 +51,10 @@ seat_region last entries i seat at =
     end_is (e ∷ es) (suc j) = end_is es j
 
 -- what is given after a region is the first later one of the index that meets the boxes
-pub first_given : (index : IndexView) (old : PagerView) → IsIndexOn index old.store → (boxes : List Corners) (after found : Option Span)
-    → GivesAfter index old (λ from. LeastFrom (HoldsAny boxes) from.z) after found
-    → First (λ r. IsLater after r × Meets boxes r) (regions_of index.last (entries_in index old.store)) found
-first_given index old is boxes after found given = meeting_given index old is after (record { ref_ptr = (0, 0); now = boxes }) found given
+pub first_given : (index : IndexView) (store : StoreFacts) → IsIndexOn index store → (boxes : List Corners) (after found : Option Span)
+    → GivesAfter index store (λ from. LeastFrom (HoldsAny boxes) from.z) after found
+    → First (λ r. IsLater after r × Meets boxes r) (regions_of index.last (entries_in index store)) found
+first_given index store is boxes after found given = meeting_given index store is after (record { ref_ptr = (0, 0); now = boxes }) found given
 
 module _ (t : TreeView) (sound : IsSound t) where
   pub sound_index : IsIndexOn t.inner.index t.store

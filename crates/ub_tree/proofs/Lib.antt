@@ -1,6 +1,7 @@
 pub mod ApartFacts
 pub mod TreeFacts
 pub mod WayFacts
+pub mod HeldFacts
 pub mod NewFacts
 pub mod RoomFacts
 pub mod AnswerFacts

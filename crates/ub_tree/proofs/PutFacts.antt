@@ -6,13 +6,14 @@ use Rattle.std.proofs.lemmas.List.Elements.{recursion_from_All}
 use Rattle.std.proofs.lemmas.Option.{slice_get_within}
 use Rattle.std.specs.List.{All, AllByRecursion, IsDistinct}
 use Rattle.ub_check.proofs.PlacedFacts.{placed_at}
-use Rattle.ub_index.proofs.Changes.{kept_index, kept_under, same_page, same_entries as under_same}
+use Rattle.ub_index.proofs.FirstFacts.{below_some}
+use Rattle.ub_index.proofs.Changes.{kept_named, kept_index, kept_under, same_page, same_entries as under_same}
 use Rattle.ub_index.proofs.HeldFacts.{ends_of}
 use Rattle.ub_index.proofs.Numbers.{distinct_apart, distinct_first, kept_pages}
 use Rattle.ub_index.specs.Changed.{PagesStay}
 use Rattle.ub_index.specs.Changing.{IsOutside}
-use Rattle.ub_index.specs.Fitting.{FallsTo, FitsAtEnds, IsHeld, NamesFitting}
-use Rattle.ub_index.specs.Index.{Fits, page_in, pages_under, top}
+use Rattle.ub_index.specs.Fitting.{FallsTo}
+use Rattle.ub_index.specs.Index.{NamesFitting, Fits, page_in, pages_under, top}
 use Rattle.ub_index.specs.Preparing.{entry_at}
 use Rattle.ub_index.specs.Standing.{region_pages}
 use Rattle.ub_index.specs.View.{IndexView, IsSeatAt}
@@ -214,8 +215,7 @@ module _ (last : ℕ) (small : last < 256 ^ 16) (old new : List (List ℕ)) (kee
       → LeadsTo last new key level entry end found next
   still_taken zero entry end found next some leads = leads
   still_taken (suc level) entry end found next some (named, below, beyond, falls, leads) =
-      let same = keeps entry.page (page_in old entry.page) some named.there (kind_of (suc level) entry end named) in
-      (
+      let same = keeps entry.page (page_in old entry.page) some named.there (kind_of (suc level) entry end named) in (
         kept_named last old new (suc level) entry end same named,
         below,
         beyond,

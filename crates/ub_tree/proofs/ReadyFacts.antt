@@ -78,7 +78,7 @@ add_fault t key added small high (index.Store store.BadSize) h = (
     | inr needs ↦ let w = needs honest in inr (key, w.0, w.1, w.2)
   ]),
 )
-add_fault t key added small high (index.Store store.NoPage) h = ((λ sound. no_stop t [] key h.0 None small sound (h.2 sound.honest)), inl (inl (h.0, h.1, λ honest. (key, [], h.2 honest))))
+add_fault t key added small high (index.Store store.NoPage) h = ((λ sound. no_stop t key h.0 None small sound (h.2 sound.honest)), inl (inl (h.0, h.1, λ honest. (key, h.2 honest))))
 
 -- a call that doesn't make a change ready, as one of the tree
 module _ (schema : Schema) (i : IndexView) (count next rows : ℕ) (changed failed : Bool) (old new : PagerView) where
@@ -216,7 +216,7 @@ drop_fault t key small more taken (index.Page n fault) (grows, why) = ((λ sound
         ⊎ ((first : ChangeView) × (IsHonest t.store → IsPrepared t.inner.index t.store key None (page_count t.store) (so_far [] (page_count t.store)) first)
         × IsLowerFault t.inner.index.last t.store first (index.Page n fault)) → ⊥
     never sound (inl change) = elim (change sound.honest) [
-      | inl stops ↦ no_stop t [] key n (Some fault) small sound stops
+      | inl stops ↦ no_stop t key n (Some fault) small sound stops
       | inr gone ↦ alone sound (gone_alone t.inner.index.last t.store.pages key t.inner.index.levels (top t.inner.index.root) None _ gone.2 gone.3)
     ]
     never sound (inr lower) = taken sound lower.0 n (Some fault) (lower.1 sound.honest) (lower.2 sound.honest)
@@ -232,7 +232,7 @@ drop_fault t key small more taken (index.Store store.NoPage) (grows, why) = ((λ
     never : IsSound t → IsChangeFault t.inner.index t.store key None (so_far [] (page_count t.store)) (index.Store store.NoPage)
         ⊎ ((first : ChangeView) × (IsHonest t.store → IsPrepared t.inner.index t.store key None (page_count t.store) (so_far [] (page_count t.store)) first)
         × IsLowerFault t.inner.index.last t.store first (index.Store store.NoPage)) → ⊥
-    never sound (inl change) = no_stop t [] key change.0 None small sound (change.2 sound.honest)
+    never sound (inl change) = no_stop t key change.0 None small sound (change.2 sound.honest)
     never sound (inr lower) = taken sound lower.0 lower.2.0 None (lower.1 sound.honest) (lower.2.2 sound.honest)
 
 -- a region that comes after another one isn't the first

@@ -360,7 +360,7 @@ module _ (from new : StoreFacts) (head : OldHeader) (i : IndexView) (pager : Pag
       let at_root : slice_get pager.store.pages i.root ≡ Some h.1 = ap (slice_get pager.store.pages) (sym h.0) ∙ at in
       let page : page_in pager.store.pages i.root ≡ h.1 = get_or_from_slice_get pager.store.pages i.root h.1 [] at_root in
       let taken : IsNotTaken i.last pager.store.pages i.levels (top i.root) None (Some fault) =
-      (at_root ∙ ap (λ (x : List ℕ). Some x) (sym page), inl (subst (λ (x : List ℕ). IsUnfit i.last x i.levels (top i.root) None fault) (sym page) h.3)) in (
+      (at_root ∙ ap (λ (x : List ℕ). Some x) (sym page), subst (λ (x : List ℕ). IsUnfit i.last x i.levels (top i.root) None fault) (sym page) h.3) in (
         h.1,
         old_at,
         inr (

@@ -123,8 +123,7 @@ module _ (last : ℕ) (small : last < 256 ^ 16) (old new : List (List ℕ)) (kee
       → LeadsTo last new key level entry end found next
   still_led zero entry end found next some leads = leads
   still_led (suc level) entry end found next some (named, below, beyond, falls, leads) =
-      let same = keeps entry.page (page_in old entry.page) some named.there (kind_of (suc level) entry end named) in
-      (
+      let same = keeps entry.page (page_in old entry.page) some named.there (kind_of (suc level) entry end named) in (
         kept_named last old new (suc level) entry end same named,
         below,
         beyond,

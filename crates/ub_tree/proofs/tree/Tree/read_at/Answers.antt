@@ -12,6 +12,7 @@ use Rattle.ub_store.specs.View.{PagerView}
 use Rattle.ub_tree.specs.Tree.{tree_view}
 use Rattle.ub_tree.specs.View.{TreeView}
 use Rattle.ub_tree.specs.inner.Change.{IsOnSeat, IsReadAt, IsSeatOf}
+use Rattle.ub_tree.proofs.HeldFacts.{region_checked, region_gone, tree_kept}
 use Rattle.ub_writing.specs.Marks.{is_written}
 use Rattle.ub_tree.proofs.tree.Tree.read_at.Goals as goal
 
@@ -42,17 +43,17 @@ returns-in-Err-clause-effect g c =
     let old : TreeView = tree_view t.schema t.index t.count t.next t.rows (is_written t.mark) t.is_failed t.pager in
     let told : IsSeatOf old c.args.seat.now = subst (λ (v : TreeView). IsSeatOf v c.args.seat.now) (sym c.self.view_is) c.requires in
     rw (← c.self.view_is) (record {
-      same = searched_tree (Err c.from.result) t.schema t.index t.count t.next t.rows (is_written t.mark) t.is_failed t.pager c.forget.new.self
-          (read_page_by (IsRegionRefused t.schema c.args.seat.now.first c.args.seat.now.next c.cached.result.now) (Err c.from.result) (index_fault c.in-Err.fault.0) c.args.seat.now.page t.pager.store c.forget.new.self.store
-          c.from.ensures (told_above (IsRegionRefused t.schema c.args.seat.now.first c.args.seat.now.next c.cached.result.now) c.args.seat.now.page c.in-Err.fault.0 c.in-Err.ensures.refused) (ap (λ (p : PagerView). p.store) c.forget.ensures.same ∙ c.in_ok-bring.ensures.effect.same)) (ap (λ (p : PagerView). p.trace) c.forget.ensures.same ∙ c.in_ok-bring.ensures.trace);
-      faults = page_refused_by (IsRegionRefused t.schema c.args.seat.now.first c.args.seat.now.next c.cached.result.now) (Err c.from.result) (index_fault c.in-Err.fault.0) c.args.seat.now.page old
-          c.from.ensures (told_above (IsRegionRefused t.schema c.args.seat.now.first c.args.seat.now.next c.cached.result.now) c.args.seat.now.page c.in-Err.fault.0 c.in-Err.ensures.refused)
+      same = searched_tree {T = Unit {0}} (Err c.from.result) t.schema t.index t.count t.next t.rows (is_written t.mark) t.is_failed t.pager c.forget.new.self
+          (read_page_by {T = Unit {0}} (IsRegionRefused t.schema c.args.seat.now.first c.args.seat.now.next c.cached.result.now) (Err c.from.result) (index_fault c.in-Err.fault) c.args.seat.now.page t.pager.store c.forget.new.self.store
+          c.from.ensures (told_above (IsRegionRefused t.schema c.args.seat.now.first c.args.seat.now.next c.cached.result.now) c.args.seat.now.page c.in-Err.fault c.in-Err.ensures.refused) (ap (λ (p : PagerView). p.store) c.forget.ensures.same ∙ c.in_ok-bring.ensures.effect.same)) (ap (λ (p : PagerView). p.trace) c.forget.ensures.same ∙ c.in_ok-bring.ensures.trace);
+      faults = page_refused_by {T = Unit {0}} (IsRegionRefused t.schema c.args.seat.now.first c.args.seat.now.next c.cached.result.now) (Err c.from.result) (index_fault c.in-Err.fault) c.args.seat.now.page old
+          c.from.ensures (told_above (IsRegionRefused t.schema c.args.seat.now.first c.args.seat.now.next c.cached.result.now) c.args.seat.now.page c.in-Err.fault c.in-Err.ensures.refused)
           (λ sound.
           let on = sound_seat old c.args.seat.now sound told in
           let at : slice_get t.pager.store.pages c.args.seat.now.page ≡ Some c.cached.result.now = (page_still _ _ _ _ _ c.in_ok-bring.ensures.effect c.cached.ensures.page) sound.honest in
           let spelled : slice_get t.pager.store.pages c.args.seat.now.page ≡ Some (region_page t.schema on.0) = on.1.page sound.honest in
           let page : c.cached.result.now ≡ region_page t.schema on.0 = cc in
-          absurd (c.in-Err.ensures.exact on.0 on.1.is page on.1.held).0)
+          (let bad = (c.in-Err.ensures.exact on.0 on.1.is page on.1.held).0 in cc))
           (λ f refused. refused_there old c.args.seat.now c.cached.result.now f told (page_still _ _ _ _ _ c.in_ok-bring.ensures.effect c.cached.ensures.page) refused);
     })
 
@@ -99,7 +100,7 @@ returns-in-Err-clause-taken g c = λ honest r on.
     let at : slice_get t.pager.store.pages c.args.seat.now.page ≡ Some c.cached.result.now = (page_still _ _ _ _ _ c.in_ok-bring.ensures.effect c.cached.ensures.page) honest_t in
     let spelled : slice_get t.pager.store.pages c.args.seat.now.page ≡ Some (region_page t.schema r) = on_t.page honest_t in
     let page : c.cached.result.now ≡ region_page t.schema r = cc in
-    absurd (c.in-Err.ensures.exact r on_t.is page on_t.held).0
+    (let bad = (c.in-Err.ensures.exact r on_t.is page on_t.held).0 in cc)
 
 pub returns-in-Ok-clause-read : goal.returns-in-Ok-clause-read
 returns-in-Ok-clause-read g c =
@@ -135,3 +136,17 @@ returns-in-Ok-clause-effect g c =
       same = searched_tree {T = Unit {0}} (Ok tt) t.schema t.index t.count t.next t.rows (is_written t.mark) t.is_failed t.pager c.bring.new.self c.in_ok-bring.ensures.effect.same c.in_ok-bring.ensures.trace;
       faults = tt;
     })
+
+pub invariant_of-self-in-Ok : goal.invariant_of-self-in-Ok
+invariant_of-self-in-Ok g c =
+    let t = c.self.inside in
+    tree_kept t.schema t.index t.count t.next t.rows t.mark t.pager c.bring.new.self c.self.invariant
+    (region_checked t.schema t.index.last c.args.seat.now.page t.pager c.bring.new.self _ c.in_ok-bring.ensures.effect.same c.in_ok-bring.ensures.others c.take_region.new.region.region c.cached.result.now
+    c.cached.ensures.held c.in-Ok.ensures.found.0 c.in-Ok.ensures.found.1)
+
+pub invariant_of-self-in-Err : goal.invariant_of-self-in-Err
+invariant_of-self-in-Err g c =
+    let t = c.self.inside in
+    tree_kept t.schema t.index t.count t.next t.rows t.mark t.pager c.forget.new.self c.self.invariant
+    (region_gone t.index.last c.args.seat.now.page t.pager c.bring.new.self _ c.in_ok-bring.ensures.effect.same c.in_ok-bring.ensures.others c.forget.new.self c.forget.ensures.same c.forget.ensures.gone
+    c.forget.ensures.others)

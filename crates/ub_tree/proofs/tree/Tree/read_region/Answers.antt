@@ -10,6 +10,7 @@ use Rattle.ub_tree.proofs.SeatFacts.{sound_span, tree_known}
 use Rattle.ub_store.specs.View.{PagerView}
 use Rattle.ub_tree.specs.Tree.{tree_view}
 use Rattle.ub_tree.specs.View.{TreeView}
+use Rattle.ub_tree.proofs.HeldFacts.{region_checked, region_gone, tree_kept}
 use Rattle.ub_writing.specs.Marks.{is_written}
 use Rattle.ub_tree.proofs.tree.Tree.read_region.Goals as goal
 
@@ -42,7 +43,7 @@ returns-in-Err-clause-effect g c =
     let t = c.self.inside in
     let old : TreeView = tree_view t.schema t.index t.count t.next t.rows (is_written t.mark) t.is_failed t.pager in
     let r = (Err c.from.result) in
-    let refused = if_told (IsRegionRefused t.schema c.args.region.now.first c.args.region.now.next c.cached.result.now) r c.args.region.now.page c.in-Err.fault.0 c.from.ensures c.in-Err.ensures.refused in
+    let refused = if_told (IsRegionRefused t.schema c.args.region.now.first c.args.region.now.next c.cached.result.now) r c.args.region.now.page c.in-Err.fault c.from.ensures c.in-Err.ensures.refused in
     rw (← c.self.view_is) (record {
       same = read_tree r t.schema t.index t.count t.next t.rows (is_written t.mark) t.is_failed t.pager c.forget.new.self
           (read_page (IsRegionRefused t.schema c.args.region.now.first c.args.region.now.next c.cached.result.now) r c.args.region.now.page t.pager.store c.forget.new.self.store refused (ap (λ (p : PagerView). p.store) c.forget.ensures.same ∙ c.in_ok-bring_region.ensures.effect.same));
@@ -56,7 +57,7 @@ returns-in-Err-clause-effect g c =
           let at : slice_get t.pager.store.pages c.args.region.now.page ≡ Some c.cached.result.now = (page_still _ _ _ _ _ c.in_ok-bring_region.ensures.effect c.cached.ensures.page) sound.honest in
           let spelled : slice_get t.pager.store.pages c.args.region.now.page ≡ Some (region_page t.schema on.0) = on.1.2 sound.honest in
           let page : c.cached.result.now ≡ region_page t.schema on.0 = cc in
-          absurd (c.in-Err.ensures.exact on.0 on.1.0 page on.1.1).0)
+          (let bad = (c.in-Err.ensures.exact on.0 on.1.0 page on.1.1).0 in cc))
           (λ f why. inr (c.args.region.now, told, refl, c.cached.result.now, (page_still _ _ _ _ _ c.in_ok-bring_region.ensures.effect c.cached.ensures.page), why));
     })
 
@@ -84,3 +85,17 @@ returns-in-Ok-clause-effect g c =
       faults = λ told. tt;
       refused = tt;
     })
+
+pub invariant_of-self-in-Ok : goal.invariant_of-self-in-Ok
+invariant_of-self-in-Ok g c =
+    let t = c.self.inside in
+    tree_kept t.schema t.index t.count t.next t.rows t.mark t.pager c.bring_region.new.self c.self.invariant
+    (region_checked t.schema t.index.last c.args.region.now.page t.pager c.bring_region.new.self _ c.in_ok-bring_region.ensures.effect.same c.in_ok-bring_region.ensures.others c.take_region.new.region.region c.cached.result.now
+    c.cached.ensures.held c.in-Ok.ensures.found.0 c.in-Ok.ensures.found.1)
+
+pub invariant_of-self-in-Err : goal.invariant_of-self-in-Err
+invariant_of-self-in-Err g c =
+    let t = c.self.inside in
+    tree_kept t.schema t.index t.count t.next t.rows t.mark t.pager c.forget.new.self c.self.invariant
+    (region_gone t.index.last c.args.region.now.page t.pager c.bring_region.new.self _ c.in_ok-bring_region.ensures.effect.same c.in_ok-bring_region.ensures.others c.forget.new.self c.forget.ensures.same c.forget.ensures.gone
+    c.forget.ensures.others)
