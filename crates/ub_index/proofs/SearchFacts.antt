@@ -7,8 +7,8 @@ use Rattle.ub_store.specs.View.{PagerView, Trace}
 use Rattle.ub_store.specs.declared.fault.StoreFault.TheVariants as store
 use Rattle.ub_table.specs.declared.fault.PageFault.{PageFault}
 use Rattle.ub_table.specs.declared.row.Key.{Key}
-use Rattle.ub_index.specs.Descending.{IsStepFault, Steps}
-use Rattle.ub_index.specs.Held.{KeepsChecked}
+use Rattle.ub_index.specs.Descending.{IsStepFault, StepsDown}
+use Rattle.ub_index.specs.Held.{AreChecked, KeepsChecked}
 use Rattle.ub_index.specs.Searching.{GoesDown, IsWayFault, store_after}
 use Rattle.ub_index.specs.View.{IndexView, Stops}
 use Rattle.ub_index.specs.Way.{StopsAt}
@@ -45,25 +45,26 @@ frame r old mid new stores traces h =
 -- a step that is refused, after those before it
 module _ (T U : Type 0) (Sought : Key → Type 0) (index : IndexView) (key : Key) (sought : Sought key) (level : ℕ) (some : 0 < level) (entry : Entry) (end : Option Key)
     (old mid new : PagerView) (stores : mid.store ≡ old.store) (traces : mid.trace ≡ old.trace) (kept : KeepsChecked index.last old mid)
-    (stops : IsHonest old.store → (n : ℕ) (fault : Option PageFault) → StopsAt index.last old.store.pages key level entry end n fault → Stops index old.store key n fault) where
-  fault_of : (e : IndexFault) → IsStepFault index.last mid.store level entry end e → IsWayFault index old.store Sought e
-  fault_of (Page n fault) h = λ honest.
-      let there = stops honest entry.page (Some fault)
+    (stops : IsHonest old.store → AreChecked index.last old → (n : ℕ) (fault : Option PageFault) → StopsAt index.last old.store.pages key level entry end n fault
+    → Stops index old.store key n fault) where
+  fault_of : (e : IndexFault) → AreChecked index.last old → IsStepFault index.last mid.store level entry end e → IsWayFault index old.store Sought e
+  fault_of (Page n fault) sure h = λ honest.
+      let there = stops honest sure entry.page (Some fault)
       (stops_here old.store mid.store stores index.last key level entry end (Some fault) some (h.1 (subst (λ (s : StoreFacts). IsHonest s) (sym stores) honest))) in
       (key, sought, subst (λ (m : ℕ). Stops index old.store key m (Some fault)) (sym h.0) there)
-  fault_of (Store store.Memory) h = tt
-  fault_of (Store store.Device) h = subst (λ (s : StoreFacts). IsTrue s.can_fail) stores h
-  fault_of (Store store.NoPage) h =
+  fault_of (Store store.Memory) sure h = tt
+  fault_of (Store store.Device) sure h = subst (λ (s : StoreFacts). IsTrue s.can_fail) stores h
+  fault_of (Store store.NoPage) sure h =
       let far : page_count old.store ≤ entry.page = subst (λ (s : StoreFacts). page_count s ≤ entry.page) stores h in
-      (entry.page, far, λ honest. (key, sought, stops honest entry.page None (stops_here old.store old.store refl index.last key level entry end None some far)))
-  fault_of (Store store.BadSize) h = h
-  fault_of Full h = h
+      (entry.page, far, λ honest. (key, sought, stops honest sure entry.page None (stops_here old.store old.store refl index.last key level entry end None some far)))
+  fault_of (Store store.BadSize) sure h = h
+  fault_of Full sure h = h
 
-  pub step_refused : (r : Result T IndexFault) (e : IndexFault) → IsErrAnd r (λ x. x ≡ e) → Steps {A = U} index.last level entry end mid new (Err e) → GoesDown Sought index old new r
+  pub step_refused : (r : Result T IndexFault) (e : IndexFault) → IsErrAnd r (λ x. x ≡ e) → StepsDown {A = U} index.last level entry end mid new (Err e) → GoesDown Sought index old new r
   step_refused r e is h = subst (λ (x : Result T IndexFault). GoesDown Sought index old new x) (sym (err_is r e is)) (record {
     same = frame (failed {T = T} e) old mid new stores traces (h.same ∙ ap (λ (s : StoreFacts). pager_with s mid.trace new.cached) (same_store T U e mid.store));
     checked = keeps_on index.last old mid new kept h.checked;
-    faults = fault_of e h.faults;
+    faults = λ sure. fault_of e sure (h.faults (kept sure));
   })
 
 -- a search that was answered left the store
@@ -79,31 +80,31 @@ pub answered : {T : Type 0} (Sought : Key → Type 0) (index : IndexView) (old n
 answered Sought index old new x stores traces kept = record {
   same = ap (λ (s : StoreFacts). pager_with s new.trace new.cached) stores ∙ ap (λ (t : Trace). pager_with old.store t new.cached) traces;
   checked = kept;
-  faults = tt;
+  faults = λ sure. tt;
 }
 
 -- a search that was refused as another one was, which went down to these keys among others, after some pages were read
-module _ (T U : Type 0) (A B : Key → Type 0) (wider : (k : Key) → A k → B k) (index : IndexView) (old mid new : PagerView) (stores : mid.store ≡ old.store) (traces : mid.trace ≡ old.trace)
+module _ (T U : Type 0) (A B : Key → Type 0) (index : IndexView) (old mid new : PagerView) (wider : AreChecked index.last old → (k : Key) → A k → B k) (stores : mid.store ≡ old.store) (traces : mid.trace ≡ old.trace)
     (kept : KeepsChecked index.last old mid) where
-  wider_fault : (e : IndexFault) → IsWayFault index mid.store A e → IsWayFault index old.store B e
-  wider_fault (Page n fault) h = λ honest.
+  wider_fault : (e : IndexFault) → AreChecked index.last old → IsWayFault index mid.store A e → IsWayFault index old.store B e
+  wider_fault (Page n fault) sure h = λ honest.
       let there = h (subst (λ (s : StoreFacts). IsHonest s) (sym stores) honest) in
-      (there.0, wider there.0 there.1, subst (λ (s : StoreFacts). Stops index s there.0 n (Some fault)) stores there.2)
-  wider_fault (Store store.Memory) h = tt
-  wider_fault (Store store.Device) h = subst (λ (s : StoreFacts). IsTrue s.can_fail) stores h
-  wider_fault (Store store.NoPage) h = (
+      (there.0, wider sure there.0 there.1, subst (λ (s : StoreFacts). Stops index s there.0 n (Some fault)) stores there.2)
+  wider_fault (Store store.Memory) sure h = tt
+  wider_fault (Store store.Device) sure h = subst (λ (s : StoreFacts). IsTrue s.can_fail) stores h
+  wider_fault (Store store.NoPage) sure h = (
     h.0,
     subst (λ (s : StoreFacts). page_count s ≤ h.0) stores h.1,
     λ honest.
         let there = h.2 (subst (λ (s : StoreFacts). IsHonest s) (sym stores) honest) in
-        (there.0, wider there.0 there.1, subst (λ (s : StoreFacts). Stops index s there.0 h.0 None) stores there.2),
+        (there.0, wider sure there.0 there.1, subst (λ (s : StoreFacts). Stops index s there.0 h.0 None) stores there.2),
   )
-  wider_fault (Store store.BadSize) h = h
-  wider_fault Full h = h
+  wider_fault (Store store.BadSize) sure h = h
+  wider_fault Full sure h = h
 
   pub search_refused : (r : Result T IndexFault) (e : IndexFault) → IsErrAnd r (λ x. x ≡ e) → GoesDown {A = U} A index mid new (Err e) → GoesDown B index old new r
   search_refused r e is h = subst (λ (x : Result T IndexFault). GoesDown B index old new x) (sym (err_is r e is)) (record {
     same = frame (failed {T = T} e) old mid new stores traces (h.same ∙ ap (λ (s : StoreFacts). pager_with s mid.trace new.cached) (same_store T U e mid.store));
     checked = keeps_on index.last old mid new kept h.checked;
-    faults = wider_fault e h.faults;
+    faults = λ sure. wider_fault e sure (h.faults (kept sure));
   })

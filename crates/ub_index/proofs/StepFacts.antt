@@ -11,7 +11,7 @@ use Rattle.ub_store.specs.declared.fault.StoreFault.TheVariants as store
 use Rattle.ub_table.specs.declared.row.Key.{Key}
 use Rattle.ub_index.specs.Bringing.{BringsFitting, IsBringFault}
 use Rattle.ub_index.specs.Changing.{IsNoGrowth}
-use Rattle.ub_index.specs.Descending.{IsStepFault, Steps}
+use Rattle.ub_index.specs.Descending.{IsStepFault, Steps, StepsDown}
 use Rattle.ub_index.specs.Held.{KeepsChecked}
 use Rattle.ub_index.specs.Index.{entries_of, top, Fits, NamesFitting}
 use Rattle.ub_index.specs.Opening.{IsPassing, Opens}
@@ -68,12 +68,12 @@ fault_so T last old level entry end store.BadSize device missing size = size ref
 pub bring_refused : {T : Type 0} (last : ℕ) (level : ℕ) (entry : Entry) (end : Option Key) (old new : PagerView) (r : Result T IndexFault) (fault : StoreFault)
     → IsErrAnd r (λ x. x ≡ Store fault) → Reads {A = Bool} old.store new.store (Err fault) → new.trace ≡ old.trace
     → NoneMore old.cached new.cached → (IsErrOf {T = Bool} (Err fault) store.NoPage → page_count old.store ≤ entry.page) → ¬ (IsErrOf {T = Bool} (Err fault) store.BadSize)
-    → Steps last level entry end old new r
+    → StepsDown last level entry end old new r
 bring_refused {T = T} last level entry end old new r fault is reads traces less missing size =
-    subst (λ (x : Result T IndexFault). Steps last level entry end old new x) (sym (err_is r (Store fault) is)) (record {
+    subst (λ (x : Result T IndexFault). StepsDown last level entry end old new x) (sym (err_is r (Store fault) is)) (record {
       same = pager_so old new (store_after {A = T} (Err (Store fault)) old.store) (reads.same ∙ counts_so T Bool fault old.store) traces;
       checked = keeps_less last old new (honest_back old.store new.store _ reads.same) less;
-      faults = fault_so Bool last old.store level entry end fault reads.device missing size;
+      faults = λ sure. fault_so Bool last old.store level entry end fault reads.device missing size;
     })
 
 -- a step is made, and leaves the store
@@ -81,14 +81,18 @@ pub stepped : {T : Type 0} (last : ℕ) (level : ℕ) (entry : Entry) (end : Opt
     → KeepsChecked last old new → Steps last level entry end old new (Ok x)
 stepped last level entry end old new x stores traces kept = record { same = pager_so old new old.store stores traces; checked = kept; faults = tt }
 
+pub stepped_down : {T : Type 0} (last : ℕ) (level : ℕ) (entry : Entry) (end : Option Key) (old new : PagerView) (x : T) → new.store ≡ old.store → new.trace ≡ old.trace
+    → KeepsChecked last old new → StepsDown last level entry end old new (Ok x)
+stepped_down last level entry end old new x stores traces kept = record { same = pager_so old new old.store stores traces; checked = kept; faults = λ sure. tt }
+
 -- a step that was made and answered one thing may answer another
-pub stepped_as : {T U : Type 0} (last : ℕ) (level : ℕ) (entry : Entry) (end : Option Key) (old new : PagerView) (x : T) (y : U) → Steps last level entry end old new (Ok x)
-    → Steps last level entry end old new (Ok y)
-stepped_as last level entry end old new x y h = record { same = h.same; checked = h.checked; faults = tt }
+pub stepped_as : {T U : Type 0} (last : ℕ) (level : ℕ) (entry : Entry) (end : Option Key) (old new : PagerView) (x : T) (y : U) → StepsDown last level entry end old new (Ok x)
+    → StepsDown last level entry end old new (Ok y)
+stepped_as last level entry end old new x y h = record { same = h.same; checked = h.checked; faults = λ sure. tt }
 
 pub refused_step : {T U : Type 0} (last : ℕ) (level : ℕ) (entry : Entry) (end : Option Key) (old new : PagerView) (r : Result T IndexFault) (e : IndexFault) → IsErrAnd r (λ x. x ≡ e)
-    → Steps {A = U} last level entry end old new (Err e) → Steps last level entry end old new r
-refused_step {T = T} {U = U} last level entry end old new r e is h = subst (λ (x : Result T IndexFault). Steps last level entry end old new x) (sym (err_is r e is)) (record {
+    → StepsDown {A = U} last level entry end old new (Err e) → StepsDown last level entry end old new r
+refused_step {T = T} {U = U} last level entry end old new r e is h = subst (λ (x : Result T IndexFault). StepsDown last level entry end old new x) (sym (err_is r e is)) (record {
   same = h.same ∙ ap (λ (s : StoreFacts). pager_with s old.trace new.cached) (same_store T U e old.store);
   checked = h.checked;
   faults = h.faults;

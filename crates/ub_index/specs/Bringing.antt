@@ -1,8 +1,8 @@
 -- Bringing the page that an entry names, where it fits that entry.
 use Rattle.std.specs.Prelude.{◌≡◌, ◌≤◌, ℕ, IsTrue, List, Option, Result, IfOk, IfErr, OnOk}
-use Rattle.ub_index.specs.Descending.{IsForgotten, Steps}
+use Rattle.ub_index.specs.Descending.{IsForgotten, StepsDown}
 use Rattle.ub_index.specs.Fitting.{FitsAtEnds, IsUnfit}
-use Rattle.ub_index.specs.Held.{KeepsChecked}
+use Rattle.ub_index.specs.Held.{AreChecked, KeepsChecked}
 use Rattle.ub_index.specs.Index.{Fits, NamesFitting}
 use Rattle.ub_index.specs.Searching.{store_after}
 use Rattle.ub_index.specs.declared.fault.IndexFault.{IndexFault}
@@ -33,9 +33,9 @@ IsBringFault last old level entry end (Page n fault) =
 pub record BringsNext (last level : ℕ) (entry : Entry) (end : Option Key) (old new : PagerView) (result : Result Head IndexFault) : Type 0 where
   pub cached : OnOk result (IsCached new entry.page)
   pub ends : IfOk result (λ head. (page : List ℕ) → Holds new entry.page page → (head ≡ head_on page) × FitsAtEnds page level entry end)
-  pub named : IsHonest old.store → OnOk result (NamesFitting last old.store.pages level entry end)
+  pub named : IsHonest old.store → AreChecked last old → OnOk result (NamesFitting last old.store.pages level entry end)
   pub forgotten : IfErr result (IsForgotten new)
-  pub steps : Steps last level entry end old new result
+  pub steps : StepsDown last level entry end old new result
 
 -- a page is brought with this result: the pager then holds one of that number, which fits, and what its first bytes tell is the
 -- result; it holds no other page more, and none that was refused. With the device's fault the store has one failed read more,

@@ -2,7 +2,7 @@
 use Rattle.std.specs.Prelude.{◌≡◌, ◌≤◌, ◌⊎◌, ℕ, IsTrue, List, Option, Some, None, Result, IfErr, IfSome}
 use Rattle.ub_directory.specs.declared.region.Region.{Region}
 use Rattle.ub_index.specs.Fitting.{FallsTo, FitsAtEnds, IsNotTaken}
-use Rattle.ub_index.specs.Held.{KeepsChecked}
+use Rattle.ub_index.specs.Held.{AreChecked, KeepsChecked}
 use Rattle.ub_index.specs.Index.{entries_of, page_in, top, NamesFitting}
 use Rattle.ub_index.specs.Searching.{store_after, Gives, IsAim, IsAimless, IsFrom}
 use Rattle.ub_index.specs.View.{IndexView, Stops}
@@ -39,6 +39,12 @@ pub record Steps {A : Type 0} (last level : ℕ) (entry : Entry) (end : Option K
   pub same : new ≡ record old { store = store_after result old.store; cached = new.cached }
   pub checked : KeepsChecked last old new
   pub faults : IfErr result (IsStepFault last old.store level entry end)
+
+-- the same of a search, which looks at the ends of a page that is held: it is refused so where each page that was held was checked
+pub record StepsDown {A : Type 0} (last level : ℕ) (entry : Entry) (end : Option Key) (old new : PagerView) (result : Result A IndexFault) : Type 0 where
+  pub same : new ≡ record old { store = store_after result old.store; cached = new.cached }
+  pub checked : KeepsChecked last old new
+  pub faults : AreChecked last old → IfErr result (IsStepFault last old.store level entry end)
 
 -- the step that is made: the page fits, and the key falls to this entry of it
 pub record StepsTo (last : ℕ) (store : StoreFacts) (key : Key) (level : ℕ) (entry : Entry) (end : Option Key)

@@ -1,7 +1,7 @@
 // The way down an index, step by step.
 ghost use Rattle.std.specs.Prelude.{◌≡◌, ◌+◌, ◌<◌, ◌≤◌, ◌↔◌, ◌⊎◌, None, Some, IfOk, IfErr, IsOk, IfSome, IsTrue, drop};
 ghost use Rattle.ub_index.specs.Bringing.{BringsFitting, BringsNext};
-ghost use Rattle.ub_index.specs.Descending.{IsForgotten, Looks, LooksAt, Steps, StepsTo};
+ghost use Rattle.ub_index.specs.Descending.{IsForgotten, Looks, LooksAt, StepsDown, StepsTo};
 ghost use Rattle.ub_index.specs.Fitting.{FallsTo, FitsAtEnds, IsUnfit, IsUnfitAtEnds};
 ghost use Rattle.ub_index.specs.Held.{AreChecked, WasChecked};
 ghost use Rattle.ub_index.specs.Index.{Fits, NamesFitting, first_or, top};
@@ -107,7 +107,6 @@ fn bring_next<S: PageStore>(
     level: u32,
     place: &Place,
 ) -> Result<Head, IndexFault>
-    requires { AreChecked last pager.old }
     ensures { BringsNext last level place.now.entry place.now.next pager.old pager.new result }
 {
     let page = place.entry.page;
@@ -131,13 +130,14 @@ pub fn step_down<S: PageStore>(
     place: &Place,
     key: &Key,
 ) -> Result<Place, IndexFault>
-    requires from { HoldsKey key.now place.now.entry.first place.now.next }
-    requires checked { AreChecked last pager.old }
+    requires { HoldsKey key.now place.now.entry.first place.now.next }
     ensures holds { IfOk result (λ below. HoldsKey key.now below.entry.first below.next) }
-    ensures below { IsHonest pager.old.store → IfOk result (λ below. StepsTo last pager.old.store
-        key.now level place.now.entry place.now.next below.entry below.next) }
+    ensures below { IsHonest pager.old.store → AreChecked last pager.old → IfOk result
+        (λ below. StepsTo last pager.old.store key.now level place.now.entry place.now.next
+        below.entry below.next) }
     ensures forgotten { IfErr result (IsForgotten pager.new) }
-    ensures effect { Steps last level place.now.entry place.now.next pager.old pager.new result }
+    ensures effect { StepsDown last level place.now.entry place.now.next pager.old pager.new
+        result }
 {
     let head = bring_next(pager, last, level, place)?;
     let page = pager.cached(place.entry.page);
@@ -153,10 +153,10 @@ pub fn look<S: PageStore>(
     key: &Key,
     goal: &Goal,
 ) -> Result<Found, IndexFault>
-    requires { AreChecked last pager.old }
-    ensures looks { IfOk result (LooksAt last pager.old.store (Aims goal.now) key.now leaf.now) }
+    ensures looks { AreChecked last pager.old → IfOk result
+        (LooksAt last pager.old.store (Aims goal.now) key.now leaf.now) }
     ensures forgotten { IfErr result (IsForgotten pager.new) }
-    ensures effect { Steps last 1 leaf.now.place.entry leaf.now.place.next pager.old pager.new
+    ensures effect { StepsDown last 1 leaf.now.place.entry leaf.now.place.next pager.old pager.new
         result }
 {
     let head = bring_next(pager, last, 1, &leaf.place)?;

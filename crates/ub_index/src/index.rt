@@ -88,9 +88,10 @@ impl Index {
     /// have, with Device where the store failed in this call, with Memory where memory was refused. The first refusal on the
     /// way is told. Index and store are then as they were, and the pager has forgotten the page that is refused.
     pub fn seat_of<S: PageStore>(&self, pager: &mut Pager<S>, key: &Key) -> Result<Seat, IndexFault>
-        requires { AreChecked self.now.last pager.old }
-        ensures given { IfOk result (Gives self.now pager.old.store key.now) }
-        ensures seat { IsIndexOn self.now pager.old.store → IfOk result
+        ensures given { AreChecked self.now.last pager.old
+            → IfOk result (Gives self.now pager.old.store key.now) }
+        ensures seat { AreChecked self.now.last pager.old
+            → IsIndexOn self.now pager.old.store → IfOk result
             (IsSeatAt (entries_in self.now pager.old.store)
             (index_holding key.now (first_keys (entries_in self.now pager.old.store)))) }
         ensures forgotten { IfErr result (IsForgotten pager.new) }
@@ -106,9 +107,9 @@ impl Index {
         pager: &mut Pager<S>,
         seat: &Seat,
     ) -> Result<Option<Seat>, IndexFault>
-        requires { AreChecked self.now.last pager.old }
-        ensures given { IfOk result (GivesAny self.now pager.old.store seat.now.next) }
-        ensures after { (i : ℕ) → IsIndexOn self.now pager.old.store
+        ensures given { AreChecked self.now.last pager.old
+            → IfOk result (GivesAny self.now pager.old.store seat.now.next) }
+        ensures after { AreChecked self.now.last pager.old → (i : ℕ) → IsIndexOn self.now pager.old.store
             → IsSeatAt (entries_in self.now pager.old.store) i seat.now
             → IfOk result (IsNextSeat (entries_in self.now pager.old.store) i) }
         ensures forgotten { IfErr result (IsForgotten pager.new) }
@@ -127,10 +128,10 @@ impl Index {
         pager: &mut Pager<S>,
         seat: &Seat,
     ) -> Result<Option<Seat>, IndexFault>
-        requires { AreChecked self.now.last pager.old }
-        ensures given { IfOk result (GivesAny self.now pager.old.store
+        ensures given { AreChecked self.now.last pager.old
+            → IfOk result (GivesAny self.now pager.old.store
             (key_before seat.now.first.z seat.now.first.number)) }
-        ensures before { (i : ℕ) → IsIndexOn self.now pager.old.store
+        ensures before { AreChecked self.now.last pager.old → (i : ℕ) → IsIndexOn self.now pager.old.store
             → IsSeatAt (entries_in self.now pager.old.store) i seat.now
             → IfOk result (IsPreviousSeat (entries_in self.now pager.old.store) i) }
         ensures forgotten { IfErr result (IsForgotten pager.new) }
@@ -154,12 +155,13 @@ impl Index {
         z: u128,
         after: Option<&Region>,
     ) -> Result<Option<Region>, IndexFault>
-        requires { AreChecked self.now.last pager.old }
-        ensures given { IfOk result (GivesAfter self.now pager.old.store (λ _ to. to ≡ Some z)
+        ensures given { AreChecked self.now.last pager.old
+            → IfOk result (GivesAfter self.now pager.old.store (λ _ to. to ≡ Some z)
             (option_copied after.entry)) }
-        ensures later { IfOk result (λ found. IfSome found (IsLater (option_copied after.entry))) }
+        ensures later { AreChecked self.now.last pager.old → IfOk result (λ found. IfSome found (IsLater (option_copied after.entry))) }
         ensures small { IfOk result (λ found. IfSome found (λ r. r.first.number < 2 ^ 32)) }
-        ensures found { IsIndexOn self.now pager.old.store → IfOk result (First
+        ensures found { AreChecked self.now.last pager.old
+            → IsIndexOn self.now pager.old.store → IfOk result (First
             (λ r. IsLater (option_copied after.entry) r × (z ≤ r.to))
             (regions_of self.now.last (entries_in self.now pager.old.store))) }
         ensures effect { GoesDown (IsSought self.now pager.old.store (λ _ to. to ≡ Some z)
@@ -176,12 +178,13 @@ impl Index {
         boxes: &[ZBox],
         after: Option<&Region>,
     ) -> Result<Option<Region>, IndexFault>
-        requires { AreChecked self.now.last pager.old }
-        ensures given { IfOk result (GivesAfter self.now pager.old.store
+        ensures given { AreChecked self.now.last pager.old
+            → IfOk result (GivesAfter self.now pager.old.store
             (λ from. LeastFrom (HoldsAny boxes.now) from.z) (option_copied after.entry)) }
-        ensures later { IfOk result (λ found. IfSome found (IsLater (option_copied after.entry))) }
+        ensures later { AreChecked self.now.last pager.old → IfOk result (λ found. IfSome found (IsLater (option_copied after.entry))) }
         ensures small { IfOk result (λ found. IfSome found (λ r. r.first.number < 2 ^ 32)) }
-        ensures found { IsIndexOn self.now pager.old.store → IfOk result (First
+        ensures found { AreChecked self.now.last pager.old
+            → IsIndexOn self.now pager.old.store → IfOk result (First
             (λ r. IsLater (option_copied after.entry) r × Meets boxes.now r)
             (regions_of self.now.last (entries_in self.now pager.old.store))) }
         ensures effect { GoesDown (IsSought self.now pager.old.store
@@ -352,10 +355,10 @@ impl Index {
         goal: &Goal,
         after: Option<&Region>,
     ) -> Result<Option<Region>, IndexFault>
-        requires { AreChecked self.now.last pager.old }
-        ensures given { IfOk result (GivesAfter self.now pager.old.store (Aims goal.now)
+        ensures given { AreChecked self.now.last pager.old
+            → IfOk result (GivesAfter self.now pager.old.store (Aims goal.now)
             (option_copied after.entry)) }
-        ensures later { IfOk result (λ found. IfSome found (IsLater (option_copied after.entry))) }
+        ensures later { AreChecked self.now.last pager.old → IfOk result (λ found. IfSome found (IsLater (option_copied after.entry))) }
         ensures small { IfOk result (λ found. IfSome found (λ r. r.first.number < 2 ^ 32)) }
         ensures effect { GoesDown (IsSought self.now pager.old.store (Aims goal.now)
             (option_copied after.entry)) self.now pager.old pager.new result }
@@ -384,8 +387,7 @@ impl Index {
         goal: &Goal,
         after: Option<&Region>,
     ) -> Result<Option<(Key, Seat)>, IndexFault>
-        requires { AreChecked self.now.last pager.old }
-        ensures found { IfOk result
+        ensures found { AreChecked self.now.last pager.old → IfOk result
             (FindsAfter self.now pager.old.store (Aims goal.now) (option_copied after.entry)) }
         ensures forgotten { IfErr result (IsForgotten pager.new) }
         ensures effect { GoesDown (IsSought self.now pager.old.store (Aims goal.now)
@@ -403,8 +405,7 @@ impl Index {
         pager: &mut Pager<S>,
         goal: &Goal,
     ) -> Result<Option<(Key, Seat)>, IndexFault>
-        requires { AreChecked self.now.last pager.old }
-        ensures found { IfOk result (FindsAfter self.now pager.old.store (Aims goal.now) None) }
+        ensures found { AreChecked self.now.last pager.old → IfOk result (FindsAfter self.now pager.old.store (Aims goal.now) None) }
         ensures forgotten { IfErr result (IsForgotten pager.new) }
         ensures effect { GoesDown (IsSought self.now pager.old.store (Aims goal.now) None) self.now
             pager.old pager.new result }
@@ -423,8 +424,7 @@ impl Index {
         goal: &Goal,
         region: &Region,
     ) -> Result<Option<(Key, Seat)>, IndexFault>
-        requires { AreChecked self.now.last pager.old }
-        ensures found { IfOk result
+        ensures found { AreChecked self.now.last pager.old → IfOk result
             (FindsAfter self.now pager.old.store (Aims goal.now) (Some region.now)) }
         ensures forgotten { IfErr result (IsForgotten pager.new) }
         ensures effect { GoesDown (IsSought self.now pager.old.store (Aims goal.now) (Some region.now))
@@ -447,9 +447,9 @@ fn descend<S: PageStore>(
     last: u128,
     key: &Key,
 ) -> Result<Seat, IndexFault>
-    requires low { 1 ≤ levels }
-    requires checked { AreChecked last pager.old }
-    ensures given { IfOk result (Gives (index_view root levels last) pager.old.store key.now) }
+    requires { 1 ≤ levels }
+    ensures given { AreChecked last pager.old
+        → IfOk result (Gives (index_view root levels last) pager.old.store key.now) }
     ensures forgotten { IfErr result (IsForgotten pager.new) }
     ensures effect { GoesDown (λ k. k ≡ key.now) (index_view root levels last) pager.old pager.new
         result }
@@ -467,10 +467,9 @@ fn leaf_of<S: PageStore>(
     last: u128,
     key: &Key,
 ) -> Result<Leaf, IndexFault>
-    requires low { 1 ≤ levels }
-    requires checked { AreChecked last pager.old }
+    requires { 1 ≤ levels }
     ensures holds { IfOk result (HoldsLeaf key.now) }
-    ensures leads { IsHonest pager.old.store → IfOk result
+    ensures leads { IsHonest pager.old.store → AreChecked last pager.old → IfOk result
         (LeadsDown (index_view root levels last) pager.old.store key.now 1) }
     ensures forgotten { IfErr result (IsForgotten pager.new) }
     ensures effect { GoesDown (λ k. k ≡ key.now) (index_view root levels last) pager.old pager.new

@@ -5,6 +5,7 @@ use Rattle.std.specs.Result.{IsErrAnd}
 use Rattle.ub_index.proofs.KeyFacts.{le_before}
 use Rattle.ub_index.proofs.LeadFacts.{ways_are_one, ways_hold}
 use Rattle.ub_index.proofs.WayFacts.{never_stops}
+use Rattle.ub_index.specs.Held.{AreChecked}
 use Rattle.ub_index.specs.Index.{top}
 use Rattle.ub_index.specs.Searching.{GoesDown, IsWayFault, store_after}
 use Rattle.ub_index.specs.View.{IndexView, Stops}
@@ -116,11 +117,11 @@ module _ (schema : Schema) (i : IndexView) (count next rows : ℕ) (changed fail
   pub searched_there : {T : Type 0} (U : Type 0) (x : T) (y : U) → GoesDown {A = U} Sought i old new (Ok y) → Searches before after (Ok x)
   searched_there U x y h = record { same = ap (λ (p : PagerView). tree_view schema i count next rows changed failed p) h.same; faults = tt }
 
-  pub search_refused : {T : Type 0} (U : Type 0) (r : Result T TreeFault) (e : IndexFault) → i.last < 2 ^ 128 → IsErrAnd r (λ x. x ≡ index_fault e) → GoesDown {A = U} Sought i old new (Err e)
-      → Searches before after r
-  search_refused U (Ok x) e small is h = absurd is
-  search_refused {T} U (Err f) e small is h = rw is (record {
+  pub search_refused : {T : Type 0} (U : Type 0) (r : Result T TreeFault) (e : IndexFault) → i.last < 2 ^ 128 → AreChecked i.last old → IsErrAnd r (λ x. x ≡ index_fault e)
+      → GoesDown {A = U} Sought i old new (Err e) → Searches before after r
+  search_refused U (Ok x) e small sure is h = absurd is
+  search_refused {T} U (Err f) e small sure is h = rw is (record {
     same = ap (λ (p : PagerView). tree_view schema i count next rows changed failed p) h.same
         ∙ ap (λ (s : StoreFacts). record before { store = s }) (stores_alike T U e old.store);
-    faults = search_fault before Sought small e h.faults;
+    faults = search_fault before Sought small e (h.faults sure);
   })

@@ -23,11 +23,11 @@ looked-requires-clause-few g c =
     subst (λ (h : Head). h.count ≤ 170) (sym here.0) here.1.head.2
 
 pub returns-clause-looks : goal.returns-clause-looks
-returns-clause-looks g c = record {
+returns-clause-looks g c = λ sure. record {
   page = c.cached-page.result.now;
   ends = (c.in_ok-head.ensures.ends c.cached-page.result.now c.cached-page.ensures.held).1;
   looks = c.looked.ensures;
-  named = c.in_ok-head.ensures.named;
+  named = λ honest. c.in_ok-head.ensures.named honest sure;
   there = λ honest.
       sym (page_is c.args.pager.now.store.pages c.args.leaf.now.place.entry.page c.cached-page.result.now
       (page_now c.args.pager.now c.bring_next.new.pager c.args.leaf.now.place.entry.page c.cached-page.result.now (ap (λ (p : PagerView). p.store) c.in_ok-head.ensures.steps.same)
@@ -39,7 +39,7 @@ returns-clause-effect g c =
     stepped_as c.args.last 1 c.args.leaf.now.place.entry c.args.leaf.now.place.next c.args.pager.now c.bring_next.new.pager c.in_ok-head.head c.looked.result c.in_ok-head.ensures.steps
 
 pub returns-in_err-head-clause-looks : goal.returns-in_err-head-clause-looks
-returns-in_err-head-clause-looks g c = none_ok _ c.from_residual.result _ c.from_residual.ensures.1
+returns-in_err-head-clause-looks g c = λ sure. none_ok _ c.from_residual.result _ c.from_residual.ensures.1
 
 pub returns-in_err-head-clause-forgotten : goal.returns-in_err-head-clause-forgotten
 returns-in_err-head-clause-forgotten g c =

@@ -26,11 +26,11 @@ fall-requires-clause-few g c =
 pub returns-clause-holds : goal.returns-clause-holds
 returns-clause-holds g c =
     below_holds c.cached-page.result.now c.args.level c.args.key.now c.args.place.now.entry c.args.place.now.next c.fall.result.entry c.fall.result.next
-    (c.in_ok-head.ensures.ends c.cached-page.result.now c.cached-page.ensures.held).1 c.requires.from c.fall.ensures
+    (c.in_ok-head.ensures.ends c.cached-page.result.now c.cached-page.ensures.held).1 c.requires c.fall.ensures
 
 pub returns-clause-below : goal.returns-clause-below
-returns-clause-below g c = λ honest. record {
-  named = c.in_ok-head.ensures.named honest;
+returns-clause-below g c = λ honest sure. record {
+  named = c.in_ok-head.ensures.named honest sure;
   falls = falls_there c.args.pager.now.store.pages c.args.place.now.entry.page c.cached-page.result.now c.args.key.now c.args.place.now.next c.fall.result.next c.fall.result.entry
       (page_now c.args.pager.now c.bring_next.new.pager c.args.place.now.entry.page c.cached-page.result.now (ap (λ (p : PagerView). p.store) c.in_ok-head.ensures.steps.same)
       c.cached-page.ensures.page honest) c.fall.ensures;
@@ -44,7 +44,7 @@ pub returns-in_err-head-clause-holds : goal.returns-in_err-head-clause-holds
 returns-in_err-head-clause-holds g c = none_ok _ c.from_residual.result _ c.from_residual.ensures.1
 
 pub returns-in_err-head-clause-below : goal.returns-in_err-head-clause-below
-returns-in_err-head-clause-below g c = λ honest. none_ok _ c.from_residual.result _ c.from_residual.ensures.1
+returns-in_err-head-clause-below g c = λ honest sure. none_ok _ c.from_residual.result _ c.from_residual.ensures.1
 
 pub returns-in_err-head-clause-forgotten : goal.returns-in_err-head-clause-forgotten
 returns-in_err-head-clause-forgotten g c =

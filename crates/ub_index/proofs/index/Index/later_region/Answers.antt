@@ -13,10 +13,10 @@ use Rattle.ub_index.proofs.StepFacts.{none_ok, refused_as}
 use Rattle.ub_index.proofs.index.Index.later_region.Goals as goal
 
 pub returns-in_err-from-clause-given : goal.returns-in_err-from-clause-given
-returns-in_err-from-clause-given g c = none_ok _ c.from_residual.result _ c.from_residual.ensures.1
+returns-in_err-from-clause-given g c = λ sure. none_ok _ c.from_residual.result _ c.from_residual.ensures.1
 
 pub returns-in_err-from-clause-later : goal.returns-in_err-from-clause-later
-returns-in_err-from-clause-later g c = none_ok _ c.from_residual.result _ c.from_residual.ensures.1
+returns-in_err-from-clause-later g c = λ sure. none_ok _ c.from_residual.result _ c.from_residual.ensures.1
 
 pub returns-in_err-from-clause-small : goal.returns-in_err-from-clause-small
 returns-in_err-from-clause-small g c = none_ok _ c.from_residual.result _ c.from_residual.ensures.1
@@ -30,34 +30,34 @@ pub returns-in-Some-clause-effect : goal.returns-in-Some-clause-effect
 returns-in-Some-clause-effect g c = record {
   same = c.in_ok-from.ensures.effect.same;
   checked = c.in_ok-from.ensures.effect.checked;
-  faults = λ honest.
-      let found = subst (λ (o : Option (Key × Seat)). FindsAfter c.args.self.now c.args.pager.now.store (Aims c.args.goal.now) (option_copied c.args.after) o) c.in-Some.is c.in_ok-from.ensures.found in
+  faults = λ sure honest.
+      let found = subst (λ (o : Option (Key × Seat)). FindsAfter c.args.self.now c.args.pager.now.store (Aims c.args.goal.now) (option_copied c.args.after) o) c.in-Some.is (c.in_ok-from.ensures.found sure) in
       absurd (not_crossed c.args.self.now c.args.pager.now.store (Aims c.args.goal.now) (option_copied c.args.after) c.in-Some.from c.in-Some.seat found honest
       (before_of c.in-Some.seat.first c.in-Some.from (sym c.is_before.ensures ∙ c.if-is_before.true)));
 }
 
 pub returns-in-Some-2-clause-given : goal.returns-in-Some-2-clause-given
-returns-in-Some-2-clause-given g c =
+returns-in-Some-2-clause-given g c = λ sure.
     let last = ap (λ (v : IndexView). v.last) c.self.view_is in
     found_given c.args.self.now c.args.pager.now.store (Aims c.args.goal.now) (option_copied c.args.after) c.in_ok-from.field-0 c.in-Some.from c.in-Some.seat c.region_at.result
-    c.in_ok-from.ensures.found c.in-Some.is (c.region_at.ensures.region ∙ ap (λ (n : ℕ). region_of n c.in-Some.seat) last)
+    (c.in_ok-from.ensures.found sure) c.in-Some.is (c.region_at.ensures.region ∙ ap (λ (n : ℕ). region_of n c.in-Some.seat) last)
 
 pub returns-in-Some-2-clause-later : goal.returns-in-Some-2-clause-later
-returns-in-Some-2-clause-later g c =
+returns-in-Some-2-clause-later g c = λ sure.
     let last = ap (λ (v : IndexView). v.last) c.self.view_is in
     found_later c.args.self.now c.args.pager.now.store (Aims c.args.goal.now) (option_copied c.args.after) c.in_ok-from.field-0 c.in-Some.from c.in-Some.seat c.region_at.result
-    c.in_ok-from.ensures.found c.in-Some.is (sym c.is_before.ensures ∙ c.if-is_before.false) (c.region_at.ensures.region ∙ ap (λ (n : ℕ). region_of n c.in-Some.seat) last)
+    (c.in_ok-from.ensures.found sure) c.in-Some.is (sym c.is_before.ensures ∙ c.if-is_before.false) (c.region_at.ensures.region ∙ ap (λ (n : ℕ). region_of n c.in-Some.seat) last)
 
 pub returns-in-Some-2-clause-small : goal.returns-in-Some-2-clause-small
 returns-in-Some-2-clause-small g c = c.region_at.ensures.small
 
 pub returns-in-Some-2-clause-effect : goal.returns-in-Some-2-clause-effect
-returns-in-Some-2-clause-effect g c = record { same = c.in_ok-from.ensures.effect.same; checked = c.in_ok-from.ensures.effect.checked; faults = tt }
+returns-in-Some-2-clause-effect g c = record { same = c.in_ok-from.ensures.effect.same; checked = c.in_ok-from.ensures.effect.checked; faults = λ sure. tt }
 
 pub returns-in-None-clause-given : goal.returns-in-None-clause-given
-returns-in-None-clause-given g c =
+returns-in-None-clause-given g c = λ sure.
     none_given c.args.self.now c.args.pager.now.store (Aims c.args.goal.now) (option_copied c.args.after)
-    (subst (λ (o : Option (Key × Seat)). FindsAfter c.args.self.now c.args.pager.now.store (Aims c.args.goal.now) (option_copied c.args.after) o) c.in-None.is c.in_ok-from.ensures.found)
+    (subst (λ (o : Option (Key × Seat)). FindsAfter c.args.self.now c.args.pager.now.store (Aims c.args.goal.now) (option_copied c.args.after) o) c.in-None.is (c.in_ok-from.ensures.found sure))
 
 pub returns-in-None-clause-effect : goal.returns-in-None-clause-effect
-returns-in-None-clause-effect g c = record { same = c.in_ok-from.ensures.effect.same; checked = c.in_ok-from.ensures.effect.checked; faults = tt }
+returns-in-None-clause-effect g c = record { same = c.in_ok-from.ensures.effect.same; checked = c.in_ok-from.ensures.effect.checked; faults = λ sure. tt }

@@ -1,4 +1,5 @@
-use Rattle.std.proofs.Common.{Result, Ok, Err, IfOk, subst}
+use Rattle.std.proofs.Common.{Result, Ok, Err, IfOk, subst, sym}
+use Rattle.ub_index.specs.Held.{AreChecked}
 use Rattle.ub_directory.specs.Spans.{first_keys}
 use Rattle.ub_region.specs.Regions.{index_holding}
 use Rattle.ub_store.specs.Facts.{StoreFacts}
@@ -16,6 +17,6 @@ seat_given (Ok seat) index store key is given = seat_is index store key seat is 
 seat_given (Err fault) index store key is given = tt
 
 pub returns-clause-seat : goal.returns-clause-seat
-returns-clause-seat g c = λ is.
+returns-clause-seat g c = λ sure is.
     seat_given c.descend.result c.args.self.now c.args.pager.now.store c.args.key.now is
-    (subst (λ (index : IndexView). IfOk c.descend.result (Gives index c.args.pager.now.store c.args.key.now)) c.self.view_is c.descend.ensures.given)
+    (subst (λ (index : IndexView). IfOk c.descend.result (Gives index c.args.pager.now.store c.args.key.now)) c.self.view_is (c.descend.ensures.given (subst (λ (index : IndexView). AreChecked index.last c.args.pager.now) (sym c.self.view_is) sure)))

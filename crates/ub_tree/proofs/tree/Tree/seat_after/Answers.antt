@@ -15,7 +15,7 @@ pub returns-in_err-next-clause-effect : goal.returns-in_err-next-clause-effect
 returns-in_err-next-clause-effect g c =
     let t = c.self.inside in
     let small = subst (λ n. n < 2 ^ 128) (sym c.self.invariant.last_is) (last_small t.schema.dims t.schema.counts.few_dims) in
-    rw (← c.self.view_is) (search_refused t.schema t.index t.count t.next t.rows (is_written t.mark) t.is_failed t.pager c.after.new.pager _ (Option Seat) c.from_residual.result c.in_err-next.field-0.0 small
+    rw (← c.self.view_is) (search_refused t.schema t.index t.count t.next t.rows (is_written t.mark) t.is_failed t.pager c.after.new.pager _ (Option Seat) c.from_residual.result c.in_err-next.field-0.0 small c.self.invariant.checked
     c.from_residual.ensures.1 c.in_err-next.ensures.effect)
 
 pub returns-else-begins_at-clause-effect : goal.returns-else-begins_at-clause-effect
@@ -23,7 +23,7 @@ returns-else-begins_at-clause-effect g c =
     let t = c.self.inside in
     let v : TreeView = tree_view t.schema t.index t.count t.next t.rows (is_written t.mark) t.is_failed t.pager in
     let told = subst (λ (x : TreeView). IsSeatOf x c.args.seat.now) (sym c.self.view_is) c.requires in
-    let given = given_next v c.args.seat.now.next c.in-Some.next (rw c.in-Some.is at c.in_ok-next.ensures.given) in
+    let given = given_next v c.args.seat.now.next c.in-Some.next (rw c.in-Some.is at (c.in_ok-next.ensures.given c.self.invariant.checked)) in
     let over : ¬ (IsHonest t.pager.store) =
     elim (next_begins v told.0 given.0 c.args.seat.now c.in-Some.next told.1 given.1 given.2) [
       | inl same ↦ let no = c.if-begins_at.ensures.1 same in cc
