@@ -207,7 +207,7 @@ fn later_of(from: &Key, z: u128) -> Key
 }
 
 // What the first bytes tell of a page that fits the place from which an entry names it: one that was read now is checked in
-// full, and of one that was held, and so was checked before, its ends are.
+// full, and of one that was held its ends are, which is enough where it was checked before.
 fn fits_so(
     page: &Page,
     is_read: bool,

@@ -83,10 +83,10 @@ impl Index {
     ///
     /// Page comes where a page on the way down is refused: by its reader; as BadCount where it isn't of the level due; as
     /// OutOfRegion where it doesn't begin with the key by which the page above names it, or doesn't end before that of the next
-    /// one. One that is read in this call is looked at in full; of one that the pager holds, which was checked, the ends alone
-    /// are. Store with NoPage comes where a page is named that the store doesn't
-    /// have, with Device where the store failed in this call, with Memory where memory was refused. The first refusal on the
-    /// way is told. Index and store are then as they were, and the pager has forgotten the page that is refused.
+    /// one. One that is read in this call is looked at in full; of one that the pager holds the ends alone are, which is enough
+    /// where it was checked before. Store with NoPage comes where a page is named that the store doesn't have, with Device where
+    /// the store failed in this call, with Memory where memory was refused. The first refusal on the way is told. Index and
+    /// store are then as they were, and the pager has forgotten the page that is refused.
     pub fn seat_of<S: PageStore>(&self, pager: &mut Pager<S>, key: &Key) -> Result<Seat, IndexFault>
         ensures given { AreChecked self.now.last pager.old
             → IfOk result (Gives self.now pager.old.store key.now) }
@@ -109,11 +109,13 @@ impl Index {
     ) -> Result<Option<Seat>, IndexFault>
         ensures given { AreChecked self.now.last pager.old
             → IfOk result (GivesAny self.now pager.old.store seat.now.next) }
-        ensures after { AreChecked self.now.last pager.old → (i : ℕ) → IsIndexOn self.now pager.old.store
+        ensures after { AreChecked self.now.last pager.old → (i : ℕ)
+            → IsIndexOn self.now pager.old.store
             → IsSeatAt (entries_in self.now pager.old.store) i seat.now
             → IfOk result (IsNextSeat (entries_in self.now pager.old.store) i) }
         ensures forgotten { IfErr result (IsForgotten pager.new) }
-        ensures effect { GoesDown (λ k. seat.now.next ≡ Some k) self.now pager.old pager.new result }
+        ensures effect { GoesDown (λ k. seat.now.next ≡ Some k) self.now pager.old pager.new
+            result }
     {
         match &seat.next {
             Some(next) => Ok(Some(self.seat_of(pager, next)?)),
@@ -131,7 +133,8 @@ impl Index {
         ensures given { AreChecked self.now.last pager.old
             → IfOk result (GivesAny self.now pager.old.store
             (key_before seat.now.first.z seat.now.first.number)) }
-        ensures before { AreChecked self.now.last pager.old → (i : ℕ) → IsIndexOn self.now pager.old.store
+        ensures before { AreChecked self.now.last pager.old → (i : ℕ)
+            → IsIndexOn self.now pager.old.store
             → IsSeatAt (entries_in self.now pager.old.store) i seat.now
             → IfOk result (IsPreviousSeat (entries_in self.now pager.old.store) i) }
         ensures forgotten { IfErr result (IsForgotten pager.new) }
@@ -148,7 +151,7 @@ impl Index {
     ///
     /// Refused as `seat_of` is, on the way to the first key of `after`, or then on the way to the place from which the search
     /// goes on. Page comes with the root and OutOfRegion where what is found would not begin later than `after`: only a store
-    /// that isn't honest gives one page in two ways.
+    /// that isn't honest, or a pager whose pages weren't checked, gives one page in two ways.
     pub fn seek<S: PageStore>(
         &self,
         pager: &mut Pager<S>,
@@ -158,7 +161,8 @@ impl Index {
         ensures given { AreChecked self.now.last pager.old
             → IfOk result (GivesAfter self.now pager.old.store (λ _ to. to ≡ Some z)
             (option_copied after.entry)) }
-        ensures later { AreChecked self.now.last pager.old → IfOk result (λ found. IfSome found (IsLater (option_copied after.entry))) }
+        ensures later { AreChecked self.now.last pager.old
+            → IfOk result (λ found. IfSome found (IsLater (option_copied after.entry))) }
         ensures small { IfOk result (λ found. IfSome found (λ r. r.first.number < 2 ^ 32)) }
         ensures found { AreChecked self.now.last pager.old
             → IsIndexOn self.now pager.old.store → IfOk result (First
@@ -181,7 +185,8 @@ impl Index {
         ensures given { AreChecked self.now.last pager.old
             → IfOk result (GivesAfter self.now pager.old.store
             (λ from. LeastFrom (HoldsAny boxes.now) from.z) (option_copied after.entry)) }
-        ensures later { AreChecked self.now.last pager.old → IfOk result (λ found. IfSome found (IsLater (option_copied after.entry))) }
+        ensures later { AreChecked self.now.last pager.old
+            → IfOk result (λ found. IfSome found (IsLater (option_copied after.entry))) }
         ensures small { IfOk result (λ found. IfSome found (λ r. r.first.number < 2 ^ 32)) }
         ensures found { AreChecked self.now.last pager.old
             → IsIndexOn self.now pager.old.store → IfOk result (First
@@ -197,11 +202,11 @@ impl Index {
     /// Prepares that a region comes behind that of a seat, with this first key, on a page that the store gets first. Nothing is
     /// written.
     ///
-    /// Refused as `seat_of` is, each page on the way looked at in full, on the way to the seat's first key. With BadSize of the store exactly
-    /// where it would have more than 4294967295 pages: the region takes one, each page of 170 entries on that way one, from the
-    /// lowest up to the first that has fewer, and a new root one, where all are full. With Full exactly where that is room
-    /// enough, and all 16 levels are full on that way. Where there is no page for the region, that is told before any is read.
-    /// Index and store are then as they were.
+    /// Refused as `seat_of` is, each page on the way looked at in full, on the way to the seat's first key. With BadSize of the
+    /// store exactly where it would have more than 4294967295 pages: the region takes one, each page of 170 entries on that way
+    /// one, from the lowest up to the first that has fewer, and a new root one, where all are full. With Full exactly where that
+    /// is room enough, and all 16 levels are full on that way. Where there is no page for the region, that is told before any is
+    /// read. Index and store are then as they were.
     pub fn prepare_add<S: PageStore>(
         &self,
         alloc: Global,
@@ -212,11 +217,12 @@ impl Index {
         ensures made { IsHonest pager.old.store → IfOk result (IsPrepared self.now pager.old.store
             seat.now.first (Some (added_at first.now pager.old.store)) (page_count pager.old.store)
             (so_far [] (page_count pager.old.store + 1))) }
-        ensures few { IfOk result
-            (TakesFew (page_count pager.old.store) (page_count pager.old.store + 1) (self.now.levels + 1)) }
+        ensures few { IfOk result (TakesFew (page_count pager.old.store)
+            (page_count pager.old.store + 1) (self.now.levels + 1)) }
         ensures takes { IsHonest pager.old.store → IfOk result
             (TakesNeeded self.now pager.old.store seat.now.first) }
-        ensures pages { IsHonest pager.old.store → Leads self.now pager.old.store seat.now.first seat.now
+        ensures pages { IsHonest pager.old.store
+            → Leads self.now pager.old.store seat.now.first seat.now
             → IsWithinSeat self.now.last seat.now.first seat.now.next first.now
             → IfOk result (λ c. AreIndexPages self.now.last c.sheets) }
         ensures ready { (i : ℕ) → IsIndexOn self.now pager.old.store
@@ -251,8 +257,9 @@ impl Index {
 
     /// Prepares that the region of a seat goes, which isn't the first. Nothing is written, and no page is added.
     ///
-    /// Refused as `seat_of` is, each page on the way looked at in full, on the way to the seat's first key, and where a page that would be the
-    /// root can't be taken; with BadCount of the root where no region would be left. Index and store are then as they were.
+    /// Refused as `seat_of` is, each page on the way looked at in full, on the way to the seat's first key, and where a page that
+    /// would be the root can't be taken; with BadCount of the root where no region would be left. Index and store are then as
+    /// they were.
     pub fn prepare_drop<S: PageStore>(
         &self,
         alloc: Global,
@@ -358,7 +365,8 @@ impl Index {
         ensures given { AreChecked self.now.last pager.old
             → IfOk result (GivesAfter self.now pager.old.store (Aims goal.now)
             (option_copied after.entry)) }
-        ensures later { AreChecked self.now.last pager.old → IfOk result (λ found. IfSome found (IsLater (option_copied after.entry))) }
+        ensures later { AreChecked self.now.last pager.old
+            → IfOk result (λ found. IfSome found (IsLater (option_copied after.entry))) }
         ensures small { IfOk result (λ found. IfSome found (λ r. r.first.number < 2 ^ 32)) }
         ensures effect { GoesDown (IsSought self.now pager.old.store (Aims goal.now)
             (option_copied after.entry)) self.now pager.old pager.new result }
@@ -405,7 +413,8 @@ impl Index {
         pager: &mut Pager<S>,
         goal: &Goal,
     ) -> Result<Option<(Key, Seat)>, IndexFault>
-        ensures found { AreChecked self.now.last pager.old → IfOk result (FindsAfter self.now pager.old.store (Aims goal.now) None) }
+        ensures found { AreChecked self.now.last pager.old → IfOk result
+            (FindsAfter self.now pager.old.store (Aims goal.now) None) }
         ensures forgotten { IfErr result (IsForgotten pager.new) }
         ensures effect { GoesDown (IsSought self.now pager.old.store (Aims goal.now) None) self.now
             pager.old pager.new result }
@@ -427,8 +436,8 @@ impl Index {
         ensures found { AreChecked self.now.last pager.old → IfOk result
             (FindsAfter self.now pager.old.store (Aims goal.now) (Some region.now)) }
         ensures forgotten { IfErr result (IsForgotten pager.new) }
-        ensures effect { GoesDown (IsSought self.now pager.old.store (Aims goal.now) (Some region.now))
-            self.now pager.old pager.new result }
+        ensures effect { GoesDown (IsSought self.now pager.old.store (Aims goal.now)
+            (Some region.now)) self.now pager.old pager.new result }
     {
         let leaf = leaf_of(pager, self.root, self.levels, self.last, &region.first)?;
         match look(pager, self.last, &leaf, &region.first, goal)? {

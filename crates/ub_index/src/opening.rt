@@ -44,8 +44,8 @@ impl Index {
     }
 
     /// Makes an index of one region, which stands on the page `page` and begins with the least key, in a space with this last
-    /// address: puts its root, of level 1, on the page `root`, which isn't the store's first. Device comes where the store failed in this call, and that page
-    /// may then hold any bytes; NoPage where there is no such page.
+    /// address: puts its root, of level 1, on the page `root`, which isn't the store's first. Device comes where the store
+    /// failed in this call, and that page may then hold any bytes; NoPage where there is no such page.
     pub fn create<S: PageStore>(
         pager: &mut Pager<S>,
         root: u32,

@@ -12,6 +12,7 @@ use Rattle.ub_table.specs.Region.{Region}
 use Rattle.ub_tree.proofs.AnswerFacts.{answers_up, next_later}
 use Rattle.ub_tree.proofs.CallFacts.{last_small}
 use Rattle.ub_tree.proofs.CheckFacts.{first_once}
+use Rattle.ub_tree.proofs.CoverFacts.{covered}
 use Rattle.ub_tree.proofs.IndexedFacts.{contained_told, first_given, sound_index, spans_told, told_contained}
 use Rattle.ub_tree.proofs.WalkFacts.{answers_are_those, those_few}
 use Rattle.ub_bigmin.specs.Box.{Corners}
@@ -20,7 +21,7 @@ use Rattle.ub_index.proofs.Numbers.{distinct_right}
 use Rattle.ub_index.specs.View.{entries_in}
 use Rattle.ub_index_page.specs.declared.index.TheConstants.{MAX_LEVEL}
 use Rattle.ub_tree.specs.Handing.{AreMetBy}
-use Rattle.ub_tree.specs.Laws.{SpansAscend, PagesDiffer, SpansCoverTheSpace, RowsLieInSpans, RegionsAreTold, NextIsTheFirst, NextIsLater, AnswersAreThoseThatMeet, AnswersAreRegionsThatMeet, AnswersAscend, GrownIsNotFull, WellPagesAreSound, SoundTreesAreWell, FirstFaultIsOne}
+use Rattle.ub_tree.specs.Laws.{SpansAscend, PagesDiffer, SpansCoverTheSpace, RowsLieInSpans, RegionsAreTold, NextIsTheFirst, NextIsLater, AnswersAreThoseThatMeet, AnswersAreRegionsThatMeet, AnswersAscend, AnswersCover, GrownIsNotFull, WellPagesAreSound, SoundTreesAreWell, FirstFaultIsOne}
 use Rattle.ub_tree.specs.Placed.{Placed, entry_of, regions_in}
 use Rattle.ub_tree.specs.Indexed.{reserved}
 use Rattle.ub_tree.specs.Spans.{first_keys, regions_of, First, IsLater, Meets, Region as Span}
@@ -167,6 +168,9 @@ answers_are_regions_that_meet t boxes answers are = answers_there boxes t None a
 
 pub answers_ascend : AnswersAscend
 answers_ascend t boxes answers i j a b are lt at_i at_j = answers_up boxes t None answers are i j a b lt at_i at_j
+
+pub answers_cover : AnswersCover
+answers_cover t boxes answers key honest are inside upto = covered boxes t honest key inside upto answers are
 
 pub grown_is_not_full : GrownIsNotFull
 grown_is_not_full t sound grown full =

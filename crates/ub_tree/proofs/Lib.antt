@@ -33,6 +33,7 @@ pub mod ReadyFacts
 pub mod OpenedFacts
 pub mod OpeningFacts
 pub mod ClosingFacts
+pub mod CoverFacts
 pub mod CreationFacts
 pub mod ReadFacts
 pub mod ChainFacts

@@ -82,7 +82,7 @@ impl<S: PageStore> Tree<S> {
         Ok(())
     }
 
-    // Reads the region of a seat. After a fault any region may stand there.
+    // Reads the region of a seat. After a fault any region may stand there. A page that is refused isn't held after it.
     pub(crate) fn read_at(&mut self, seat: &Seat, region: &mut RegionPage) -> Result<(), TreeFault>
         requires { IsSeatOf self.old seat.now }
         ensures read { OnOk result (IsReadAt self.old seat.now region.new) }

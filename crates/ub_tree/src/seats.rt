@@ -39,8 +39,8 @@ impl<S: PageStore> Tree<S> {
         Ok(seat)
     }
 
-    // The seat of the region after that of a seat, if there is one: where that begins. Pages that are held and don't ascend can tell of
-    // another one, and so can a store that isn't honest.
+    // The seat of the region after that of a seat, if there is one: where that begins. Only a store that isn't honest can tell of
+    // another one, which is refused: so no region is changed together with one that isn't its neighbour.
     pub(crate) fn seat_after(&mut self, seat: &Seat) -> Result<Option<Seat>, TreeFault>
         requires { IsSeatOf self.old seat.now }
         ensures begins { IfOk result (λ found. IfSome found

@@ -27,6 +27,8 @@ use ub_writing::Mark;
 /// addresses.
 ///
 /// The index, which tells where each region begins and its page, stands in the store, and is read as calls come to its pages.
+/// Over an honest store each page of it that is held in memory was checked: so what a call tells of doesn't depend on what was
+/// read before.
 /// After a write, an extension or a sync that failed the tree does no more: every call that could fail answers Failed.
 #[derive(Drop)]
 pub struct Tree<S: PageStore> {
@@ -197,7 +199,8 @@ impl<S: PageStore> Tree<S> {
     /// region; otherwise OutOfRegion. So of a region that isn't the tree's, the refusal is told
     /// under what that one says. Failed where the tree has failed; Page where the page is refused;
     /// Store where the store failed in this call or has no such page; Memory where memory was
-    /// refused, for the note or for the page. After a fault any region may stand in `page`.
+    /// refused, for the note or for the page. After a fault any region may stand in `page`. A page
+    /// that is refused isn't held after it.
     pub fn read_region(&mut self, region: &Region, page: &mut RegionPage) -> Result<(), TreeFault>
         ensures dims { OnOk result (page.new.dims ≡ self.old.schema.dims) }
         ensures first { OnOk result (page.new.region.first ≡ region.now.first) }
