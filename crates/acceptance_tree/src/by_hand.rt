@@ -1,9 +1,13 @@
 // The table of five rows on other pages, made by hand, byte for byte: its regions are on pages 1, 3 and 2, and the root of its index
 // is on page 4. It is opened, asked, changed, and closed, and the root stays there.
+//
+// And a table whose index names one page as a leaf and as a region: what a query tells of that page doesn't depend on the queries
+// before it.
 use crate::samples::{Sheet, Table};
 use crate::trial::{Answer, DONE, Run, Step, YES, goes};
 use ub_page::Entry;
-use ub_table::{Key, Row};
+use ub_table::{Key, PageFault, Row};
+use ub_tree::TreeFault;
 
 const LAST: u128 = 18_446_744_073_709_551_615;
 
@@ -190,4 +194,93 @@ static RUN: Run = Run {
 #[test]
 fn a_root_on_another_page_stays_there(rt: HostRuntime) {
     goes(&rt, rt.alloc(), Table::Plane(2), &RUN);
+}
+
+// The root, on page 6, leads to a leaf on page 2, whose second and third entries are equal, and to one on page 7, which names page 2
+// as a region.
+const TWICE_NAMED: [Sheet; 8] = [
+    Sheet::Rooted(6, 5, 5, 6, 2),
+    FIRST,
+    Sheet::Index(
+        1,
+        &[
+            Entry {
+                first: Key { z: 0, number: 0 },
+                page: 1,
+            },
+            Entry {
+                first: Key { z: 5, number: 0 },
+                page: 3,
+            },
+            Entry {
+                first: Key { z: 5, number: 0 },
+                page: 4,
+            },
+            Entry {
+                first: Key { z: 8, number: 0 },
+                page: 5,
+            },
+        ],
+    ),
+    Sheet::Blank,
+    Sheet::Blank,
+    Sheet::Blank,
+    Sheet::Index(
+        2,
+        &[
+            Entry {
+                first: Key { z: 0, number: 0 },
+                page: 2,
+            },
+            Entry {
+                first: Key { z: 10, number: 0 },
+                page: 7,
+            },
+        ],
+    ),
+    Sheet::Index(
+        1,
+        &[Entry {
+            first: Key { z: 10, number: 0 },
+            page: 2,
+        }],
+    ),
+];
+
+// Why page 2 is refused as a leaf.
+const NO_LEAF: Answer = Err(TreeFault::Page {
+    page: 2,
+    fault: PageFault::BadOrder,
+});
+
+// And as a region.
+const NO_REGION: Answer = Err(TreeFault::Page {
+    page: 2,
+    fault: PageFault::WrongKind,
+});
+
+// Each of the two first, and both once more.
+const BY_TURNS: [(Step, Answer); 10] = [
+    (Step::Stored(0, &TWICE_NAMED), DONE),
+    (Step::Span(10), NO_REGION),
+    (Step::Seek(9), NO_LEAF),
+    (Step::Span(10), NO_REGION),
+    (Step::Seek(5), NO_LEAF),
+    (Step::Stored(0, &TWICE_NAMED), DONE),
+    (Step::Seek(9), NO_LEAF),
+    (Step::Span(10), NO_REGION),
+    (Step::Seek(5), NO_LEAF),
+    (Step::Span(10), NO_REGION),
+];
+
+static TURNS: Run = Run {
+    shown: "a page that is refused is told of alike in any order",
+    first: &BY_TURNS,
+    then: &[],
+    cases: &[],
+};
+
+#[test]
+fn a_page_that_is_named_twice_is_refused_alike_in_any_order(rt: HostRuntime) {
+    goes(&rt, rt.alloc(), Table::Plane(2), &TURNS);
 }

@@ -827,7 +827,7 @@ const CALLS: [Case; 5] = [
             Made(Step::Close, DONE, [0, 0, 0]),
         ],
     },
-    // A region that is refused: its page stays cached.
+    // A page of a region that is refused is read again.
     Case {
         sheets: Closed::Of(&[
             Sheet::Header(1, 0, 1, false),
@@ -843,7 +843,7 @@ const CALLS: [Case; 5] = [
         steps: &[
             Made(Step::Open, DONE, [2, 0, 0]),
             Made(Step::Check, BLANK_1, [1, 0, 0]),
-            Made(Step::Check, BLANK_1, [0, 0, 0]),
+            Made(Step::Check, BLANK_1, [1, 0, 0]),
             Made(Step::Close, DONE, [0, 0, 0]),
         ],
     },

@@ -1060,8 +1060,8 @@ static FAILING: &[Try] = &[
     ),
     // 171 regions. The calls of the old store are 174 for its pages, and two for those of the directory once more. Those of the
     // new one are 2 for each of 174 pages and of two pages of the lowest level, 2 that read where these begin, 2 for the root and one
-    // that reads it; and then one for each region, and one that reads the second page of the lowest level again, which other pages
-    // have driven out.
+    // that reads it; and then one for each region, and 2 that read the pages of the lowest level again, since a page that nothing
+    // has checked isn't held.
     Try::Ends(
         Old {
             pages: Pages::Line(171, 2),
@@ -1088,7 +1088,8 @@ static FAILING: &[Try] = &[
             End(0, 527, DEVICE),
             End(0, 528, DEVICE),
             End(0, 529, DEVICE),
-            End(177, 530, DONE),
+            End(0, 530, DEVICE),
+            End(177, 531, DONE),
         ],
     ),
 ];

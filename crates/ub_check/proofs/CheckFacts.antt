@@ -8,6 +8,7 @@ use Rattle.ub_check.specs.declared.checking.Told.{Told}
 use Rattle.ub_check.specs.declared.walk.Walk.{Walk}
 use Rattle.ub_check.specs.inner.Checking.{HasTaken, IsWalkFault, TakesOn, Walks, asked_by}
 use Rattle.ub_index.proofs.SearchFacts.{same_store}
+use Rattle.ub_index.specs.Held.{KeepsChecked}
 use Rattle.ub_index.specs.Index.{top}
 use Rattle.ub_index.specs.Searching.{store_after}
 use Rattle.ub_index.specs.declared.fault.IndexFault.{IndexFault}
@@ -50,6 +51,7 @@ module _ (schema : Schema) (told : Told) (old : PagerView) (last : ℕ) (walk : 
     same = h.same
         ∙ ap (λ (s : StoreFacts). record old { store = s; cached = new.cached })
         (same_store T U f old.store ∙ ap (λ (x : IndexFault). store_after {A = T} (Err x) old.store) (sym is));
+    checked = subst (λ (n : ℕ). KeepsChecked n old new) last_is h.checked;
     well = λ honest. tt;
     faults = subst (λ (x : IndexFault). IsCheckFault schema told old.store x) (sym is)
         (walk_fault f (subst (λ (e : Entry). IsWalkFault schema last told.levels e None old.store walk f) entry_is h.faults));
@@ -57,7 +59,7 @@ module _ (schema : Schema) (told : Told) (old : PagerView) (last : ℕ) (walk : 
 
   -- it is
   module _ (to : Walk) (takes : TakesOn schema last told.levels entry None old.store walk to) (new : PagerView) (same : new ≡ record old { cached = new.cached })
-      (all : Bool) (met_all : (met : ℕ) → to.rows ≡ min met 18446744073709551615 → IsTrue all ↔ ((to.left ≡ 0) × (told.rows ≡ met))) where
+      (checked : KeepsChecked last old new) (all : Bool) (met_all : (met : ℕ) → to.rows ≡ min met 18446744073709551615 → IsTrue all ↔ ((to.left ≡ 0) × (told.rows ≡ met))) where
     run_taken : IsHonest old.store → (after : List Placed) × TakesTable (asked_in schema told old.store) told after × HasTaken told.regions to after
     run_taken honest =
         let h = (subst (λ (e : Entry). TakesOn schema last told.levels e None old.store walk to) entry_is takes) told.regions [] honest has in
@@ -71,6 +73,7 @@ module _ (schema : Schema) (told : Told) (old : PagerView) (last : ℕ) (walk : 
     pub run_ends : {T : Type 0} (f : IndexFault) → f ≡ Page 0 BadCount → ¬ (IsTrue all) → Checks {A = T} schema told old new (Err f)
     run_ends {T = T} f is other = subst (λ (x : IndexFault). Checks {A = T} schema told old new (Err x)) (sym is) (record {
       same = same;
+      checked = subst (λ (n : ℕ). KeepsChecked n old new) last_is checked;
       well = λ honest. tt;
       faults = λ honest.
           let h = run_taken honest in
@@ -87,6 +90,7 @@ module _ (schema : Schema) (told : Told) (old : PagerView) (last : ℕ) (walk : 
     pub run_well : {T : Type 0} (x : T) → IsTrue all → Checks schema told old new (Ok x)
     run_well x met = record {
       same = same;
+      checked = subst (λ (n : ℕ). KeepsChecked n old new) last_is checked;
       well = λ honest.
           let h = run_taken honest in
           let counts = (met_all (length (rows_of (regions_in h.0))) h.2.rows).0 met in
@@ -99,4 +103,4 @@ module _ (schema : Schema) (told : Told) (old : PagerView) (last : ℕ) (walk : 
 -- nothing is read by a check that hasn't begun
 pub not_begun : {T : Type 0} (schema : Schema) (told : Told) (r : Result T IndexFault) (old : PagerView) → IsErrAnd r (λ x. x ≡ Store store.Memory) → Checks schema told old old r
 not_begun schema told (Ok x) old is = absurd is
-not_begun schema told (Err f) old is = rw is (record { same = refl; well = λ honest. tt; faults = tt })
+not_begun schema told (Err f) old is = rw is (record { same = refl; checked = λ was. was; well = λ honest. tt; faults = tt })

@@ -7,14 +7,20 @@ use Rattle.ub_index.specs.Index.{NamesFitting, entries_of, first_or}
 use Rattle.ub_index.specs.declared.fault.IndexFault.{IndexFault}
 use Rattle.ub_index.specs.declared.fault.IndexFault.TheVariants.{Full, Page, Store}
 use Rattle.ub_page.specs.declared.entries.Entry.{Entry}
-use Rattle.ub_index.proofs.FitFacts.{not_zero}
+use Rattle.ub_page.proofs.PageLaws.{region_parts}
+use Rattle.ub_page.specs.Region.{region_page}
+use Rattle.ub_index.proofs.HeldFacts.{keeps_but, keeps_gone, keeps_less, keeps_on}
 use Rattle.ub_index.proofs.SearchFacts.{same_store as same_read}
+use Rattle.ub_index.proofs.StepFacts.{held_once, honest_back}
+use Rattle.ub_index.specs.Held.{KeepsChecked}
+use Rattle.ub_index_page.specs.Index.{IsIndexKind}
 use Rattle.ub_region.specs.Regions.{rows_of}
-use Rattle.ub_store.specs.Facts.{StoreFacts, IsHonest, page_count, counted as counted_there}
+use Rattle.ub_store.specs.Cache.{NoneMore, NoneMoreBut, SameBut, page_at}
+use Rattle.ub_store.specs.Facts.{StoreFacts, IsHonest, IsPage, page_count, counted as counted_there}
 use Rattle.ub_store.specs.View.{PagerView, SameTrace, Trace}
 use Rattle.ub_store.specs.declared.fault.StoreFault.{StoreFault}
 use Rattle.ub_store.specs.declared.fault.StoreFault.TheVariants as store
-use Rattle.ub_table.specs.Region.{Region, keys_of}
+use Rattle.ub_table.specs.Region.{Region, IsRegion, keys_of}
 use Rattle.ub_table.specs.declared.fault.PageFault.TheVariants.{BadRow}
 use Rattle.ub_table.specs.declared.fault.PageFault.{PageFault}
 use Rattle.ub_table.specs.declared.row.Key.{Key}
@@ -24,6 +30,7 @@ use Rattle.ub_check.specs.Checking.{Asked, StandsHere, StopsEach, StopsIn, Takes
 use Rattle.ub_index.specs.Searching.{count_with, store_after}
 use Rattle.ub_check.specs.Numbers.{AreNew, HasJust, IsNone, NumbersView}
 use Rattle.ub_check.specs.Placed.{Placed, regions_in}
+use Rattle.ub_check.specs.Standing.{IsRegionRefused}
 use Rattle.ub_check.specs.declared.walk.Walk.{Walk}
 use Rattle.ub_check.specs.inner.Checking.{HasTaken, IsPutTo, IsWalkFault, IsWalkedTo, TakesOn, Walks, asked_by}
 
@@ -112,6 +119,7 @@ numbers_at (k ∷ keys) (suc i) key at = numbers_at keys i key at
 pub walked_none : (schema : Schema) (last level : ℕ) (entries : List Entry) (end : Option Key) (old : PagerView) (from : Walk) → IsWalkedTo schema last level entries end old old from from 0
 walked_none schema last level entries end old from = record {
   same = refl;
+  checked = λ was. was;
   bound = refl;
   goes = λ count before honest has. (
     before,
@@ -131,10 +139,11 @@ module _ (schema : Schema) (last level : ℕ) (entries : List Entry) (end : Opti
       ap (λ (p : PagerView). asked_by schema last count to p.store) h.same ∙ ap (λ (b : ℕ). asked_for schema last count b old.store.pages) h.bound
 
   -- one more is taken
-  pub walked_more : (later : PagerView) (more : Walk) → later ≡ record now { cached = later.cached } → more.numbers.bound ≡ to.numbers.bound
+  pub walked_more : (later : PagerView) (more : Walk) → later ≡ record now { cached = later.cached } → KeepsChecked last now later → more.numbers.bound ≡ to.numbers.bound
       → TakesOn schema last level e next now.store to more → IsWalkedTo schema last level entries end old later from more (suc i)
-  walked_more later more same bound takes = record {
+  walked_more later more same checked bound takes = record {
     same = same ∙ ap (λ (p : PagerView). record p { cached = later.cached }) h.same;
+    checked = keeps_on last old now later h.checked checked;
     bound = bound ∙ h.bound;
     goes = λ count before honest has.
         let so_far = h.goes count before honest has in
@@ -161,6 +170,13 @@ module _ (schema : Schema) (last level : ℕ) (entries : List Entry) (end : Opti
       let here : StopsIn asked level e (first_or (drop (suc i) entries) end) so_far.0 n fault =
       subst (λ (o : Option Key). StopsIn asked level e o so_far.0 n fault) next_is (subst (λ (a : Asked). StopsIn a level e next so_far.0 n fault) (same_asked count) stops) in
       so_far.3 n fault (subst (λ (es : List Entry). StopsEach (TakesAll asked level) (StopsIn asked level) es end so_far.0 n fault) (sym (drop_at entries i e at)) (inl here))
+
+-- the page of a region doesn't begin as one of an index does
+region_no_kind : (schema : Schema) (region : Region) → IsRegion schema region → ¬ (IsIndexKind (region_page schema region))
+region_no_kind schema region is other =
+    let kind = (region_parts schema region (region_page schema region) is refl).kind in
+    let e = sym kind ∙ other in
+    absurd (omega arith)
 
 -- a pager whose store was read
 pager_read : (old new : PagerView) (s : StoreFacts) → new.store ≡ s → SameTrace old new → new ≡ record old { store = s; cached = new.cached }
@@ -199,6 +215,10 @@ count_read T U store.NoPage n = refl
 count_read T U store.Memory n = refl
 count_read T U store.BadSize n = refl
 
+not_zero : (n : ℕ) → (n ≡ 0 → ⊥) → 1 ≤ n
+not_zero zero h = absurd (h refl)
+not_zero (suc n) h = omega arith
+
 -- the region of an entry
 module _ (schema : Schema) (last : ℕ) (entry : Entry) (end : Option Key) (from : Walk) (old : PagerView) (some : from.left ≡ 0 → ⊥) where
   few : (count : ℕ) (before : List Placed) → HasTaken count from before → length before < count
@@ -216,14 +236,36 @@ module _ (schema : Schema) (last : ℕ) (entry : Entry) (end : Option Key) (from
     pub region_unread : {T : Type 0} (r : Result T IndexFault) (e : StoreFault) (new : PagerView) → IsErrAnd r (λ x. x ≡ Store e)
         → new.store ≡ record old.store { failed_reads = counted_there {A = U} (Err e) old.store.failed_reads } → SameTrace old new
         → (IsErrOf {T = U} (Err e) store.Device → IsTrue old.store.can_fail) → (IsErrOf {T = U} (Err e) store.NoPage → page_count old.store ≤ entry.page)
-        → (¬ (IsErrOf {T = U} (Err e) store.BadSize)) → Walks schema last 0 entry end from old new r
-    region_unread (Ok x) e new is same trace device missing size = absurd is
-    region_unread {T = T} (Err f) e new is same trace device missing size = record {
+        → (¬ (IsErrOf {T = U} (Err e) store.BadSize)) → NoneMore old.cached new.cached → Walks schema last 0 entry end from old new r
+    region_unread (Ok x) e new is same trace device missing size less = absurd is
+    region_unread {T = T} (Err f) e new is same trace device missing size less = record {
       same = pager_read old new (store_after {A = T} (Err f) old.store) (same
           ∙ ap (λ (n : ℕ). record old.store { failed_reads = n }) (count_read T U e old.store.failed_reads)
           ∙ ap (λ (x : IndexFault). store_after {A = T} (Err x) old.store) (sym is)) trace;
+      checked = keeps_less last old new (honest_back old.store new.store _ same) less;
       faults = subst (λ (x : IndexFault). IsWalkFault schema last 0 entry end old.store from x) (sym is) (unread_fault e device missing size);
     }
+
+  -- its page is refused, and then forgotten
+  pub region_refused : {T : Type 0} (f : IndexFault) (page : List ℕ) (of_page : PageFault) (read new : PagerView) → f ≡ Page entry.page of_page
+      → IsRegionRefused schema entry.first end page of_page → IsPage old.store entry.page page → read.store ≡ old.store → SameTrace old read → NoneMoreBut entry.page old.cached read.cached
+      → new ≡ record read { cached = new.cached } → page_at new.cached entry.page ≡ None → SameBut entry.page read.cached new.cached
+      → Walks {A = T} schema last 0 entry end from old new (Err f)
+  region_refused {T} f page of_page read new is refused at stores trace less same gone others =
+      let stores_on : new.store ≡ old.store = ap (λ (v : PagerView). v.store) same ∙ stores in
+      subst (λ (x : IndexFault). Walks {A = T} schema last 0 entry end from old new (Err x)) (sym is) (record {
+        same = pager_read old new old.store stores_on (ap (λ (v : PagerView). v.trace) same ∙ trace);
+        checked = keeps_gone last old new entry.page (λ honest. subst (λ (s : StoreFacts). IsHonest s) stores_on honest)
+            (λ m other_page other there. less m other_page other (sym (others m other) ∙ there)) gone;
+        faults = λ count before honest has. inr (few count before has, refl, inr (inl (page, at honest, of_page, refl, refused)));
+      })
+
+  -- its page is taken, and held
+  pub region_checked : (region : Region) (page : List ℕ) (new : PagerView) → IsRegion schema region → page ≡ region_page schema region → new.store ≡ old.store
+      → NoneMoreBut entry.page old.cached new.cached → page_at new.cached entry.page ≡ Some page → KeepsChecked last old new
+  region_checked region page new is page_is stores less held =
+      keeps_but last old new entry.page (λ honest. subst (λ (s : StoreFacts). IsHonest s) stores honest) less
+      (λ honest other there. inr (subst (λ (p : List ℕ). ¬ (IsIndexKind p)) (sym page_is ∙ held_once new.cached entry.page page other held there) (region_no_kind schema region is)))
 
   module _ (region : Region) (stands : (count : ℕ) → IsHonest old.store → StandsHere (asked_by schema last count from old.store) entry end region) where
     -- one of its rows has a number that isn't new
@@ -264,7 +306,7 @@ keyed keys dims rows are = ap (λ (ks : List Key). map (λ k. k.number) ks) are 
 
 -- a page of the index, with the regions that it leads to
 module _ (schema : Schema) (last level : ℕ) (entry : Entry) (end : Option Key) (from : Walk) (old : PagerView) where
-  step_fault : (e : IndexFault) → IsStepFault last old.store [] (suc level) entry end e → IsWalkFault schema last (suc level) entry end old.store from e
+  step_fault : (e : IndexFault) → IsStepFault last old.store (suc level) entry end e → IsWalkFault schema last (suc level) entry end old.store from e
   step_fault (Page n fault) h = λ count before honest has. inl (h.0, h.1 honest)
   step_fault Full h = absurd h
   step_fault (Store store.Memory) h = tt
@@ -274,14 +316,15 @@ module _ (schema : Schema) (last level : ℕ) (entry : Entry) (end : Option Key)
 
   -- it is refused
   pub page_stops : {T : Type 0} (U : Type 0) (r : Result T IndexFault) (e : IndexFault) (new : PagerView) → IsErrAnd r (λ x. x ≡ e)
-      → Steps {A = U} last [] (suc level) entry end old new (Err e) → Walks schema last (suc level) entry end from old new r
+      → Steps {A = U} last (suc level) entry end old new (Err e) → Walks schema last (suc level) entry end from old new r
   page_stops U (Ok x) e new is h = absurd is
   page_stops {T = T} U (Err f) e new is h = record {
     same = h.same ∙ ap (λ (s : StoreFacts). record old { store = s; cached = new.cached }) (same_read T U e old.store ∙ ap (λ (x : IndexFault). store_after {A = T} (Err x) old.store) (sym is));
+    checked = h.checked;
     faults = subst (λ (x : IndexFault). IsWalkFault schema last (suc level) entry end old.store from x) (sym is) (step_fault e h.faults);
   }
 
-  module _ (entries : List Entry) (mid : PagerView) (read : mid ≡ record old { cached = mid.cached }) (named : IsHonest old.store → NamesFitting last old.store.pages (suc level) entry end)
+  module _ (entries : List Entry) (mid : PagerView) (read : mid ≡ record old { cached = mid.cached }) (checked : KeepsChecked last old mid) (named : IsHonest old.store → NamesFitting last old.store.pages (suc level) entry end)
       (entries_are : IsHonest old.store → entries ≡ entries_of old.store.pages entry.page) where
     still : IsHonest old.store → IsHonest mid.store
     still honest = subst (λ (p : PagerView). IsHonest p.store) (sym read) honest
@@ -344,5 +387,6 @@ module _ (schema : Schema) (last level : ℕ) (entry : Entry) (end : Option Key)
             ∙ (ap (λ (p : PagerView). record p { store = store_after {A = U} (Err f) p.store; cached = new.cached }) read
             ∙ ap (λ (s : StoreFacts). record old { store = s; cached = new.cached })
             (same_read T U f old.store ∙ ap (λ (x : IndexFault). store_after {A = T} (Err x) old.store) (sym is))));
+        checked = keeps_on last old mid new checked (keeps_on last mid now new h.checked k.checked);
         faults = subst (λ (x : IndexFault). IsWalkFault schema last (suc level) entry end old.store from x) (sym is) (below_fault f k.faults);
       }

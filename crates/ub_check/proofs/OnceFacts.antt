@@ -3,7 +3,7 @@ use Rattle.std.proofs.Common.{◌≡◌, ◌≢◌, ◌≤◌, ◌<◌, ◌^◌,
 use Rattle.std.proofs.lemmas.List.{length-append}
 use Rattle.std.proofs.lemmas.Option.{slice_get_within}
 use Rattle.ub_index.proofs.WayFacts.{named_not_refused}
-use Rattle.ub_index.specs.Fitting.{IsHeld, IsNotTaken, IsUnfit, IsUnfitAtEnds}
+use Rattle.ub_index.specs.Fitting.{IsNotTaken, IsUnfit}
 use Rattle.ub_index.specs.Index.{entries_of, first_or, page_in, top, IsIndexPage}
 use Rattle.ub_index_page.proofs.Laws.{node_not_refused}
 use Rattle.ub_index_page.specs.Index.{IsIndexFault, node_on}
@@ -165,23 +165,15 @@ module _ (last : ℕ) (small : last < 2 ^ 128) (page : List ℕ) (level : ℕ) w
   misfit_once f g (inr (is, inr h)) (inr (also, inl k)) = absurd (k.1 h.1)
   misfit_once f g (inr (is, inr h)) (inr (also, inr k)) = h.0 ∙ sym k.0
 
-not_held : (n : ℕ) → ¬ (IsHeld [] n)
-not_held n h = (let at = h.1 in cc)
-
 taken_once : (last : ℕ) → last < 2 ^ 128 → (pages : List (List ℕ)) (level : ℕ) (entry : Entry) (end : Option Key) (a b : Option PageFault)
-    → IsNotTaken last pages [] level entry end a → IsNotTaken last pages [] level entry end b → a ≡ b
+    → IsNotTaken last pages level entry end a → IsNotTaken last pages level entry end b → a ≡ b
 taken_once last small pages level entry end None None h k = refl
 taken_once last small pages level entry end None (Some g) h k = let near = slice_get_within pages entry.page (page_in pages entry.page) k.0 in absurd (omega arith)
 taken_once last small pages level entry end (Some f) None h k = let near = slice_get_within pages entry.page (page_in pages entry.page) h.0 in absurd (omega arith)
 taken_once last small pages level entry end (Some f) (Some g) h k =
     ap (λ (x : PageFault). Some x)
-    (misfit_once last small (page_in pages entry.page) level f g (misfit last (page_in pages entry.page) level entry end f (by_read f h.1))
-    (misfit last (page_in pages entry.page) level entry end g (by_read g k.1)))
-  where
-    by_read : (x : PageFault) → IsUnfit last (page_in pages entry.page) level entry end x ⊎ (IsHeld [] entry.page × IsUnfitAtEnds (page_in pages entry.page) level entry end x)
-        → IsUnfit last (page_in pages entry.page) level entry end x
-    by_read x (inl unfit) = unfit
-    by_read x (inr held) = absurd (not_held entry.page held.0)
+    (misfit_once last small (page_in pages entry.page) level f g (misfit last (page_in pages entry.page) level entry end f h.1)
+    (misfit last (page_in pages entry.page) level entry end g k.1))
 
 same_some : {X : Type 0} (o : Option X) (x y : X) → o ≡ Some x → o ≡ Some y → x ≡ y
 same_some o x y a b = cc
@@ -249,8 +241,8 @@ module _ (asked : Asked) where
         → StopsIn asked level e end before n a → StopsIn asked level e end before m b → (n ≡ m) × (a ≡ b)
     walk_once zero e end before n m a b few h k = at_once e end before n m a b h k
     walk_once (suc level) e end before n m a b few (inl h) (inl k) = (h.0 ∙ sym k.0, taken_once asked.last small asked.pages (suc level) e end a b h.1 k.1)
-    walk_once (suc level) e end before n m a b few (inl h) (inr k) = absurd (named_not_refused asked.last small asked.pages [] origin (suc level) e end a k.0 h.1)
-    walk_once (suc level) e end before n m a b few (inr h) (inl k) = absurd (named_not_refused asked.last small asked.pages [] origin (suc level) e end b h.0 k.1)
+    walk_once (suc level) e end before n m a b few (inl h) (inr k) = absurd (named_not_refused asked.last small asked.pages origin (suc level) e end a k.0 h.1)
+    walk_once (suc level) e end before n m a b few (inr h) (inl k) = absurd (named_not_refused asked.last small asked.pages origin (suc level) e end b h.0 k.1)
     walk_once (suc level) e end before n m a b few (inr h) (inr k) = each_once level (walk_once level) (entries_of asked.pages e.page) end before n m a b few h.1 k.1
 
 -- so the first fault of a table's check is one

@@ -38,7 +38,7 @@ module _ (asked : Asked) where
   at_region e end before n fault some (inr (less, is, inr (inr (fault_is, region, stands, old)))) =
       there_at n e.page fault _ is fault_is some (region_page asked.schema region, stands.spelled)
 
-  at_index : (level : ℕ) (e : Entry) (end : Option Key) (fault : Option PageFault) → IsNotTaken asked.last asked.pages [] level e end fault → IsThere asked.pages e.page fault
+  at_index : (level : ℕ) (e : Entry) (end : Option Key) (fault : Option PageFault) → IsNotTaken asked.last asked.pages level e end fault → IsThere asked.pages e.page fault
   at_index level e end None h = h
   at_index level e end (Some fault) h = (page_in asked.pages e.page, h.0)
 
@@ -80,5 +80,5 @@ module _ (asked : Asked) where
     pub stops_low : (level : ℕ) (e : Entry) (end : Option Key) (before : List Placed) (n : ℕ) (fault : Option PageFault) → IsUnder asked.last asked.pages level e end
         → AllByRecursion IsLow (under asked.pages level e) → StopsIn asked level e end before n fault → IsOneMore n fault ⊎ (n < most)
     stops_low zero e end before n fault is low h = region_low e end before n fault low.0 h
-    stops_low (suc level) e end before n fault is low (inl refused) = absurd (named_not_refused asked.last small asked.pages [] origin (suc level) e end fault is.0 refused.1)
+    stops_low (suc level) e end before n fault is low (inl refused) = absurd (named_not_refused asked.last small asked.pages origin (suc level) e end fault is.0 refused.1)
     stops_low (suc level) e end before n fault is low (inr h) = each_low level (stops_low level) (entries_of asked.pages e.page) end before n fault is.1 low h.1

@@ -231,7 +231,7 @@ module _ (asked : Asked) where
         → IsTaken asked (under asked.pages level e) end before after → length after ≤ asked.count → ¬ (StopsIn asked level e end before n fault)
     walk_never zero e end before after n fault is h few stops = never_at e end before after n fault h few stops
     walk_never (suc level) e end before after n fault is h few (inl refused) =
-        named_not_refused asked.last small asked.pages [] origin (suc level) e end fault is.0 refused.1
+        named_not_refused asked.last small asked.pages origin (suc level) e end fault is.0 refused.1
     walk_never (suc level) e end before after n fault is h few (inr stops) =
         each_never level (walk_never level) (entries_of asked.pages e.page) end before after n fault is.1 h few stops.1
 

@@ -3,6 +3,7 @@ use Rattle.std.specs.Prelude.{◌≡◌, IsTrue, List, Result, IfErr, OnOk}
 use Rattle.ub_check.specs.Checking.{Asked, AreWell, IsFirst, asked_for}
 use Rattle.ub_check.specs.Placed.{Placed}
 use Rattle.ub_check.specs.declared.checking.Told.{Told}
+use Rattle.ub_index.specs.Held.{KeepsChecked}
 use Rattle.ub_index.specs.Searching.{store_after}
 use Rattle.ub_index.specs.declared.fault.IndexFault.{IndexFault}
 use Rattle.ub_index.specs.declared.fault.IndexFault.TheVariants.{Full, Page, Store}
@@ -26,8 +27,10 @@ IsCheckFault schema told old (Store store.NoPage) = IsHonest old → IsFirst (as
 IsCheckFault schema told old (Store store.BadSize) = ⊥
 
 -- a check of the pages of such a table: over an honest store Ok comes only where they are well; with the device's fault the store
--- has one failed read more, and else nothing has changed but the pages that the pager holds
+-- has one failed read more, and else nothing has changed but the pages that the pager holds, each of which was checked, if they
+-- were before
 pub record Checks {A : Type 0} (schema : Schema) (told : Told) (old new : PagerView) (result : Result A IndexFault) : Type 0 where
   pub same : new ≡ record old { store = store_after result old.store; cached = new.cached }
+  pub checked : KeepsChecked (last_address schema.dims) old new
   pub well : IsHonest old.store → OnOk result ((placed : List Placed) × AreWell (asked_in schema told old.store) told placed)
   pub faults : IfErr result (IsCheckFault schema told old.store)

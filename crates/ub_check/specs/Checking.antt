@@ -93,7 +93,7 @@ TakesAll asked (suc level) entry end before after =
 abbrev pub StopsIn : Asked → ℕ → Entry → Option Key → List Placed → ℕ → Option PageFault → Type 0
 StopsIn asked zero entry end before n fault = StopsAtRegion asked entry end before n fault
 StopsIn asked (suc level) entry end before n fault =
-    ((n ≡ entry.page) × IsNotTaken asked.last asked.pages [] (suc level) entry end fault)
+    ((n ≡ entry.page) × IsNotTaken asked.last asked.pages (suc level) entry end fault)
     ⊎ (NamesFitting asked.last asked.pages (suc level) entry end
     × StopsEach (TakesAll asked level) (StopsIn asked level) (entries_of asked.pages entry.page) end before n fault)
 

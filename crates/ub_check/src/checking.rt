@@ -150,7 +150,7 @@ fn first_from(entries: &[Entry], i: usize, end: Option<Key>) -> Option<Key>
     }
 }
 
-// Takes the region of an entry.
+// Takes the region of an entry. The pager forgets a page that is refused.
 fn check_region<S: PageStore>(
     pager: &mut Pager<S>,
     schema: &Schema,
@@ -170,7 +170,10 @@ fn check_region<S: PageStore>(
     let number = entry.page;
     pager.bring(number)?;
     let page = pager.cached(number);
-    take_region(schema, &entry.first, end, number, page, &mut walk.region)?;
+    if let Err(fault) = take_region(schema, &entry.first, end, number, page, &mut walk.region) {
+        pager.forget(number);
+        return Err(fault);
+    }
     if !put_numbers(walk.region.keys(), &mut walk.numbers) {
         return Err(IndexFault::Page {
             page: number,

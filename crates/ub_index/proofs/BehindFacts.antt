@@ -4,14 +4,13 @@ use Rattle.ub_directory.specs.declared.region.Region.{Region}
 use Rattle.ub_index_page.specs.Index.{node_on}
 use Rattle.ub_page.specs.declared.entries.Entry.{Entry}
 use Rattle.ub_store.specs.Facts.{StoreFacts, IsHonest}
-use Rattle.ub_store.specs.View.{PagerView}
 use Rattle.ub_table.proofs.Laws.{not_before_origin, not_before_self, not_both_before}
 use Rattle.ub_table.specs.Keys.{IsBefore, origin}
 use Rattle.ub_table.specs.declared.row.Key.{Key}
-use Rattle.ub_index.specs.Descending.{FindsAfter, HoldsLeaf, KeepsChecked, LeadsDown, LooksAt, StepsTo}
-use Rattle.ub_index.specs.Fitting.{FallsTo, FitsAtEnds, NamesTaken}
-use Rattle.ub_index.specs.Index.{entries_of, first_or, page_in, top}
-use Rattle.ub_index.specs.Searching.{Cross, Gives, IsAim, IsFrom, IsSought}
+use Rattle.ub_index.specs.Descending.{FindsAfter, HoldsLeaf, LeadsDown, LooksAt, StepsTo}
+use Rattle.ub_index.specs.Fitting.{FallsTo, FitsAtEnds}
+use Rattle.ub_index.specs.Index.{entries_of, first_or, page_in, top, NamesFitting}
+use Rattle.ub_index.specs.Searching.{Gives, IsAim, IsFrom, IsSought}
 use Rattle.ub_index.specs.View.{IndexView, Leads}
 use Rattle.ub_index.specs.Way.{HoldsKey}
 use Rattle.ub_index.specs.declared.descent.Found.TheVariants.{Nothing, Here, Beyond}
@@ -19,10 +18,9 @@ use Rattle.ub_index.specs.declared.descent.Leaf.{Leaf}
 use Rattle.ub_index.specs.declared.descent.Place.{Place}
 use Rattle.ub_index.specs.declared.seat.Seat.{Seat}
 use Rattle.ub_index.proofs.FitFacts.{after_first}
-use Rattle.ub_index.proofs.HeldFacts.{taken_before}
 use Rattle.ub_index.proofs.KeyFacts.{le_trans}
 use Rattle.ub_index.proofs.WayFacts.{falls_from, holds_below, leads_on, stops_on}
-use Rattle.ub_index.proofs.WaysFacts.{not_before_from}
+use Rattle.ub_index.proofs.WaysFacts.{never_cross, not_before_from}
 
 -- to what a key falls, a later one falls too, if it is before the next one
 pub falls_too : (key k : Key) (entries : List Entry) (end next : Option Key) (below : Entry) → ¬ (IsBefore k key) → IfSome next (IsBefore k) → FallsTo key entries end below next
@@ -34,7 +32,6 @@ falls_too key k entries end next below later to h = record {
   next_is = h.next_is;
   from = from_too h.from;
   to = less h.after (subst (λ (o : Option Key). IfSome o (IsBefore k)) h.next_is to);
-  some = h.some;
 }
   where
     from_too : (h.before ≡ []) ⊎ (¬ (IsBefore key below.first)) → (h.before ≡ []) ⊎ (¬ (IsBefore k below.first))
@@ -57,21 +54,19 @@ below_holds page level key entry end below next ends holds falls = record {
     begins = sym (after_first page 0 None (let some = ends.head.1 in omega arith)) ∙ ap (λ (k : Key). Some k) ends.begins
 
 -- the way goes on by a step
-pub down_step : (index : IndexView) (old : PagerView) (key : Key) (level : ℕ) (leaf : Leaf) (place : Place) (until : Option Key) → 0 < level
-    → ((k : Key) → IfSome until (IsBefore k) ↔ (IfSome place.next (IsBefore k) × IfSome leaf.until (IsBefore k))) → LeadsDown index old key level leaf
-    → StepsTo index.last old.store old.cached key level leaf.place.entry leaf.place.next place.entry place.next
-    → LeadsDown index old key (level - 1) (record { place = place; until = until })
-down_step index old key level leaf place until some parts down step = record {
+pub down_step : (index : IndexView) (store : StoreFacts) (key : Key) (level : ℕ) (leaf : Leaf) (place : Place) (until : Option Key) → 0 < level
+    → ((k : Key) → IfSome until (IsBefore k) ↔ (IfSome place.next (IsBefore k) × IfSome leaf.until (IsBefore k))) → LeadsDown index store key level leaf
+    → StepsTo index.last store key level leaf.place.entry leaf.place.next place.entry place.next
+    → LeadsDown index store key (level - 1) (record { place = place; until = until })
+down_step index store key level leaf place until some parts down step = record {
   leads = λ k later to found next h.
       let both = (parts k).0 to in
-      let step_k : StepsTo index.last old.store old.cached k level leaf.place.entry leaf.place.next place.entry place.next = record {
+      let step_k : StepsTo index.last store k level leaf.place.entry leaf.place.next place.entry place.next = record {
         named = step.named;
-        falls = falls_too key k (entries_of old.store.pages leaf.place.entry.page) leaf.place.next place.next place.entry later both.0 step.falls;
+        falls = falls_too key k (entries_of store.pages leaf.place.entry.page) leaf.place.next place.next place.entry later both.0 step.falls;
       } in
-      down.leads k later both.1 found next
-      (leads_on old.store old.store refl old.cached index.last k level leaf.place.entry place.entry found leaf.place.next place.next next some step_k h);
-  stops = λ n fault h.
-      down.stops n fault (stops_on old.store old.store refl old.cached index.last key level leaf.place.entry place.entry leaf.place.next place.next n fault some step h);
+      down.leads k later both.1 found next (leads_on store store refl index.last k level leaf.place.entry place.entry found leaf.place.next place.next next some step_k h);
+  stops = λ n fault h. down.stops n fault (stops_on store store refl index.last key level leaf.place.entry place.entry leaf.place.next place.next n fault some step h);
 }
 
 -- and so do what holds the key and the end
@@ -89,59 +84,50 @@ root_holds root key place same =
     subst (λ (p : Place). HoldsLeaf key (record { place = p; until = None })) (sym same)
     (record { place = record { from = not_before_origin key; to = tt }; until = tt; within = λ k h. tt })
 
-pub root_leads : (index : IndexView) (old : PagerView) (key : Key) (place : Place) → place ≡ record { entry = top index.root; next = None }
-    → LeadsDown index old key index.levels (record { place = place; until = None })
-root_leads index old key place same =
-    subst (λ (p : Place). LeadsDown index old key index.levels (record { place = p; until = None })) (sym same) (record { leads = λ k later to found next h. h; stops = λ n fault h. h })
+pub root_leads : (index : IndexView) (store : StoreFacts) (key : Key) (place : Place) → place ≡ record { entry = top index.root; next = None }
+    → LeadsDown index store key index.levels (record { place = place; until = None })
+root_leads index store key place same =
+    subst (λ (p : Place). LeadsDown index store key index.levels (record { place = p; until = None })) (sym same) (record { leads = λ k later to found next h. h; stops = λ n fault h. h })
 
--- a step after some pages were read is one as the pages were held before
-pub step_before : (last : ℕ) (old mid : PagerView) → mid.store ≡ old.store → KeepsChecked last old mid → (key : Key) (level : ℕ) (entry : Entry) (end : Option Key) (below : Entry) (next : Option Key)
-    → StepsTo last mid.store mid.cached key level entry end below next → StepsTo last old.store old.cached key level entry end below next
-step_before last old mid stores kept key level entry end below next h = record {
-  named = taken_before last old mid stores kept level entry end h.named;
-  falls = subst (λ (s : StoreFacts). FallsTo key (entries_of s.pages entry.page) end below next) stores h.falls;
-}
+-- a step that is made on the pages of a store that is the same
+pub step_before : (last : ℕ) (old mid : StoreFacts) → mid ≡ old → (key : Key) (level : ℕ) (entry : Entry) (end : Option Key) (below : Entry) (next : Option Key)
+    → (IsHonest mid → StepsTo last mid key level entry end below next) → IsHonest old → StepsTo last old key level entry end below next
+step_before last old mid stores key level entry end below next =
+    subst (λ (s : StoreFacts). (IsHonest mid → StepsTo last mid key level entry end below next) → IsHonest s → StepsTo last s key level entry end below next) stores (λ h. h)
 
 -- from a leaf the way leads to what a later key falls to on it
-pub way_to : (index : IndexView) (old : PagerView) (key k : Key) (leaf : Leaf) (below : Entry) (next : Option Key) → LeadsDown index old key 1 leaf → ¬ (IsBefore k key)
-    → IfSome leaf.until (IsBefore k) → NamesTaken index.last old.store.pages old.cached 1 leaf.place.entry leaf.place.next
-    → FallsTo k (entries_of old.store.pages leaf.place.entry.page) leaf.place.next below next
-    → Leads index old.store old.cached k (record { first = below.first; page = below.page; next = next })
-way_to index old key k leaf below next down later to named falls = down.leads k later to below next (named, below, next, falls, (refl, refl))
+pub way_to : (index : IndexView) (store : StoreFacts) (key k : Key) (leaf : Leaf) (below : Entry) (next : Option Key) → LeadsDown index store key 1 leaf → ¬ (IsBefore k key)
+    → IfSome leaf.until (IsBefore k) → NamesFitting index.last store.pages 1 leaf.place.entry leaf.place.next
+    → FallsTo k (entries_of store.pages leaf.place.entry.page) leaf.place.next below next
+    → Leads index store k (record { first = below.first; page = below.page; next = next })
+way_to index store key k leaf below next down later to named falls = down.leads k later to below next (named, below, next, falls, (refl, refl))
 
 -- the seat to which a step from the leaf comes is the one that is given
-pub step_given : (index : IndexView) (old mid : PagerView) (stores : mid.store ≡ old.store) (kept : IsHonest old.store → KeepsChecked index.last old mid) (key : Key) (leaf : Leaf) (place : Place)
-    → HoldsLeaf key leaf → (IsHonest old.store → LeadsDown index old key 1 leaf) → HoldsKey key place.entry.first place.next
-    → (IsHonest mid.store → StepsTo index.last mid.store mid.cached key 1 leaf.place.entry leaf.place.next place.entry place.next)
-    → Gives index old key (record { first = place.entry.first; page = place.entry.page; next = place.next })
-step_given index old mid stores kept key leaf place holds down here step = record {
+pub step_given : (index : IndexView) (store : StoreFacts) (key : Key) (leaf : Leaf) (place : Place) → HoldsLeaf key leaf → (IsHonest store → LeadsDown index store key 1 leaf)
+    → HoldsKey key place.entry.first place.next → (IsHonest store → StepsTo index.last store key 1 leaf.place.entry leaf.place.next place.entry place.next)
+    → Gives index store key (record { first = place.entry.first; page = place.entry.page; next = place.next })
+step_given index store key leaf place holds down here step = record {
   holds = here;
   way = λ honest.
-      let made = step (subst (λ (s : StoreFacts). IsHonest s) (sym stores) honest) in
-      way_to index old key key leaf place.entry place.next (down honest) (not_before_self key) holds.until
-      (taken_before index.last old mid stores (kept honest) 1 leaf.place.entry leaf.place.next made.named)
-      (subst (λ (s : StoreFacts). FallsTo key (entries_of s.pages leaf.place.entry.page) leaf.place.next place.entry place.next) stores made.falls);
+      let made = step honest in
+      way_to index store key key leaf place.entry place.next (down honest) (not_before_self key) holds.until made.named made.falls;
 }
 
--- what is found on a leaf, as it was held before
-module _ (index : IndexView) (old mid : PagerView) (stores : mid.store ≡ old.store) (kept : IsHonest old.store → KeepsChecked index.last old mid) (To : Key → Option ℕ → Type 0)
-    (region : Region) (leaf : Leaf) (holds : HoldsLeaf region.first leaf) (down : IsHonest old.store → LeadsDown index old region.first 1 leaf) where
+-- what is found on a leaf
+module _ (index : IndexView) (store : StoreFacts) (To : Key → Option ℕ → Type 0)
+    (region : Region) (leaf : Leaf) (holds : HoldsLeaf region.first leaf) (down : IsHonest store → LeadsDown index store region.first 1 leaf) where
   abbrev seat_of : Entry → Option Key → Seat
   seat_of below next = record { first = below.first; page = below.page; next = next }
 
-  gives : (page : List ℕ) → FitsAtEnds page 1 leaf.place.entry leaf.place.next
-      → (IsHonest mid.store → NamesTaken index.last mid.store.pages mid.cached 1 leaf.place.entry leaf.place.next)
-      → (IsHonest mid.store → page ≡ page_in mid.store.pages leaf.place.entry.page) → (k : Key) → ¬ (IsBefore k region.first) → IfSome leaf.until (IsBefore k)
-      → (below : Entry) (next : Option Key) → FallsTo k (node_on page).entries leaf.place.next below next → Gives index old k (seat_of below next)
-  gives page ends taken there k later to below next falls = record {
+  gives : (page : List ℕ) → FitsAtEnds page 1 leaf.place.entry leaf.place.next → (IsHonest store → NamesFitting index.last store.pages 1 leaf.place.entry leaf.place.next)
+      → (IsHonest store → page ≡ page_in store.pages leaf.place.entry.page) → (k : Key) → ¬ (IsBefore k region.first) → IfSome leaf.until (IsBefore k)
+      → (below : Entry) (next : Option Key) → FallsTo k (node_on page).entries leaf.place.next below next → Gives index store k (seat_of below next)
+  gives page ends named there k later to below next falls = record {
     holds = below_holds page 1 k leaf.place.entry leaf.place.next below next ends
         (record { from = le_trans leaf.place.entry.first region.first k holds.place.from later; to = holds.within k to }) falls;
     way = λ honest.
-        let honest' = subst (λ (s : StoreFacts). IsHonest s) (sym stores) honest in
-        let at : page ≡ page_in old.store.pages leaf.place.entry.page = there honest' ∙ ap (λ (s : StoreFacts). page_in s.pages leaf.place.entry.page) stores in
-        way_to index old region.first k leaf below next (down honest) later to
-        (taken_before index.last old mid stores (kept honest) 1 leaf.place.entry leaf.place.next (taken honest'))
-        (subst (λ (p : List ℕ). FallsTo k (node_on p).entries leaf.place.next below next) at falls);
+        way_to index store region.first k leaf below next (down honest) later to (named honest)
+        (subst (λ (p : List ℕ). FallsTo k (node_on p).entries leaf.place.next below next) (there honest) falls);
   }
 
   aim_later : (from aim : Key) → IsBefore region.first from → IsAim index.last To from aim → ¬ (IsBefore aim region.first)
@@ -149,57 +135,43 @@ module _ (index : IndexView) (old mid : PagerView) (stores : mid.store ≡ old.s
       le_trans region.first from aim (λ back. not_both_before region.first from before back)
       (subst (λ (k : Key). ¬ (IsBefore k from)) (sym is) (not_before_from from z))
 
-  pub nothing_found : LooksAt index.last mid To region.first leaf Nothing → FindsAfter index old To (Some region) None
+  pub nothing_found : LooksAt index.last store To region.first leaf Nothing → FindsAfter index store To (Some region) None
   nothing_found h =
       let (below, next, falls, none) = h.looks in
-      (next, (seat_of below next, gives h.page h.ends h.taken h.there region.first (not_before_self region.first) holds.until below next falls, refl), none)
+      (next, (seat_of below next, gives h.page h.ends h.named h.there region.first (not_before_self region.first) holds.until below next falls, refl), none)
 
-  pub here_found : (from : Key) (place : Place) → LooksAt index.last mid To region.first leaf (Here from place)
-      → FindsAfter index old To (Some region) (Some (from, record { first = place.entry.first; page = place.entry.page; next = place.next }))
+  pub here_found : (from : Key) (place : Place) → LooksAt index.last store To region.first leaf (Here from place)
+      → FindsAfter index store To (Some region) (Some (from, record { first = place.entry.first; page = place.entry.page; next = place.next }))
   here_found from place h =
       let (below, falls, aim, is_aim, to, falls_aim) = h.looks in
-      let given = gives h.page h.ends h.taken h.there region.first (not_before_self region.first) holds.until below (Some from) falls in (
+      let given = gives h.page h.ends h.named h.there region.first (not_before_self region.first) holds.until below (Some from) falls in (
         Some from,
         (seat_of below (Some from), given, refl),
-        (refl, aim, is_aim, gives h.page h.ends h.taken h.there aim (aim_later from aim given.holds.to is_aim) to place.entry place.next falls_aim),
+        (refl, aim, is_aim, gives h.page h.ends h.named h.there aim (aim_later from aim given.holds.to is_aim) to place.entry place.next falls_aim),
       )
 
-  pub beyond_found : (from aim : Key) (seat : Seat) → LooksAt index.last mid To region.first leaf (Beyond from aim) → Gives index old aim seat
-      → FindsAfter index old To (Some region) (Some (from, seat))
+  pub beyond_found : (from aim : Key) (seat : Seat) → LooksAt index.last store To region.first leaf (Beyond from aim) → Gives index store aim seat
+      → FindsAfter index store To (Some region) (Some (from, seat))
   beyond_found from aim seat h given_aim =
       let (below, falls, is_aim, past) = h.looks in
-      let given = gives h.page h.ends h.taken h.there region.first (not_before_self region.first) holds.until below (Some from) falls in
+      let given = gives h.page h.ends h.named h.there region.first (not_before_self region.first) holds.until below (Some from) falls in
       (Some from, (seat_of below (Some from), given, refl), (refl, aim, is_aim, given_aim))
 
-  pub beyond_sought : (from aim : Key) → LooksAt index.last mid To region.first leaf (Beyond from aim) → IsSought index old To (Some region) aim
+  pub beyond_sought : (from aim : Key) → LooksAt index.last store To region.first leaf (Beyond from aim) → IsSought index store To (Some region) aim
   beyond_sought from aim h =
       let (below, falls, is_aim, past) = h.looks in
-      let given = gives h.page h.ends h.taken h.there region.first (not_before_self region.first) holds.until below (Some from) falls in
+      let given = gives h.page h.ends h.named h.there region.first (not_before_self region.first) holds.until below (Some from) falls in
       inr (from, (seat_of below (Some from), given, refl), is_aim)
 
--- a seat that is found before where the search went on is where two ways cross
-pub crossed : (index : IndexView) (old : PagerView) (To : Key → Option ℕ → Type 0) (after : Option Region) (from : Key) (seat : Seat) → FindsAfter index old To after (Some (from, seat))
-    → IsBefore seat.first from → (key : Key) × (other : Key) × IsSought index old To after key × IsSought index old To after other × Cross index old key other
-crossed index old To after from seat (start, is_from, (is, aim, is_aim, given)) sooner = by_after after is_from
+-- over an honest store no seat is found that begins before where the search went on
+pub not_crossed : (index : IndexView) (store : StoreFacts) (To : Key → Option ℕ → Type 0) (after : Option Region) (from : Key) (seat : Seat)
+    → FindsAfter index store To after (Some (from, seat)) → IsHonest store → ¬ (IsBefore seat.first from)
+not_crossed index store To after from seat (start, is_from, (is, aim, is_aim, given)) honest sooner = by_after after is_from
   where
-    by_after : (o : Option Region) → IsFrom index old o start → (key : Key) × (other : Key) × IsSought index old To o key × IsSought index old To o other × Cross index old key other
+    by_after : (o : Option Region) → IsFrom index store o start → ⊥
     by_after None same =
         let at : from ≡ origin = (let e : Some from ≡ Some origin = sym is ∙ same in cc) in
-        absurd (not_before_origin seat.first (subst (λ (k : Key). IsBefore seat.first k) at sooner))
+        not_before_origin seat.first (subst (λ (k : Key). IsBefore seat.first k) at sooner)
     by_after (Some region) (first, first_given, next) =
-        let starts : IsFrom index old (Some region) (Some from) = (first, first_given, sym is ∙ next) in (
-          region.first,
-          aim,
-          inl (region, refl, refl),
-          inr (from, starts, is_aim),
-          record {
-            seat = first;
-            from = from;
-            given = first_given;
-            next_is = sym next ∙ is;
-            later = subst (λ (k : Key). ¬ (IsBefore k from)) (sym is_aim.3) (not_before_from from is_aim.0);
-            found = seat;
-            found_given = given;
-            sooner = sooner;
-          },
-        )
+        never_cross index store region.first aim from first seat (first_given.way honest) (given.way honest) first_given.holds (sym next ∙ is)
+        (subst (λ (k : Key). ¬ (IsBefore k from)) (sym is_aim.3) (not_before_from from is_aim.0)) sooner

@@ -143,7 +143,7 @@ not_before g [] [] (Some key) h k = λ yes. not_both_before g.first key k yes
 not_before g [] (a ∷ after) end h k = λ yes. not_both_before g.first a.first k yes
 not_before g (n ∷ news) after end h k = h
 
-first_of : (g : Entry) (before news after : List Entry) (first : Key) → first_or (before ++ (g ∷ after)) None ≡ Some first
+pub first_of : (g : Entry) (before news after : List Entry) (first : Key) → first_or (before ++ (g ∷ after)) None ≡ Some first
     → BeginFrom g.first news → AscendTo (g ∷ after) None → BeginFrom first (before ++ (news ++ after))
 first_of g (b ∷ before) news after first e h k =
     let same : b.first ≡ first = cc in subst (λ (key : Key). ¬ (IsBefore b.first key)) same (not_before_self b.first)
@@ -153,7 +153,7 @@ first_of g [] [] (a ∷ after) first e h k =
 first_of g [] (n ∷ news) after first e h k =
     let same : g.first ≡ first = cc in subst (λ (key : Key). ¬ (IsBefore n.first key)) same h
 
-no_end : (end : Option Key) → IsNotBefore end None
+pub no_end : (end : Option Key) → IsNotBefore end None
 no_end None = tt
 no_end (Some key) = tt
 

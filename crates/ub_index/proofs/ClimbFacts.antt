@@ -16,8 +16,9 @@ use Rattle.ub_index.specs.declared.fault.IndexFault.{IndexFault}
 use Rattle.ub_index.specs.declared.fault.IndexFault.TheVariants.{Full, Page, Store}
 use Rattle.ub_index.specs.declared.told.Told.{Told}
 use Rattle.ub_index.specs.declared.told.Told.TheVariants.{Same, Gone, One, Two}
-use Rattle.ub_index.proofs.HeldFacts.{in_full}
 use Rattle.ub_index.proofs.FullFacts.{full_next, full_way}
+use Rattle.ub_index.specs.Held.{KeepsChecked}
+use Rattle.ub_index.proofs.HeldFacts.{keeps_on}
 use Rattle.ub_index.proofs.SearchFacts.{err_is, failed, frame, pager_with, same_store}
 use Rattle.ub_index.proofs.WayFacts.{stops_here, stops_on}
 
@@ -45,20 +46,21 @@ turned_so (Err e) A B f h = tt
 
 -- why the page that an entry names isn't opened is why the change is refused
 opened_fault : (last : ℕ) (old : StoreFacts) (key : Key) (level : ℕ) (entry : Entry) (end : Option Key) (next : ℕ) (e : IndexFault) → 0 < level
-    → IsStepFault last old [] level entry end e → IsTurnFault last old key level entry end next e
+    → IsStepFault last old level entry end e → IsTurnFault last old key level entry end next e
 opened_fault last old key level entry end next (Page n fault) some h = λ honest.
     subst (λ (m : ℕ). IsTurnFault last old key level entry end next (Page m fault)) (sym h.0)
-    (λ good. stops_here old old refl [] last key level entry end (Some fault) some (h.1 good)) honest
+    (λ good. stops_here old old refl last key level entry end (Some fault) some (h.1 good)) honest
 opened_fault last old key level entry end next (Store store.Memory) some h = tt
 opened_fault last old key level entry end next (Store store.Device) some h = h
-opened_fault last old key level entry end next (Store store.NoPage) some h = (entry.page, h, λ honest. stops_here old old refl [] last key level entry end None some h)
+opened_fault last old key level entry end next (Store store.NoPage) some h = (entry.page, h, λ honest. stops_here old old refl last key level entry end None some h)
 opened_fault last old key level entry end next (Store store.BadSize) some h = absurd h
 opened_fault last old key level entry end next Full some h = h
 
 pub open_refused : (T U : Type 0) (last level : ℕ) (key : Key) (entry : Entry) (end : Option Key) (next : ℕ) (old new : PagerView) (r : Result T IndexFault) (e : IndexFault) → 0 < level
-    → IsErrAnd r (λ x. x ≡ e) → Steps {A = U} last [] level entry end old new (Err e) → Prepares last level key entry end next old new r
+    → IsErrAnd r (λ x. x ≡ e) → Steps {A = U} last level entry end old new (Err e) → Prepares last level key entry end next old new r
 open_refused T U last level key entry end next old new r e some is h = subst (λ (x : Result T IndexFault). Prepares last level key entry end next old new x) (sym (err_is r e is)) (record {
   same = h.same ∙ ap (λ (s : StoreFacts). pager_with s old.trace new.cached) (same_store T U e old.store);
+  checked = h.checked;
   faults = opened_fault last old.store key level entry end next e some h.faults;
 })
 
@@ -74,26 +76,27 @@ ends_on last pages key (suc level) entry below end after next some step (full, e
 
 -- and so is why the change is refused below it
 below_fault : (last : ℕ) (old : StoreFacts) (key : Key) (level : ℕ) (entry below : Entry) (end after : Option Key) (next : ℕ) (e : IndexFault) → 0 < level
-    → (IsHonest old → StepsTo last old [] key level entry end below after) → IsTurnFault last old key (level - 1) below after next e → IsTurnFault last old key level entry end next e
+    → (IsHonest old → StepsTo last old key level entry end below after) → IsTurnFault last old key (level - 1) below after next e → IsTurnFault last old key level entry end next e
 below_fault last old key level entry below end after next (Page n fault) some step h = λ honest.
-    stops_on old old refl [] last key level entry below end after n (Some fault) some (step honest) (h honest)
+    stops_on old old refl last key level entry below end after n (Some fault) some (step honest) (h honest)
 below_fault last old key level entry below end after next (Store store.Memory) some step h = tt
 below_fault last old key level entry below end after next (Store store.Device) some step h = h
 below_fault last old key level entry below end after next (Store store.NoPage) some step h =
-    (h.0, h.1, λ honest. stops_on old old refl [] last key level entry below end after h.0 None some (step honest) (h.2 honest))
+    (h.0, h.1, λ honest. stops_on old old refl last key level entry below end after h.0 None some (step honest) (h.2 honest))
 below_fault last old key level entry below end after next (Store store.BadSize) some step h = (
   (let more = h.0 in omega arith),
   λ honest. ends_on last old.pages key level entry below end after next some
-      (in_full last old.pages level entry end (step honest).named, (step honest).falls) (h.1 honest),
+      ((step honest).named, (step honest).falls) (h.1 honest),
 )
 below_fault last old key level entry below end after next Full some step h = h
 
 pub below_refused : (T U : Type 0) (last level : ℕ) (key : Key) (entry below : Entry) (end after : Option Key) (next : ℕ) (old mid new : PagerView) (r : Result T IndexFault) (e : IndexFault)
-    → 0 < level → mid.store ≡ old.store → mid.trace ≡ old.trace → (IsHonest old.store → StepsTo last old.store [] key level entry end below after)
+    → 0 < level → mid.store ≡ old.store → mid.trace ≡ old.trace → KeepsChecked last old mid → (IsHonest old.store → StepsTo last old.store key level entry end below after)
     → IsErrAnd r (λ x. x ≡ e) → Prepares {A = U} last (level - 1) key below after next mid new (Err e) → Prepares last level key entry end next old new r
-below_refused T U last level key entry below end after next old mid new r e some stores traces step is h =
+below_refused T U last level key entry below end after next old mid new r e some stores traces kept step is h =
     subst (λ (x : Result T IndexFault). Prepares last level key entry end next old new x) (sym (err_is r e is)) (record {
       same = frame (failed {T = T} e) old mid new stores traces (h.same ∙ ap (λ (s : StoreFacts). pager_with s mid.trace new.cached) (same_store T U e mid.store));
+      checked = keeps_on last old mid new kept h.checked;
       faults = below_fault last old.store key level entry below end after next e some step
           (subst (λ (s : StoreFacts). IsTurnFault last s key (level - 1) below after next e) stores h.faults);
     })
@@ -123,17 +126,17 @@ pub mend_refused : (last level : ℕ) (key : Key) (added : Option Entry) (entry 
     (from middle : Spelled) (news : Told) (old new : PagerView) (r : Result Told IndexFault) → 0 < level → middle.next ≤ from.next + (level - 1)
     → (IsHonest old.store → OpensTo last old.store.pages key level entry end before below next after)
     → (IsHonest old.store → Turns last old.store.pages key added (level - 1) below next from middle news)
-    → new ≡ record old { store = old.store; cached = new.cached } → IfErr r (IsSpreadFault middle) → (IsAtMostOne news → NeedsNoGrowth r)
+    → new ≡ record old { store = old.store; cached = new.cached } → KeepsChecked last old new → IfErr r (IsSpreadFault middle) → (IsAtMostOne news → NeedsNoGrowth r)
     → (length before + length after + 2 ≤ 170 → NeedsNoGrowth r) → Prepares last level key entry end from.next old new r
-mend_refused last level key added entry end before below next after from middle news old new (Ok told) some few opens turns same h narrow fits = record { same = same; faults = tt }
-mend_refused last level key added entry end before below next after from middle news old new (Err (Page n fault)) some few opens turns same h narrow fits = absurd h
-mend_refused last level key added entry end before below next after from middle news old new (Err Full) some few opens turns same h narrow fits = absurd h
-mend_refused last level key added entry end before below next after from middle news old new (Err (Store store.Memory)) some few opens turns same h narrow fits =
-    record { same = same; faults = tt }
-mend_refused last level key added entry end before below next after from middle news old new (Err (Store store.Device)) some few opens turns same h narrow fits = absurd h
-mend_refused last level key added entry end before below next after from middle news old new (Err (Store store.NoPage)) some few opens turns same h narrow fits = absurd h
-mend_refused last level key added entry end before below next after from middle news old new (Err (Store store.BadSize)) some few opens turns same h narrow fits =
-    record { same = same; faults = (omega arith, λ honest. by_news news narrow (opens honest) (turns honest)) }
+mend_refused last level key added entry end before below next after from middle news old new (Ok told) some few opens turns same kept h narrow fits = record { same = same; checked = kept; faults = tt }
+mend_refused last level key added entry end before below next after from middle news old new (Err (Page n fault)) some few opens turns same kept h narrow fits = absurd h
+mend_refused last level key added entry end before below next after from middle news old new (Err Full) some few opens turns same kept h narrow fits = absurd h
+mend_refused last level key added entry end before below next after from middle news old new (Err (Store store.Memory)) some few opens turns same kept h narrow fits =
+    record { same = same; checked = kept; faults = tt }
+mend_refused last level key added entry end before below next after from middle news old new (Err (Store store.Device)) some few opens turns same kept h narrow fits = absurd h
+mend_refused last level key added entry end before below next after from middle news old new (Err (Store store.NoPage)) some few opens turns same kept h narrow fits = absurd h
+mend_refused last level key added entry end before below next after from middle news old new (Err (Store store.BadSize)) some few opens turns same kept h narrow fits =
+    record { same = same; checked = kept; faults = (omega arith, λ honest. by_news news narrow (opens honest) (turns honest)) }
   where
     long : 168 < length before + length after
     long = elim (cases_lt 168 (length before + length after)) [

@@ -32,6 +32,8 @@ use Rattle.ub_index.proofs.Numbers.{differs, distinct_cons, distinct_first, dist
 use Rattle.ub_index.proofs.OrderFacts.{under_first}
 use Rattle.ub_index.proofs.ReadyFacts.{entry_is, made_one, root_entry, seat_found}
 use Rattle.ub_index.proofs.RefusedFacts.{far_outside, root_not_refused, unspelled_of, with_other, with_sheets, with_stand, with_stay}
+use Rattle.ub_index.specs.Held.{KeepsChecked}
+use Rattle.ub_index.proofs.HeldFacts.{keeps_on}
 use Rattle.ub_index.proofs.SearchFacts.{frame}
 use Rattle.ub_index.proofs.TurnFacts.{Risen, rises}
 
@@ -297,10 +299,15 @@ no_growth last old change (Page n fault) h = tt
 no_growth last old change Full h = h
 
 pub dropped_effect : (T : Type 0) (index : IndexView) (last : ℕ) (key : Key) (old mid new : PagerView) (change : ChangeView) (r : Result T IndexFault) → last ≡ index.last
-    → mid.store ≡ old.store → mid.trace ≡ old.trace → (IsHonest old.store → IsPrepared index old.store key None (page_count old.store) (so_far [] (page_count old.store)) change)
+    → mid.store ≡ old.store → mid.trace ≡ old.trace → KeepsChecked index.last old mid → (IsHonest old.store → IsPrepared index old.store key None (page_count old.store) (so_far [] (page_count old.store)) change)
     → ReadsRoots last change mid new r → PreparesDrop index key old new r
-dropped_effect T index last key old mid new change (Ok x) lasts stores traces made h = record { same = frame (Ok x) old mid new stores traces h.same; faults = tt }
-dropped_effect T index last key old mid new change (Err e) lasts stores traces made h = record {
+dropped_effect T index last key old mid new change (Ok x) lasts stores traces kept made h = record {
+  same = frame (Ok x) old mid new stores traces h.same;
+  checked = keeps_on index.last old mid new kept (subst (λ (l : ℕ). KeepsChecked l mid new) lasts h.checked);
+  faults = tt;
+}
+dropped_effect T index last key old mid new change (Err e) lasts stores traces kept made h = record {
   same = frame {T = T} (Err e) old mid new stores traces h.same;
+  checked = keeps_on index.last old mid new kept (subst (λ (l : ℕ). KeepsChecked l mid new) lasts h.checked);
   faults = (no_growth last mid.store change e h.faults, inr (change, made, subst (λ (l : ℕ). IsLowerFault l old.store change e) lasts (subst (λ (s : StoreFacts). IsLowerFault last s change e) stores h.faults)));
 }

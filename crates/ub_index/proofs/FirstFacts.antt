@@ -1,83 +1,95 @@
--- No way goes over page 0, whichever pages were held.
-use Rattle.std.proofs.Common.{◌≡◌, ◌≤◌, ◌∙◌, ◌⊎◌, ◌↔◌, inl, inr, ℕ, zero, suc, List, Option, Some, None, ap, sym, subst, arith, slice_get}
+-- No way goes over page 0.
+use Rattle.std.proofs.Common.{◌≡◌, ◌≤◌, ◌∙◌, ◌⊎◌, ◌↔◌, inl, inr, ℕ, zero, suc, List, [], ◌∷◌, ◌++◌, Option, Some, None, ap, sym, subst, arith, slice_get}
+use Rattle.std.specs.List.{AllByRecursion}
 use Rattle.std.proofs.lemmas.Option.{slice_get_cases, slice_get_within}
+use Rattle.ub_page.specs.Entries.{IsEntry}
 use Rattle.ub_page.specs.declared.entries.Entry.{Entry}
 use Rattle.ub_store.specs.Facts.{StoreFacts}
 use Rattle.ub_table.specs.declared.fault.PageFault.{PageFault}
 use Rattle.ub_table.specs.declared.row.Key.{Key}
-use Rattle.ub_index.specs.Fitting.{IsHeld, IsNotTaken, IsUnfit, IsUnfitAtEnds}
-use Rattle.ub_index.specs.Index.{top}
+use Rattle.ub_index.specs.Fitting.{FallsTo, IsNotTaken, IsUnfit}
+use Rattle.ub_index.specs.Index.{NamesFitting, entries_of, top}
 use Rattle.ub_index.specs.Preparing.{entry_at}
 use Rattle.ub_index.specs.View.{IndexView, Leads, Stops}
 use Rattle.ub_index.specs.Way.{LeadsTo, StopsAt}
 use Rattle.ub_index.specs.declared.seat.Seat.{Seat}
 use Rattle.ub_index.proofs.Changes.{same_page}
-use Rattle.ub_index.proofs.LeadFacts.{kept_taken, moved}
+use Rattle.ub_index.proofs.LeadFacts.{kept_fitting, moved}
+
+-- an entry of a page that fits doesn't name it
+one_of : (P : Entry → Type 0) (before : List Entry) (x : Entry) (after : List Entry) → AllByRecursion P (before ++ (x ∷ after)) → P x
+one_of P [] x after all = all.0
+one_of P (y ∷ before) x after all = one_of P before x after all.1
+
+pub below_some : (last : ℕ) (pages : List (List ℕ)) (key : Key) (level : ℕ) (entry : Entry) (end : Option Key) (below : Entry) (next : Option Key) → NamesFitting last pages level entry end
+    → FallsTo key (entries_of pages entry.page) end below next → 1 ≤ below.page
+below_some last pages key level entry end below next named falls =
+    (one_of (IsEntry last) falls.before below falls.after (subst (λ (xs : List Entry). AllByRecursion (IsEntry last) xs) falls.parts named.fits.is.is.entries)).some_page
 
 -- what a way leads to doesn't name it
-found_some : (last : ℕ) (pages : List (List ℕ)) (held : List (ℕ × List ℕ)) (key : Key) (level : ℕ) (entry : Entry) (end : Option Key) (found : Entry) (next : Option Key) → 1 ≤ entry.page
-    → LeadsTo last pages held key level entry end found next → 1 ≤ found.page
-found_some last pages held key zero entry end found next some leads = subst (λ (e : Entry). 1 ≤ e.page) (sym leads.0) some
-found_some last pages held key (suc level) entry end found next some (named, below, beyond, falls, leads) =
-    found_some last pages held key level below beyond found next falls.some leads
+found_some : (last : ℕ) (pages : List (List ℕ)) (key : Key) (level : ℕ) (entry : Entry) (end : Option Key) (found : Entry) (next : Option Key) → 1 ≤ entry.page
+    → LeadsTo last pages key level entry end found next → 1 ≤ found.page
+found_some last pages key zero entry end found next some leads = subst (λ (e : Entry). 1 ≤ e.page) (sym leads.0) some
+found_some last pages key (suc level) entry end found next some (named, below, beyond, falls, leads) =
+    found_some last pages key level below beyond found next (below_some last pages key (suc level) entry end below beyond named falls) leads
 
 -- and it doesn't stop there
-stops_some : (last : ℕ) (pages : List (List ℕ)) (held : List (ℕ × List ℕ)) (key : Key) (level : ℕ) (entry : Entry) (end : Option Key) (n : ℕ) (fault : Option PageFault) → 1 ≤ entry.page
-    → StopsAt last pages held key level entry end n fault → 1 ≤ n
-stops_some last pages held key zero entry end n fault some stops = absurd stops
-stops_some last pages held key (suc level) entry end n fault some (inl here) = subst (λ (m : ℕ). 1 ≤ m) (sym here.0) some
-stops_some last pages held key (suc level) entry end n fault some (inr (named, below, beyond, falls, stops)) =
-    stops_some last pages held key level below beyond n fault falls.some stops
+stops_some : (last : ℕ) (pages : List (List ℕ)) (key : Key) (level : ℕ) (entry : Entry) (end : Option Key) (n : ℕ) (fault : Option PageFault) → 1 ≤ entry.page
+    → StopsAt last pages key level entry end n fault → 1 ≤ n
+stops_some last pages key zero entry end n fault some stops = absurd stops
+stops_some last pages key (suc level) entry end n fault some (inl here) = subst (λ (m : ℕ). 1 ≤ m) (sym here.0) some
+stops_some last pages key (suc level) entry end n fault some (inr (named, below, beyond, falls, stops)) =
+    stops_some last pages key level below beyond n fault (below_some last pages key (suc level) entry end below beyond named falls) stops
 
 -- where a page stays, it is refused as it was
-kept_refused : (last : ℕ) (held : List (ℕ × List ℕ)) (old new : List (List ℕ)) (level : ℕ) (entry : Entry) (end : Option Key) (fault : Option PageFault)
-    → slice_get new entry.page ≡ slice_get old entry.page → IsNotTaken last old held level entry end fault → IsNotTaken last new held level entry end fault
-kept_refused last held old new level entry end None same far = elim (slice_get_cases new entry.page).1 [
+kept_refused : (last : ℕ) (old new : List (List ℕ)) (level : ℕ) (entry : Entry) (end : Option Key) (fault : Option PageFault)
+    → slice_get new entry.page ≡ slice_get old entry.page → IsNotTaken last old level entry end fault → IsNotTaken last new level entry end fault
+kept_refused last old new level entry end None same far = elim (slice_get_cases new entry.page).1 [
   | inl there ↦
       let near = slice_get_within old entry.page there.0 (sym same ∙ there.2) in
       absurd (omega (arith, near, far))
   | inr none ↦ none.0
 ]
-kept_refused last held old new level entry end (Some fault) same h =
+kept_refused last old new level entry end (Some fault) same h =
     let page = same_page old new entry.page same in (
       same ∙ (h.0 ∙ ap (λ (p : List ℕ). Some p) (sym page)),
-      subst (λ (p : List ℕ). IsUnfit last p level entry end fault ⊎ (IsHeld held entry.page × IsUnfitAtEnds p level entry end fault)) (sym page) h.1,
+      subst (λ (p : List ℕ). IsUnfit last p level entry end fault) (sym page) h.1,
     )
 
 -- where all pages but it stay, ways lead and stop as they did
-module _ (last : ℕ) (old new : List (List ℕ)) (keeps : (n : ℕ) → 1 ≤ n → slice_get new n ≡ slice_get old n) (held : List (ℕ × List ℕ)) (key : Key) where
-  leads_past : (level : ℕ) (entry : Entry) (end : Option Key) (found : Entry) (next : Option Key) → 1 ≤ entry.page → LeadsTo last old held key level entry end found next
-      → LeadsTo last new held key level entry end found next
+module _ (last : ℕ) (old new : List (List ℕ)) (keeps : (n : ℕ) → 1 ≤ n → slice_get new n ≡ slice_get old n) (key : Key) where
+  leads_past : (level : ℕ) (entry : Entry) (end : Option Key) (found : Entry) (next : Option Key) → 1 ≤ entry.page → LeadsTo last old key level entry end found next
+      → LeadsTo last new key level entry end found next
   leads_past zero entry end found next some leads = leads
   leads_past (suc level) entry end found next some (named, below, beyond, falls, leads) =
       let same = keeps entry.page some in
-      (kept_taken last held old new (suc level) entry end same named, below, beyond, moved key old new entry below end beyond same falls, leads_past level below beyond found next falls.some leads)
+      (kept_fitting last old new (suc level) entry end same named, below, beyond, moved key old new entry below end beyond same falls, leads_past level below beyond found next (below_some last old key (suc level) entry end below beyond named falls) leads)
 
-  stops_past : (level : ℕ) (entry : Entry) (end : Option Key) (n : ℕ) (fault : Option PageFault) → 1 ≤ entry.page → StopsAt last old held key level entry end n fault
-      → StopsAt last new held key level entry end n fault
+  stops_past : (level : ℕ) (entry : Entry) (end : Option Key) (n : ℕ) (fault : Option PageFault) → 1 ≤ entry.page → StopsAt last old key level entry end n fault
+      → StopsAt last new key level entry end n fault
   stops_past zero entry end n fault some stops = stops
-  stops_past (suc level) entry end n fault some (inl here) = inl (here.0, kept_refused last held old new (suc level) entry end fault (keeps entry.page some) here.1)
+  stops_past (suc level) entry end n fault some (inl here) = inl (here.0, kept_refused last old new (suc level) entry end fault (keeps entry.page some) here.1)
   stops_past (suc level) entry end n fault some (inr (named, below, beyond, falls, stops)) =
       let same = keeps entry.page some in
-      inr (kept_taken last held old new (suc level) entry end same named, below, beyond, moved key old new entry below end beyond same falls, stops_past level below beyond n fault falls.some stops)
+      inr (kept_fitting last old new (suc level) entry end same named, below, beyond, moved key old new entry below end beyond same falls, stops_past level below beyond n fault (below_some last old key (suc level) entry end below beyond named falls) stops)
 
-pub ways_miss : (index : IndexView) (old new : StoreFacts) (held : List (ℕ × List ℕ)) (key : Key) → 1 ≤ index.root
-    → ((seat : Seat) → Leads index old held key seat → 1 ≤ seat.page)
-    × ((n : ℕ) (fault : Option PageFault) → Stops index old held key n fault → 1 ≤ n)
+pub ways_miss : (index : IndexView) (old new : StoreFacts) (key : Key) → 1 ≤ index.root
+    → ((seat : Seat) → Leads index old key seat → 1 ≤ seat.page)
+    × ((n : ℕ) (fault : Option PageFault) → Stops index old key n fault → 1 ≤ n)
     × (((n : ℕ) → 1 ≤ n → slice_get new.pages n ≡ slice_get old.pages n)
-    → ((seat : Seat) → Leads index old held key seat ↔ Leads index new held key seat)
-    × ((n : ℕ) (fault : Option PageFault) → Stops index old held key n fault ↔ Stops index new held key n fault))
-ways_miss index old new held key some = (
-  λ seat leads. found_some index.last old.pages held key index.levels (top index.root) None (entry_at seat) seat.next some leads,
-  λ n fault stops. stops_some index.last old.pages held key index.levels (top index.root) None n fault some stops,
+    → ((seat : Seat) → Leads index old key seat ↔ Leads index new key seat)
+    × ((n : ℕ) (fault : Option PageFault) → Stops index old key n fault ↔ Stops index new key n fault))
+ways_miss index old new key some = (
+  λ seat leads. found_some index.last old.pages key index.levels (top index.root) None (entry_at seat) seat.next some leads,
+  λ n fault stops. stops_some index.last old.pages key index.levels (top index.root) None n fault some stops,
   λ keeps. (
     λ seat. (
-      λ leads. leads_past index.last old.pages new.pages keeps held key index.levels (top index.root) None (entry_at seat) seat.next some leads,
-      λ leads. leads_past index.last new.pages old.pages (λ n h. sym (keeps n h)) held key index.levels (top index.root) None (entry_at seat) seat.next some leads,
+      λ leads. leads_past index.last old.pages new.pages keeps key index.levels (top index.root) None (entry_at seat) seat.next some leads,
+      λ leads. leads_past index.last new.pages old.pages (λ n h. sym (keeps n h)) key index.levels (top index.root) None (entry_at seat) seat.next some leads,
     ),
     λ n fault. (
-      λ stops. stops_past index.last old.pages new.pages keeps held key index.levels (top index.root) None n fault some stops,
-      λ stops. stops_past index.last new.pages old.pages (λ m h. sym (keeps m h)) held key index.levels (top index.root) None n fault some stops,
+      λ stops. stops_past index.last old.pages new.pages keeps key index.levels (top index.root) None n fault some stops,
+      λ stops. stops_past index.last new.pages old.pages (λ m h. sym (keeps m h)) key index.levels (top index.root) None n fault some stops,
     ),
   ),
 )

@@ -1,21 +1,19 @@
 -- What the bytes of a page tell of its entries: which of them a key falls to, and whether the page fits.
-use Rattle.std.proofs.Common.{◌≡◌, ◌≢◌, ◌≤◌, ◌<◌, ◌+◌, ◌-◌, ◌++◌, ◌⊎◌, inl, inr, ℕ, zero, suc, List, [], ◌∷◌, Option, Some, None, IfSome, length, take, drop, slice_get, ◌∙◌, sym, ap, subst, refl, arith}
+use Rattle.std.proofs.Common.{◌≡◌, ◌≤◌, ◌<◌, ◌+◌, ◌-◌, ◌++◌, ◌⊎◌, inl, inr, ℕ, zero, suc, List, [], ◌∷◌, Option, Some, None, IfSome, length, take, drop, slice_get, ◌∙◌, sym, ap, subst, refl, arith}
 use Rattle.std.proofs.lemmas.Bool.{cases_lt}
 use Rattle.ub_index_page.proofs.Laws.{length-node_on, node_get}
-use Rattle.std.specs.List.{AllByRecursion}
-use Rattle.ub_index_page.specs.Index.{HasNodeEntries, IsNode, index_page, node_on}
+use Rattle.ub_index_page.specs.Index.{IsNode, index_page, node_on}
 use Rattle.ub_index_page.specs.Slots.{IsSlot, entry_in, first_in}
 use Rattle.ub_page.specs.Bytes.{number_at}
-use Rattle.ub_page.specs.Entries.{AreAscending, IsEntry}
+use Rattle.ub_page.specs.Entries.{AreAscending}
 use Rattle.ub_page.specs.declared.entries.Entry.{Entry}
 use Rattle.ub_table.specs.Keys.{IsBefore}
 use Rattle.ub_table.specs.declared.row.Key.{Key}
 use Rattle.ub_index.specs.Changing.{OpensTo}
-use Rattle.ub_index.specs.Fitting.{FallsTo, FitsAtEnds, IsNotTaken, IsRowRefused, IsUnfit}
+use Rattle.ub_index.specs.Fitting.{FallsTo, IsNotTaken, IsUnfit}
 use Rattle.ub_index.specs.Index.{entries_of, first_or, page_in, AscendTo, Fits}
 use Rattle.ub_store.specs.Facts.{StoreFacts, IsPage}
 use Rattle.ub_table.specs.declared.fault.PageFault.{PageFault}
-use Rattle.ub_table.specs.declared.fault.PageFault.TheVariants.{BadRow}
 
 cut : (xs : List Entry) (i : ℕ) (e : Entry) → slice_get xs i ≡ Some e → xs ≡ take i xs ++ (e ∷ drop (suc i) xs)
 cut [] i e at = cc
@@ -40,15 +38,14 @@ pub after_none : (page : List ℕ) (slot : ℕ) (end : Option Key) → number_at
 after_none page slot end h = sym (rest_none (node_on page).entries slot end (omega (arith, length-node_on page)))
 
 pub falls : (page : List ℕ) (key : Key) (end next : Option Key) (count slot : ℕ) → count ≡ number_at 2 2 page → IsSlot key count page slot
-    → next ≡ first_or (drop (slot + 1) (node_on page).entries) end → 1 ≤ (entry_in slot page).page → FallsTo key (node_on page).entries end (entry_in slot page) next
-falls page key end next count slot same h is some = record {
+    → next ≡ first_or (drop (slot + 1) (node_on page).entries) end → FallsTo key (node_on page).entries end (entry_in slot page) next
+falls page key end next count slot same h is = record {
   before = take slot (node_on page).entries;
   after = drop (suc slot) (node_on page).entries;
   parts = cut (node_on page).entries slot (entry_in slot page) (node_get page slot (let lt = h.within in omega arith));
   next_is = is ∙ ap (λ (i : ℕ). first_or (drop i (node_on page).entries) end) one;
   from = from_of slot h.begun;
   to = to;
-  some = some;
 }
   where
     one : slot + 1 ≡ suc slot
@@ -71,35 +68,13 @@ falls page key end next count slot same h is some = record {
 -- and with the entries before it and after it
 pub falls_around : (page : List ℕ) (key : Key) (end next : Option Key) (count slot : ℕ) (below : Entry) (before after : List Entry) → below ≡ entry_in slot page
     → count ≡ number_at 2 2 page → IsSlot key count page slot → next ≡ first_or (drop (slot + 1) (node_on page).entries) end
-    → before ≡ take slot (node_on page).entries → after ≡ drop (slot + 1) (node_on page).entries → 1 ≤ (entry_in slot page).page
+    → before ≡ take slot (node_on page).entries → after ≡ drop (slot + 1) (node_on page).entries
     → (x : FallsTo key (node_on page).entries end below next) × (x.before ≡ before) × (x.after ≡ after)
 unfolding falls
-falls_around page key end next count slot below before after entry same h is left right some =
+falls_around page key end next count slot below before after entry same h is left right =
     let one : suc slot ≡ slot + 1 = omega arith in
     subst (λ (e : Entry). (x : FallsTo key (node_on page).entries end e next) × (x.before ≡ before) × (x.after ≡ after)) (sym entry)
-    (falls page key end next count slot same h is some, sym left, ap (λ (i : ℕ). drop i (node_on page).entries) one ∙ sym right)
-
--- what holds of all entries holds of one; and so an entry of a page on which all are in range names another page than page 0
-one_of : (P : Entry → Type 0) (xs : List Entry) (i : ℕ) (e : Entry) → AllByRecursion P xs → slice_get xs i ≡ Some e → P e
-one_of P [] i e all at = cc
-one_of P (x ∷ xs) zero e all at = let same : x ≡ e = cc in subst P same all.0
-one_of P (x ∷ xs) (suc i) e all at = one_of P xs i e all.1 at
-
-pub names_some : (last : ℕ) (page : List ℕ) (slot : ℕ) → slot < number_at 2 2 page → HasNodeEntries last page → 1 ≤ (entry_in slot page).page
-names_some last page slot less all = (one_of (IsEntry last) (node_on page).entries slot (entry_in slot page) all (node_get page slot less)).some_page
-
-pub not_zero : (n : ℕ) → n ≢ 0 → 1 ≤ n
-not_zero zero h = absurd (h refl)
-not_zero (suc n) h = omega arith
-
--- a page is refused for an entry that names page 0; and in full, where its ends fit
-pub row_refused : (page : List ℕ) (slot : ℕ) (fault : PageFault) → slot < number_at 2 2 page → (entry_in slot page).page ≡ 0 → fault ≡ BadRow → IsRowRefused page fault
-row_refused page slot fault less none is = (is, λ last all. (let some = names_some last page slot less all in omega (arith, none)))
-
-pub row_unfit : (last : ℕ) (page : List ℕ) (level : ℕ) (entry : Entry) (end : Option Key) (fault : PageFault) → FitsAtEnds page level entry end → IsRowRefused page fault
-    → IsUnfit last page level entry end fault
-row_unfit last page level entry end fault ends refused =
-    subst (λ (f : PageFault). IsUnfit last page level entry end f) (sym refused.0) (ends.kind, ends.head, refused.1 last)
+    (falls page key end next count slot same h is, sym left, ap (λ (i : ℕ). drop i (node_on page).entries) one ∙ sym right)
 
 -- the last of entries in order is before the end; and entries of which it is so are in order up to the end
 last_before : (xs : List Entry) (i : ℕ) (e : Entry) (end : Option Key) → length xs ≡ suc i → slice_get xs i ≡ Some e → AscendTo xs end → IfSome end (IsBefore e.first)
@@ -156,10 +131,10 @@ pub falls_there : (pages : List (List ℕ)) (n : ℕ) (page : List ℕ) (key : K
 falls_there pages n page key end next below at h = subst (λ (p : List ℕ). FallsTo key (node_on p).entries end below next) (sym (page_is pages n page at)) h
 
 pub is_refused : (pages : List (List ℕ)) (last level : ℕ) (entry : Entry) (end : Option Key) (page : List ℕ) (fault : PageFault)
-    → slice_get pages entry.page ≡ Some page → IsUnfit last page level entry end fault → IsNotTaken last pages [] level entry end (Some fault)
+    → slice_get pages entry.page ≡ Some page → IsUnfit last page level entry end fault → IsNotTaken last pages level entry end (Some fault)
 is_refused pages last level entry end page fault at misfit =
     let is = page_is pages entry.page page at in
-    (at ∙ ap (λ (p : List ℕ). Some p) (sym is), inl (subst (λ (p : List ℕ). IsUnfit last p level entry end fault) (sym is) misfit))
+    (at ∙ ap (λ (p : List ℕ). Some p) (sym is), subst (λ (p : List ℕ). IsUnfit last p level entry end fault) (sym is) misfit)
 
 -- what a store's page is doesn't depend on its counts
 pub same_page : (old new : StoreFacts) (n reads : ℕ) (page : List ℕ) → new ≡ record old { failed_reads = reads } → IsPage new n page → IsPage old n page

@@ -10,7 +10,7 @@ use Rattle.ub_directory.specs.declared.region.Region.{Region}
 use Rattle.ub_page.specs.declared.entries.Entry.{Entry}
 use Rattle.ub_region.specs.Regions.{index_holding}
 use Rattle.ub_region.specs.Spans.{span_end}
-use Rattle.ub_store.specs.View.{PagerView}
+use Rattle.ub_store.specs.Facts.{StoreFacts}
 use Rattle.ub_table.proofs.Laws.{ascending_get, before_of, not_before_origin, precedes_of, precedes_trans}
 use Rattle.ub_table.specs.Keys.{IsBefore, precedes, origin, are_ascending}
 use Rattle.ub_table.specs.declared.row.Key.{Key}
@@ -80,77 +80,77 @@ entry_of (e ∷ entries) zero key at = (e, refl, cc)
 entry_of (e ∷ entries) (suc i) key at = entry_of entries i key at
 
 -- the region that is given for an address and a key: that which holds the greater of both; none where the space ends before the address
-abbrev Reaches : IndexView → PagerView → ℕ → Key → Option Region → Type 0
-Reaches index old z from None = index.last < z
-Reaches index old z from (Some region) =
-    (z ≤ index.last) × (seat : Seat) × Gives index old (at_least from z) seat × (region ≡ region_of index.last seat)
+abbrev Reaches : IndexView → StoreFacts → ℕ → Key → Option Region → Type 0
+Reaches index store z from None = index.last < z
+Reaches index store z from (Some region) =
+    (z ≤ index.last) × (seat : Seat) × Gives index store (at_least from z) seat × (region ≡ region_of index.last seat)
 
-module _ (index : IndexView) (old : PagerView) (is : IsIndexOn index old.store) (after : Option Region) where
-  starts : (from : Option Key) → IsFrom index old after from → IsStarted index.last (entries_in index old.store) after from
+module _ (index : IndexView) (store : StoreFacts) (is : IsIndexOn index store) (after : Option Region) where
+  starts : (from : Option Key) → IsFrom index store after from → IsStarted index.last (entries_in index store) after from
   starts from h = by_after after h
     where
-      by_after : (o : Option Region) → IsFrom index old o from → IsStarted index.last (entries_in index old.store) o from
-      by_after None here = record { start = 0; at = here ∙ sym (begins index old.store is); later = λ i r there. (λ x. omega arith, λ x. tt) }
+      by_after : (o : Option Region) → IsFrom index store o from → IsStarted index.last (entries_in index store) o from
+      by_after None here = record { start = 0; at = here ∙ sym (begins index store is); later = λ i r there. (λ x. omega arith, λ x. tt) }
       by_after (Some region) (seat, given, next) =
-          let there = seat_is index old.store old.cached region.first seat is (given.way is.honest) in
+          let there = seat_is index store region.first seat is (given.way is.honest) in
           record {
-            start = suc (index_holding region.first (first_keys (entries_in index old.store)));
+            start = suc (index_holding region.first (first_keys (entries_in index store)));
             at = next ∙ there.next;
             later = λ i r here.
-                later_than region.first (first_keys (entries_in index old.store)) i r.first (up index old.store is) (begins index old.store is) (region_first index.last (entries_in index old.store) i r here);
+                later_than region.first (first_keys (entries_in index store)) i r.first (up index store is) (begins index store is) (region_first index.last (entries_in index store) i r here);
           }
 
   -- the region that is reached, as one of the list
-  reached : (z start : ℕ) (from : Key) (found : Option Region) → slice_get (first_keys (entries_in index old.store)) start ≡ Some from → Reaches index old z from found
-      → found ≡ (if nat_le z index.last then slice_get (regions_of index.last (entries_in index old.store))
-      (max start (index_holding (record { z = z; number = 0 }) (first_keys (entries_in index old.store)))) else None)
+  reached : (z start : ℕ) (from : Key) (found : Option Region) → slice_get (first_keys (entries_in index store)) start ≡ Some from → Reaches index store z from found
+      → found ≡ (if nat_le z index.last then slice_get (regions_of index.last (entries_in index store))
+      (max start (index_holding (record { z = z; number = 0 }) (first_keys (entries_in index store)))) else None)
   reached z start from None at past = rw (lt-leb z index.last past) refl
   reached z start from (Some region) at (le, seat, given, region_is) =
-      let there = seat_is index old.store old.cached (at_least from z) seat is (given.way is.honest) in
-      let place = holding_max (first_keys (entries_in index old.store)) start from z (up index old.store is) at in
+      let there = seat_is index store (at_least from z) seat is (given.way is.honest) in
+      let place = holding_max (first_keys (entries_in index store)) start from z (up index store is) at in
       rw (le-leb z index.last le)
       (ap (λ (r : Region). Some r) region_is
-      ∙ (sym (seat_region index.last (entries_in index old.store) (index_holding (at_least from z) (first_keys (entries_in index old.store))) seat there)
-      ∙ ap (λ (n : ℕ). slice_get (regions_of index.last (entries_in index old.store)) n) place))
+      ∙ (sym (seat_region index.last (entries_in index store) (index_holding (at_least from z) (first_keys (entries_in index store))) seat there)
+      ∙ ap (λ (n : ℕ). slice_get (regions_of index.last (entries_in index store)) n) place))
 
-  none_found : (P : Region → Type 0) → IsFrom index old after None → First (λ r. IsLater after r × P r) (regions_of index.last (entries_in index old.store)) None
+  none_found : (P : Region → Type 0) → IsFrom index store after None → First (λ r. IsLater after r × P r) (regions_of index.last (entries_in index store)) None
   none_found P from =
       let s = starts None from in
-      none_of index.last (entries_in index old.store) (up index old.store is) (λ r. IsLater after r × P r) (λ i r there p.
+      none_of index.last (entries_in index store) (up index store is) (λ r. IsLater after r × P r) (λ i r there p.
       let le = (s.later i r there).0 p.0 in
-      let near = slice_get_within (first_keys (entries_in index old.store)) i r.first (region_first index.last (entries_in index old.store) i r there) in
-      elim ((slice_get_cases (first_keys (entries_in index old.store)) s.start).1) [
+      let near = slice_get_within (first_keys (entries_in index store)) i r.first (region_first index.last (entries_in index store) i r there) in
+      elim ((slice_get_cases (first_keys (entries_in index store)) s.start).1) [
         | inl some ↦ let here = some.2 in let none = s.at in cc
         | inr past ↦ let far = past.0 in omega arith
       ])
 
-  seek_found : (z : ℕ) (from : Key) (found : Option Region) → IsFrom index old after (Some from) → Reaches index old z from found
-      → First (λ r. IsLater after r × (z ≤ r.to)) (regions_of index.last (entries_in index old.store)) found
+  seek_found : (z : ℕ) (from : Key) (found : Option Region) → IsFrom index store after (Some from) → Reaches index store z from found
+      → First (λ r. IsLater after r × (z ≤ r.to)) (regions_of index.last (entries_in index store)) found
   seek_found z from found is_from reaches =
       let s = starts (Some from) is_from in
-      subst (λ (o : Option Region). First (λ r. IsLater after r × (z ≤ r.to)) (regions_of index.last (entries_in index old.store)) o) (sym (reached z s.start from found (sym s.at) reaches))
-      (seek_first index.last (entries_in index old.store) (up index old.store is) (within index old.store is) after s.start s.later z)
+      subst (λ (o : Option Region). First (λ r. IsLater after r × (z ≤ r.to)) (regions_of index.last (entries_in index store)) o) (sym (reached z s.start from found (sym s.at) reaches))
+      (seek_first index.last (entries_in index store) (up index store is) (within index store is) after s.start s.later z)
 
-  module _ (boxes : List Corners) (from : Key) (is_from : IsFrom index old after (Some from)) where
-    meets_none : LeastFrom (HoldsAny boxes) from.z None → First (λ r. IsLater after r × Meets boxes r) (regions_of index.last (entries_in index old.store)) None
+  module _ (boxes : List Corners) (from : Key) (is_from : IsFrom index store after (Some from)) where
+    meets_none : LeastFrom (HoldsAny boxes) from.z None → First (λ r. IsLater after r × Meets boxes r) (regions_of index.last (entries_in index store)) None
     meets_none none =
         let s = starts (Some from) is_from in
-        let e = entry_of (entries_in index old.store) s.start from (sym s.at) in
-        no_address index.last (entries_in index old.store) (up index old.store is) (within index old.store is) after s.start s.later boxes e.0 e.1
+        let e = entry_of (entries_in index store) s.start from (sym s.at) in
+        no_address index.last (entries_in index store) (up index store is) (within index store is) after s.start s.later boxes e.0 e.1
         (subst (λ (k : Key). LeastFrom (HoldsAny boxes) k.z None) (sym e.2) none)
 
-    meets_found : (z : ℕ) (found : Option Region) → LeastFrom (HoldsAny boxes) from.z (Some z) → Reaches index old z from found
-        → First (λ r. IsLater after r × Meets boxes r) (regions_of index.last (entries_in index old.store)) found
+    meets_found : (z : ℕ) (found : Option Region) → LeastFrom (HoldsAny boxes) from.z (Some z) → Reaches index store z from found
+        → First (λ r. IsLater after r × Meets boxes r) (regions_of index.last (entries_in index store)) found
     meets_found z found least reaches =
         let s = starts (Some from) is_from in
-        let e = entry_of (entries_in index old.store) s.start from (sym s.at) in
-        subst (λ (o : Option Region). First (λ r. IsLater after r × Meets boxes r) (regions_of index.last (entries_in index old.store)) o) (sym (reached z s.start from found (sym s.at) reaches))
-        (next_meets index.last (entries_in index old.store) (up index old.store is) (within index old.store is) after s.start s.later boxes e.0 e.1 (begins index old.store is) z
+        let e = entry_of (entries_in index store) s.start from (sym s.at) in
+        subst (λ (o : Option Region). First (λ r. IsLater after r × Meets boxes r) (regions_of index.last (entries_in index store)) o) (sym (reached z s.start from found (sym s.at) reaches))
+        (next_meets index.last (entries_in index store) (up index store is) (within index store is) after s.start s.later boxes e.0 e.1 (begins index store is) z
         (subst (λ (k : Key). LeastFrom (HoldsAny boxes) k.z (Some z)) (sym e.2) least))
 
   -- what is given on an index is the first of its regions
-  pub seek_given : (z : ℕ) (found : Option Region) → GivesAfter index old (Aims (Address z)) after found
-      → First (λ r. IsLater after r × (z ≤ r.to)) (regions_of index.last (entries_in index old.store)) found
+  pub seek_given : (z : ℕ) (found : Option Region) → GivesAfter index store (Aims (Address z)) after found
+      → First (λ r. IsLater after r × (z ≤ r.to)) (regions_of index.last (entries_in index store)) found
   seek_given z None (None, from, none) = none_found (λ r. z ≤ r.to) from
   seek_given z None (Some key, from, inl none) = let no : None ≡ Some z = none in cc
   seek_given z None (Some key, from, inr (y, to, past)) =
@@ -159,18 +159,18 @@ module _ (index : IndexView) (old : PagerView) (is : IsIndexOn index old.store) 
   seek_given z (Some region) (None, from, none) = absurd none
   seek_given z (Some region) (Some key, from, (aim, (y, to, le, is_aim), seat, given, region_is)) =
       let same : y ≡ z = (let e : Some y ≡ Some z = to in cc) in
-      let given' : Gives index old (at_least key z) seat =
-      subst (λ (n : ℕ). Gives index old (at_least key n) seat) same (subst (λ (k : Key). Gives index old k seat) is_aim given) in
+      let given' : Gives index store (at_least key z) seat =
+      subst (λ (n : ℕ). Gives index store (at_least key n) seat) same (subst (λ (k : Key). Gives index store k seat) is_aim given) in
       seek_found z key (Some region) from (subst (λ (n : ℕ). n ≤ index.last) same le, seat, given', region_is)
 
-  pub meeting_given : (boxes : Bor (List Corners)) (found : Option Region) → GivesAfter index old (Aims (Boxes boxes)) after found
-      → First (λ r. IsLater after r × Meets boxes.now r) (regions_of index.last (entries_in index old.store)) found
+  pub meeting_given : (boxes : Bor (List Corners)) (found : Option Region) → GivesAfter index store (Aims (Boxes boxes)) after found
+      → First (λ r. IsLater after r × Meets boxes.now r) (regions_of index.last (entries_in index store)) found
   meeting_given boxes None (None, from, none) = none_found (λ r. Meets boxes.now r) from
   meeting_given boxes None (Some key, from, inl none) = meets_none boxes.now key from none
   meeting_given boxes None (Some key, from, inr (z, to, past)) = meets_found boxes.now key from z None to past
   meeting_given boxes (Some region) (None, from, none) = absurd none
   meeting_given boxes (Some region) (Some key, from, (aim, (z, to, le, is_aim), seat, given, region_is)) =
-      meets_found boxes.now key from z (Some region) to (le, seat, subst (λ (k : Key). Gives index old k seat) is_aim given, region_is)
+      meets_found boxes.now key from z (Some region) to (le, seat, subst (λ (k : Key). Gives index store k seat) is_aim given, region_is)
 
 -- what holds of each answer holds of the one that there is
 pub if_ok : {T : Type 0} (r : Result T IndexFault) (P Q : T → Type 0) → ((x : T) → P x → Q x) → IfOk r P → IfOk r Q

@@ -13,7 +13,7 @@ use Rattle.ub_store.specs.Facts.{StoreFacts, zero_page}
 use Rattle.ub_table.proofs.Laws.{before_of, not_before_origin, not_before_self, precedes_of}
 use Rattle.ub_table.specs.Keys.{IsBefore, precedes}
 use Rattle.ub_table.specs.declared.row.Key.{Key}
-use Rattle.ub_index.specs.Fitting.{FallsTo, FitsAtEnds, IsHeld, NamesTaken}
+use Rattle.ub_index.specs.Fitting.{FallsTo}
 use Rattle.ub_index.specs.Index.{AscendTo, EachTo, Fits, IsIndexPage, IsUnder, NamesFitting, entries_of, first_or, page_in, top}
 use Rattle.ub_index.specs.Preparing.{entry_at}
 use Rattle.ub_index.specs.Standing.{AddsNoIndexPage, OldStayOutside}
@@ -21,11 +21,10 @@ use Rattle.ub_index.specs.View.{IndexView, IsIndexOn, IsSeatAt, Leads, Stops, en
 use Rattle.ub_index.specs.Way.{HoldsKey, LeadsTo, StopsAt}
 use Rattle.ub_index.specs.declared.seat.Seat.{Seat}
 use Rattle.ub_index.proofs.Changes.{same_entries, same_page}
-use Rattle.ub_index.proofs.HeldFacts.{in_full, taken_of}
 use Rattle.ub_index.proofs.KeyFacts.{before_le, le_trans}
 use Rattle.ub_index.proofs.Lists.{ascend_right, each_right}
 use Rattle.ub_index.proofs.ReadyFacts.{seat_found}
-use Rattle.ub_index.proofs.WayFacts.{falls_from, holds_below, seat_is, way_in_full}
+use Rattle.ub_index.proofs.WayFacts.{falls_from, holds_below, seat_is}
 use Rattle.ub_index.proofs.WaysFacts.{compare, ends_from, ends_to, first_up_to}
 
 some_first : (after : List Entry) (end : Option Key) (limit : Key) → end ≡ Some limit → (first : Key) × (first_or after end ≡ Some first)
@@ -44,11 +43,10 @@ not_behind b x m y a e =
     let long = ap length e in
     omega (arith, length-append b (x ∷ (m ++ (y ∷ a))), length-append m (y ∷ a))
 
--- of ways on which no page was held
 module _ (last : ℕ) (pages : List (List ℕ)) where
   -- what a way leads to holds the key, where what it begins with does
   pub holds_found : (key : Key) (level : ℕ) (entry : Entry) (end : Option Key) (found : Entry) (next : Option Key) → HoldsKey key entry.first end
-      → LeadsTo last pages [] key level entry end found next → HoldsKey key found.first next
+      → LeadsTo last pages key level entry end found next → HoldsKey key found.first next
   holds_found key zero entry end found next h leads = record {
     from = subst (λ (e : Entry). ¬ (IsBefore key e.first)) (sym leads.0) h.from;
     to = subst (λ (o : Option Key). IfSome o (IsBefore key)) (sym leads.1) h.to;
@@ -56,22 +54,22 @@ module _ (last : ℕ) (pages : List (List ℕ)) where
   holds_found key (suc level) entry end found next h (named, below, beyond, falls, leads) =
       holds_found key level below beyond found next
       (record {
-        from = falls_from key (entries_of pages entry.page) entry.first end beyond below (in_full last pages (suc level) entry end named).fits.begins h.from falls;
+        from = falls_from key (entries_of pages entry.page) entry.first end beyond below named.fits.begins h.from falls;
         to = holds_below key (entries_of pages entry.page) entry.first end beyond below falls h.to;
       }) leads
 
   -- and begins before the next one
   pub before_next : (key : Key) (level : ℕ) (entry : Entry) (end : Option Key) (found : Entry) (next : Option Key) → IfSome end (IsBefore entry.first)
-      → LeadsTo last pages [] key level entry end found next → IfSome next (IsBefore found.first)
+      → LeadsTo last pages key level entry end found next → IfSome next (IsBefore found.first)
   before_next key zero entry end found next h leads =
       subst (λ (o : Option Key). IfSome o (IsBefore found.first)) (sym leads.1) (subst (λ (e : Entry). IfSome end (IsBefore e.first)) (sym leads.0) h)
   before_next key (suc level) entry end found next h (named, below, beyond, falls, leads) =
       let up : AscendTo (below ∷ falls.after) end =
-      ascend_right falls.before (below ∷ falls.after) end (subst (λ (xs : List Entry). AscendTo xs end) falls.parts (in_full last pages (suc level) entry end named).fits.ascends) in
+      ascend_right falls.before (below ∷ falls.after) end (subst (λ (xs : List Entry). AscendTo xs end) falls.parts named.fits.ascends) in
       before_next key level below beyond found next (subst (λ (o : Option Key). IfSome o (IsBefore below.first)) (sym falls.next_is) up.0) leads
 
   -- something follows it, where something follows what the way begins with
-  next_some : (key : Key) (level : ℕ) (entry : Entry) (end : Option Key) (found : Entry) (next : Option Key) → LeadsTo last pages [] key level entry end found next
+  next_some : (key : Key) (level : ℕ) (entry : Entry) (end : Option Key) (found : Entry) (next : Option Key) → LeadsTo last pages key level entry end found next
       → (limit : Key) → end ≡ Some limit → (first : Key) × (next ≡ Some first)
   next_some key zero entry end found next leads limit e = (limit, leads.1 ∙ e)
   next_some key (suc level) entry end found next (named, below, beyond, falls, leads) limit e =
@@ -79,8 +77,8 @@ module _ (last : ℕ) (pages : List (List ℕ)) where
       next_some key level below beyond found next leads middle.0 (falls.next_is ∙ middle.1)
 
   -- the way to each key that it holds leads to it
-  pub held_way : (key other : Key) (level : ℕ) (entry : Entry) (end : Option Key) (found : Entry) (next : Option Key) → LeadsTo last pages [] key level entry end found next
-      → HoldsKey other found.first next → LeadsTo last pages [] other level entry end found next
+  pub held_way : (key other : Key) (level : ℕ) (entry : Entry) (end : Option Key) (found : Entry) (next : Option Key) → LeadsTo last pages key level entry end found next
+      → HoldsKey other found.first next → LeadsTo last pages other level entry end found next
   held_way key other zero entry end found next leads h = leads
   held_way key other (suc level) entry end found next (named, below, beyond, falls, leads) h = (
     named,
@@ -93,7 +91,6 @@ module _ (last : ℕ) (pages : List (List ℕ)) where
       next_is = falls.next_is;
       from = inr (le_trans below.first found.first other (ends_from last pages key level below beyond found next leads) h.from);
       to = to_of falls.after falls.next_is;
-      some = falls.some;
     },
     held_way key other level below beyond found next leads h,
   )
@@ -106,19 +103,19 @@ module _ (last : ℕ) (pages : List (List ℕ)) where
           before_le other first.0 x.first sooner (ends_to last pages key level below beyond found next leads first.0 x.first first.1 e)
 
   -- the way to a key leads to one entry
-  pub one_way : (key : Key) (level : ℕ) (entry : Entry) (end : Option Key) (f1 : Entry) (n1 : Option Key) (f2 : Entry) (n2 : Option Key) → LeadsTo last pages [] key level entry end f1 n1
-      → LeadsTo last pages [] key level entry end f2 n2 → (f1 ≡ f2) × (n1 ≡ n2)
+  pub one_way : (key : Key) (level : ℕ) (entry : Entry) (end : Option Key) (f1 : Entry) (n1 : Option Key) (f2 : Entry) (n2 : Option Key) → LeadsTo last pages key level entry end f1 n1
+      → LeadsTo last pages key level entry end f2 n2 → (f1 ≡ f2) × (n1 ≡ n2)
   one_way key zero entry end f1 n1 f2 n2 h1 h2 = (h1.0 ∙ sym h2.0, h1.1 ∙ sym h2.1)
   one_way key (suc level) entry end f1 n1 f2 n2 (named1, x1, o1, falls1, leads1) (named2, x2, o2, falls2, leads2) =
       elim (compare falls1.before x1 falls1.after falls2.before x2 falls2.after (sym falls1.parts ∙ falls2.parts)) [
         | inl same ↦
             let nexts : o1 ≡ o2 = falls1.next_is ∙ (ap (λ (a : List Entry). first_or a end) same.1 ∙ sym falls2.next_is) in
-            let leads : LeadsTo last pages [] key level x2 o2 f1 n1 =
-            subst (λ (e : Entry). LeadsTo last pages [] key level e o2 f1 n1) same.0 (subst (λ (o : Option Key). LeadsTo last pages [] key level x1 o f1 n1) nexts leads1) in
+            let leads : LeadsTo last pages key level x2 o2 f1 n1 =
+            subst (λ (e : Entry). LeadsTo last pages key level e o2 f1 n1) same.0 (subst (λ (o : Option Key). LeadsTo last pages key level x1 o f1 n1) nexts leads1) in
             one_way key level x2 o2 f1 n1 f2 n2 leads leads2
         | inr other ↦ elim other [
-          | inl behind ↦ absurd (apart (in_full last pages (suc level) entry end named1) x1 o1 falls1 x2 o2 falls2 behind.0 behind.1)
-          | inr ahead ↦ absurd (apart (in_full last pages (suc level) entry end named2) x2 o2 falls2 x1 o1 falls1 ahead.0 ahead.1)
+          | inl behind ↦ absurd (apart named1 x1 o1 falls1 x2 o2 falls2 behind.0 behind.1)
+          | inr ahead ↦ absurd (apart named2 x2 o2 falls2 x1 o1 falls1 ahead.0 ahead.1)
         ]
       ]
     where
@@ -139,28 +136,28 @@ module _ (last : ℕ) (pages : List (List ℕ)) where
 -- a key that isn't before the first of entries falls to one of them that doesn't begin after it
 falls_in : (last : ℕ) (key : Key) (x : Entry) (xs : List Entry) (end : Option Key) → AllByRecursion (IsEntry last) (x ∷ xs) → ¬ (IsBefore key x.first)
     → (below : Entry) × (next : Option Key) × FallsTo key (x ∷ xs) end below next × (¬ (IsBefore key below.first))
-falls_in last key x [] end all from = (x, end, record { before = []; after = []; parts = refl; next_is = refl; from = inr from; to = tt; some = all.0.some_page }, from)
+falls_in last key x [] end all from = (x, end, record { before = []; after = []; parts = refl; next_is = refl; from = inr from; to = tt }, from)
 falls_in last key x (y ∷ ys) end all from = elim (cases_Bool (precedes key y.first)) [
-  | inl t ↦ (x, Some y.first, record { before = []; after = y ∷ ys; parts = refl; next_is = refl; from = inr from; to = before_of key y.first t; some = all.0.some_page }, from)
+  | inl t ↦ (x, Some y.first, record { before = []; after = y ∷ ys; parts = refl; next_is = refl; from = inr from; to = before_of key y.first t }, from)
   | inr f ↦
       let r = falls_in last key y ys end all.1 (λ yes. let t = precedes_of key y.first yes in cc) in (
         r.0,
         r.1,
-        record { before = x ∷ r.2.before; after = r.2.after; parts = ap (λ (zs : List Entry). x ∷ zs) r.2.parts; next_is = r.2.next_is; from = inr r.3; to = r.2.to; some = r.2.some },
+        record { before = x ∷ r.2.before; after = r.2.after; parts = ap (λ (zs : List Entry). x ∷ zs) r.2.parts; next_is = r.2.next_is; from = inr r.3; to = r.2.to },
         r.3,
       )
 ]
 
 -- on an index there is a way to each key
-module _ (last : ℕ) (pages : List (List ℕ)) (held : List (ℕ × List ℕ)) (key : Key) where
+module _ (last : ℕ) (pages : List (List ℕ)) (key : Key) where
   way_there : (level : ℕ) (entry : Entry) (end : Option Key) → IsUnder last pages level entry end → ¬ (IsBefore key entry.first)
-      → (found : Entry) × (next : Option Key) × LeadsTo last pages held key level entry end found next
+      → (found : Entry) × (next : Option Key) × LeadsTo last pages key level entry end found next
   way_there zero entry end is from = (entry, end, (refl, refl))
   way_there (suc level) entry end is from = by_entries (way_there level) (entries_of pages entry.page) refl
     where
       by_entries : ((below : Entry) (beyond : Option Key) → IsUnder last pages level below beyond → ¬ (IsBefore key below.first)
-          → (found : Entry) × (next : Option Key) × LeadsTo last pages held key level below beyond found next)
-          → (xs : List Entry) → entries_of pages entry.page ≡ xs → (found : Entry) × (next : Option Key) × LeadsTo last pages held key (suc level) entry end found next
+          → (found : Entry) × (next : Option Key) × LeadsTo last pages key level below beyond found next)
+          → (xs : List Entry) → entries_of pages entry.page ≡ xs → (found : Entry) × (next : Option Key) × LeadsTo last pages key (suc level) entry end found next
       by_entries go [] e = let no : None ≡ Some entry.first = ap (λ (zs : List Entry). first_or zs None) (sym e) ∙ is.0.fits.begins in cc
       by_entries go (x ∷ xs) e =
           let begins : Some x.first ≡ Some entry.first = ap (λ (zs : List Entry). first_or zs None) (sym e) ∙ is.0.fits.begins in
@@ -170,30 +167,30 @@ module _ (last : ℕ) (pages : List (List ℕ)) (held : List (ℕ × List ℕ)) 
           let each : EachTo (IsUnder last pages level) (r.0 ∷ falls.after) end =
           each_right (IsUnder last pages level) falls.before (r.0 ∷ falls.after) end (subst (λ (zs : List Entry). EachTo (IsUnder last pages level) zs end) falls.parts is.1) in
           let below = go r.0 r.1 (subst (λ (o : Option Key). IsUnder last pages level r.0 o) (sym falls.next_is) each.0) r.3 in
-          (below.0, below.1, (taken_of last pages held (suc level) entry end is.0, r.0, r.1, falls, below.2))
+          (below.0, below.1, (is.0, r.0, r.1, falls, below.2))
 
 -- and so each seat is led to
-pub led_to : (index : IndexView) (store : StoreFacts) (held : List (ℕ × List ℕ)) (i : ℕ) (seat : Seat) → IsIndexOn index store → IsSeatAt (entries_in index store) i seat
-    → Leads index store held seat.first seat
-led_to index store held i seat is at =
-    let way = way_there index.last store.pages held seat.first index.levels (top index.root) None is.under_it (not_before_origin seat.first) in
-    let same = seat_found index store i seat is at way.0 way.1 (way_in_full index.last store.pages held seat.first index.levels (top index.root) None way.0 way.1 is.under_it way.2) in
-    subst (λ (o : Option Key). LeadsTo index.last store.pages held seat.first index.levels (top index.root) None (entry_at seat) o) same.1
-    (subst (λ (e : Entry). LeadsTo index.last store.pages held seat.first index.levels (top index.root) None e way.1) same.0 way.2)
+pub led_to : (index : IndexView) (store : StoreFacts) (i : ℕ) (seat : Seat) → IsIndexOn index store → IsSeatAt (entries_in index store) i seat
+    → Leads index store seat.first seat
+led_to index store i seat is at =
+    let way = way_there index.last store.pages seat.first index.levels (top index.root) None is.under_it (not_before_origin seat.first) in
+    let same = seat_found index store i seat is at way.0 way.1 way.2 in
+    subst (λ (o : Option Key). LeadsTo index.last store.pages seat.first index.levels (top index.root) None (entry_at seat) o) same.1
+    (subst (λ (e : Entry). LeadsTo index.last store.pages seat.first index.levels (top index.root) None e way.1) same.0 way.2)
 
-pub seats_led_to : (index : IndexView) (store : StoreFacts) (held : List (ℕ × List ℕ)) → IsIndexOn index store
-    → ((key : Key) (seat : Seat) → Leads index store held key seat → IsSeatAt (entries_in index store) (index_holding key (first_keys (entries_in index store))) seat)
-    × ((i : ℕ) (seat : Seat) → IsSeatAt (entries_in index store) i seat → Leads index store held seat.first seat)
-seats_led_to index store held is = (λ key seat leads. seat_is index store held key seat is leads, λ i seat at. led_to index store held i seat is at)
+pub seats_led_to : (index : IndexView) (store : StoreFacts) → IsIndexOn index store
+    → ((key : Key) (seat : Seat) → Leads index store key seat → IsSeatAt (entries_in index store) (index_holding key (first_keys (entries_in index store))) seat)
+    × ((i : ℕ) (seat : Seat) → IsSeatAt (entries_in index store) i seat → Leads index store seat.first seat)
+seats_led_to index store is = (λ key seat leads. seat_is index store key seat is leads, λ i seat at. led_to index store i seat is at)
 
--- a page that is taken is, where it stays
-pub kept_taken : (last : ℕ) (held : List (ℕ × List ℕ)) (old new : List (List ℕ)) (level : ℕ) (entry : Entry) (end : Option Key) → slice_get new entry.page ≡ slice_get old entry.page
-    → NamesTaken last old held level entry end → NamesTaken last new held level entry end
-kept_taken last held old new level entry end same h =
+-- a page that fits does, where it stays
+pub kept_fitting : (last : ℕ) (old new : List (List ℕ)) (level : ℕ) (entry : Entry) (end : Option Key) → slice_get new entry.page ≡ slice_get old entry.page
+    → NamesFitting last old level entry end → NamesFitting last new level entry end
+kept_fitting last old new level entry end same h =
     let page = same_page old new entry.page same in
     record {
       there = same ∙ (h.there ∙ ap (λ (p : List ℕ). Some p) (sym page));
-      fits = subst (λ (p : List ℕ). Fits last p level entry end ⊎ (IsHeld held entry.page × FitsAtEnds p level entry end)) (sym page) h.fits;
+      fits = subst (λ (p : List ℕ). Fits last p level entry end) (sym page) h.fits;
     }
 
 -- where a page stays, a key falls to the entry to which it fell
@@ -202,23 +199,23 @@ pub moved : (key : Key) (a b : List (List ℕ)) (entry below : Entry) (end beyon
 moved key a b entry below end beyond same falls = subst (λ (xs : List Entry). FallsTo key xs end below beyond) (sym (same_entries a b entry.page same)) falls
 
 -- what becomes of ways where the pages that there were stay, and others may stand after them
-module _ (last : ℕ) (old new : List (List ℕ)) (keeps : OldStayOutside [] old new) (held : List (ℕ × List ℕ)) (key : Key) where
+module _ (last : ℕ) (old new : List (List ℕ)) (keeps : OldStayOutside [] old new) (key : Key) where
   -- one that led to an entry leads there still
-  pub still_leads : (level : ℕ) (entry : Entry) (end : Option Key) (found : Entry) (next : Option Key) → LeadsTo last old held key level entry end found next
-      → LeadsTo last new held key level entry end found next
+  pub still_leads : (level : ℕ) (entry : Entry) (end : Option Key) (found : Entry) (next : Option Key) → LeadsTo last old key level entry end found next
+      → LeadsTo last new key level entry end found next
   still_leads zero entry end found next leads = leads
   still_leads (suc level) entry end found next (named, below, beyond, falls, leads) =
       let same = keeps entry.page (slice_get_within old entry.page (page_in old entry.page) named.there) tt in
-      (kept_taken last held old new (suc level) entry end same named, below, beyond, moved key old new entry below end beyond same falls, still_leads level below beyond found next leads)
+      (kept_fitting last old new (suc level) entry end same named, below, beyond, moved key old new entry below end beyond same falls, still_leads level below beyond found next leads)
 
   -- one that leads to an entry led there, or stopped where no page was
-  pub led_or_stopped : (level : ℕ) (entry : Entry) (end : Option Key) (found : Entry) (next : Option Key) → LeadsTo last new held key level entry end found next
-      → LeadsTo last old held key level entry end found next ⊎ ((n : ℕ) × StopsAt last old held key level entry end n None)
+  pub led_or_stopped : (level : ℕ) (entry : Entry) (end : Option Key) (found : Entry) (next : Option Key) → LeadsTo last new key level entry end found next
+      → LeadsTo last old key level entry end found next ⊎ ((n : ℕ) × StopsAt last old key level entry end n None)
   led_or_stopped zero entry end found next leads = inl leads
   led_or_stopped (suc level) entry end found next (named, below, beyond, falls, leads) = elim (cases_lt entry.page (length old)) [
     | inl near ↦
         let same = sym (keeps entry.page near tt) in
-        let was = kept_taken last held new old (suc level) entry end same named in
+        let was = kept_fitting last new old (suc level) entry end same named in
         let fell = moved key new old entry below end beyond same falls in
         elim (led_or_stopped level below beyond found next leads) [
           | inl led ↦ inl (was, below, beyond, fell, led)
@@ -227,21 +224,21 @@ module _ (last : ℕ) (old new : List (List ℕ)) (keeps : OldStayOutside [] old
     | inr far ↦ inr (entry.page, inl (refl, far))
   ]
 
--- where no page was held, it led there, if no page that came is one of an index
+-- it led there, if no page that came is one of an index
 module _ (last : ℕ) (old new : List (List ℕ)) (keeps : OldStayOutside [] old new) (none : AddsNoIndexPage last old new) (key : Key) where
-  pub led : (level : ℕ) (entry : Entry) (end : Option Key) (found : Entry) (next : Option Key) → LeadsTo last new [] key level entry end found next
-      → LeadsTo last old [] key level entry end found next
+  pub led : (level : ℕ) (entry : Entry) (end : Option Key) (found : Entry) (next : Option Key) → LeadsTo last new key level entry end found next
+      → LeadsTo last old key level entry end found next
   led zero entry end found next leads = leads
   led (suc level) entry end found next (named, below, beyond, falls, leads) = elim (cases_lt entry.page (length old)) [
     | inl near ↦
         let same = sym (keeps entry.page near tt) in (
-          kept_taken last [] new old (suc level) entry end same named,
+          kept_fitting last new old (suc level) entry end same named,
           below,
           beyond,
           moved key new old entry below end beyond same falls,
           led level below beyond found next leads,
         )
-    | inr far ↦ absurd (none entry.page (page_in new entry.page) far named.there (in_full last new (suc level) entry end named).fits.is)
+    | inr far ↦ absurd (none entry.page (page_in new entry.page) far named.there named.fits.is)
   ]
 
 -- a page of zeros is none of an index
@@ -262,9 +259,9 @@ same_seat a b entries nexts =
     ∙ (ap (λ (n : ℕ). seat_with b.first n a.next) (ap (λ (e : Entry). e.page) entries) ∙ ap (λ (o : Option Key). seat_with b.first b.page o) nexts)
 
 -- the same of the seats of an index
-pub ways_hold : (index : IndexView) (store : StoreFacts) (key : Key) (seat : Seat) → Leads index store [] key seat
+pub ways_hold : (index : IndexView) (store : StoreFacts) (key : Key) (seat : Seat) → Leads index store key seat
     → HoldsKey key seat.first seat.next × HoldsKey seat.first seat.first seat.next
-    × ((other : Key) → HoldsKey other seat.first seat.next → Leads index store [] other seat)
+    × ((other : Key) → HoldsKey other seat.first seat.next → Leads index store other seat)
 ways_hold index store key seat leads = (
   holds_found index.last store.pages key index.levels (top index.root) None (entry_at seat) seat.next (record { from = not_before_origin key; to = tt }) leads,
   record {
@@ -274,22 +271,22 @@ ways_hold index store key seat leads = (
   λ other h. held_way index.last store.pages key other index.levels (top index.root) None (entry_at seat) seat.next leads h,
 )
 
-pub ways_are_one : (index : IndexView) (store : StoreFacts) (key : Key) (a b : Seat) → Leads index store [] key a → Leads index store [] key b → a ≡ b
+pub ways_are_one : (index : IndexView) (store : StoreFacts) (key : Key) (a b : Seat) → Leads index store key a → Leads index store key b → a ≡ b
 ways_are_one index store key a b to_a to_b =
     let same = one_way index.last store.pages key index.levels (top index.root) None (entry_at a) a.next (entry_at b) b.next to_a to_b in
     same_seat a b same.0 same.1
 
-pub ways_stay : (index : IndexView) (old new : StoreFacts) (held : List (ℕ × List ℕ)) (key : Key) (seat : Seat) → OldStayOutside [] old.pages new.pages
-    → (Leads index old held key seat → Leads index new held key seat)
-    × (Leads index new held key seat → Leads index old held key seat ⊎ ((n : ℕ) × Stops index old held key n None))
-ways_stay index old new held key seat keeps = (
-  λ leads. still_leads index.last old.pages new.pages keeps held key index.levels (top index.root) None (entry_at seat) seat.next leads,
-  λ leads. led_or_stopped index.last old.pages new.pages keeps held key index.levels (top index.root) None (entry_at seat) seat.next leads,
+pub ways_stay : (index : IndexView) (old new : StoreFacts) (key : Key) (seat : Seat) → OldStayOutside [] old.pages new.pages
+    → (Leads index old key seat → Leads index new key seat)
+    × (Leads index new key seat → Leads index old key seat ⊎ ((n : ℕ) × Stops index old key n None))
+ways_stay index old new key seat keeps = (
+  λ leads. still_leads index.last old.pages new.pages keeps key index.levels (top index.root) None (entry_at seat) seat.next leads,
+  λ leads. led_or_stopped index.last old.pages new.pages keeps key index.levels (top index.root) None (entry_at seat) seat.next leads,
 )
 
 pub ways_are_the_same : (index : IndexView) (old new : StoreFacts) (key : Key) (seat : Seat) → OldStayOutside [] old.pages new.pages → AddsNoIndexPage index.last old.pages new.pages
-    → Leads index old [] key seat ↔ Leads index new [] key seat
+    → Leads index old key seat ↔ Leads index new key seat
 ways_are_the_same index old new key seat keeps none = (
-  λ leads. still_leads index.last old.pages new.pages keeps [] key index.levels (top index.root) None (entry_at seat) seat.next leads,
+  λ leads. still_leads index.last old.pages new.pages keeps key index.levels (top index.root) None (entry_at seat) seat.next leads,
   λ leads. led index.last old.pages new.pages keeps none key index.levels (top index.root) None (entry_at seat) seat.next leads,
 )

@@ -27,4 +27,5 @@ pub mod PutFacts
 pub mod StandFacts
 pub mod LeadFacts
 pub mod FirstFacts
+pub mod SheetFacts
 pub mod OwnFacts

@@ -9,7 +9,6 @@ use Rattle.ub_page.specs.Entries.{IsEntry}
 use Rattle.ub_page.specs.declared.entries.Entry.{Entry}
 use Rattle.ub_region.specs.Regions.{index_holding}
 use Rattle.ub_store.specs.Facts.{StoreFacts}
-use Rattle.ub_store.specs.View.{PagerView}
 use Rattle.ub_table.proofs.Laws.{ascending_get, before_from, before_of, before_parts, not_before_self, precedes_of, precedes_trans}
 use Rattle.ub_table.specs.Keys.{IsBefore, precedes, origin, are_ascending}
 use Rattle.ub_table.specs.declared.row.Key.{Key}
@@ -130,22 +129,22 @@ pub index_of_first : (firsts : List Key) (j : ℕ) (first : Key) → are_ascendi
 index_of_first firsts j first up at = index_is first firsts j first up at (not_self first) (λ next there. ascending_get firsts up j (suc j) (omega arith) first next at there)
 
 -- the seats beside one
-module _ (index : IndexView) (old : PagerView) (is : IsIndexOn index old.store) (i : ℕ) (seat : Seat) (at : IsSeatAt (entries_in index old.store) i seat) where
-  pub after_none : seat.next ≡ None → length (entries_in index old.store) ≡ i + 1
+module _ (index : IndexView) (store : StoreFacts) (is : IsIndexOn index store) (i : ℕ) (seat : Seat) (at : IsSeatAt (entries_in index store) i seat) where
+  pub after_none : seat.next ≡ None → length (entries_in index store) ≡ i + 1
   after_none none =
-      let past : slice_get (first_keys (entries_in index old.store)) (suc i) ≡ None = sym at.next ∙ none in
+      let past : slice_get (first_keys (entries_in index store)) (suc i) ≡ None = sym at.next ∙ none in
       let near = at.within in
-      elim ((slice_get_cases (first_keys (entries_in index old.store)) (suc i)).1) [
+      elim ((slice_get_cases (first_keys (entries_in index store)) (suc i)).1) [
         | inl some ↦ let there = some.2 in cc
-        | inr far ↦ let le = far.0 in omega (arith, length-first_keys (entries_in index old.store))
+        | inr far ↦ let le = far.0 in omega (arith, length-first_keys (entries_in index store))
       ]
 
-  pub after_some : (key : Key) (next : Seat) → seat.next ≡ Some key → Gives index old key next → IsSeatAt (entries_in index old.store) (i + 1) next
+  pub after_some : (key : Key) (next : Seat) → seat.next ≡ Some key → Gives index store key next → IsSeatAt (entries_in index store) (i + 1) next
   after_some key next is_next given =
-      let there : slice_get (first_keys (entries_in index old.store)) (suc i) ≡ Some key = sym at.next ∙ is_next in
-      let holds = index_of_first (first_keys (entries_in index old.store)) (suc i) key (up index old.store is) there in
+      let there : slice_get (first_keys (entries_in index store)) (suc i) ≡ Some key = sym at.next ∙ is_next in
+      let holds = index_of_first (first_keys (entries_in index store)) (suc i) key (up index store is) there in
       let one : suc i ≡ i + 1 = omega arith in
-      subst (λ (n : ℕ). IsSeatAt (entries_in index old.store) n next) (holds ∙ one) (seat_is index old.store old.cached key next is (given.way is.honest))
+      subst (λ (n : ℕ). IsSeatAt (entries_in index store) n next) (holds ∙ one) (seat_is index store key next is (given.way is.honest))
 
 -- the greatest key before one: no key of an entry lies between
 none_before : (z n : ℕ) → key_before z n ≡ None → (z ≡ 0) × (n ≡ 0)
@@ -190,38 +189,38 @@ greatest_before z (suc n) key h =
 pub seat_first : (entries : List Entry) (i : ℕ) (seat : Seat) → IsSeatAt entries i seat → slice_get (first_keys entries) i ≡ Some seat.first
 seat_first entries i seat at = first_at entries i (record { first = seat.first; page = seat.page }) at.entry
 
-module _ (index : IndexView) (old : PagerView) (is : IsIndexOn index old.store) where
-  pub none_is_before : (i : ℕ) (seat : Seat) → IsSeatAt (entries_in index old.store) i seat → key_before seat.first.z seat.first.number ≡ None → i ≡ 0
+module _ (index : IndexView) (store : StoreFacts) (is : IsIndexOn index store) where
+  pub none_is_before : (i : ℕ) (seat : Seat) → IsSeatAt (entries_in index store) i seat → key_before seat.first.z seat.first.number ≡ None → i ≡ 0
   none_is_before zero seat at none = refl
   none_is_before (suc j) seat at none =
       let least = none_before seat.first.z seat.first.number none in
-      let later = ascending_get (first_keys (entries_in index old.store)) (up index old.store is) 0 (suc j) (omega arith) origin seat.first (begins index old.store is)
-      (seat_first (entries_in index old.store) (suc j) seat at) in
+      let later = ascending_get (first_keys (entries_in index store)) (up index store is) 0 (suc j) (omega arith) origin seat.first (begins index store is)
+      (seat_first (entries_in index store) (suc j) seat at) in
       elim (before_parts origin seat.first (before_of origin seat.first later)) [
         | inl lt ↦ let e = least.0 in absurd (omega arith)
         | inr both ↦ let e = least.1 in let f = both.1 in absurd (omega arith)
       ]
 
-  pub some_is_before : (i : ℕ) (seat : Seat) → IsSeatAt (entries_in index old.store) i seat → (key : Key) (before : Seat) → key_before seat.first.z seat.first.number ≡ Some key
-      → Gives index old key before → IsPreviousSeat (entries_in index old.store) i (Some before)
+  pub some_is_before : (i : ℕ) (seat : Seat) → IsSeatAt (entries_in index store) i seat → (key : Key) (before : Seat) → key_before seat.first.z seat.first.number ≡ Some key
+      → Gives index store key before → IsPreviousSeat (entries_in index store) i (Some before)
   some_is_before zero seat at key before is_before given =
-      let same : seat.first ≡ origin = (let a = seat_first (entries_in index old.store) zero seat at in let b = begins index old.store is in cc) in
+      let same : seat.first ≡ origin = (let a = seat_first (entries_in index store) zero seat at in let b = begins index store is in cc) in
       let none : key_before seat.first.z seat.first.number ≡ None = ap (λ (k : Key). key_before k.z k.number) same in
       cc
   some_is_before (suc j) seat at key before is_before given =
-      let firsts = first_keys (entries_in index old.store) in
-      let here : slice_get (first_keys (entries_in index old.store)) (suc j) ≡ Some seat.first = seat_first (entries_in index old.store) (suc j) seat at in
+      let firsts = first_keys (entries_in index store) in
+      let here : slice_get (first_keys (entries_in index store)) (suc j) ≡ Some seat.first = seat_first (entries_in index store) (suc j) seat at in
       let greatest = greatest_before seat.first.z seat.first.number key is_before in
       let near = at.within in
-      elim ((slice_get_cases (first_keys (entries_in index old.store)) j).1) [
+      elim ((slice_get_cases (first_keys (entries_in index store)) j).1) [
         | inl some ↦
             let f = some.0 in
-            let there : slice_get (first_keys (entries_in index old.store)) j ≡ Some some.0 = some.2 in
-            let lower = ascending_get (first_keys (entries_in index old.store)) (up index old.store is) j (suc j) (omega arith) some.0 seat.first there here in
-            let no_more = greatest.1 some.0 (small_number index old.store is j some.0 there) (before_of some.0 seat.first lower) in
-            let at_j : index_holding key (first_keys (entries_in index old.store)) ≡ j =
-            index_is key (first_keys (entries_in index old.store)) j some.0 (up index old.store is) there (not_true key some.0 no_more)
+            let there : slice_get (first_keys (entries_in index store)) j ≡ Some some.0 = some.2 in
+            let lower = ascending_get (first_keys (entries_in index store)) (up index store is) j (suc j) (omega arith) some.0 seat.first there here in
+            let no_more = greatest.1 some.0 (small_number index store is j some.0 there) (before_of some.0 seat.first lower) in
+            let at_j : index_holding key (first_keys (entries_in index store)) ≡ j =
+            index_is key (first_keys (entries_in index store)) j some.0 (up index store is) there (not_true key some.0 no_more)
             (λ next there'. let same : seat.first ≡ next = cc in ap (precedes key) (sym same) ∙ precedes_of key seat.first greatest.0) in
-            (j, omega arith, subst (λ (n : ℕ). IsSeatAt (entries_in index old.store) n before) at_j (seat_is index old.store old.cached key before is (given.way is.honest)))
-        | inr past ↦ let far = past.0 in absurd (omega (arith, length-first_keys (entries_in index old.store)))
+            (j, omega arith, subst (λ (n : ℕ). IsSeatAt (entries_in index store) n before) at_j (seat_is index store key before is (given.way is.honest)))
+        | inr past ↦ let far = past.0 in absurd (omega (arith, length-first_keys (entries_in index store)))
       ]

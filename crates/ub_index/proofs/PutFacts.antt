@@ -1,14 +1,20 @@
 -- What becomes of a store's pages where it grows, and where sheets are put.
-use Rattle.std.proofs.Common.{Result, Ok, Err, ◌⊎◌, ◌≡◌, ◌≢◌, ◌≤◌, ◌<◌, ◌+◌, inl, inr, ℕ, zero, suc, List, [], ◌∷◌, ◌++◌, Some, length, take, ◌∙◌, sym, ap, subst, refl, arith, slice_get, slice_set}
+use Rattle.std.proofs.Common.{Result, Ok, Err, Bool, Option, None, option_map, ◌⊎◌, ◌≡◌, ◌≢◌, ◌≤◌, ◌<◌, ◌+◌, inl, inr, ℕ, zero, suc, List, [], ◌∷◌, ◌++◌, Some, length, take, ◌∙◌, sym, ap, subst, refl, arith, slice_get, slice_set}
+use Rattle.std.proofs.lemmas.Bool.{cases_eq}
 use Rattle.std.specs.Prelude.{IsTrue}
 use Rattle.std.specs.Result.{IsErrAnd, IsErrOf}
 use Rattle.ub_directory.specs.Writing.{Grows, put_store}
+use Rattle.ub_store.specs.Cache.{SameBut, page_at}
+use Rattle.ub_store.specs.View.{PagerView}
 use Rattle.ub_store.specs.Facts.{StoreFacts, IsHonest, MayFlush, WritesAt, Appends, page_count}
 use Rattle.ub_store.specs.declared.fault.StoreFault.{StoreFault}
 use Rattle.ub_store.specs.declared.fault.StoreFault.TheVariants as store
-use Rattle.ub_index.specs.Changing.{AreOnce, IsUnspelled, Stand}
+use Rattle.ub_index.specs.Changing.{AreIndexPages, AreOnce, IsUnspelled, Stand}
+use Rattle.ub_index.specs.Held.{KeepsChecked}
+use Rattle.ub_index.specs.Index.{IsIndexPage}
 use Rattle.ub_index.specs.Making.{IsGrowFault, IsPutFault, PutsSheets, SameButSheets}
 use Rattle.ub_index.specs.declared.sheet.Sheet.{Sheet}
+use Rattle.ub_index.proofs.HeldFacts.{keeps_on}
 
 pub then_done : (a b d : StoreFacts) → b ≡ record a { pages = b.pages; synced = b.synced } → d ≡ record b { pages = d.pages; synced = d.synced } → d ≡ record a { pages = d.pages; synced = d.synced }
 then_done a b d same more = more ∙ ap (λ (s : StoreFacts). record s { pages = d.pages; synced = d.synced }) same
@@ -130,3 +136,33 @@ put_fault T sheets i sheet a b store.Memory at same count (inl e) device missing
 put_fault T sheets i sheet a b store.Memory at same count (inr e) device missing = cc
 put_fault T sheets i sheet a b store.BadSize at same count (inl e) device missing = cc
 put_fault T sheets i sheet a b store.BadSize at same count (inr e) device missing = cc
+
+-- a page of an index that is put leaves the pages that are held checked: it is held in the place of one, or isn't
+page_of : (last : ℕ) (sheets : List Sheet) (i : ℕ) (sheet : Sheet) → slice_get sheets i ≡ Some sheet → AreIndexPages last sheets → IsIndexPage last sheet.page
+page_of last [] i sheet at good = cc
+page_of last (x ∷ sheets) zero sheet at good = let same : x ≡ sheet = cc in subst (λ (s : Sheet). IsIndexPage last s.page) same good.0
+page_of last (x ∷ sheets) (suc i) sheet at good = page_of last sheets i sheet at good.1
+
+pub put_checked : (last n : ℕ) (put : List ℕ) (old new : PagerView) → new.store.honest ≡ old.store.honest → IsIndexPage last put
+    → (page_at new.cached n ≡ option_map (λ _. put) (page_at old.cached n)) ⊎ (page_at new.cached n ≡ None) → SameBut n old.cached new.cached → KeepsChecked last old new
+put_checked last n put old new honest is here others was good m page held = elim (cases_eq m n) [
+  | inl same ↦ inl (subst (λ (p : List ℕ). IsIndexPage last p) (sym (put_page (subst (λ (k : ℕ). page_at new.cached k ≡ Some page) same held))) is)
+  | inr other ↦ was (subst (λ (b : Bool). IsTrue b) honest good) m page (sym (others m other) ∙ held)
+]
+  where
+    mapped : (o : Option (List ℕ)) → option_map (λ _. put) o ≡ Some page → page ≡ put
+    mapped None e = cc
+    mapped (Some p) e = cc
+
+    put_page : page_at new.cached n ≡ Some page → page ≡ put
+    put_page at = elim here [
+      | inl renewed ↦ mapped (page_at old.cached n) (sym renewed ∙ at)
+      | inr gone ↦ cc
+    ]
+
+pub put_keeps : (last : ℕ) (sheets : List Sheet) (i : ℕ) (sheet : Sheet) (old mid new : PagerView) → new.store.honest ≡ mid.store.honest → slice_get sheets i ≡ Some sheet
+    → AreIndexPages last sheets → KeepsChecked last old mid
+    → (page_at new.cached sheet.number ≡ option_map (λ _. sheet.page) (page_at mid.cached sheet.number)) ⊎ (page_at new.cached sheet.number ≡ None)
+    → SameBut sheet.number mid.cached new.cached → KeepsChecked last old new
+put_keeps last sheets i sheet old mid new honest at good kept here others =
+    keeps_on last old mid new kept (put_checked last sheet.number sheet.page mid new honest (page_of last sheets i sheet at good) here others)

@@ -27,13 +27,13 @@ use Rattle.ub_index.specs.declared.seat.Seat.{Seat}
 use Rattle.ub_index.specs.declared.sheet.Sheet.{Sheet}
 use Rattle.ub_index.specs.declared.told.Told.{Told}
 use Rattle.ub_index.specs.declared.told.Told.TheVariants.{Same, Gone, One, Two}
-use Rattle.ub_index.proofs.HeldFacts.{in_full}
 use Rattle.ub_index.proofs.Changes.{replaced, stays, told_index}
 use Rattle.ub_index.proofs.FillFacts.{AreFilled, filled_becomes, filled_over}
 use Rattle.ub_index.proofs.FullFacts.{all_end, full_next, full_way}
 use Rattle.ub_index.proofs.Numbers.{distinct_cons, distinct_first, distinct_rest, no_new_left, once_join, outside_less, within_store}
 use Rattle.ub_index.proofs.OrderFacts.{first_through, under_first}
 use Rattle.ub_index.proofs.PlaceFacts.{index_of_first, seat_first, up}
+use Rattle.ub_index.specs.Held.{KeepsChecked}
 use Rattle.ub_index.proofs.SearchFacts.{err_is, pager_with, same_store}
 use Rattle.ub_index.proofs.SpreadFacts.{node_so, told_on}
 use Rattle.ub_index.proofs.TurnFacts.{Risen, rises, unspelled_left}
@@ -73,16 +73,16 @@ settle_fault index old key added from to told Full few room turns h = (
 
 pub settled_all : (T U : Type 0) (index : IndexView) (key : Key) (added : Option Entry) (from to : Spelled) (old new : PagerView) (told : Told) (r : Result U IndexFault)
     → to.next ≤ from.next + index.levels → to.next ≤ 4294967295 → (IsHonest old.store → TurnsRoot index old.store key added from to told)
-    → new ≡ record old { store = old.store; cached = new.cached } → IfErr r (IsSettleFault index.root index.levels told to) → PreparesAll index key added from old new r
-settled_all T U index key added from to old new told (Ok x) few room turns same h = record { same = same; faults = tt }
-settled_all T U index key added from to old new told (Err (Page n fault)) few room turns same h =
-    record { same = same; faults = settle_fault index old.store key added from to told (Page n fault) few room turns h }
-settled_all T U index key added from to old new told (Err Full) few room turns same h = record { same = same; faults = settle_fault index old.store key added from to told Full few room turns h }
-settled_all T U index key added from to old new told (Err (Store store.Memory)) few room turns same h = record { same = same; faults = tt }
-settled_all T U index key added from to old new told (Err (Store store.Device)) few room turns same h = absurd h
-settled_all T U index key added from to old new told (Err (Store store.NoPage)) few room turns same h = absurd h
-settled_all T U index key added from to old new told (Err (Store store.BadSize)) few room turns same h =
-    record { same = same; faults = settle_fault index old.store key added from to told (Store store.BadSize) few room turns h }
+    → new ≡ record old { store = old.store; cached = new.cached } → KeepsChecked index.last old new → IfErr r (IsSettleFault index.root index.levels told to) → PreparesAll index key added from old new r
+settled_all T U index key added from to old new told (Ok x) few room turns same kept h = record { same = same; checked = kept; faults = tt }
+settled_all T U index key added from to old new told (Err (Page n fault)) few room turns same kept h =
+    record { same = same; checked = kept; faults = settle_fault index old.store key added from to told (Page n fault) few room turns h }
+settled_all T U index key added from to old new told (Err Full) few room turns same kept h = record { same = same; checked = kept; faults = settle_fault index old.store key added from to told Full few room turns h }
+settled_all T U index key added from to old new told (Err (Store store.Memory)) few room turns same kept h = record { same = same; checked = kept; faults = tt }
+settled_all T U index key added from to old new told (Err (Store store.Device)) few room turns same kept h = absurd h
+settled_all T U index key added from to old new told (Err (Store store.NoPage)) few room turns same kept h = absurd h
+settled_all T U index key added from to old new told (Err (Store store.BadSize)) few room turns same kept h =
+    record { same = same; checked = kept; faults = settle_fault index old.store key added from to told (Store store.BadSize) few room turns h }
 
 -- and so is why it doesn't go down or up
 turn_fault : (index : IndexView) (old : StoreFacts) (key : Key) (added : Option Entry) (from : Spelled) (e : IndexFault)
@@ -101,6 +101,7 @@ turn_refused_at : (T U : Type 0) (index : IndexView) (key : Key) (added : Option
     → IsErrAnd r (λ x. x ≡ e) → Prepares {A = U} index.last index.levels key (top index.root) None from.next old new (Err e) → PreparesAll index key added from old new r
 turn_refused_at T U index key added from old new r e is h = subst (λ (x : Result T IndexFault). PreparesAll index key added from old new x) (sym (err_is r e is)) (record {
   same = h.same ∙ ap (λ (s : StoreFacts). pager_with s old.trace new.cached) (same_store T U e old.store);
+  checked = h.checked;
   faults = turn_fault index old.store key added from e h.faults;
 })
 
@@ -126,10 +127,10 @@ one_page last old later f fs next (suc level) entry end other some (before, afte
 ]
 
 pub leads_entry : (last : ℕ) (pages : List (List ℕ)) (key : Key) (level : ℕ) (entry : Entry) (end : Option Key) (found : Entry) (next : Option Key) → IsEntry last entry
-    → LeadsTo last pages [] key level entry end found next → IsEntry last found
+    → LeadsTo last pages key level entry end found next → IsEntry last found
 leads_entry last pages key zero entry end found next whole h = subst (λ (e : Entry). IsEntry last e) (sym h.0) whole
 leads_entry last pages key (suc level) entry end found next whole (named, below, after, falls, leads) =
-    let all : AllByRecursion (IsEntry last) (falls.before ++ (below ∷ falls.after)) = subst (λ (xs : List Entry). AllByRecursion (IsEntry last) xs) falls.parts (in_full last pages (suc level) entry end named).fits.is.is.entries in
+    let all : AllByRecursion (IsEntry last) (falls.before ++ (below ∷ falls.after)) = subst (λ (xs : List Entry). AllByRecursion (IsEntry last) xs) falls.parts named.fits.is.is.entries in
     leads_entry last pages key level below after found next (all_right (IsEntry last) falls.before (below ∷ falls.after) all).0 leads
 
 -- a root's entry is in range, where its page is reached once and isn't the first
@@ -421,17 +422,17 @@ module _ (index : IndexView) (small : index.last < 2 ^ 128) (low : 1 ≤ index.l
 
 -- the way to the first key of a seat ends at its region
 pub seat_found : (index : IndexView) (store : StoreFacts) (i : ℕ) (seat : Seat) → IsIndexOn index store → IsSeatAt (entries_in index store) i seat → (found : Entry) (next : Option Key)
-    → LeadsTo index.last store.pages [] seat.first index.levels (top index.root) None found next → (found ≡ entry_at seat) × (next ≡ seat.next)
+    → LeadsTo index.last store.pages seat.first index.levels (top index.root) None found next → (found ≡ entry_at seat) × (next ≡ seat.next)
 seat_found index store i seat is at found next leads =
     let other : Seat = record { first = found.first; page = found.page; next = next } in
-    let there = seat_is index store [] seat.first (record { first = found.first; page = found.page; next = next }) is leads in
+    let there = seat_is index store seat.first (record { first = found.first; page = found.page; next = next }) is leads in
     let same = index_of_first (first_keys (entries_in index store)) i seat.first (up index store is) (seat_first (entries_in index store) i seat at) in
     let here = subst (λ (n : ℕ). IsSeatAt (entries_in index store) n (record { first = found.first; page = found.page; next = next })) same there in
     let entries : Some found ≡ Some (entry_at seat) = sym here.entry ∙ at.entry in
     (cc, here.next ∙ sym at.next)
 
 -- a region that comes between two others is fine
-added_fine : (index : IndexView) (store : StoreFacts) (seat : Seat) (first : Key) → IsEntry index.last (entry_at seat) → 1 ≤ page_count store → page_count store < 4294967296
+pub added_fine : (index : IndexView) (store : StoreFacts) (seat : Seat) (first : Key) → IsEntry index.last (entry_at seat) → 1 ≤ page_count store → page_count store < 4294967296
     → IsWithinSeat index.last seat.first seat.next first → IsFine index.last (Some (added_at first store)) (entry_at seat) seat.next
 added_fine index store seat first whole some few within = record {
   up = (within.from, (within.to, tt));
@@ -452,7 +453,7 @@ added_both index store i seat first change small high few is own at within (midd
     let added : Option Entry = Some (added_at first store) in
     let whole = root_entry index.last store.pages index.root index.levels is.some few own is.under_it in
     let some : 1 ≤ page_count store = some_page index.levels is.some is.under_it in
-    let fine_at : (found : Entry) (next : Option Key) → LeadsTo index.last store.pages [] seat.first index.levels (top index.root) None found next → IsFine index.last (Some (added_at first store)) found next = λ found next leads.
+    let fine_at : (found : Entry) (next : Option Key) → LeadsTo index.last store.pages seat.first index.levels (top index.root) None found next → IsFine index.last (Some (added_at first store)) found next = λ found next leads.
     let same = seat_found index store i seat is at found next leads in
     let whole_seat = subst (λ (e : Entry). IsEntry index.last e) same.0 (leads_entry index.last store.pages seat.first index.levels (top index.root) None found next whole leads) in
     subst (λ (e : Entry). IsFine index.last (Some (added_at first store)) e next) (sym same.0)

@@ -77,7 +77,7 @@ far_outside m count (x ∷ numbers) far all = ((λ e. (let less = all.0 in omega
 
 -- a root that stays, and on which an index stands then, isn't refused
 pub root_not_refused : (last : ℕ) → last < 2 ^ 128 → (old later : List (List ℕ)) (n level : ℕ) (fault : Option PageFault) → 1 ≤ level → IsUnder last later level (top n) None
-    → slice_get later n ≡ slice_get old n → ¬ (IsNotTaken last old [] level (top n) None fault)
+    → slice_get later n ≡ slice_get old n → ¬ (IsNotTaken last old level (top n) None fault)
 root_not_refused last small old later n zero fault some is same refused = absurd (omega arith)
 root_not_refused last small old later n (suc level) fault some is same refused =
     let page : page_in old n ≡ page_in later n = same_page later old n (sym same) in
@@ -85,4 +85,4 @@ root_not_refused last small old later n (suc level) fault some is same refused =
       there = sym same ∙ (is.0.there ∙ ap (λ (p : List ℕ). Some p) (sym page));
       fits = subst (λ (p : List ℕ). Fits last p (suc level) (top n) None) (sym page) is.0.fits;
     } in
-    named_not_refused last small old [] origin (suc level) (top n) None fault named refused
+    named_not_refused last small old origin (suc level) (top n) None fault named refused

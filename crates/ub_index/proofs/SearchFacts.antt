@@ -1,5 +1,5 @@
 -- What searches leave, one after the other.
-use Rattle.std.proofs.Common.{◌≡◌, ◌≤◌, ◌<◌, inl, inr, IsTrue, ℕ, List, Option, Some, None, Result, Ok, Err, ◌∙◌, sym, ap, subst, refl}
+use Rattle.std.proofs.Common.{◌≡◌, ◌≤◌, ◌<◌, IsTrue, ℕ, List, Option, Some, None, Result, Ok, Err, ◌∙◌, sym, ap, subst, refl}
 use Rattle.std.specs.Result.{IsErrAnd}
 use Rattle.ub_page.specs.declared.entries.Entry.{Entry}
 use Rattle.ub_store.specs.Facts.{StoreFacts, IsHonest, page_count}
@@ -7,15 +7,14 @@ use Rattle.ub_store.specs.View.{PagerView, Trace}
 use Rattle.ub_store.specs.declared.fault.StoreFault.TheVariants as store
 use Rattle.ub_table.specs.declared.fault.PageFault.{PageFault}
 use Rattle.ub_table.specs.declared.row.Key.{Key}
-use Rattle.ub_index.specs.Descending.{IsStepFault, KeepsChecked, Steps}
-use Rattle.ub_index.specs.Index.{top}
-use Rattle.ub_index.specs.Searching.{Cross, Gives, GoesDown, IsPageFault, IsWayFault, store_after}
+use Rattle.ub_index.specs.Descending.{IsStepFault, StepsDown}
+use Rattle.ub_index.specs.Held.{AreChecked, KeepsChecked}
+use Rattle.ub_index.specs.Searching.{GoesDown, IsWayFault, store_after}
 use Rattle.ub_index.specs.View.{IndexView, Stops}
 use Rattle.ub_index.specs.Way.{StopsAt}
 use Rattle.ub_index.specs.declared.fault.IndexFault.{IndexFault}
 use Rattle.ub_index.specs.declared.fault.IndexFault.TheVariants.{Full, Page, Store}
-use Rattle.ub_index.specs.declared.seat.Seat.{Seat}
-use Rattle.ub_index.proofs.HeldFacts.{leads_before, not_taken_before, stops_before}
+use Rattle.ub_index.proofs.HeldFacts.{keeps_on}
 use Rattle.ub_index.proofs.WayFacts.{stops_here}
 
 pub err_is : {T : Type 0} (r : Result T IndexFault) (e : IndexFault) → IsErrAnd r (λ x. x ≡ e) → r ≡ Err e
@@ -43,37 +42,29 @@ frame r old mid new stores traces h =
     ∙ (ap (λ (s : StoreFacts). pager_with (store_after r s) mid.trace new.cached) stores
     ∙ ap (λ (t : Trace). pager_with (store_after r old.store) t new.cached) traces)
 
--- what is given after some pages were read is so as the pages were held before
-pub gives_before : (index : IndexView) (old mid : PagerView) → mid.store ≡ old.store → (IsHonest old.store → KeepsChecked index.last old mid) → (key : Key) (seat : Seat)
-    → Gives index mid key seat → Gives index old key seat
-gives_before index old mid stores kept key seat h = record {
-  holds = h.holds;
-  way = λ honest.
-      leads_before index.last old mid stores (kept honest) key index.levels (top index.root) None (record { first = seat.first; page = seat.page }) seat.next
-      (h.way (subst (λ (s : StoreFacts). IsHonest s) (sym stores) honest));
-}
-
 -- a step that is refused, after those before it
 module _ (T U : Type 0) (Sought : Key → Type 0) (index : IndexView) (key : Key) (sought : Sought key) (level : ℕ) (some : 0 < level) (entry : Entry) (end : Option Key)
-    (old mid new : PagerView) (stores : mid.store ≡ old.store) (traces : mid.trace ≡ old.trace) (kept : IsHonest old.store → KeepsChecked index.last old mid)
-    (stops : IsHonest old.store → (n : ℕ) (fault : Option PageFault) → StopsAt index.last old.store.pages old.cached key level entry end n fault → Stops index old.store old.cached key n fault) where
-  fault_of : (e : IndexFault) → IsStepFault index.last mid.store mid.cached level entry end e → IsWayFault index old Sought e
-  fault_of (Page n fault) h = λ honest.
-      let here = not_taken_before index.last old mid stores (kept honest) level entry end (Some fault) (h.1 (subst (λ (s : StoreFacts). IsHonest s) (sym stores) honest)) in
-      let there = stops honest entry.page (Some fault) (stops_here old.store old.store refl old.cached index.last key level entry end (Some fault) some here) in
-      inl (key, sought, subst (λ (m : ℕ). Stops index old.store old.cached key m (Some fault)) (sym h.0) there)
-  fault_of (Store store.Memory) h = tt
-  fault_of (Store store.Device) h = subst (λ (s : StoreFacts). IsTrue s.can_fail) stores h
-  fault_of (Store store.NoPage) h =
+    (old mid new : PagerView) (stores : mid.store ≡ old.store) (traces : mid.trace ≡ old.trace) (kept : KeepsChecked index.last old mid)
+    (stops : IsHonest old.store → AreChecked index.last old → (n : ℕ) (fault : Option PageFault) → StopsAt index.last old.store.pages key level entry end n fault
+    → Stops index old.store key n fault) where
+  fault_of : (e : IndexFault) → AreChecked index.last old → IsStepFault index.last mid.store level entry end e → IsWayFault index old.store Sought e
+  fault_of (Page n fault) sure h = λ honest.
+      let there = stops honest sure entry.page (Some fault)
+      (stops_here old.store mid.store stores index.last key level entry end (Some fault) some (h.1 (subst (λ (s : StoreFacts). IsHonest s) (sym stores) honest))) in
+      (key, sought, subst (λ (m : ℕ). Stops index old.store key m (Some fault)) (sym h.0) there)
+  fault_of (Store store.Memory) sure h = tt
+  fault_of (Store store.Device) sure h = subst (λ (s : StoreFacts). IsTrue s.can_fail) stores h
+  fault_of (Store store.NoPage) sure h =
       let far : page_count old.store ≤ entry.page = subst (λ (s : StoreFacts). page_count s ≤ entry.page) stores h in
-      (entry.page, far, λ honest. (key, sought, stops honest entry.page None (stops_here old.store old.store refl old.cached index.last key level entry end None some far)))
-  fault_of (Store store.BadSize) h = h
-  fault_of Full h = h
+      (entry.page, far, λ honest. (key, sought, stops honest sure entry.page None (stops_here old.store old.store refl index.last key level entry end None some far)))
+  fault_of (Store store.BadSize) sure h = h
+  fault_of Full sure h = h
 
-  pub step_refused : (r : Result T IndexFault) (e : IndexFault) → IsErrAnd r (λ x. x ≡ e) → Steps {A = U} index.last mid.cached level entry end mid new (Err e) → GoesDown Sought index old new r
+  pub step_refused : (r : Result T IndexFault) (e : IndexFault) → IsErrAnd r (λ x. x ≡ e) → StepsDown {A = U} index.last level entry end mid new (Err e) → GoesDown Sought index old new r
   step_refused r e is h = subst (λ (x : Result T IndexFault). GoesDown Sought index old new x) (sym (err_is r e is)) (record {
     same = frame (failed {T = T} e) old mid new stores traces (h.same ∙ ap (λ (s : StoreFacts). pager_with s mid.trace new.cached) (same_store T U e mid.store));
-    faults = fault_of e h.faults;
+    checked = keeps_on index.last old mid new kept h.checked;
+    faults = λ sure. fault_of e sure (h.faults (kept sure));
   })
 
 -- a search that was answered left the store
@@ -84,48 +75,36 @@ pub kept_trace : {T : Type 0} (Sought : Key → Type 0) (index : IndexView) (old
 kept_trace Sought index old mid x h = ap (λ (p : PagerView). p.trace) h.same
 
 -- a search that leaves all as it was but what the pager holds
-pub answered : {T : Type 0} (Sought : Key → Type 0) (index : IndexView) (old new : PagerView) (x : T) → new.store ≡ old.store → new.trace ≡ old.trace → GoesDown Sought index old new (Ok x)
-answered Sought index old new x stores traces = record {
+pub answered : {T : Type 0} (Sought : Key → Type 0) (index : IndexView) (old new : PagerView) (x : T) → new.store ≡ old.store → new.trace ≡ old.trace → KeepsChecked index.last old new
+    → GoesDown Sought index old new (Ok x)
+answered Sought index old new x stores traces kept = record {
   same = ap (λ (s : StoreFacts). pager_with s new.trace new.cached) stores ∙ ap (λ (t : Trace). pager_with old.store t new.cached) traces;
-  faults = tt;
+  checked = kept;
+  faults = λ sure. tt;
 }
 
 -- a search that was refused as another one was, which went down to these keys among others, after some pages were read
-module _ (T U : Type 0) (A B : Key → Type 0) (wider : (k : Key) → A k → B k) (index : IndexView) (old mid new : PagerView) (stores : mid.store ≡ old.store) (traces : mid.trace ≡ old.trace)
-    (kept : IsHonest old.store → KeepsChecked index.last old mid) where
-  stops_too : IsHonest old.store → (key : Key) (n : ℕ) (fault : Option PageFault) → Stops index mid.store mid.cached key n fault → Stops index old.store old.cached key n fault
-  stops_too honest key n fault h = stops_before index.last old mid stores (kept honest) key index.levels (top index.root) None n fault h
-
-  cross_too : (key other : Key) → Cross index mid key other → Cross index old key other
-  cross_too key other h = record {
-    seat = h.seat;
-    from = h.from;
-    given = gives_before index old mid stores kept key h.seat h.given;
-    next_is = h.next_is;
-    later = h.later;
-    found = h.found;
-    found_given = gives_before index old mid stores kept other h.found h.found_given;
-    sooner = h.sooner;
-  }
-
-  page_fault : IsHonest old.store → (n : ℕ) (fault : PageFault) → IsPageFault index mid A n fault → IsPageFault index old B n fault
-  page_fault honest n fault (inl (key, sought, stops)) = inl (key, wider key sought, stops_too honest key n (Some fault) stops)
-  page_fault honest n fault (inr (is, same, key, other, first, second, cross)) = inr (is, same, key, other, wider key first, wider other second, cross_too key other cross)
-
-  wider_fault : (e : IndexFault) → IsWayFault index mid A e → IsWayFault index old B e
-  wider_fault (Page n fault) h = λ honest. page_fault honest n fault (h (subst (λ (s : StoreFacts). IsHonest s) (sym stores) honest))
-  wider_fault (Store store.Memory) h = tt
-  wider_fault (Store store.Device) h = subst (λ (s : StoreFacts). IsTrue s.can_fail) stores h
-  wider_fault (Store store.NoPage) h = (
+module _ (T U : Type 0) (A B : Key → Type 0) (index : IndexView) (old mid new : PagerView) (wider : AreChecked index.last old → (k : Key) → A k → B k) (stores : mid.store ≡ old.store) (traces : mid.trace ≡ old.trace)
+    (kept : KeepsChecked index.last old mid) where
+  wider_fault : (e : IndexFault) → AreChecked index.last old → IsWayFault index mid.store A e → IsWayFault index old.store B e
+  wider_fault (Page n fault) sure h = λ honest.
+      let there = h (subst (λ (s : StoreFacts). IsHonest s) (sym stores) honest) in
+      (there.0, wider sure there.0 there.1, subst (λ (s : StoreFacts). Stops index s there.0 n (Some fault)) stores there.2)
+  wider_fault (Store store.Memory) sure h = tt
+  wider_fault (Store store.Device) sure h = subst (λ (s : StoreFacts). IsTrue s.can_fail) stores h
+  wider_fault (Store store.NoPage) sure h = (
     h.0,
     subst (λ (s : StoreFacts). page_count s ≤ h.0) stores h.1,
-    λ honest. (let there = h.2 (subst (λ (s : StoreFacts). IsHonest s) (sym stores) honest) in (there.0, wider there.0 there.1, stops_too honest there.0 h.0 None there.2)),
+    λ honest.
+        let there = h.2 (subst (λ (s : StoreFacts). IsHonest s) (sym stores) honest) in
+        (there.0, wider sure there.0 there.1, subst (λ (s : StoreFacts). Stops index s there.0 h.0 None) stores there.2),
   )
-  wider_fault (Store store.BadSize) h = h
-  wider_fault Full h = h
+  wider_fault (Store store.BadSize) sure h = h
+  wider_fault Full sure h = h
 
   pub search_refused : (r : Result T IndexFault) (e : IndexFault) → IsErrAnd r (λ x. x ≡ e) → GoesDown {A = U} A index mid new (Err e) → GoesDown B index old new r
   search_refused r e is h = subst (λ (x : Result T IndexFault). GoesDown B index old new x) (sym (err_is r e is)) (record {
     same = frame (failed {T = T} e) old mid new stores traces (h.same ∙ ap (λ (s : StoreFacts). pager_with s mid.trace new.cached) (same_store T U e mid.store));
-    faults = wider_fault e h.faults;
+    checked = keeps_on index.last old mid new kept h.checked;
+    faults = λ sure. wider_fault e sure (h.faults (kept sure));
   })

@@ -3,15 +3,16 @@ use Rattle.std.proofs.Common.{◌≡◌, ◌≤◌, ℕ, Bool, List, [], Option,
 use Rattle.std.proofs.lemmas.Option.{slice_get_within}
 use Rattle.std.specs.Result.{IsErrAnd, IsErrOf}
 use Rattle.ub_page.specs.declared.entries.Entry.{Entry}
-use Rattle.ub_store.specs.Cache.{NoneMoreBut, page_at}
-use Rattle.ub_store.specs.Facts.{StoreFacts, IsPage, Reads, counted, page_count}
+use Rattle.ub_store.specs.Cache.{NoneMore, NoneMoreBut, page_at}
+use Rattle.ub_store.specs.Facts.{StoreFacts, IsHonest, IsPage, Reads, counted, page_count}
 use Rattle.ub_store.specs.View.{PagerView, Trace}
 use Rattle.ub_store.specs.declared.fault.StoreFault.{StoreFault}
 use Rattle.ub_store.specs.declared.fault.StoreFault.TheVariants as store
 use Rattle.ub_table.specs.declared.row.Key.{Key}
 use Rattle.ub_index.specs.Bringing.{BringsFitting, IsBringFault}
 use Rattle.ub_index.specs.Changing.{IsNoGrowth}
-use Rattle.ub_index.specs.Descending.{IsStepFault, Steps}
+use Rattle.ub_index.specs.Descending.{IsStepFault, Steps, StepsDown}
+use Rattle.ub_index.specs.Held.{KeepsChecked}
 use Rattle.ub_index.specs.Index.{entries_of, top, Fits, NamesFitting}
 use Rattle.ub_index.specs.Opening.{IsPassing, Opens}
 use Rattle.ub_index.specs.Searching.{GoesDown, store_after}
@@ -21,6 +22,7 @@ use Rattle.ub_index.specs.declared.fault.IndexFault.TheVariants.{Full, Page, Sto
 use Rattle.ub_index_page.specs.Index.{node_on}
 use Rattle.ub_index_page.specs.declared.index.Head.{Head}
 use Rattle.ub_index.proofs.FitFacts.{is_refused, page_is}
+use Rattle.ub_index.proofs.HeldFacts.{keeps_less}
 use Rattle.ub_index.proofs.SearchFacts.{err_is, pager_with, same_store}
 
 -- nothing is said of what is answered where a call is refused
@@ -47,35 +49,61 @@ pub forgets : (old mid new : PagerView) → mid.store ≡ old.store → mid.trac
 forgets old mid new stores traces h =
     h ∙ (ap (λ (s : StoreFacts). pager_with s mid.trace new.cached) stores ∙ ap (λ (t : Trace). pager_with old.store t new.cached) traces)
 
-fault_so : (T : Type 0) (last : ℕ) (old : StoreFacts) (held : List (ℕ × List ℕ)) (level : ℕ) (entry : Entry) (end : Option Key) (fault : StoreFault)
+-- a store of which a page was read is honest where it was before
+pub honest_back : (old new : StoreFacts) (reads : ℕ) → new ≡ record old { failed_reads = reads } → IsHonest new → IsHonest old
+honest_back old new reads same good = subst (λ (s : StoreFacts). IsHonest s) same good
+
+pub same_honest : (old new : PagerView) → new ≡ record old { cached = new.cached } → IsHonest new.store → IsHonest old.store
+same_honest old new same good = subst (λ (p : PagerView). IsHonest p.store) same good
+
+fault_so : (T : Type 0) (last : ℕ) (old : StoreFacts) (level : ℕ) (entry : Entry) (end : Option Key) (fault : StoreFault)
     → (IsErrOf {T = T} (Err fault) store.Device → IsTrue old.can_fail) → (IsErrOf {T = T} (Err fault) store.NoPage → page_count old ≤ entry.page) → ¬ (IsErrOf {T = T} (Err fault) store.BadSize)
-    → IsStepFault last old held level entry end (Store fault)
-fault_so T last old held level entry end store.Memory device missing size = tt
-fault_so T last old held level entry end store.Device device missing size = device refl
-fault_so T last old held level entry end store.NoPage device missing size = missing refl
-fault_so T last old held level entry end store.BadSize device missing size = size refl
+    → IsStepFault last old level entry end (Store fault)
+fault_so T last old level entry end store.Memory device missing size = tt
+fault_so T last old level entry end store.Device device missing size = device refl
+fault_so T last old level entry end store.NoPage device missing size = missing refl
+fault_so T last old level entry end store.BadSize device missing size = size refl
 
 -- a step is refused since its page isn't brought
-pub bring_refused : {T : Type 0} (last : ℕ) (held : List (ℕ × List ℕ)) (level : ℕ) (entry : Entry) (end : Option Key) (old new : PagerView) (r : Result T IndexFault) (fault : StoreFault)
+pub bring_refused : {T : Type 0} (last : ℕ) (level : ℕ) (entry : Entry) (end : Option Key) (old new : PagerView) (r : Result T IndexFault) (fault : StoreFault)
     → IsErrAnd r (λ x. x ≡ Store fault) → Reads {A = Bool} old.store new.store (Err fault) → new.trace ≡ old.trace
-    → (IsErrOf {T = Bool} (Err fault) store.NoPage → page_count old.store ≤ entry.page) → ¬ (IsErrOf {T = Bool} (Err fault) store.BadSize)
-    → Steps last held level entry end old new r
-bring_refused {T = T} last held level entry end old new r fault is reads traces missing size =
-    subst (λ (x : Result T IndexFault). Steps last held level entry end old new x) (sym (err_is r (Store fault) is)) (record {
+    → NoneMore old.cached new.cached → (IsErrOf {T = Bool} (Err fault) store.NoPage → page_count old.store ≤ entry.page) → ¬ (IsErrOf {T = Bool} (Err fault) store.BadSize)
+    → StepsDown last level entry end old new r
+bring_refused {T = T} last level entry end old new r fault is reads traces less missing size =
+    subst (λ (x : Result T IndexFault). StepsDown last level entry end old new x) (sym (err_is r (Store fault) is)) (record {
       same = pager_so old new (store_after {A = T} (Err (Store fault)) old.store) (reads.same ∙ counts_so T Bool fault old.store) traces;
-      faults = fault_so Bool last old.store held level entry end fault reads.device missing size;
+      checked = keeps_less last old new (honest_back old.store new.store _ reads.same) less;
+      faults = λ sure. fault_so Bool last old.store level entry end fault reads.device missing size;
     })
 
 -- a step is made, and leaves the store
-pub stepped : {T : Type 0} (last : ℕ) (held : List (ℕ × List ℕ)) (level : ℕ) (entry : Entry) (end : Option Key) (old new : PagerView) (x : T) → new.store ≡ old.store → new.trace ≡ old.trace
-    → Steps last held level entry end old new (Ok x)
-stepped last held level entry end old new x stores traces = record { same = pager_so old new old.store stores traces; faults = tt }
+pub stepped : {T : Type 0} (last : ℕ) (level : ℕ) (entry : Entry) (end : Option Key) (old new : PagerView) (x : T) → new.store ≡ old.store → new.trace ≡ old.trace
+    → KeepsChecked last old new → Steps last level entry end old new (Ok x)
+stepped last level entry end old new x stores traces kept = record { same = pager_so old new old.store stores traces; checked = kept; faults = tt }
+
+pub stepped_down : {T : Type 0} (last : ℕ) (level : ℕ) (entry : Entry) (end : Option Key) (old new : PagerView) (x : T) → new.store ≡ old.store → new.trace ≡ old.trace
+    → KeepsChecked last old new → StepsDown last level entry end old new (Ok x)
+stepped_down last level entry end old new x stores traces kept = record { same = pager_so old new old.store stores traces; checked = kept; faults = λ sure. tt }
+
+-- a step that was made and answered one thing may answer another
+pub stepped_as : {T U : Type 0} (last : ℕ) (level : ℕ) (entry : Entry) (end : Option Key) (old new : PagerView) (x : T) (y : U) → StepsDown last level entry end old new (Ok x)
+    → StepsDown last level entry end old new (Ok y)
+stepped_as last level entry end old new x y h = record { same = h.same; checked = h.checked; faults = λ sure. tt }
+
+pub refused_step : {T U : Type 0} (last : ℕ) (level : ℕ) (entry : Entry) (end : Option Key) (old new : PagerView) (r : Result T IndexFault) (e : IndexFault) → IsErrAnd r (λ x. x ≡ e)
+    → StepsDown {A = U} last level entry end old new (Err e) → StepsDown last level entry end old new r
+refused_step {T = T} {U = U} last level entry end old new r e is h = subst (λ (x : Result T IndexFault). StepsDown last level entry end old new x) (sym (err_is r e is)) (record {
+  same = h.same ∙ ap (λ (s : StoreFacts). pager_with s old.trace new.cached) (same_store T U e old.store);
+  checked = h.checked;
+  faults = h.faults;
+})
 
 -- memory was refused after it
-pub memory_refused : {T : Type 0} (last : ℕ) (held : List (ℕ × List ℕ)) (level : ℕ) (entry : Entry) (end : Option Key) (old new : PagerView) (r : Result T IndexFault)
-    → IsErrAnd r (λ x. x ≡ Store store.Memory) → new.store ≡ old.store → new.trace ≡ old.trace → Steps last held level entry end old new r
-memory_refused {T = T} last held level entry end old new r is stores traces =
-    subst (λ (x : Result T IndexFault). Steps last held level entry end old new x) (sym (err_is r (Store store.Memory) is)) (record { same = pager_so old new old.store stores traces; faults = tt })
+pub memory_refused : {T : Type 0} (last : ℕ) (level : ℕ) (entry : Entry) (end : Option Key) (old new : PagerView) (r : Result T IndexFault)
+    → IsErrAnd r (λ x. x ≡ Store store.Memory) → new.store ≡ old.store → new.trace ≡ old.trace → KeepsChecked last old new → Steps last level entry end old new r
+memory_refused {T = T} last level entry end old new r is stores traces kept =
+    subst (λ (x : Result T IndexFault). Steps last level entry end old new x) (sym (err_is r (Store store.Memory) is))
+    (record { same = pager_so old new old.store stores traces; checked = kept; faults = tt })
 
 -- the page that stands there and fits is the one that is named
 pub names_fitting : (pages : List (List ℕ)) (last level : ℕ) (entry : Entry) (end : Option Key) (page : List ℕ) → slice_get pages entry.page ≡ Some page → Fits last page level entry end
@@ -93,21 +121,23 @@ pub refused_as : (T U : Type 0) (Sought : Key → Type 0) (index : IndexView) (o
     → GoesDown {A = U} Sought index old new (Err e) → GoesDown Sought index old new r
 refused_as T U Sought index old new r e is h = subst (λ (x : Result T IndexFault). GoesDown Sought index old new x) (sym (err_is r e is)) (record {
   same = h.same ∙ ap (λ (s : StoreFacts). pager_with s old.trace new.cached) (same_store T U e old.store);
+  checked = h.checked;
   faults = h.faults;
 })
 
 -- a page isn't brought, and not for its number, where it stands there
 pub unbrought : (last level : ℕ) (entry : Entry) (end : Option Key) (old new : PagerView) (r : Result Head IndexFault) (fault : StoreFault) → IsErrAnd r (λ x. x ≡ Store fault)
-    → Reads {A = Bool} old.store new.store (Err fault) → new.trace ≡ old.trace → NoneMoreBut entry.page old.cached new.cached
+    → Reads {A = Bool} old.store new.store (Err fault) → new.trace ≡ old.trace → NoneMoreBut entry.page old.cached new.cached → NoneMore old.cached new.cached
     → (IsErrOf {T = Bool} (Err fault) store.NoPage → page_count old.store ≤ entry.page) → ¬ (IsErrOf {T = Bool} (Err fault) store.BadSize)
     → BringsFitting last level entry end old new r
-unbrought last level entry end old new r fault is reads traces others missing size =
+unbrought last level entry end old new r fault is reads traces others less missing size =
     subst (λ (x : Result Head IndexFault). BringsFitting last level entry end old new x) (sym (err_is r (Store fault) is)) (record {
       same = pager_so old new (store_after {A = Head} (Err (Store fault)) old.store) (reads.same ∙ counts_so Head Bool fault old.store) traces;
       cached = tt;
       fits = tt;
       named = λ honest. tt;
       others = others;
+      checked = keeps_less last old new (honest_back old.store new.store _ reads.same) less;
       forgotten = tt;
       faults = by_fault fault reads.device missing size;
     })
@@ -129,13 +159,17 @@ unbrought_passes {T = T} pages n page r fault is at missing size = if_err IsPass
     by_fault store.NoPage gone large = let near = slice_get_within pages n page at in let far = gone refl in absurd (omega arith)
     by_fault store.BadSize gone large = absurd (large refl)
 
+-- the page of a store that is the same
+pub page_now : (old new : PagerView) (n : ℕ) (page : List ℕ) → new.store ≡ old.store → IsPage new.store n page → IsPage old.store n page
+page_now old new n page same h = subst (λ (s : StoreFacts). IsPage s n page) same h
+
 -- what the pager holds under a number is one page
 pub held_once : (held : List (ℕ × List ℕ)) (n : ℕ) (p q : List ℕ) → page_at held n ≡ Some p → page_at held n ≡ Some q → p ≡ q
 held_once held n p q one two = cc
 
 -- a step is made, or refused, as the page of its entry is brought
 module _ (last level : ℕ) (entry : Entry) (end : Option Key) (old new : PagerView) where
-  step_fault : (e : IndexFault) → IsBringFault last old.store level entry end e → IsStepFault last old.store [] level entry end e
+  step_fault : (e : IndexFault) → IsBringFault last old.store level entry end e → IsStepFault last old.store level entry end e
   step_fault (Page n fault) (same, page, at, unfit) = (
     same,
     λ honest. is_refused old.store.pages last level entry end page fault (subst (λ (m : ℕ). slice_get old.store.pages m ≡ Some page) same (at honest)) unfit,
@@ -146,18 +180,19 @@ module _ (last level : ℕ) (entry : Entry) (end : Option Key) (old new : PagerV
   step_fault (Store store.BadSize) h = h
   step_fault Full h = h
 
-  pub step_misfits : {T : Type 0} (r : Result T IndexFault) (e : IndexFault) → IsErrAnd r (λ x. x ≡ e) → BringsFitting last level entry end old new (Err e) → Steps last [] level entry end old new r
-  step_misfits {T = T} r e is h = subst (λ (x : Result T IndexFault). Steps last [] level entry end old new x) (sym (err_is r e is)) (record {
+  pub step_misfits : {T : Type 0} (r : Result T IndexFault) (e : IndexFault) → IsErrAnd r (λ x. x ≡ e) → BringsFitting last level entry end old new (Err e) → Steps last level entry end old new r
+  step_misfits {T = T} r e is h = subst (λ (x : Result T IndexFault). Steps last level entry end old new x) (sym (err_is r e is)) (record {
     same = h.same ∙ ap (λ (s : StoreFacts). pager_with s old.trace new.cached) (same_store T Head e old.store);
+    checked = h.checked;
     faults = step_fault e h.faults;
   })
 
-  pub step_fits : {T : Type 0} (head : Head) (x : T) → BringsFitting last level entry end old new (Ok head) → Steps last [] level entry end old new (Ok x)
-  step_fits head x h = record { same = h.same; faults = tt }
+  pub step_fits : {T : Type 0} (head : Head) (x : T) → BringsFitting last level entry end old new (Ok head) → Steps last level entry end old new (Ok x)
+  step_fits head x h = record { same = h.same; checked = h.checked; faults = tt }
 
   pub step_memory : {T : Type 0} (head : Head) (r : Result T IndexFault) → IsErrAnd r (λ x. x ≡ Store store.Memory) → BringsFitting last level entry end old new (Ok head)
-      → Steps last [] level entry end old new r
-  step_memory head r is h = memory_refused last [] level entry end old new r is (ap (λ (p : PagerView). p.store) h.same) (ap (λ (p : PagerView). p.trace) h.same)
+      → Steps last level entry end old new r
+  step_memory head r is h = memory_refused last level entry end old new r is (ap (λ (p : PagerView). p.store) h.same) (ap (λ (p : PagerView). p.trace) h.same) h.checked
 
   -- and the page that is held then stood there
   pub brought_page : (head : Head) (page : List ℕ) → BringsFitting last level entry end old new (Ok head) → IsPage new.store entry.page page → IsPage old.store entry.page page
@@ -168,15 +203,16 @@ pub open_misfits : {T : Type 0} (index : IndexView) (old new : PagerView) (r : R
     → BringsFitting index.last index.levels (top index.root) None old new (Err e) → Opens index old new r
 open_misfits {T = T} index old new r e is h = subst (λ (x : Result T IndexFault). Opens index old new x) (sym (err_is r e is)) (record {
   same = h.same ∙ ap (λ (s : StoreFacts). pager_with s old.trace new.cached) (same_store T Head e old.store);
+  checked = h.checked;
   cached = h.others;
   faults = h.faults;
 })
 
 -- a step that is refused is so not for want of pages, nor of levels
-pub step_no_growth : (last : ℕ) (old : StoreFacts) (held : List (ℕ × List ℕ)) (level : ℕ) (entry : Entry) (end : Option Key) (e : IndexFault) → IsStepFault last old held level entry end e → IsNoGrowth e
-step_no_growth last old held level entry end (Page n fault) h = tt
-step_no_growth last old held level entry end (Store store.Memory) h = tt
-step_no_growth last old held level entry end (Store store.Device) h = tt
-step_no_growth last old held level entry end (Store store.NoPage) h = tt
-step_no_growth last old held level entry end (Store store.BadSize) h = h
-step_no_growth last old held level entry end Full h = h
+pub step_no_growth : (last : ℕ) (old : StoreFacts) (level : ℕ) (entry : Entry) (end : Option Key) (e : IndexFault) → IsStepFault last old level entry end e → IsNoGrowth e
+step_no_growth last old level entry end (Page n fault) h = tt
+step_no_growth last old level entry end (Store store.Memory) h = tt
+step_no_growth last old level entry end (Store store.Device) h = tt
+step_no_growth last old level entry end (Store store.NoPage) h = tt
+step_no_growth last old level entry end (Store store.BadSize) h = h
+step_no_growth last old level entry end Full h = h

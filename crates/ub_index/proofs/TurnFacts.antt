@@ -17,7 +17,6 @@ use Rattle.ub_index.specs.Way.{LeadsTo}
 use Rattle.ub_index.specs.declared.sheet.Sheet.{Sheet}
 use Rattle.ub_index.specs.declared.told.Told.{Told}
 use Rattle.ub_index.specs.declared.told.Told.TheVariants.{Same, Gone, One, Two}
-use Rattle.ub_index.proofs.HeldFacts.{taken_of}
 use Rattle.ub_index.proofs.Changes.{kept_named, not_before, same_entries, stays}
 use Rattle.ub_index.proofs.Lists.{ascend_join, ascend_later, ascend_left, ascend_right, each_right}
 use Rattle.ub_index.proofs.Numbers.{StandApart, apart_swap, distinct_apart, distinct_cons, distinct_first, distinct_join, distinct_left, distinct_rest, distinct_right, kept_pages_list, no_new_left, no_new_right, once_join, outside_less, within_store}
@@ -28,7 +27,7 @@ use Rattle.ub_index.proofs.SpreadFacts.{ToldOn, new_sheets, one_pages, pages_amo
 pub record Risen (last : ℕ) (old : List (List ℕ)) (key : Key) (added : Option Entry) (level : ℕ) (entry : Entry) (end : Option Key) (from to : Spelled) (told : Told) : Type 0 where
   pub found : Entry
   pub next : Option Key
-  pub leads : LeadsTo last old [] key level entry end found next
+  pub leads : LeadsTo last old key level entry end found next
   pub sheets : List Sheet
   pub sheets_are : to.sheets ≡ from.sheets ++ sheets
   pub grown : from.next ≤ to.next
@@ -144,7 +143,7 @@ module _ (last : ℕ) (small : last < 2 ^ 128) (old : List (List ℕ)) (key : Ke
     below_distinct = distinct_left B C (distinct_right A (B ++ C) apart)
 
     module _ (middle : Spelled) (news : Told) (r : Risen last old key added level below next from middle news) (fine : IsFine last added r.found r.next) (whole : IsEntry last entry)
-        (leads : LeadsTo last old [] key (suc level) entry end r.found r.next) where
+        (leads : LeadsTo last old key (suc level) entry end r.found r.next) where
       becomes_below : (later : List (List ℕ)) → Stand later r.sheets → StayBut old later r.sheets B
           → Becomes last old later r.found (named_as (with_added added r.found) r.found) r.next level below (first_or falls.after end) (named_as news below)
       unfolding B
@@ -438,13 +437,13 @@ module _ (last : ℕ) (small : last < 2 ^ 128) (old : List (List ℕ)) (key : Ke
   }
 
   pub rises : (level : ℕ) (entry : Entry) (end : Option Key) (from to : Spelled) (told : Told) → length old ≤ from.next → IsUnder last old level entry end → IsEntry last entry
-      → IsDistinct nat_eq (pages_under old level entry) → ((found : Entry) (next : Option Key) → LeadsTo last old [] key level entry end found next → IsFine last added found next)
+      → IsDistinct nat_eq (pages_under old level entry) → ((found : Entry) (next : Option Key) → LeadsTo last old key level entry end found next → IsFine last added found next)
       → Turns last old key added level entry end from to told → Risen last old key added level entry end from to told
   rises zero entry end from to told room is whole distinct fine (told_is, same) =
       subst (λ (x : Told). Risen last old key added zero entry end from to x) (sym told_is)
       (subst (λ (s : Spelled). Risen last old key added zero entry end from s (with_added added entry)) (sym same) (rise_here entry end from (fine entry end (refl, refl))))
   rises (suc level) entry end from to told room is whole distinct fine (named, below, next, falls, middle, news, turns, mends) =
       let r = rises level below next from middle news room (below_under level entry below end next from room is distinct falls) (below_whole level entry below end next from room is distinct falls)
-      (below_distinct level entry below end next from room is distinct falls) (λ found after leads. fine found after (taken_of last old [] (suc level) entry end named, below, next, falls, leads)) turns in
-      rise level entry below end next from room is distinct falls middle news r (fine r.found r.next (taken_of last old [] (suc level) entry end named, below, next, falls, r.leads)) whole
-      (taken_of last old [] (suc level) entry end named, below, next, falls, r.leads) to told mends
+      (below_distinct level entry below end next from room is distinct falls) (λ found after leads. fine found after (named, below, next, falls, leads)) turns in
+      rise level entry below end next from room is distinct falls middle news r (fine r.found r.next (named, below, next, falls, r.leads)) whole
+      (named, below, next, falls, r.leads) to told mends

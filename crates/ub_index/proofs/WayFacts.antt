@@ -16,41 +16,40 @@ use Rattle.ub_table.specs.declared.fault.PageFault.{PageFault}
 use Rattle.ub_table.specs.declared.fault.PageFault.TheVariants.{BadCount, OutOfRegion}
 use Rattle.ub_table.specs.declared.row.Key.{Key}
 use Rattle.ub_index.specs.Descending.{StepsTo}
-use Rattle.ub_index.specs.Fitting.{FallsTo, IsHeld, IsUnfit, IsUnfitAtEnds, IsNotTaken}
+use Rattle.ub_index.specs.Fitting.{FallsTo, IsUnfit, IsNotTaken}
 use Rattle.ub_index.specs.Index.{entries_of, page_in, first_or, AscendTo, EachTo, Fits, NamesFitting, IsUnder, under, top}
 use Rattle.ub_index.specs.View.{IndexView, IsIndexOn, IsSeatAt, Leads, entries_in}
 use Rattle.ub_index.specs.Way.{LeadsTo, StopsAt}
 use Rattle.ub_index.specs.declared.seat.Seat.{Seat}
-use Rattle.ub_index.proofs.HeldFacts.{taken_of, unfit_of}
 use Rattle.ub_index.proofs.Lists.{each_right, first_append}
 use Rattle.ub_index.proofs.OrderFacts.{first_more, under_ascends, under_first}
 
-module _ (store now : StoreFacts) (same : now ≡ store) (held : List (ℕ × List ℕ)) (last : ℕ) (key : Key) where
+module _ (store now : StoreFacts) (same : now ≡ store) (last : ℕ) (key : Key) where
   -- what lies below a step lies on the way from above it
-  pub leads_on : (level : ℕ) (entry below found : Entry) (end next after : Option Key) → 0 < level → StepsTo last now held key level entry end below next
-      → LeadsTo last store.pages held key (level - 1) below next found after → LeadsTo last store.pages held key level entry end found after
+  pub leads_on : (level : ℕ) (entry below found : Entry) (end next after : Option Key) → 0 < level → StepsTo last now key level entry end below next
+      → LeadsTo last store.pages key (level - 1) below next found after → LeadsTo last store.pages key level entry end found after
   leads_on zero entry below found end next after some step h = absurd (omega arith)
   leads_on (suc level) entry below found end next after some step h =
       let one : suc level - 1 ≡ level = omega arith in
-      let h' = subst (λ (s : StoreFacts). StepsTo last s held key (suc level) entry end below next) same step in
-      (h'.named, below, next, h'.falls, subst (λ (n : ℕ). LeadsTo last store.pages held key n below next found after) one h)
+      let h' = subst (λ (s : StoreFacts). StepsTo last s key (suc level) entry end below next) same step in
+      (h'.named, below, next, h'.falls, subst (λ (n : ℕ). LeadsTo last store.pages key n below next found after) one h)
 
-  pub stops_on : (level : ℕ) (entry below : Entry) (end next : Option Key) (n : ℕ) (fault : Option PageFault) → 0 < level → StepsTo last now held key level entry end below next
-      → StopsAt last store.pages held key (level - 1) below next n fault → StopsAt last store.pages held key level entry end n fault
+  pub stops_on : (level : ℕ) (entry below : Entry) (end next : Option Key) (n : ℕ) (fault : Option PageFault) → 0 < level → StepsTo last now key level entry end below next
+      → StopsAt last store.pages key (level - 1) below next n fault → StopsAt last store.pages key level entry end n fault
   stops_on zero entry below end next n fault some step h = absurd (omega arith)
   stops_on (suc level) entry below end next n fault some step h =
       let one : suc level - 1 ≡ level = omega arith in
-      let h' = subst (λ (s : StoreFacts). StepsTo last s held key (suc level) entry end below next) same step in
-      inr (h'.named, below, next, h'.falls, subst (λ (m : ℕ). StopsAt last store.pages held key m below next n fault) one h)
+      let h' = subst (λ (s : StoreFacts). StepsTo last s key (suc level) entry end below next) same step in
+      inr (h'.named, below, next, h'.falls, subst (λ (m : ℕ). StopsAt last store.pages key m below next n fault) one h)
 
-  pub stops_here : (level : ℕ) (entry : Entry) (end : Option Key) (fault : Option PageFault) → 0 < level → IsNotTaken last now.pages held level entry end fault
-      → StopsAt last store.pages held key level entry end entry.page fault
+  pub stops_here : (level : ℕ) (entry : Entry) (end : Option Key) (fault : Option PageFault) → 0 < level → IsNotTaken last now.pages level entry end fault
+      → StopsAt last store.pages key level entry end entry.page fault
   stops_here zero entry end fault some h = absurd (omega arith)
-  stops_here (suc level) entry end fault some h = inl (refl, subst (λ (s : StoreFacts). IsNotTaken last s.pages held (suc level) entry end fault) same h)
+  stops_here (suc level) entry end fault some h = inl (refl, subst (λ (s : StoreFacts). IsNotTaken last s.pages (suc level) entry end fault) same h)
 
-pub ends_here : (last : ℕ) (pages : List (List ℕ)) (held : List (ℕ × List ℕ)) (key : Key) (level : ℕ) (entry : Entry) (end : Option Key) → level ≤ 0 → LeadsTo last pages held key level entry end entry end
-ends_here last pages held key zero entry end h = (refl, refl)
-ends_here last pages held key (suc level) entry end h = absurd (omega arith)
+pub ends_here : (last : ℕ) (pages : List (List ℕ)) (key : Key) (level : ℕ) (entry : Entry) (end : Option Key) → level ≤ 0 → LeadsTo last pages key level entry end entry end
+ends_here last pages key zero entry end h = (refl, refl)
+ends_here last pages key (suc level) entry end h = absurd (omega arith)
 
 -- in a list of entries this one holds the key, and the next one begins there
 record IsPlace (key : Key) (entries : List Entry) (end : Option Key) (found : Entry) (next : Option Key) : Type 0 where
@@ -90,9 +89,9 @@ holds_below key entries first end next below h to = subst (λ (o : Option Key). 
 regroup : (b p q r : List Entry) (x : Entry) → b ++ ((p ++ (x ∷ q)) ++ r) ≡ (b ++ p) ++ (x ∷ (q ++ r))
 regroup b p q r x = ap (λ (xs : List Entry). b ++ xs) (append_assoc p (x ∷ q) r) ∙ sym (append_assoc b p (x ∷ (q ++ r)))
 
-place : (last : ℕ) (pages : List (List ℕ)) (held : List (ℕ × List ℕ)) (key : Key) (level : ℕ) (entry : Entry) (end : Option Key) (found : Entry) (next : Option Key) → ¬ (IsBefore key entry.first)
-    → IfSome end (IsBefore key) → IsUnder last pages level entry end → LeadsTo last pages held key level entry end found next → IsPlace key (under pages level entry) end found next
-place last pages held key zero entry end found next from to is h = record {
+place : (last : ℕ) (pages : List (List ℕ)) (key : Key) (level : ℕ) (entry : Entry) (end : Option Key) (found : Entry) (next : Option Key) → ¬ (IsBefore key entry.first)
+    → IfSome end (IsBefore key) → IsUnder last pages level entry end → LeadsTo last pages key level entry end found next → IsPlace key (under pages level entry) end found next
+place last pages key zero entry end found next from to is h = record {
   before = [];
   after = [];
   parts = ap (λ (e : Entry). e ∷ []) (sym h.0);
@@ -100,13 +99,13 @@ place last pages held key zero entry end found next from to is h = record {
   from = subst (λ (e : Entry). ¬ (IsBefore key e.first)) (sym h.0) from;
   to = subst (λ (o : Option Key). IfSome o (IsBefore key)) (sym h.1) to;
 }
-place last pages held key (suc level) entry end found next from to is (named, below, beyond, falls, leads) =
+place last pages key (suc level) entry end found next from to is (named, below, beyond, falls, leads) =
     let each : EachTo (IsUnder last pages level) (below ∷ falls.after) end =
     each_right (IsUnder last pages level) falls.before (below ∷ falls.after) end
     (subst (λ (xs : List Entry). EachTo (IsUnder last pages level) xs end) falls.parts is.1) in
     let under_it : IsUnder last pages level below beyond = subst (λ (o : Option Key). IsUnder last pages level below o) (sym falls.next_is) each.0 in
     let in_it : IsPlace key (under pages level below) beyond found next =
-    place last pages held key level below beyond found next
+    place last pages key level below beyond found next
     (falls_from key (entries_of pages entry.page) entry.first end beyond below is.0.fits.begins from falls)
     (holds_below key (entries_of pages entry.page) entry.first end beyond below falls to) under_it leads in
     let u = flat_map (under pages level) falls.before in
@@ -171,11 +170,11 @@ pub in_order : (index : IndexView) (store : StoreFacts) → IsIndexOn index stor
 in_order index store is = under_ascends index.last store.pages index.levels (top index.root) None tt is.under_it
 
 -- on an index the way to a key ends at the region that holds it
-pub seat_is : (index : IndexView) (store : StoreFacts) (held : List (ℕ × List ℕ)) (key : Key) (seat : Seat) → IsIndexOn index store → Leads index store held key seat
+pub seat_is : (index : IndexView) (store : StoreFacts) (key : Key) (seat : Seat) → IsIndexOn index store → Leads index store key seat
     → IsSeatAt (entries_in index store) (index_holding key (first_keys (entries_in index store))) seat
-seat_is index store held key seat is leads =
+seat_is index store key seat is leads =
     let found : Entry = record { first = seat.first; page = seat.page } in
-    let there = place index.last store.pages held key index.levels (top index.root) None (record { first = seat.first; page = seat.page }) seat.next (not_before_origin key) tt is.under_it leads in
+    let there = place index.last store.pages key index.levels (top index.root) None (record { first = seat.first; page = seat.page }) seat.next (not_before_origin key) tt is.under_it leads in
     let up : AscendTo (there.before ++ (record { first = seat.first; page = seat.page } ∷ there.after)) None =
     subst (λ (xs : List Entry). AscendTo xs None) there.parts (in_order index store is) in
     let to : IfSome (first_or there.after None) (IsBefore key) = subst (λ (o : Option Key). IfSome o (IsBefore key)) there.next_is there.to in
@@ -194,21 +193,16 @@ misfit_or_fault last page level entry end BadCount fits (inr h) = absurd (h.1 fi
 misfit_or_fault last page level entry end OutOfRegion fits h = absurd (h.2 fits)
 misfit_or_fault last page level entry end fault fits h = h
 
-module _ (last : ℕ) (small : last < 2 ^ 128) (pages : List (List ℕ)) (held : List (ℕ × List ℕ)) (key : Key) where
+module _ (last : ℕ) (small : last < 2 ^ 128) (pages : List (List ℕ)) (key : Key) where
   pub named_not_refused : (level : ℕ) (entry : Entry) (end : Option Key) (fault : Option PageFault) → NamesFitting last pages level entry end
-      → ¬ (IsNotTaken last pages held level entry end fault)
+      → ¬ (IsNotTaken last pages level entry end fault)
   named_not_refused level entry end None h far = let near = slice_get_within pages entry.page (page_in pages entry.page) h.there in omega arith
   named_not_refused level entry end (Some fault) h refused =
       node_not_refused (node_on (page_in pages entry.page)) (page_in pages entry.page) last small h.fits.is.is h.fits.is.spelled fault
-      (misfit_or_fault last (page_in pages entry.page) level entry end fault h.fits (by_fault refused.1))
-    where
-      by_fault : IsUnfit last (page_in pages entry.page) level entry end fault ⊎ (IsHeld held entry.page × IsUnfitAtEnds (page_in pages entry.page) level entry end fault)
-          → IsUnfit last (page_in pages entry.page) level entry end fault
-      by_fault (inl unfit) = unfit
-      by_fault (inr ends) = unfit_of last (page_in pages entry.page) level entry end fault h.fits.is ends.1
+      (misfit_or_fault last (page_in pages entry.page) level entry end fault h.fits refused.1)
 
   pub never_stops : (level : ℕ) (entry : Entry) (end : Option Key) (n : ℕ) (fault : Option PageFault) → IsUnder last pages level entry end
-      → ¬ (StopsAt last pages held key level entry end n fault)
+      → ¬ (StopsAt last pages key level entry end n fault)
   never_stops zero entry end n fault is h = h
   never_stops (suc level) entry end n fault is (inl here) = named_not_refused (suc level) entry end fault is.0 here.1
   never_stops (suc level) entry end n fault is (inr (named, below, beyond, falls, stops)) =
@@ -216,14 +210,3 @@ module _ (last : ℕ) (small : last < 2 ^ 128) (pages : List (List ℕ)) (held :
       each_right (IsUnder last pages level) falls.before (below ∷ falls.after) end
       (subst (λ (xs : List Entry). EachTo (IsUnder last pages level) xs end) falls.parts is.1) in
       never_stops level below beyond n fault (subst (λ (o : Option Key). IsUnder last pages level below o) (sym falls.next_is) each.0) stops
-
--- on an index each page on the way fits, so that it leads as it does where none was held
-pub way_in_full : (last : ℕ) (pages : List (List ℕ)) (held : List (ℕ × List ℕ)) (key : Key) (level : ℕ) (entry : Entry) (end : Option Key) (found : Entry) (next : Option Key)
-    → IsUnder last pages level entry end → LeadsTo last pages held key level entry end found next → LeadsTo last pages [] key level entry end found next
-way_in_full last pages held key zero entry end found next is h = h
-way_in_full last pages held key (suc level) entry end found next is (named, below, beyond, falls, leads) =
-    let each : EachTo (IsUnder last pages level) (below ∷ falls.after) end =
-    each_right (IsUnder last pages level) falls.before (below ∷ falls.after) end
-    (subst (λ (xs : List Entry). EachTo (IsUnder last pages level) xs end) falls.parts is.1) in
-    let under_it : IsUnder last pages level below beyond = subst (λ (o : Option Key). IsUnder last pages level below o) (sym falls.next_is) each.0 in
-    (taken_of last pages [] (suc level) entry end is.0, below, beyond, falls, way_in_full last pages held key level below beyond found next under_it leads)

@@ -5,17 +5,15 @@ use Rattle.ub_page.specs.declared.entries.Entry.{Entry}
 use Rattle.ub_table.proofs.Laws.{before_trans, not_before_self, not_both_before, precedes_of}
 use Rattle.ub_table.specs.Keys.{IsBefore, precedes}
 use Rattle.ub_table.specs.declared.row.Key.{Key}
-use Rattle.ub_store.specs.Facts.{IsHonest}
-use Rattle.ub_store.specs.View.{PagerView}
-use Rattle.ub_index.specs.Index.{first_or, top, AscendTo, IsUnder}
-use Rattle.ub_index.specs.Searching.{at_least, Cross}
+use Rattle.ub_store.specs.Facts.{StoreFacts}
+use Rattle.ub_index.specs.Index.{first_or, top, AscendTo}
+use Rattle.ub_index.specs.Searching.{at_least}
 use Rattle.ub_index.specs.View.{IndexView, Leads}
-use Rattle.ub_index.specs.Way.{LeadsTo}
+use Rattle.ub_index.specs.Way.{HoldsKey, LeadsTo}
 use Rattle.ub_index.specs.declared.seat.Seat.{Seat}
-use Rattle.ub_index.proofs.HeldFacts.{in_full}
 use Rattle.ub_index.proofs.KeyFacts.{before_le, le_before, le_trans}
 use Rattle.ub_index.proofs.Lists.{ascend_first, ascend_right}
-use Rattle.ub_index.proofs.WayFacts.{falls_to, way_in_full}
+use Rattle.ub_index.proofs.WayFacts.{falls_to}
 
 -- two elements of a list: the same place, or one behind the other
 pub compare : (b1 : List Entry) (x1 : Entry) (a1 b2 : List Entry) (x2 : Entry) (a2 : List Entry) → b1 ++ (x1 ∷ a1) ≡ b2 ++ (x2 ∷ a2)
@@ -47,12 +45,12 @@ rest_up_to (x ∷ a) end up first last is is_end =
 
 module _ (last : ℕ) (pages : List (List ℕ)) where
   -- the way ends not before where it begins
-  pub ends_from : (key : Key) (level : ℕ) (entry : Entry) (end : Option Key) (found : Entry) (next : Option Key) → LeadsTo last pages [] key level entry end found next
+  pub ends_from : (key : Key) (level : ℕ) (entry : Entry) (end : Option Key) (found : Entry) (next : Option Key) → LeadsTo last pages key level entry end found next
       → ¬ (IsBefore found.first entry.first)
   ends_from key zero entry end found next h = subst (λ (e : Entry). ¬ (IsBefore e.first entry.first)) (sym h.0) (not_before_self entry.first)
   ends_from key (suc level) entry end found next (named, below, beyond, falls, leads) =
-      let up : AscendTo (falls.before ++ (below ∷ falls.after)) end = subst (λ (xs : List Entry). AscendTo xs end) falls.parts (in_full last pages (suc level) entry end named).fits.ascends in
-      let begins : first_or (falls.before ++ (below ∷ falls.after)) None ≡ Some entry.first = subst (λ (xs : List Entry). first_or xs None ≡ Some entry.first) falls.parts (in_full last pages (suc level) entry end named).fits.begins in
+      let up : AscendTo (falls.before ++ (below ∷ falls.after)) end = subst (λ (xs : List Entry). AscendTo xs end) falls.parts named.fits.ascends in
+      let begins : first_or (falls.before ++ (below ∷ falls.after)) None ≡ Some entry.first = subst (λ (xs : List Entry). first_or xs None ≡ Some entry.first) falls.parts named.fits.begins in
       let here = first_up_to falls.before below falls.after end up entry.first (with_end falls.before below falls.after end ∙ begins) in
       le_trans entry.first below.first found.first here (ends_from key level below beyond found next leads)
     where
@@ -61,14 +59,14 @@ module _ (last : ℕ) (pages : List (List ℕ)) where
       with_end (y ∷ m) x a o = refl
 
   -- and what follows it begins not after the end
-  pub ends_to : (key : Key) (level : ℕ) (entry : Entry) (end : Option Key) (found : Entry) (next : Option Key) → LeadsTo last pages [] key level entry end found next
+  pub ends_to : (key : Key) (level : ℕ) (entry : Entry) (end : Option Key) (found : Entry) (next : Option Key) → LeadsTo last pages key level entry end found next
       → (first limit : Key) → next ≡ Some first → end ≡ Some limit → ¬ (IsBefore limit first)
   ends_to key zero entry end found next h first limit is is_end = let same : first ≡ limit = (let e = h.1 in cc) in subst (λ (k : Key). ¬ (IsBefore k first)) same (not_before_self first)
   ends_to key (suc level) entry end found next (named, below, beyond, falls, leads) first limit is is_end =
       by_beyond beyond refl (λ middle e. ends_to key level below beyond found next leads first middle is e)
     where
       up : AscendTo (below ∷ falls.after) end
-      up = ascend_right falls.before (below ∷ falls.after) end (subst (λ (xs : List Entry). AscendTo xs end) falls.parts (in_full last pages (suc level) entry end named).fits.ascends)
+      up = ascend_right falls.before (below ∷ falls.after) end (subst (λ (xs : List Entry). AscendTo xs end) falls.parts named.fits.ascends)
 
       no_end : (a : List Entry) → first_or a end ≡ None → ¬ (IsBefore limit first)
       no_end [] none = cc
@@ -79,7 +77,7 @@ module _ (last : ℕ) (pages : List (List ℕ)) where
       by_beyond (Some middle) e below_it = le_trans first middle limit (below_it middle e) (rest_up_to falls.after end up.1 middle limit (sym falls.next_is ∙ e) is_end)
 
   pub two_ways : (k1 k2 : Key) (level : ℕ) (entry : Entry) (end : Option Key) (f1 : Entry) (n1 : Option Key) (f2 : Entry) (n2 : Option Key)
-      → LeadsTo last pages [] k1 level entry end f1 n1 → LeadsTo last pages [] k2 level entry end f2 n2 → IfSome end (IsBefore k2)
+      → LeadsTo last pages k1 level entry end f1 n1 → LeadsTo last pages k2 level entry end f2 n2 → IfSome end (IsBefore k2)
       → (from : Key) → n1 ≡ Some from → IsBefore f1.first from → ¬ (IsBefore k2 from) → ¬ (IsBefore f2.first from)
   two_ways k1 k2 zero entry end f1 n1 f2 n2 h1 h2 to from is before later =
       let is_end : end ≡ Some from = sym h1.1 ∙ is in
@@ -89,8 +87,8 @@ module _ (last : ℕ) (pages : List (List ℕ)) where
       elim (compare falls1.before x1 falls1.after falls2.before x2 falls2.after (sym falls1.parts ∙ falls2.parts)) [
         | inl same ↦
             let nexts : o1 ≡ o2 = falls1.next_is ∙ (ap (λ (a : List Entry). first_or a end) same.1 ∙ sym falls2.next_is) in
-            let leads : LeadsTo last pages [] k1 level x2 o2 f1 n1 =
-            subst (λ (e : Entry). LeadsTo last pages [] k1 level e o2 f1 n1) same.0 (subst (λ (o : Option Key). LeadsTo last pages [] k1 level x1 o f1 n1) nexts leads1) in
+            let leads : LeadsTo last pages k1 level x2 o2 f1 n1 =
+            subst (λ (e : Entry). LeadsTo last pages k1 level e o2 f1 n1) same.0 (subst (λ (o : Option Key). LeadsTo last pages k1 level x1 o f1 n1) nexts leads1) in
             two_ways k1 k2 level x2 o2 f1 n1 f2 n2 leads leads2 to_below from is before later
         | inr other ↦ elim other [
           | inl behind ↦ later_on behind.0 (subst (λ (xs : List Entry). AscendTo xs end) behind.1 up1.1) (falls1.next_is ∙ ap (λ (xs : List Entry). first_or xs end) behind.1)
@@ -101,10 +99,10 @@ module _ (last : ℕ) (pages : List (List ℕ)) where
       ]
     where
       up1 : AscendTo (x1 ∷ falls1.after) end
-      up1 = ascend_right falls1.before (x1 ∷ falls1.after) end (subst (λ (xs : List Entry). AscendTo xs end) falls1.parts (in_full last pages (suc level) entry end named1).fits.ascends)
+      up1 = ascend_right falls1.before (x1 ∷ falls1.after) end (subst (λ (xs : List Entry). AscendTo xs end) falls1.parts named1.fits.ascends)
 
       up2 : AscendTo (x2 ∷ falls2.after) end
-      up2 = ascend_right falls2.before (x2 ∷ falls2.after) end (subst (λ (xs : List Entry). AscendTo xs end) falls2.parts (in_full last pages (suc level) entry end named2).fits.ascends)
+      up2 = ascend_right falls2.before (x2 ∷ falls2.after) end (subst (λ (xs : List Entry). AscendTo xs end) falls2.parts named2.fits.ascends)
 
       to_below : IfSome o2 (IsBefore k2)
       to_below = subst (λ (o : Option Key). IfSome o (IsBefore k2)) (sym falls2.next_is) (falls_to k2 falls2.after end to falls2.to)
@@ -130,21 +128,13 @@ module _ (last : ℕ) (pages : List (List ℕ)) where
           let to_found = ends_from k1 level x1 o1 f1 n1 leads1 in
           before_trans k2 f1.first from (before_le k2 first.0 f1.first k2_before (le_trans first.0 x1.first f1.first to_entry to_found)) before
 
--- ways on which each page fits don't cross
-pub never_cross : (index : IndexView) (old : PagerView) (key other : Key) → IsHonest old.store
-    → IsUnder index.last old.store.pages index.levels (top index.root) None ⊎ (old.cached ≡ []) → ¬ (Cross index old key other)
-never_cross index old key other honest why cross =
-    let in_seat : IfSome (Some cross.from) (IsBefore key) = subst (λ (o : Option Key). IfSome o (IsBefore key)) cross.next_is cross.given.holds.to in
-    two_ways index.last old.store.pages key other index.levels (top index.root) None (record { first = cross.seat.first; page = cross.seat.page }) cross.seat.next
-    (record { first = cross.found.first; page = cross.found.page }) cross.found.next
-    (full why key cross.seat (cross.given.way honest)) (full why other cross.found (cross.found_given.way honest)) tt cross.from cross.next_is
-    (le_before cross.seat.first key cross.from cross.given.holds.from in_seat) cross.later cross.sooner
-  where
-    full : IsUnder index.last old.store.pages index.levels (top index.root) None ⊎ (old.cached ≡ []) → (k : Key) (seat : Seat) → Leads index old.store old.cached k seat
-        → Leads index old.store [] k seat
-    full (inl is) k seat h =
-        way_in_full index.last old.store.pages old.cached k index.levels (top index.root) None (record { first = seat.first; page = seat.page }) seat.next is h
-    full (inr none) k seat h = subst (λ (held : List (ℕ × List ℕ)). Leads index old.store held k seat) none h
+-- the seat to which the way to a later key leads begins not before that which follows another one
+pub never_cross : (index : IndexView) (store : StoreFacts) (key other from : Key) (seat found : Seat) → Leads index store key seat → Leads index store other found
+    → HoldsKey key seat.first seat.next → seat.next ≡ Some from → ¬ (IsBefore other from) → ¬ (IsBefore found.first from)
+never_cross index store key other from seat found first second holds is later =
+    let in_seat : IfSome (Some from) (IsBefore key) = subst (λ (o : Option Key). IfSome o (IsBefore key)) is holds.to in
+    two_ways index.last store.pages key other index.levels (top index.root) None (record { first = seat.first; page = seat.page }) seat.next
+    (record { first = found.first; page = found.page }) found.next first second tt from is (le_before seat.first key from holds.from in_seat) later
 
 -- the later of two keys isn't before either of them
 pub not_before_from : (from : Key) (z : ℕ) → ¬ (IsBefore (at_least from z) from)

@@ -1,7 +1,8 @@
--- Bringing the page that an entry names, where it fits that entry in full.
+-- Bringing the page that an entry names, where it fits that entry.
 use Rattle.std.specs.Prelude.{◌≡◌, ◌≤◌, ℕ, IsTrue, List, Option, Result, IfOk, IfErr, OnOk}
-use Rattle.ub_index.specs.Descending.{IsForgotten}
-use Rattle.ub_index.specs.Fitting.{IsUnfit}
+use Rattle.ub_index.specs.Descending.{IsForgotten, StepsDown}
+use Rattle.ub_index.specs.Fitting.{FitsAtEnds, IsUnfit}
+use Rattle.ub_index.specs.Held.{AreChecked, KeepsChecked}
 use Rattle.ub_index.specs.Index.{Fits, NamesFitting}
 use Rattle.ub_index.specs.Searching.{store_after}
 use Rattle.ub_index.specs.declared.fault.IndexFault.{IndexFault}
@@ -26,6 +27,16 @@ IsBringFault last old level entry end Full = ⊥
 IsBringFault last old level entry end (Page n fault) =
     (n ≡ entry.page) × (page : List ℕ) × IsPage old n page × IsUnfit last page level entry end fault
 
+-- a page is brought with this result, and looked at: in full, if it was read, and else at its ends. The pager then holds one of
+-- that number, the ends of which fit, and what its first bytes tell is the result; over an honest store it fits, where each page
+-- that was held was checked
+pub record BringsNext (last level : ℕ) (entry : Entry) (end : Option Key) (old new : PagerView) (result : Result Head IndexFault) : Type 0 where
+  pub cached : OnOk result (IsCached new entry.page)
+  pub ends : IfOk result (λ head. (page : List ℕ) → Holds new entry.page page → (head ≡ head_on page) × FitsAtEnds page level entry end)
+  pub named : IsHonest old.store → AreChecked last old → OnOk result (NamesFitting last old.store.pages level entry end)
+  pub forgotten : IfErr result (IsForgotten new)
+  pub steps : StepsDown last level entry end old new result
+
 -- a page is brought with this result: the pager then holds one of that number, which fits, and what its first bytes tell is the
 -- result; it holds no other page more, and none that was refused. With the device's fault the store has one failed read more,
 -- and else nothing has changed
@@ -35,5 +46,6 @@ pub record BringsFitting (last level : ℕ) (entry : Entry) (end : Option Key) (
   pub fits : IfOk result (λ head. (page : List ℕ) → Holds new entry.page page → (head ≡ head_on page) × Fits last page level entry end)
   pub named : IsHonest old.store → OnOk result (NamesFitting last old.store.pages level entry end)
   pub others : NoneMoreBut entry.page old.cached new.cached
+  pub checked : KeepsChecked last old new
   pub forgotten : IfErr result (IsForgotten new)
   pub faults : IfErr result (IsBringFault last old.store level entry end)

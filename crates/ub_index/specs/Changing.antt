@@ -4,7 +4,8 @@ use Rattle.std.specs.Prelude.{◌≡◌, ◌≢◌, ◌≤◌, ◌<◌, ◌+◌,
 use Rattle.std.specs.List.{AllByRecursion}
 use Rattle.ub_index.specs.Changed.{BeginFrom}
 use Rattle.ub_index.specs.Fitting.{FallsTo}
-use Rattle.ub_index.specs.Index.{first_or, entries_of, AscendTo, NamesFitting}
+use Rattle.ub_index.specs.Held.{KeepsChecked}
+use Rattle.ub_index.specs.Index.{first_or, entries_of, AscendTo, IsIndexPage, NamesFitting}
 use Rattle.ub_index.specs.Searching.{store_after}
 use Rattle.ub_index.specs.Way.{EndsFull, StopsAt}
 use Rattle.ub_index.specs.declared.fault.IndexFault.{IndexFault}
@@ -122,18 +123,19 @@ abbrev pub IsTurnFault : ℕ → StoreFacts → Key → ℕ → Entry → Option
 IsTurnFault last old key level entry end next (Store store.Memory) = Unit {0}
 IsTurnFault last old key level entry end next (Store store.Device) = IsTrue old.can_fail
 IsTurnFault last old key level entry end next (Store store.NoPage) =
-    (n : ℕ) × (page_count old ≤ n) × (IsHonest old → StopsAt last old.pages [] key level entry end n None)
+    (n : ℕ) × (page_count old ≤ n) × (IsHonest old → StopsAt last old.pages key level entry end n None)
 IsTurnFault last old key level entry end next (Store store.BadSize) =
     (4294967295 < next + level)
     × (IsHonest old → (full : ℕ) × EndsFull last old.pages key level entry end full × (4294967295 < next + full))
-IsTurnFault last old key level entry end next (Page n fault) = IsHonest old → StopsAt last old.pages [] key level entry end n (Some fault)
+IsTurnFault last old key level entry end next (Page n fault) = IsHonest old → StopsAt last old.pages key level entry end n (Some fault)
 IsTurnFault last old key level entry end next Full = ⊥
 
 -- a change that is prepared with this result, from an entry of this level on: with the device's fault the store has one failed
--- read more, and else nothing has changed but the pages that the pager holds
+-- read more, and else nothing has changed but the pages that the pager holds, each of which was checked, if they were before
 pub record Prepares {A : Type 0} (last level : ℕ) (key : Key) (entry : Entry) (end : Option Key) (next : ℕ) (old new : PagerView)
     (result : Result A IndexFault) : Type 0 where
   pub same : new ≡ record old { store = store_after result old.store; cached = new.cached }
+  pub checked : KeepsChecked last old new
   pub faults : IfErr result (IsTurnFault last old.store key level entry end next)
 
 -- this number is none of those
@@ -147,6 +149,10 @@ IsNoNew from to n = (n < from) ⊎ (to ≤ n)
 -- no page is spelled under this number
 abbrev pub IsUnspelled : ℕ → List Sheet → Type 0
 IsUnspelled n sheets = AllByRecursion (λ s. n ≢ s.number) sheets
+
+-- each of the pages that are spelled is one of an index
+abbrev pub AreIndexPages : ℕ → List Sheet → Type 0
+AreIndexPages last sheets = AllByRecursion (λ s. IsIndexPage last s.page) sheets
 
 -- on these pages the sheets stand
 abbrev pub Stand : List (List ℕ) → List Sheet → Type 0

@@ -1,8 +1,9 @@
 -- The steps of the way down.
 use Rattle.std.specs.Prelude.{◌≡◌, ◌≤◌, ◌⊎◌, ℕ, IsTrue, List, Option, Some, None, Result, IfErr, IfSome}
 use Rattle.ub_directory.specs.declared.region.Region.{Region}
-use Rattle.ub_index.specs.Fitting.{FallsTo, FitsAtEnds, IsHeld, IsNotTaken, NamesTaken}
-use Rattle.ub_index.specs.Index.{entries_of, page_in, top, Fits, IsIndexPage}
+use Rattle.ub_index.specs.Fitting.{FallsTo, FitsAtEnds, IsNotTaken}
+use Rattle.ub_index.specs.Held.{AreChecked, KeepsChecked}
+use Rattle.ub_index.specs.Index.{entries_of, page_in, top, NamesFitting}
 use Rattle.ub_index.specs.Searching.{store_after, Gives, IsAim, IsAimless, IsFrom}
 use Rattle.ub_index.specs.View.{IndexView, Stops}
 use Rattle.ub_index.specs.Way.{HoldsKey, LeadsTo, StopsAt}
@@ -17,42 +18,44 @@ use Rattle.ub_page.specs.declared.entries.Entry.{Entry}
 use Rattle.ub_store.specs.Cache.{page_at}
 use Rattle.ub_store.specs.Facts.{StoreFacts, IsHonest, page_count}
 use Rattle.ub_store.specs.View.{PagerView}
-use Rattle.ub_store.specs.declared.fault.StoreFault.TheVariants as store
+use Rattle.ub_store.specs.declared.fault.StoreFault.TheVariants as fault
 use Rattle.ub_table.specs.Keys.{IsBefore}
 use Rattle.ub_table.specs.declared.fault.PageFault.{PageFault}
 use Rattle.ub_table.specs.declared.row.Key.{Key}
 
--- why a step from this entry is refused, where these pages were held
-abbrev pub IsStepFault : ℕ → StoreFacts → List (ℕ × List ℕ) → ℕ → Entry → Option Key → IndexFault → Type 0
-IsStepFault last old held level entry end (Store store.Memory) = Unit {0}
-IsStepFault last old held level entry end (Store store.Device) = IsTrue old.can_fail
-IsStepFault last old held level entry end (Store store.NoPage) = page_count old ≤ entry.page
-IsStepFault last old held level entry end (Store store.BadSize) = ⊥
-IsStepFault last old held level entry end Full = ⊥
-IsStepFault last old held level entry end (Page n fault) =
-    (n ≡ entry.page) × (IsHonest old → IsNotTaken last old.pages held level entry end (Some fault))
+-- why a step from this entry is refused
+abbrev pub IsStepFault : ℕ → StoreFacts → ℕ → Entry → Option Key → IndexFault → Type 0
+IsStepFault last old level entry end (Store fault.Memory) = Unit {0}
+IsStepFault last old level entry end (Store fault.Device) = IsTrue old.can_fail
+IsStepFault last old level entry end (Store fault.NoPage) = page_count old ≤ entry.page
+IsStepFault last old level entry end (Store fault.BadSize) = ⊥
+IsStepFault last old level entry end Full = ⊥
+IsStepFault last old level entry end (Page n why) =
+    (n ≡ entry.page) × (IsHonest old → IsNotTaken last old.pages level entry end (Some why))
 
 -- a step with this result: with the device's fault the store has one failed read more, and else nothing has changed but the
--- pages that the pager holds
-pub record Steps {A : Type 0} (last : ℕ) (held : List (ℕ × List ℕ)) (level : ℕ) (entry : Entry) (end : Option Key) (old new : PagerView)
-    (result : Result A IndexFault) : Type 0 where
+-- pages that the pager holds, each of which was checked, if they were before
+pub record Steps {A : Type 0} (last level : ℕ) (entry : Entry) (end : Option Key) (old new : PagerView) (result : Result A IndexFault) : Type 0 where
   pub same : new ≡ record old { store = store_after result old.store; cached = new.cached }
-  pub faults : IfErr result (IsStepFault last old.store held level entry end)
+  pub checked : KeepsChecked last old new
+  pub faults : IfErr result (IsStepFault last old.store level entry end)
 
--- the step that is made: the page is taken, and the key falls to this entry of it
-pub record StepsTo (last : ℕ) (store : StoreFacts) (held : List (ℕ × List ℕ)) (key : Key) (level : ℕ) (entry : Entry) (end : Option Key)
+-- the same of a search, which looks at the ends of a page that is held: it is refused so where each page that was held was checked
+pub record StepsDown {A : Type 0} (last level : ℕ) (entry : Entry) (end : Option Key) (old new : PagerView) (result : Result A IndexFault) : Type 0 where
+  pub same : new ≡ record old { store = store_after result old.store; cached = new.cached }
+  pub checked : KeepsChecked last old new
+  pub faults : AreChecked last old → IfErr result (IsStepFault last old.store level entry end)
+
+-- the step that is made: the page fits, and the key falls to this entry of it
+pub record StepsTo (last : ℕ) (store : StoreFacts) (key : Key) (level : ℕ) (entry : Entry) (end : Option Key)
     (below : Entry) (next : Option Key) : Type 0 where
-  pub named : NamesTaken last store.pages held level entry end
+  pub named : NamesFitting last store.pages level entry end
   pub falls : FallsTo key (entries_of store.pages entry.page) end below next
-
--- each page that is held was held before, or is a page of an index, since it was read in between
-abbrev pub KeepsChecked : ℕ → PagerView → PagerView → Type 0
-KeepsChecked last old new = (n : ℕ) → IsHeld new.cached n → IsHeld old.cached n ⊎ IsIndexPage last (page_in old.store.pages n)
 
 -- a page that was refused isn't held any more: where it is asked for again, it is read and checked in full
 abbrev pub IsForgotten : PagerView → IndexFault → Type 0
-IsForgotten new (Page n fault) = page_at new.cached n ≡ None
-IsForgotten new (Store fault) = Unit {0}
+IsForgotten new (Page n _) = page_at new.cached n ≡ None
+IsForgotten new (Store _) = Unit {0}
 IsForgotten new Full = Unit {0}
 
 -- a leaf that is named from here holds the key, and so does all up to `until`; what is before `until` is before the leaf's end
@@ -63,13 +66,13 @@ pub record HoldsLeaf (key : Key) (leaf : Leaf) : Type 0 where
 
 -- the way from the root to a place of this level: to each key from this one on that is before `until` it leads as it does from
 -- that place on, and to this key it stops as it does from there on
-pub record LeadsDown (index : IndexView) (old : PagerView) (key : Key) (level : ℕ) (leaf : Leaf) : Type 0 where
+pub record LeadsDown (index : IndexView) (store : StoreFacts) (key : Key) (level : ℕ) (leaf : Leaf) : Type 0 where
   pub leads : (k : Key) → ¬ (IsBefore k key) → IfSome leaf.until (IsBefore k) → (found : Entry) (next : Option Key)
-      → LeadsTo index.last old.store.pages old.cached k level leaf.place.entry leaf.place.next found next
-      → LeadsTo index.last old.store.pages old.cached k index.levels (top index.root) None found next
+      → LeadsTo index.last store.pages k level leaf.place.entry leaf.place.next found next
+      → LeadsTo index.last store.pages k index.levels (top index.root) None found next
   pub stops : (n : ℕ) (fault : Option PageFault)
-      → StopsAt index.last old.store.pages old.cached key level leaf.place.entry leaf.place.next n fault
-      → Stops index old.store old.cached key n fault
+      → StopsAt index.last store.pages key level leaf.place.entry leaf.place.next n fault
+      → Stops index store key n fault
 
 -- what is found among the entries of a leaf, behind the one to which the key falls: where the next region begins, and the key
 -- to which the search goes down from there; and where that is before `until`, the place to which it falls on the same leaf
@@ -83,27 +86,20 @@ Looks last To entries key leaf (Beyond from aim) =
     (below : Entry) × FallsTo key entries leaf.place.next below (Some from)
     × IsAim last To from aim × (¬ (IfSome leaf.until (IsBefore aim)))
 
--- what is found on the leaf begins before the next region, as it never does where its keys ascend
-abbrev pub GoesBack : Found → Type 0
-GoesBack (Here from place) = IsBefore place.entry.first from
-GoesBack _ = ⊥
-
--- what is looked at on the page of a leaf, the ends of which fit, and all of it where the search would go back; over an honest
--- store it is the one that is named, and is taken
-pub record LooksAt (last : ℕ) (old : PagerView) (To : Key → Option ℕ → Type 0) (key : Key) (leaf : Leaf) (found : Found) : Type 0 where
+-- what is looked at on the page of a leaf, the ends of which fit; over an honest store it is the one that is named, and fits
+pub record LooksAt (last : ℕ) (store : StoreFacts) (To : Key → Option ℕ → Type 0) (key : Key) (leaf : Leaf) (found : Found) : Type 0 where
   pub page : List ℕ
   pub ends : FitsAtEnds page 1 leaf.place.entry leaf.place.next
   pub looks : Looks last To (node_on page).entries key leaf found
-  pub back : GoesBack found → Fits last page 1 leaf.place.entry leaf.place.next
-  pub taken : IsHonest old.store → NamesTaken last old.store.pages old.cached 1 leaf.place.entry leaf.place.next
-  pub there : IsHonest old.store → page ≡ page_in old.store.pages leaf.place.entry.page
+  pub named : IsHonest store → NamesFitting last store.pages 1 leaf.place.entry leaf.place.next
+  pub there : IsHonest store → page ≡ page_in store.pages leaf.place.entry.page
 
 -- the seat that is found where a search goes on from a key, with that key: it is given for the key to which the search goes
 -- down; none where there is no address that it is after
-abbrev pub FindsFrom : IndexView → PagerView → (Key → Option ℕ → Type 0) → Option Key → Option (Key × Seat) → Type 0
-FindsFrom index old To from None = IsAimless index.last To from
-FindsFrom index old To from (Some found) = (from ≡ Some found.0) × (aim : Key) × IsAim index.last To found.0 aim × Gives index old aim found.1
+abbrev pub FindsFrom : IndexView → StoreFacts → (Key → Option ℕ → Type 0) → Option Key → Option (Key × Seat) → Type 0
+FindsFrom index store To from None = IsAimless index.last To from
+FindsFrom index store To from (Some found) = (from ≡ Some found.0) × (aim : Key) × IsAim index.last To found.0 aim × Gives index store aim found.1
 
 -- the same after a region, if one is given
-abbrev pub FindsAfter : IndexView → PagerView → (Key → Option ℕ → Type 0) → Option Region → Option (Key × Seat) → Type 0
-FindsAfter index old To after found = (from : Option Key) × IsFrom index old after from × FindsFrom index old To from found
+abbrev pub FindsAfter : IndexView → StoreFacts → (Key → Option ℕ → Type 0) → Option Region → Option (Key × Seat) → Type 0
+FindsAfter index store To after found = (from : Option Key) × IsFrom index store after from × FindsFrom index store To from found

@@ -11,7 +11,6 @@ use Rattle.ub_index.specs.Filling.{IsFilled, KeepsFilled}
 use Rattle.ub_index.specs.Lowering.{IsRootRefused}
 use Rattle.ub_index.specs.Making.{IsCommitted, IsPutFault, PutsSheets, StayOutside, changed}
 use Rattle.ub_index.specs.Preparing.{ChangeView, IsForeign, IsPrepared, IsReachedOnce, MakesIndex, added_at, entry_at, pages_of_index}
-use Rattle.ub_index.specs.Searching.{Cross}
 use Rattle.ub_index.specs.Standing.{AddsNoIndexPage, AreOwnPages, AreRegionsThere, OldStayOutside, StandsAsOn, region_pages}
 use Rattle.ub_index.specs.View.{IndexView, IsIndexOn, IsSeatAt, Leads, Stops, entries_in}
 use Rattle.ub_index.specs.Way.{HoldsKey, IsFullWay, LeadsTo, StopsAt}
@@ -24,7 +23,6 @@ use Rattle.ub_page.specs.Entries.{IsEntry}
 use Rattle.ub_page.specs.declared.entries.Entry.{Entry}
 use Rattle.ub_region.specs.Regions.{index_holding}
 use Rattle.ub_store.specs.Facts.{StoreFacts, IsHonest, page_count, zero_page}
-use Rattle.ub_store.specs.View.{PagerView}
 use Rattle.ub_store.specs.declared.fault.StoreFault.TheVariants as store
 use Rattle.ub_table.specs.Keys.{IsBefore, origin}
 use Rattle.ub_table.specs.declared.fault.PageFault.{PageFault}
@@ -38,15 +36,9 @@ WholeAscends = (last : ℕ) (pages : List (List ℕ)) (level : ℕ) (entry : Ent
 
 -- on the way to a key no page is refused, and none is missing
 abbrev pub WaysNeverStop : Type 0
-WaysNeverStop = (last : ℕ) (pages : List (List ℕ)) (held : List (ℕ × List ℕ)) (key : Key) (level : ℕ) (entry : Entry)
+WaysNeverStop = (last : ℕ) (pages : List (List ℕ)) (key : Key) (level : ℕ) (entry : Entry)
     (end : Option Key) (n : ℕ) (fault : Option PageFault)
-    → last < 2 ^ 128 → IsUnder last pages level entry end → ¬ (StopsAt last pages held key level entry end n fault)
-
--- on an index the ways to two keys don't cross, and nowhere over an honest store where no page was held
-abbrev pub WaysNeverCross : Type 0
-WaysNeverCross = (index : IndexView) (old : PagerView) (key other : Key) → IsHonest old.store
-    → IsUnder index.last old.store.pages index.levels (top index.root) None ⊎ (old.cached ≡ [])
-    → ¬ (Cross index old key other)
+    → last < 2 ^ 128 → IsUnder last pages level entry end → ¬ (StopsAt last pages key level entry end n fault)
 
 -- where the pages under an entry stay, so do the regions' entries under it, and the index
 abbrev pub OthersStay : Type 0
@@ -73,9 +65,9 @@ abbrev pub TurnsBecome : Type 0
 TurnsBecome = (last : ℕ) (old : List (List ℕ)) (key : Key) (added : Option Entry) (level : ℕ) (entry : Entry) (end : Option Key)
     (from to : Spelled) (told : Told) → last < 2 ^ 128 → length old ≤ from.next → IsUnder last old level entry end → IsEntry last entry
     → IsDistinct nat_eq (pages_under old level entry)
-    → ((found : Entry) (next : Option Key) → LeadsTo last old [] key level entry end found next → IsFine last added found next)
+    → ((found : Entry) (next : Option Key) → LeadsTo last old key level entry end found next → IsFine last added found next)
     → Turns last old key added level entry end from to told
-    → (found : Entry) × (next : Option Key) × LeadsTo last old [] key level entry end found next
+    → (found : Entry) × (next : Option Key) × LeadsTo last old key level entry end found next
     × (sheets : List Sheet) × (to.sheets ≡ from.sheets ++ sheets)
     × ((later : List (List ℕ)) → Stand later sheets → StayBut old later sheets (pages_under old level entry)
     → Becomes last old later found (named_as (with_added added found) found) next level entry end (named_as told entry))
@@ -117,52 +109,52 @@ RegionsMayChange = (index : IndexView) (old new : StoreFacts) (numbers : List �
     → IsHonest new → OldStayOutside numbers old.pages new.pages
     → AllByRecursion (λ n. IsOutside n (pages_of_index index old)) numbers → StandsAsOn index old new
 
--- over any pages, whichever of them were held: where those that there were stay, and others may stand after them, a way that
+-- over any pages: where those that there were stay, and others may stand after them, a way that
 -- led to a seat leads there still; and one that leads to a seat led there before, or stopped where no page was
 abbrev pub WaysStay : Type 0
-WaysStay = (index : IndexView) (old new : StoreFacts) (held : List (ℕ × List ℕ)) (key : Key) (seat : Seat)
+WaysStay = (index : IndexView) (old new : StoreFacts) (key : Key) (seat : Seat)
     → OldStayOutside [] old.pages new.pages
-    → (Leads index old held key seat → Leads index new held key seat)
-    × (Leads index new held key seat → Leads index old held key seat ⊎ ((n : ℕ) × Stops index old held key n None))
+    → (Leads index old key seat → Leads index new key seat)
+    × (Leads index new key seat → Leads index old key seat ⊎ ((n : ℕ) × Stops index old key n None))
 
--- and where none of those that came is a page of an index, the ways are the same, where no page was held
+-- and where none of those that came is a page of an index, the ways are the same
 abbrev pub WaysAreTheSame : Type 0
 WaysAreTheSame = (index : IndexView) (old new : StoreFacts) (key : Key) (seat : Seat) → OldStayOutside [] old.pages new.pages
-    → AddsNoIndexPage index.last old.pages new.pages → Leads index old [] key seat ↔ Leads index new [] key seat
+    → AddsNoIndexPage index.last old.pages new.pages → Leads index old key seat ↔ Leads index new key seat
 
--- over any pages, whichever of them were held: no way from a root that isn't page 0 goes over page 0; it neither leads to it nor
+-- over any pages: no way from a root that isn't page 0 goes over page 0; it neither leads to it nor
 -- stops there, and where all other pages stay, ways lead where they led, and stop where they stopped
 abbrev pub WaysMissFirst : Type 0
-WaysMissFirst = (index : IndexView) (old new : StoreFacts) (held : List (ℕ × List ℕ)) (key : Key) → 1 ≤ index.root
-    → ((seat : Seat) → Leads index old held key seat → 1 ≤ seat.page)
-    × ((n : ℕ) (fault : Option PageFault) → Stops index old held key n fault → 1 ≤ n)
+WaysMissFirst = (index : IndexView) (old new : StoreFacts) (key : Key) → 1 ≤ index.root
+    → ((seat : Seat) → Leads index old key seat → 1 ≤ seat.page)
+    × ((n : ℕ) (fault : Option PageFault) → Stops index old key n fault → 1 ≤ n)
     × (((n : ℕ) → 1 ≤ n → slice_get new.pages n ≡ slice_get old.pages n)
-    → ((seat : Seat) → Leads index old held key seat ↔ Leads index new held key seat)
-    × ((n : ℕ) (fault : Option PageFault) → Stops index old held key n fault ↔ Stops index new held key n fault))
+    → ((seat : Seat) → Leads index old key seat ↔ Leads index new key seat)
+    × ((n : ℕ) (fault : Option PageFault) → Stops index old key n fault ↔ Stops index new key n fault))
 
 -- a page of zeros, as a store adds it, is none of an index
 abbrev pub ZerosAreNoIndexPage : Type 0
 ZerosAreNoIndexPage = (last : ℕ) → ¬ (IsIndexPage last zero_page)
 
--- over any pages, none of which was held: the seat to which the way to a key leads holds that key, and its own first key; and
+-- over any pages: the seat to which the way to a key leads holds that key, and its own first key; and
 -- the way to each key that it holds leads to it
 abbrev pub WaysHold : Type 0
-WaysHold = (index : IndexView) (store : StoreFacts) (key : Key) (seat : Seat) → Leads index store [] key seat
+WaysHold = (index : IndexView) (store : StoreFacts) (key : Key) (seat : Seat) → Leads index store key seat
     → HoldsKey key seat.first seat.next × HoldsKey seat.first seat.first seat.next
-    × ((other : Key) → HoldsKey other seat.first seat.next → Leads index store [] other seat)
+    × ((other : Key) → HoldsKey other seat.first seat.next → Leads index store other seat)
 
--- over any pages, none of which was held: the way to a key leads to one seat
+-- over any pages: the way to a key leads to one seat
 abbrev pub WaysAreOne : Type 0
 WaysAreOne = (index : IndexView) (store : StoreFacts) (key : Key) (a b : Seat)
-    → Leads index store [] key a → Leads index store [] key b → a ≡ b
+    → Leads index store key a → Leads index store key b → a ≡ b
 
--- on an index, whichever pages were held, the seats to which ways lead are those of its regions: the way to a key leads to that
+-- on an index the seats to which ways lead are those of its regions: the way to a key leads to that
 -- of the region which holds it, and to each there is one
 abbrev pub SeatsAreLedTo : Type 0
-SeatsAreLedTo = (index : IndexView) (store : StoreFacts) (held : List (ℕ × List ℕ)) → IsIndexOn index store
-    → ((key : Key) (seat : Seat) → Leads index store held key seat
+SeatsAreLedTo = (index : IndexView) (store : StoreFacts) → IsIndexOn index store
+    → ((key : Key) (seat : Seat) → Leads index store key seat
     → IsSeatAt (entries_in index store) (index_holding key (first_keys (entries_in index store))) seat)
-    × ((i : ℕ) (seat : Seat) → IsSeatAt (entries_in index store) i seat → Leads index store held seat.first seat)
+    × ((i : ℕ) (seat : Seat) → IsSeatAt (entries_in index store) i seat → Leads index store seat.first seat)
 
 -- where no page serves twice, the first and those of the regions are none of the index
 abbrev pub OwnPagesStandApart : Type 0

@@ -4,6 +4,7 @@ pub mod Laws
 pub mod Fitting
 pub mod Way
 pub mod View
+pub mod Held
 pub mod Searching
 pub mod Descending
 pub mod Bringing

@@ -1,6 +1,7 @@
 -- Opening an index that stands on a store, and making one of a single region.
 use Rattle.std.specs.Prelude.{◌≡◌, ◌≤◌, ℕ, IsTrue, List, [], ◌∷◌, None, Result, IfErr}
 use Rattle.ub_index.specs.Bringing.{IsBringFault}
+use Rattle.ub_index.specs.Held.{KeepsChecked}
 use Rattle.ub_index.specs.Index.{Fits, NamesFitting, top}
 use Rattle.ub_index.specs.Preparing.{IsReachedOnce, pages_of_index}
 use Rattle.ub_index.specs.Searching.{store_after}
@@ -34,10 +35,11 @@ IsPassing (Store store.Memory) = Unit {0}
 IsPassing (Store store.Device) = Unit {0}
 IsPassing _ = ⊥
 
--- opening with this result: the pager holds no other page more than the root's; with the device's fault the store has one
+-- opening with this result: the pager holds no other page more than the root's, which was checked; with the device's fault the store has one
 -- failed read more, and else nothing has changed
 pub record Opens {A : Type 0} (index : IndexView) (old new : PagerView) (result : Result A IndexFault) : Type 0 where
   pub same : new ≡ record old { store = store_after result old.store; cached = new.cached }
+  pub checked : KeepsChecked index.last old new
   pub cached : NoneMoreBut index.root old.cached new.cached
   pub faults : IfErr result (IsOpenFault index old.store)
 

@@ -3,6 +3,7 @@ use Rattle.std.specs.Prelude.{◌≡◌, ◌≤◌, ◌<◌, ◌+◌, ◌++◌, 
 use Rattle.std.specs.List.{IsDistinct}
 use Rattle.ub_index.specs.Way.{EndsFull, IsFullWay}
 use Rattle.ub_index.specs.Changing.{AreOnce, IsNoNew, IsOutside, IsUnspelled, Spelled, Stand, StayBut, Turns, sheet_of, so_far}
+use Rattle.ub_index.specs.Held.{KeepsChecked}
 use Rattle.ub_index.specs.Index.{IsUnder, pages_under, top, under}
 use Rattle.ub_index.specs.Searching.{store_after}
 use Rattle.ub_index.specs.View.{IndexView, Stops}
@@ -143,19 +144,20 @@ abbrev pub IsChangeFault : IndexView → StoreFacts → Key → Option Entry →
 IsChangeFault index old key added from (Store store.Memory) = Unit {0}
 IsChangeFault index old key added from (Store store.Device) = IsTrue old.can_fail
 IsChangeFault index old key added from (Store store.NoPage) =
-    (n : ℕ) × (page_count old ≤ n) × (IsHonest old → Stops index old [] key n None)
+    (n : ℕ) × (page_count old ≤ n) × (IsHonest old → Stops index old key n None)
 IsChangeFault index old key added from (Store store.BadSize) =
     (4294967295 < from.next + (index.levels + 1))
     × ((4294967295 < from.next) ⊎ (IsHonest old → (n : ℕ) × NeedsPages index old key n × (4294967295 < from.next + n)))
 IsChangeFault index old key added from (Page n fault) =
-    IsHonest old → Stops index old [] key n (Some fault)
+    IsHonest old → Stops index old key n (Some fault)
     ⊎ ((n ≡ index.root) × (fault ≡ BadCount) × (to : Spelled) × TurnsRoot index old key added from to Gone)
 IsChangeFault index old key added from Full =
     (index.levels ≡ 16) × (IsHonest old → HasFullWay index old key × (from.next + 16 ≤ 4294967295))
 
 -- a change that is prepared with this result: with the device's fault the store has one failed read more, and else nothing has
--- changed but the pages that the pager holds
+-- changed but the pages that the pager holds, each of which was checked, if they were before
 pub record PreparesAll {A : Type 0} (index : IndexView) (key : Key) (added : Option Entry) (from : Spelled) (old new : PagerView)
     (result : Result A IndexFault) : Type 0 where
   pub same : new ≡ record old { store = store_after result old.store; cached = new.cached }
+  pub checked : KeepsChecked index.last old new
   pub faults : IfErr result (IsChangeFault index old.store key added from)

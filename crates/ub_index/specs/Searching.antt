@@ -1,9 +1,9 @@
--- What a search in an index answers, and what it leaves, over any store and any pages, some of which the pager held when it
--- began.
+-- What a search in an index answers, and what it leaves, over any store and any pages.
 use Rattle.std.specs.Prelude.{◌≡◌, ◌≤◌, ◌<◌, ◌⊎◌, if◌then◌else◌, ℕ, zero, suc, IsTrue, Option, Some, None, Result, Err, IfErr}
 use Rattle.ub_bigmin.specs.Box.{HoldsAny}
 use Rattle.ub_bigmin.specs.Extremes.{LeastFrom}
 use Rattle.ub_directory.specs.declared.region.Region.{Region}
+use Rattle.ub_index.specs.Held.{AreChecked, KeepsChecked}
 use Rattle.ub_index.specs.View.{IndexView, Leads, Stops}
 use Rattle.ub_index.specs.Way.{HoldsKey}
 use Rattle.ub_index.specs.declared.fault.IndexFault.{IndexFault}
@@ -14,22 +14,22 @@ use Rattle.ub_index.specs.declared.seat.Seat.{Seat}
 use Rattle.ub_region.specs.Spans.{address_before}
 use Rattle.ub_store.specs.Facts.{StoreFacts, IsHonest, page_count, raised}
 use Rattle.ub_store.specs.View.{PagerView}
-use Rattle.ub_store.specs.declared.fault.StoreFault.TheVariants as store
+use Rattle.ub_store.specs.declared.fault.StoreFault.TheVariants as fault
 use Rattle.ub_table.specs.Keys.{IsBefore, precedes, origin}
 use Rattle.ub_table.specs.declared.fault.PageFault.{PageFault}
 use Rattle.ub_table.specs.declared.fault.PageFault.TheVariants.{OutOfRegion}
 use Rattle.ub_table.specs.declared.row.Key.{Key}
 
 -- the seat that is given for a key: it holds the key, and over an honest store the way leads to it
-pub record Gives (index : IndexView) (old : PagerView) (key : Key) (seat : Seat) : Type 0 where
+pub record Gives (index : IndexView) (store : StoreFacts) (key : Key) (seat : Seat) : Type 0 where
   pub holds : HoldsKey key seat.first seat.next
-  pub way : IsHonest old.store → Leads index old.store old.cached key seat
+  pub way : IsHonest store → Leads index store key seat
 
 -- the same for a key that there may be; none for none
-abbrev pub GivesAny : IndexView → PagerView → Option Key → Option Seat → Type 0
-GivesAny index old None given = given ≡ None
-GivesAny index old (Some key) None = ⊥
-GivesAny index old (Some key) (Some seat) = Gives index old key seat
+abbrev pub GivesAny : IndexView → StoreFacts → Option Key → Option Seat → Type 0
+GivesAny index store None given = given ≡ None
+GivesAny index store (Some key) None = ⊥
+GivesAny index store (Some key) (Some seat) = Gives index store key seat
 
 -- the greatest key before this one, if there is any
 abbrev pub key_before : ℕ → ℕ → Option Key
@@ -38,9 +38,9 @@ key_before (suc z) zero = Some (record { z = z; number = 4294967295 })
 key_before zero zero = None
 
 -- where the first region later than another one begins, if there is one; the first of all where none is given
-abbrev pub IsFrom : IndexView → PagerView → Option Region → Option Key → Type 0
-IsFrom index old None from = from ≡ Some origin
-IsFrom index old (Some region) from = (seat : Seat) × Gives index old region.first seat × (from ≡ seat.next)
+abbrev pub IsFrom : IndexView → StoreFacts → Option Region → Option Key → Type 0
+IsFrom index store None from = from ≡ Some origin
+IsFrom index store (Some region) from = (seat : Seat) × Gives index store region.first seat × (from ≡ seat.next)
 
 -- the least key of an address, or this one if it is later
 abbrev pub at_least : Key → ℕ → Key
@@ -79,56 +79,39 @@ IsAim last To from key = (z : ℕ) × To from (Some z) × (z ≤ last) × (key �
 
 -- the region that is given where the search goes on from a key: that which holds the key to which it goes down; none where
 -- there is no address that it is after
-abbrev pub GivesFrom : IndexView → PagerView → (Key → Option ℕ → Type 0) → Option Key → Option Region → Type 0
-GivesFrom index old To from None = IsAimless index.last To from
-GivesFrom index old To None (Some region) = ⊥
-GivesFrom index old To (Some from) (Some region) =
-    (key : Key) × IsAim index.last To from key × (seat : Seat) × Gives index old key seat × (region ≡ region_of index.last seat)
+abbrev pub GivesFrom : IndexView → StoreFacts → (Key → Option ℕ → Type 0) → Option Key → Option Region → Type 0
+GivesFrom index store To from None = IsAimless index.last To from
+GivesFrom index store To None (Some region) = ⊥
+GivesFrom index store To (Some from) (Some region) =
+    (key : Key) × IsAim index.last To from key × (seat : Seat) × Gives index store key seat × (region ≡ region_of index.last seat)
 
 -- the first key of a region, if one is given
 abbrev pub IsFirstKeyOf : Option Region → Key → Type 0
 IsFirstKeyOf after key = (region : Region) × (after ≡ Some region) × (key ≡ region.first)
 
 -- the region that is given after another one, if one is given
-abbrev pub GivesAfter : IndexView → PagerView → (Key → Option ℕ → Type 0) → Option Region → Option Region → Type 0
-GivesAfter index old To after found = (from : Option Key) × IsFrom index old after from × GivesFrom index old To from found
+abbrev pub GivesAfter : IndexView → StoreFacts → (Key → Option ℕ → Type 0) → Option Region → Option Region → Type 0
+GivesAfter index store To after found = (from : Option Key) × IsFrom index store after from × GivesFrom index store To from found
 
 -- the keys to which a search after a region goes down: that region's, and then the one from which it goes on
-abbrev pub IsSought : IndexView → PagerView → (Key → Option ℕ → Type 0) → Option Region → Key → Type 0
-IsSought index old To after key = IsFirstKeyOf after key ⊎ ((from : Key) × IsFrom index old after (Some from) × IsAim index.last To from key)
-
--- the ways to two keys cross: where the first one ends, the next region begins at a key that isn't after the second key, and
--- the second one ends before it. They never do where each page on them fits
-pub record Cross (index : IndexView) (old : PagerView) (key other : Key) : Type 0 where
-  pub seat : Seat
-  pub from : Key
-  pub given : Gives index old key seat
-  pub next_is : seat.next ≡ Some from
-  pub later : ¬ (IsBefore other from)
-  pub found : Seat
-  pub found_given : Gives index old other found
-  pub sooner : IsBefore found.first from
-
--- why a page is refused: the way to one of these keys stops there; or it is the root's, and the ways to two of them cross
-abbrev pub IsPageFault : IndexView → PagerView → (Key → Type 0) → ℕ → PageFault → Type 0
-IsPageFault index old Sought n fault =
-    ((key : Key) × Sought key × Stops index old.store old.cached key n (Some fault))
-    ⊎ ((n ≡ index.root) × (fault ≡ OutOfRegion) × (key : Key) × (other : Key) × Sought key × Sought other × Cross index old key other)
+abbrev pub IsSought : IndexView → StoreFacts → (Key → Option ℕ → Type 0) → Option Region → Key → Type 0
+IsSought index store To after key = IsFirstKeyOf after key ⊎ ((from : Key) × IsFrom index store after (Some from) × IsAim index.last To from key)
 
 -- why a search is refused that goes down to these keys alone: memory was refused; the store failed in this call, which it then
--- can; it has no page of a number that was asked for, or a page is refused, over an honest store for such a reason
-abbrev pub IsWayFault : IndexView → PagerView → (Key → Type 0) → IndexFault → Type 0
-IsWayFault index old Sought (Store store.Memory) = Unit {0}
-IsWayFault index old Sought (Store store.Device) = IsTrue old.store.can_fail
-IsWayFault index old Sought (Store store.NoPage) =
-    (n : ℕ) × (page_count old.store ≤ n) × (IsHonest old.store → (key : Key) × Sought key × Stops index old.store old.cached key n None)
-IsWayFault index old Sought (Store store.BadSize) = ⊥
-IsWayFault index old Sought Full = ⊥
-IsWayFault index old Sought (Page n fault) = IsHonest old.store → IsPageFault index old Sought n fault
+-- can; it has no page of a number that was asked for, or a page is refused, over an honest store since the way to one of these
+-- keys stops there
+abbrev pub IsWayFault : IndexView → StoreFacts → (Key → Type 0) → IndexFault → Type 0
+IsWayFault index store Sought (Store fault.Memory) = Unit {0}
+IsWayFault index store Sought (Store fault.Device) = IsTrue store.can_fail
+IsWayFault index store Sought (Store fault.NoPage) =
+    (n : ℕ) × (page_count store ≤ n) × (IsHonest store → (key : Key) × Sought key × Stops index store key n None)
+IsWayFault index store Sought (Store fault.BadSize) = ⊥
+IsWayFault index store Sought Full = ⊥
+IsWayFault index store Sought (Page n why) = IsHonest store → (key : Key) × Sought key × Stops index store key n (Some why)
 
 -- a count of failures after a call with this result: the device's fault raises it by one
 abbrev pub count_with : {A : Type 0} → Result A IndexFault → ℕ → ℕ
-count_with (Err (Store store.Device)) n = raised n 1
+count_with (Err (Store fault.Device)) n = raised n 1
 count_with _ n = n
 
 -- a store after a call with this result that only reads
@@ -136,7 +119,9 @@ abbrev pub store_after : {A : Type 0} → Result A IndexFault → StoreFacts →
 store_after result old = record old { failed_reads = count_with result old.failed_reads }
 
 -- a call with this result that goes down to these keys: with the device's fault the store has one failed read more, and else
--- nothing has changed but the pages that the pager holds
+-- nothing has changed but the pages that the pager holds, each of which was checked, if they were before; and then why it is
+-- refused
 pub record GoesDown {A : Type 0} (Sought : Key → Type 0) (index : IndexView) (old new : PagerView) (result : Result A IndexFault) : Type 0 where
   pub same : new ≡ record old { store = store_after result old.store; cached = new.cached }
-  pub faults : IfErr result (IsWayFault index old Sought)
+  pub checked : KeepsChecked index.last old new
+  pub faults : AreChecked index.last old → IfErr result (IsWayFault index old.store Sought)

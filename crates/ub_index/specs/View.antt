@@ -42,11 +42,11 @@ abbrev pub IsPreviousSeat : List Entry → ℕ → Option Seat → Type 0
 IsPreviousSeat entries i None = i ≡ 0
 IsPreviousSeat entries i (Some before) = (j : ℕ) × (i ≡ j + 1) × IsSeatAt entries j before
 
--- from the root the way to the key ends at this seat, where these pages were held
-abbrev pub Leads : IndexView → StoreFacts → List (ℕ × List ℕ) → Key → Seat → Type 0
-Leads index store held key seat =
-    LeadsTo index.last store.pages held key index.levels (top index.root) None (record { first = seat.first; page = seat.page }) seat.next
+-- from the root the way to the key ends at this seat
+abbrev pub Leads : IndexView → StoreFacts → Key → Seat → Type 0
+Leads index store key seat =
+    LeadsTo index.last store.pages key index.levels (top index.root) None (record { first = seat.first; page = seat.page }) seat.next
 
--- from the root the way to the key stops at the page n, where these pages were held
-abbrev pub Stops : IndexView → StoreFacts → List (ℕ × List ℕ) → Key → ℕ → Option PageFault → Type 0
-Stops index store held key n fault = StopsAt index.last store.pages held key index.levels (top index.root) None n fault
+-- from the root the way to the key stops at the page n
+abbrev pub Stops : IndexView → StoreFacts → Key → ℕ → Option PageFault → Type 0
+Stops index store key n fault = StopsAt index.last store.pages key index.levels (top index.root) None n fault

@@ -1,7 +1,6 @@
--- The way down to a key, page by page, over any pages, some of which were held: as far as they are taken. Where none was held,
--- that is as far as they fit.
+-- The way down to a key, page by page, over any pages, as far as they fit.
 use Rattle.std.specs.Prelude.{length, ◌≡◌, ◌⊎◌, ℕ, zero, suc, List, Option, IfSome}
-use Rattle.ub_index.specs.Fitting.{FallsTo, IsNotTaken, NamesTaken}
+use Rattle.ub_index.specs.Fitting.{FallsTo, IsNotTaken}
 use Rattle.ub_index.specs.Index.{entries_of, NamesFitting}
 use Rattle.ub_page.specs.declared.entries.Entry.{Entry}
 use Rattle.ub_table.specs.Keys.{IsBefore}
@@ -14,23 +13,22 @@ pub record HoldsKey (key first : Key) (next : Option Key) : Type 0 where
   pub to : IfSome next (IsBefore key)
 
 -- from an entry of this level the way to the key ends at the region's entry `found`, after which the next one begins: each page
--- on the way is taken
-abbrev pub LeadsTo : ℕ → List (List ℕ) → List (ℕ × List ℕ) → Key → ℕ → Entry → Option Key → Entry → Option Key → Type 0
-LeadsTo last pages held key zero entry end found next = (found ≡ entry) × (next ≡ end)
-LeadsTo last pages held key (suc level) entry end found next =
-    NamesTaken last pages held (suc level) entry end
+-- on the way fits
+abbrev pub LeadsTo : ℕ → List (List ℕ) → Key → ℕ → Entry → Option Key → Entry → Option Key → Type 0
+LeadsTo last pages key zero entry end found next = (found ≡ entry) × (next ≡ end)
+LeadsTo last pages key (suc level) entry end found next =
+    NamesFitting last pages (suc level) entry end
     × (below : Entry) × (after : Option Key) × FallsTo key (entries_of pages entry.page) end below after
-    × LeadsTo last pages held key level below after found next
+    × LeadsTo last pages key level below after found next
 
--- from an entry of this level the way to the key stops at the page n, which isn't there or is refused: each page before it is
--- taken
-abbrev pub StopsAt : ℕ → List (List ℕ) → List (ℕ × List ℕ) → Key → ℕ → Entry → Option Key → ℕ → Option PageFault → Type 0
-StopsAt last pages held key zero entry end n fault = ⊥
-StopsAt last pages held key (suc level) entry end n fault =
-    ((n ≡ entry.page) × IsNotTaken last pages held (suc level) entry end fault)
-    ⊎ (NamesTaken last pages held (suc level) entry end
+-- from an entry of this level the way to the key stops at the page n, which isn't there or is refused: each page before it fits
+abbrev pub StopsAt : ℕ → List (List ℕ) → Key → ℕ → Entry → Option Key → ℕ → Option PageFault → Type 0
+StopsAt last pages key zero entry end n fault = ⊥
+StopsAt last pages key (suc level) entry end n fault =
+    ((n ≡ entry.page) × IsNotTaken last pages (suc level) entry end fault)
+    ⊎ (NamesFitting last pages (suc level) entry end
     × (below : Entry) × (after : Option Key) × FallsTo key (entries_of pages entry.page) end below after
-    × StopsAt last pages held key level below after n fault)
+    × StopsAt last pages key level below after n fault)
 
 -- from an entry of this level each page on the way to the key fits, and has 170 entries
 abbrev pub IsFullWay : ℕ → List (List ℕ) → Key → ℕ → Entry → Option Key → Type 0

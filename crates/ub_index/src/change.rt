@@ -163,7 +163,7 @@ fn named_alone<S: PageStore>(
     ensures some { IfOk result (λ page. IfSome page (λ n. 1 ≤ n)) }
     ensures unspelled { IfErr result (λ _. spelled_page sheets.now.sheets root ≡ None) }
     ensures forgotten { IfErr result (IsForgotten pager.new) }
-    ensures effect { Steps last [] level (top root) None pager.old pager.new result }
+    ensures effect { Steps last level (top root) None pager.old pager.new result }
 {
     if let Some(page) = sheets.find(root) {
         return Ok(sole_on(page));

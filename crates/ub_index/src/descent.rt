@@ -1,8 +1,9 @@
 // The way down an index, step by step.
 ghost use Rattle.std.specs.Prelude.{◌≡◌, ◌+◌, ◌<◌, ◌≤◌, ◌↔◌, ◌⊎◌, None, Some, IfOk, IfErr, IsOk, IfSome, IsTrue, drop};
-ghost use Rattle.ub_index.specs.Bringing.{BringsFitting};
-ghost use Rattle.ub_index.specs.Descending.{GoesBack, HoldsLeaf, IsForgotten, KeepsChecked, Looks, LooksAt, Steps, StepsTo};
-ghost use Rattle.ub_index.specs.Fitting.{FallsTo, FitsAtEnds, FitsSo, IsRowRefused, IsUnfit, IsUnfitAtEnds, IsUnfitSo};
+ghost use Rattle.ub_index.specs.Bringing.{BringsFitting, BringsNext};
+ghost use Rattle.ub_index.specs.Descending.{IsForgotten, Looks, LooksAt, StepsDown, StepsTo};
+ghost use Rattle.ub_index.specs.Fitting.{FallsTo, FitsAtEnds, IsUnfit, IsUnfitAtEnds};
+ghost use Rattle.ub_index.specs.Held.{AreChecked, WasChecked};
 ghost use Rattle.ub_index.specs.Index.{Fits, NamesFitting, first_or, top};
 ghost use Rattle.ub_index.specs.Opening.{IsPassing};
 ghost use Rattle.ub_index.specs.Searching.{Aims, IsAim, IsAimless, at_least};
@@ -98,9 +99,30 @@ pub fn bring_root<S: PageStore>(
     bring_fitting(pager, last, level, &root_place(root))
 }
 
+/// Brings the page that the entry of a place of this level names, and checks it: in full, if it was read, and of one that was
+/// held its ends. What its first bytes tell comes where it fits there; the pager then holds it. It forgets a page that is refused.
+fn bring_next<S: PageStore>(
+    pager: &mut Pager<S>,
+    last: u128,
+    level: u32,
+    place: &Place,
+) -> Result<Head, IndexFault>
+    ensures { BringsNext last level place.now.entry place.now.next pager.old pager.new result }
+{
+    let page = place.entry.page;
+    let is_read = pager.bring(page)?;
+    match fits_so(pager.cached(page), is_read, last, level, place) {
+        Ok(head) => Ok(head),
+        Err(fault) => {
+            pager.forget(page);
+            Err(IndexFault::Page { page, fault })
+        }
+    }
+}
+
 /// Goes down from a place of this level to that of the level below to which the key falls. Reads the page that the entry names,
-/// if it isn't held, and then checks it in full; of a page that is held its ends are looked at, and the entry to which the key
-/// falls: it is refused as BadRow where it names page 0, as it would be in full. The pager forgets a page that is refused.
+/// if it isn't held, and then checks it in full; of a page that is held its ends are looked at. The pager forgets a page that is
+/// refused.
 pub fn step_down<S: PageStore>(
     pager: &mut Pager<S>,
     last: u128,
@@ -110,52 +132,16 @@ pub fn step_down<S: PageStore>(
 ) -> Result<Place, IndexFault>
     requires { HoldsKey key.now place.now.entry.first place.now.next }
     ensures holds { IfOk result (λ below. HoldsKey key.now below.entry.first below.next) }
-    ensures below { IsHonest pager.old.store → IfOk result (λ below. StepsTo last pager.old.store
-        pager.old.cached key.now level place.now.entry place.now.next below.entry below.next) }
-    ensures checked { IsHonest pager.old.store
-        → IfOk result (λ _. KeepsChecked last pager.old pager.new) }
+    ensures below { IsHonest pager.old.store → AreChecked last pager.old → IfOk result
+        (λ below. StepsTo last pager.old.store key.now level place.now.entry place.now.next
+        below.entry below.next) }
     ensures forgotten { IfErr result (IsForgotten pager.new) }
-    ensures effect { Steps last pager.old.cached level place.now.entry place.now.next
-        pager.old pager.new result }
+    ensures effect { StepsDown last level place.now.entry place.now.next pager.old pager.new
+        result }
 {
-    // Not by `bring_fitting`: a page that was held isn't checked in full here, and one on which the entry itself is refused is
-    // forgotten too.
-    let number = place.entry.page;
-    let is_read = pager.bring(number)?;
-    let page = pager.cached(number);
-    match fall_on(page, is_read, last, level, place, key) {
-        Ok(below) => Ok(below),
-        Err(fault) => {
-            pager.forget(number);
-            Err(IndexFault::Page {
-                page: number,
-                fault,
-            })
-        }
-    }
-}
-
-// The place to which a key falls on a page that was read now or was held, where the page fits the place from which an entry
-// names it.
-fn fall_on(
-    page: &Page,
-    is_read: bool,
-    last: u128,
-    level: u32,
-    place: &Place,
-    key: &Key,
-) -> Result<Place, PageFault>
-    ensures fits { IfOk result
-        (λ _. FitsSo is_read last page.now level place.now.entry place.now.next) }
-    ensures ends { IfOk result (λ _. FitsAtEnds page.now level place.now.entry place.now.next) }
-    ensures falls { IfOk result (λ below. FallsTo key.now (node_on page.now).entries
-        place.now.next below.entry below.next) }
-    ensures refused { IfErr result (λ fault.
-        IsUnfitSo is_read last page.now level place.now.entry place.now.next fault
-        ⊎ IsUnfit last page.now level place.now.entry place.now.next fault) }
-{
-    let head = fits_so(page, is_read, last, level, place)?;
-    fall(page, head.count, key, place.next)
+    let head = bring_next(pager, last, level, place)?;
+    let page = pager.cached(place.entry.page);
+    Ok(fall(page, head.count, key, place.next))
 }
 
 /// Looks on a leaf for what comes behind the region of a key: where the next region begins, and where a search with this goal
@@ -167,95 +153,36 @@ pub fn look<S: PageStore>(
     key: &Key,
     goal: &Goal,
 ) -> Result<Found, IndexFault>
-    ensures looks { IfOk result (LooksAt last pager.old (Aims goal.now) key.now leaf.now) }
-    ensures checked { IsHonest pager.old.store
-        → IfOk result (λ _. KeepsChecked last pager.old pager.new) }
+    ensures looks { AreChecked last pager.old → IfOk result
+        (LooksAt last pager.old.store (Aims goal.now) key.now leaf.now) }
     ensures forgotten { IfErr result (IsForgotten pager.new) }
-    ensures effect { Steps last pager.old.cached 1 leaf.now.place.entry leaf.now.place.next
-        pager.old pager.new result }
+    ensures effect { StepsDown last 1 leaf.now.place.entry leaf.now.place.next pager.old pager.new
+        result }
 {
-    // Not by `bring_fitting`, as in `step_down`.
-    let n = leaf.place.entry.page;
-    let is_read = pager.bring(n)?;
-    let page = pager.cached(n);
-    match look_on(page, is_read, last, leaf, key, goal) {
-        Ok(found) => Ok(found),
-        Err(fault) => {
-            pager.forget(n);
-            Err(IndexFault::Page { page: n, fault })
-        }
-    }
+    let head = bring_next(pager, last, 1, &leaf.place)?;
+    let page = pager.cached(leaf.place.entry.page);
+    Ok(looked(page, head.count, last, leaf, key, goal))
 }
 
-// The same on the page of the leaf, which was read now or was held. Where the search would go back on it, its keys don't
-// ascend: it is checked in full then, whether it was read or not, and refused for what is wrong with it.
-fn look_on(
-    page: &Page,
-    is_read: bool,
-    last: u128,
-    leaf: &Leaf,
-    key: &Key,
-    goal: &Goal,
-) -> Result<Found, PageFault>
-    ensures fits { IfOk result
-        (λ _. FitsSo is_read last page.now 1 leaf.now.place.entry leaf.now.place.next) }
-    ensures ends { IfOk result
-        (λ _. FitsAtEnds page.now 1 leaf.now.place.entry leaf.now.place.next) }
-    ensures looks { IfOk result
-        (Looks last (Aims goal.now) (node_on page.now).entries key.now leaf.now) }
-    ensures back { IfOk result (λ found. GoesBack found
-        → Fits last page.now 1 leaf.now.place.entry leaf.now.place.next) }
-    ensures refused { IfErr result (λ fault.
-        IsUnfitSo is_read last page.now 1 leaf.now.place.entry leaf.now.place.next fault
-        ⊎ IsUnfit last page.now 1 leaf.now.place.entry leaf.now.place.next fault) }
-{
-    let head = fits_so(page, is_read, last, 1, &leaf.place)?;
-    let found = looked(page, head.count, last, leaf, key, goal)?;
-    if !goes_back(&found) {
-        return Ok(found);
-    }
-    fits(page, last, 1, &leaf.place)?;
-    Ok(found)
-}
-
-// Whether what is found on a leaf begins before the next region.
-fn goes_back(found: &Found) -> bool
-    ensures { IsTrue result ↔ GoesBack found.now }
-{
-    match found {
-        Found::Here(from, place) => place.entry.first.is_before(from),
-        _ => false,
-    }
-}
-
-// The same among the entries of a page, which are so many.
-fn looked(
-    page: &Page,
-    count: usize,
-    last: u128,
-    leaf: &Leaf,
-    key: &Key,
-    goal: &Goal,
-) -> Result<Found, PageFault>
+// What is found on the page of a leaf, among its entries, which are so many.
+fn looked(page: &Page, count: usize, last: u128, leaf: &Leaf, key: &Key, goal: &Goal) -> Found
     requires count { count ≡ (head_on page.now).count }
     requires some { 1 ≤ count }
     requires few { count ≤ MAX_ENTRIES }
-    ensures looks { IfOk result
-        (Looks last (Aims goal.now) (node_on page.now).entries key.now leaf.now) }
-    ensures refused { IfErr result (IsRowRefused page.now) }
+    ensures { Looks last (Aims goal.now) (node_on page.now).entries key.now leaf.now result }
 {
     let end = leaf.place.next;
     let slot = slot_in(page, count, key);
-    let Some(from) = place_in(page, count, slot, end)?.next else {
-        return Ok(Found::Nothing);
+    let Some(from) = place_in(page, count, slot, end).next else {
+        return Found::Nothing;
     };
     match aim(goal, last, &from) {
-        None => Ok(Found::Nothing),
+        None => Found::Nothing,
         Some(aim) if ends_before(&aim, &leaf.until) => {
             let slot = slot_behind(page, count, slot, &aim);
-            Ok(Found::Here(from, place_in(page, count, slot, end)?))
+            Found::Here(from, place_in(page, count, slot, end))
         }
-        Some(aim) => Ok(Found::Beyond(from, aim)),
+        Some(aim) => Found::Beyond(from, aim),
     }
 }
 
@@ -280,7 +207,7 @@ fn later_of(from: &Key, z: u128) -> Key
 }
 
 // What the first bytes tell of a page that fits the place from which an entry names it: one that was read now is checked in
-// full, and of one that was held its ends are.
+// full, and of one that was held its ends are, which is enough where it was checked before.
 fn fits_so(
     page: &Page,
     is_read: bool,
@@ -289,13 +216,11 @@ fn fits_so(
     place: &Place,
 ) -> Result<Head, PageFault>
     ensures head { IfOk result (λ head. head ≡ head_on page.now) }
-    ensures found { IfOk result
-        (λ _. FitsSo is_read last page.now level place.now.entry place.now.next) }
     ensures ends { IfOk result (λ _. FitsAtEnds page.now level place.now.entry place.now.next) }
-    ensures exact { FitsSo is_read last page.now level place.now.entry place.now.next
-        → IsOk result }
-    ensures refused { IfErr result
-        (IsUnfitSo is_read last page.now level place.now.entry place.now.next) }
+    ensures found { WasChecked is_read last page.now
+        → IfOk result (λ _. Fits last page.now level place.now.entry place.now.next) }
+    ensures refused { WasChecked is_read last page.now
+        → IfErr result (IsUnfit last page.now level place.now.entry place.now.next) }
 {
     if is_read {
         fits(page, last, level, place)
@@ -364,36 +289,28 @@ fn ends_before(key: &Key, end: &Option<Key>) -> bool
     }
 }
 
-// The place to which a key falls among the entries of a page, which are so many, and end before `end`. It is refused as BadRow
-// where the entry names page 0.
-fn fall(page: &Page, count: usize, key: &Key, end: Option<Key>) -> Result<Place, PageFault>
+// The place to which a key falls among the entries of a page, which are so many, and end before `end`.
+fn fall(page: &Page, count: usize, key: &Key, end: Option<Key>) -> Place
     requires count { count ≡ (head_on page.now).count }
     requires some { 1 ≤ count }
     requires few { count ≤ MAX_ENTRIES }
-    ensures falls { IfOk result (λ place.
-        FallsTo key.now (node_on page.now).entries end place.entry place.next) }
-    ensures refused { IfErr result (IsRowRefused page.now) }
+    ensures { FallsTo key.now (node_on page.now).entries end result.entry result.next }
 {
     place_in(page, count, slot_in(page, count, key), end)
 }
 
 // The place in a slot, to which each key falls that falls to this slot.
-fn place_in(page: &Page, count: usize, slot: usize, end: Option<Key>) -> Result<Place, PageFault>
+fn place_in(page: &Page, count: usize, slot: usize, end: Option<Key>) -> Place
     requires count { count ≡ (head_on page.now).count }
     requires within { slot < count }
     requires few { count ≤ MAX_ENTRIES }
-    ensures falls { (key : Key) → IsSlot key count page.now slot → IfOk result (λ place.
-        FallsTo key (node_on page.now).entries end place.entry place.next) }
-    ensures refused { IfErr result (IsRowRefused page.now) }
+    ensures { (key : Key) → IsSlot key count page.now slot
+        → FallsTo key (node_on page.now).entries end result.entry result.next }
 {
-    let entry = entry_at(page, slot);
-    if entry.page == 0 {
-        return Err(PageFault::BadRow);
-    }
-    Ok(Place {
-        entry,
+    Place {
+        entry: entry_at(page, slot),
         next: first_after(page, count, slot, end),
-    })
+    }
 }
 
 // The slot to which a key falls: the one behind this slot, as it mostly is where a search goes on, or else it is found by

@@ -31,7 +31,7 @@ pub fn entries_at<S: PageStore>(
         (λ es. es.items ≡ entries_of pager.old.store.pages entry.now.page) }
     ensures few { IfOk result (λ es. length es.items ≤ MAX_ENTRIES) }
     ensures forgotten { IfErr result (IsForgotten pager.new) }
-    ensures effect { Steps last [] level entry.now end pager.old pager.new result }
+    ensures effect { Steps last level entry.now end pager.old pager.new result }
 {
     let place = Place {
         entry: *entry,

@@ -4,16 +4,17 @@ ghost use Rattle.ub_bigmin.specs.Extremes.{LeastFrom};
 ghost use Rattle.ub_directory.specs.Spans.{first_keys, regions_of, Meets, IsLater, First};
 ghost use Rattle.ub_index.specs.Changed.{Replaces};
 ghost use Rattle.ub_directory.specs.Writing.{put_store};
-ghost use Rattle.ub_index.specs.Changing.{AreOnce, IsNoGrowth, Stand, so_far};
+ghost use Rattle.ub_index.specs.Changing.{AreIndexPages, AreOnce, IsNoGrowth, Stand, so_far};
 ghost use Rattle.ub_index.specs.Making.{IsPutFault, PutsSheets};
 ghost use Rattle.ub_store.specs.View.{SameTrace};
 ghost use Rattle.ub_index.specs.Filling.{KeepsFilled};
 ghost use Rattle.ub_index.specs.Index.{top};
 ghost use Rattle.ub_index.specs.Lowering.{IsDropped, MakesLow, PreparesDrop};
 ghost use Rattle.ub_index.specs.Preparing.{IsPrepared, IsReachedOnce, MakesIndex, IsWithinSeat, PreparesAll, TakesFew, TakesNeeded, added_at, entry_at};
-ghost use Rattle.ub_index.specs.Descending.{FindsAfter, HoldsLeaf, IsForgotten, KeepsChecked, LeadsDown};
+ghost use Rattle.ub_index.specs.Descending.{FindsAfter, HoldsLeaf, IsForgotten, LeadsDown};
+ghost use Rattle.ub_index.specs.Held.{AreChecked, KeepsChecked};
 ghost use Rattle.ub_index.specs.Searching.{Aims, Gives, GivesAny, GivesAfter, IsSought, GoesDown, end_before, key_before, region_of};
-ghost use Rattle.ub_index.specs.View.{IsIndexOn, IsSeatAt, IsNextSeat, IsPreviousSeat, entries_in, index_view};
+ghost use Rattle.ub_index.specs.View.{IsIndexOn, IsSeatAt, Leads, IsNextSeat, IsPreviousSeat, entries_in, index_view};
 ghost use Rattle.ub_index_page.specs.declared.index.TheConstants.{MAX_LEVEL};
 ghost use Rattle.ub_region.specs.Regions.{index_holding};
 ghost use Rattle.ub_store.specs.Facts.{IsHonest, page_count};
@@ -80,15 +81,17 @@ impl Index {
 
     /// The seat of the region that holds a key: the last one that does not begin after it.
     ///
-    /// Page comes where a page on the way down is refused. One that is read in this call is checked in full: it is refused by
-    /// its reader; as BadCount where it isn't of the level due; as OutOfRegion where it doesn't begin with the key by which the
-    /// page above names it, or doesn't end before that of the next one. Of one that the pager holds the ends alone are looked
-    /// at: its reader refuses its first bytes alone then. Store with NoPage comes where a page is named that the store doesn't
-    /// have, with Device where the store failed in this call, with Memory where memory was refused. The first refusal on the
-    /// way is told. Index and store are then as they were, and the pager has forgotten the page that is refused.
+    /// Page comes where a page on the way down is refused: by its reader; as BadCount where it isn't of the level due; as
+    /// OutOfRegion where it doesn't begin with the key by which the page above names it, or doesn't end before that of the next
+    /// one. One that is read in this call is looked at in full; of one that the pager holds the ends alone are, which is enough
+    /// where it was checked before. Store with NoPage comes where a page is named that the store doesn't have, with Device where
+    /// the store failed in this call, with Memory where memory was refused. The first refusal on the way is told. Index and
+    /// store are then as they were, and the pager has forgotten the page that is refused.
     pub fn seat_of<S: PageStore>(&self, pager: &mut Pager<S>, key: &Key) -> Result<Seat, IndexFault>
-        ensures given { IfOk result (Gives self.now pager.old key.now) }
-        ensures seat { IsIndexOn self.now pager.old.store → IfOk result
+        ensures given { AreChecked self.now.last pager.old
+            → IfOk result (Gives self.now pager.old.store key.now) }
+        ensures seat { AreChecked self.now.last pager.old
+            → IsIndexOn self.now pager.old.store → IfOk result
             (IsSeatAt (entries_in self.now pager.old.store)
             (index_holding key.now (first_keys (entries_in self.now pager.old.store)))) }
         ensures forgotten { IfErr result (IsForgotten pager.new) }
@@ -104,12 +107,15 @@ impl Index {
         pager: &mut Pager<S>,
         seat: &Seat,
     ) -> Result<Option<Seat>, IndexFault>
-        ensures given { IfOk result (GivesAny self.now pager.old seat.now.next) }
-        ensures after { (i : ℕ) → IsIndexOn self.now pager.old.store
+        ensures given { AreChecked self.now.last pager.old
+            → IfOk result (GivesAny self.now pager.old.store seat.now.next) }
+        ensures after { AreChecked self.now.last pager.old → (i : ℕ)
+            → IsIndexOn self.now pager.old.store
             → IsSeatAt (entries_in self.now pager.old.store) i seat.now
             → IfOk result (IsNextSeat (entries_in self.now pager.old.store) i) }
         ensures forgotten { IfErr result (IsForgotten pager.new) }
-        ensures effect { GoesDown (λ k. seat.now.next ≡ Some k) self.now pager.old pager.new result }
+        ensures effect { GoesDown (λ k. seat.now.next ≡ Some k) self.now pager.old pager.new
+            result }
     {
         match &seat.next {
             Some(next) => Ok(Some(self.seat_of(pager, next)?)),
@@ -124,9 +130,11 @@ impl Index {
         pager: &mut Pager<S>,
         seat: &Seat,
     ) -> Result<Option<Seat>, IndexFault>
-        ensures given { IfOk result (GivesAny self.now pager.old
+        ensures given { AreChecked self.now.last pager.old
+            → IfOk result (GivesAny self.now pager.old.store
             (key_before seat.now.first.z seat.now.first.number)) }
-        ensures before { (i : ℕ) → IsIndexOn self.now pager.old.store
+        ensures before { AreChecked self.now.last pager.old → (i : ℕ)
+            → IsIndexOn self.now pager.old.store
             → IsSeatAt (entries_in self.now pager.old.store) i seat.now
             → IfOk result (IsPreviousSeat (entries_in self.now pager.old.store) i) }
         ensures forgotten { IfErr result (IsForgotten pager.new) }
@@ -142,23 +150,25 @@ impl Index {
     /// The first region later than `after`, if one is given, whose span ends at z or later. `None` exactly where there is none.
     ///
     /// Refused as `seat_of` is, on the way to the first key of `after`, or then on the way to the place from which the search
-    /// goes on; a leaf on which it would go back is checked in full. Page comes with the root and OutOfRegion where what is
-    /// found would not begin later than `after` all the same: where pages that were held don't ascend, or a store that isn't
-    /// honest gave one page in two ways.
+    /// goes on. Page comes with the root and OutOfRegion where what is found would not begin later than `after`: only a store
+    /// that isn't honest, or a pager whose pages weren't checked, gives one page in two ways.
     pub fn seek<S: PageStore>(
         &self,
         pager: &mut Pager<S>,
         z: u128,
         after: Option<&Region>,
     ) -> Result<Option<Region>, IndexFault>
-        ensures given { IfOk result (GivesAfter self.now pager.old (λ _ to. to ≡ Some z)
+        ensures given { AreChecked self.now.last pager.old
+            → IfOk result (GivesAfter self.now pager.old.store (λ _ to. to ≡ Some z)
             (option_copied after.entry)) }
-        ensures later { IfOk result (λ found. IfSome found (IsLater (option_copied after.entry))) }
+        ensures later { AreChecked self.now.last pager.old
+            → IfOk result (λ found. IfSome found (IsLater (option_copied after.entry))) }
         ensures small { IfOk result (λ found. IfSome found (λ r. r.first.number < 2 ^ 32)) }
-        ensures found { IsIndexOn self.now pager.old.store → IfOk result (First
+        ensures found { AreChecked self.now.last pager.old
+            → IsIndexOn self.now pager.old.store → IfOk result (First
             (λ r. IsLater (option_copied after.entry) r × (z ≤ r.to))
             (regions_of self.now.last (entries_in self.now pager.old.store))) }
-        ensures effect { GoesDown (IsSought self.now pager.old (λ _ to. to ≡ Some z)
+        ensures effect { GoesDown (IsSought self.now pager.old.store (λ _ to. to ≡ Some z)
             (option_copied after.entry)) self.now pager.old pager.new result }
     {
         self.later_region(pager, &Goal::Address(z), after)
@@ -172,14 +182,17 @@ impl Index {
         boxes: &[ZBox],
         after: Option<&Region>,
     ) -> Result<Option<Region>, IndexFault>
-        ensures given { IfOk result (GivesAfter self.now pager.old
+        ensures given { AreChecked self.now.last pager.old
+            → IfOk result (GivesAfter self.now pager.old.store
             (λ from. LeastFrom (HoldsAny boxes.now) from.z) (option_copied after.entry)) }
-        ensures later { IfOk result (λ found. IfSome found (IsLater (option_copied after.entry))) }
+        ensures later { AreChecked self.now.last pager.old
+            → IfOk result (λ found. IfSome found (IsLater (option_copied after.entry))) }
         ensures small { IfOk result (λ found. IfSome found (λ r. r.first.number < 2 ^ 32)) }
-        ensures found { IsIndexOn self.now pager.old.store → IfOk result (First
+        ensures found { AreChecked self.now.last pager.old
+            → IsIndexOn self.now pager.old.store → IfOk result (First
             (λ r. IsLater (option_copied after.entry) r × Meets boxes.now r)
             (regions_of self.now.last (entries_in self.now pager.old.store))) }
-        ensures effect { GoesDown (IsSought self.now pager.old
+        ensures effect { GoesDown (IsSought self.now pager.old.store
             (λ from. LeastFrom (HoldsAny boxes.now) from.z) (option_copied after.entry))
             self.now pager.old pager.new result }
     {
@@ -189,11 +202,11 @@ impl Index {
     /// Prepares that a region comes behind that of a seat, with this first key, on a page that the store gets first. Nothing is
     /// written.
     ///
-    /// Refused as `seat_of` is where no page is held, on the way to the seat's first key. With BadSize of the store exactly
-    /// where it would have more than 4294967295 pages: the region takes one, each page of 170 entries on that way one, from the
-    /// lowest up to the first that has fewer, and a new root one, where all are full. With Full exactly where that is room
-    /// enough, and all 16 levels are full on that way. Where there is no page for the region, that is told before any is read.
-    /// Index and store are then as they were.
+    /// Refused as `seat_of` is, each page on the way looked at in full, on the way to the seat's first key. With BadSize of the
+    /// store exactly where it would have more than 4294967295 pages: the region takes one, each page of 170 entries on that way
+    /// one, from the lowest up to the first that has fewer, and a new root one, where all are full. With Full exactly where that
+    /// is room enough, and all 16 levels are full on that way. Where there is no page for the region, that is told before any is
+    /// read. Index and store are then as they were.
     pub fn prepare_add<S: PageStore>(
         &self,
         alloc: Global,
@@ -204,10 +217,14 @@ impl Index {
         ensures made { IsHonest pager.old.store → IfOk result (IsPrepared self.now pager.old.store
             seat.now.first (Some (added_at first.now pager.old.store)) (page_count pager.old.store)
             (so_far [] (page_count pager.old.store + 1))) }
-        ensures few { IfOk result
-            (TakesFew (page_count pager.old.store) (page_count pager.old.store + 1) (self.now.levels + 1)) }
+        ensures few { IfOk result (TakesFew (page_count pager.old.store)
+            (page_count pager.old.store + 1) (self.now.levels + 1)) }
         ensures takes { IsHonest pager.old.store → IfOk result
             (TakesNeeded self.now pager.old.store seat.now.first) }
+        ensures pages { IsHonest pager.old.store
+            → Leads self.now pager.old.store seat.now.first seat.now
+            → IsWithinSeat self.now.last seat.now.first seat.now.next first.now
+            → IfOk result (λ c. AreIndexPages self.now.last c.sheets) }
         ensures ready { (i : ℕ) → IsIndexOn self.now pager.old.store
             → IsReachedOnce self.now pager.old.store
             → IsSeatAt (entries_in self.now pager.old.store) i seat.now
@@ -240,8 +257,9 @@ impl Index {
 
     /// Prepares that the region of a seat goes, which isn't the first. Nothing is written, and no page is added.
     ///
-    /// Refused as `seat_of` is where no page is held, on the way to the seat's first key, and where a page that would be the
-    /// root can't be taken; with BadCount of the root where no region would be left. Index and store are then as they were.
+    /// Refused as `seat_of` is, each page on the way looked at in full, on the way to the seat's first key, and where a page that
+    /// would be the root can't be taken; with BadCount of the root where no region would be left. Index and store are then as
+    /// they were.
     pub fn prepare_drop<S: PageStore>(
         &self,
         alloc: Global,
@@ -250,6 +268,8 @@ impl Index {
     ) -> Result<Change, IndexFault>
         ensures made { IsHonest pager.old.store → IfOk result
             (IsDropped self.now pager.old.store seat.now.first) }
+        ensures pages { IsHonest pager.old.store
+            → IfOk result (λ c. AreIndexPages self.now.last c.sheets) }
         ensures ready { (i : ℕ) → IsIndexOn self.now pager.old.store
             → IsReachedOnce self.now pager.old.store
             → IsSeatAt (entries_in self.now pager.old.store) i seat.now
@@ -289,6 +309,8 @@ impl Index {
         ensures stand { AreOnce change.now.sheets → IsHonest pager.old.store
             → OnOk result (Stand pager.new.store.pages change.now.sheets) }
         ensures kept { PutsSheets change.now.sheets pager.old.store pager.new.store }
+        ensures checked { AreIndexPages self.old.last change.now.sheets
+            → KeepsChecked self.old.last pager.old pager.new }
         ensures same { pager.new.store ≡ put_store result pager.old.store pager.new.store }
         ensures refused { IfErr result (IsPutFault change.now.sheets pager.old.store) }
     {
@@ -310,7 +332,8 @@ impl Index {
         sheets: Sheets,
     ) -> Result<Change, IndexFault>
         requires { (aim.now.added ≡ None) ⊎ (1 ≤ sheets.next) }
-        ensures bounds { (self.now.last < 2 ^ 128) × (self.now.levels ≤ MAX_LEVEL) }
+        ensures bounds { (self.now.last < 2 ^ 128) × (self.now.levels ≤ MAX_LEVEL)
+            × (1 ≤ self.now.levels) × (1 ≤ self.now.root) }
         ensures made { IsHonest pager.old.store → IfOk result
             (IsPrepared self.now pager.old.store aim.now.key aim.now.added start sheets) }
         ensures few { IfOk result (TakesFew start sheets.next (self.now.levels + 1)) }
@@ -339,11 +362,13 @@ impl Index {
         goal: &Goal,
         after: Option<&Region>,
     ) -> Result<Option<Region>, IndexFault>
-        ensures given { IfOk result (GivesAfter self.now pager.old (Aims goal.now)
+        ensures given { AreChecked self.now.last pager.old
+            → IfOk result (GivesAfter self.now pager.old.store (Aims goal.now)
             (option_copied after.entry)) }
-        ensures later { IfOk result (λ found. IfSome found (IsLater (option_copied after.entry))) }
+        ensures later { AreChecked self.now.last pager.old
+            → IfOk result (λ found. IfSome found (IsLater (option_copied after.entry))) }
         ensures small { IfOk result (λ found. IfSome found (λ r. r.first.number < 2 ^ 32)) }
-        ensures effect { GoesDown (IsSought self.now pager.old (Aims goal.now)
+        ensures effect { GoesDown (IsSought self.now pager.old.store (Aims goal.now)
             (option_copied after.entry)) self.now pager.old pager.new result }
     {
         match self.seat_after(pager, goal, after)? {
@@ -370,10 +395,10 @@ impl Index {
         goal: &Goal,
         after: Option<&Region>,
     ) -> Result<Option<(Key, Seat)>, IndexFault>
-        ensures found { IfOk result
-            (FindsAfter self.now pager.old (Aims goal.now) (option_copied after.entry)) }
+        ensures found { AreChecked self.now.last pager.old → IfOk result
+            (FindsAfter self.now pager.old.store (Aims goal.now) (option_copied after.entry)) }
         ensures forgotten { IfErr result (IsForgotten pager.new) }
-        ensures effect { GoesDown (IsSought self.now pager.old (Aims goal.now)
+        ensures effect { GoesDown (IsSought self.now pager.old.store (Aims goal.now)
             (option_copied after.entry)) self.now pager.old pager.new result }
     {
         match after {
@@ -388,9 +413,10 @@ impl Index {
         pager: &mut Pager<S>,
         goal: &Goal,
     ) -> Result<Option<(Key, Seat)>, IndexFault>
-        ensures found { IfOk result (FindsAfter self.now pager.old (Aims goal.now) None) }
+        ensures found { AreChecked self.now.last pager.old → IfOk result
+            (FindsAfter self.now pager.old.store (Aims goal.now) None) }
         ensures forgotten { IfErr result (IsForgotten pager.new) }
-        ensures effect { GoesDown (IsSought self.now pager.old (Aims goal.now) None) self.now
+        ensures effect { GoesDown (IsSought self.now pager.old.store (Aims goal.now) None) self.now
             pager.old pager.new result }
     {
         match aim(goal, self.last, &ORIGIN) {
@@ -407,11 +433,11 @@ impl Index {
         goal: &Goal,
         region: &Region,
     ) -> Result<Option<(Key, Seat)>, IndexFault>
-        ensures found { IfOk result
-            (FindsAfter self.now pager.old (Aims goal.now) (Some region.now)) }
+        ensures found { AreChecked self.now.last pager.old → IfOk result
+            (FindsAfter self.now pager.old.store (Aims goal.now) (Some region.now)) }
         ensures forgotten { IfErr result (IsForgotten pager.new) }
-        ensures effect { GoesDown (IsSought self.now pager.old (Aims goal.now) (Some region.now))
-            self.now pager.old pager.new result }
+        ensures effect { GoesDown (IsSought self.now pager.old.store (Aims goal.now)
+            (Some region.now)) self.now pager.old pager.new result }
     {
         let leaf = leaf_of(pager, self.root, self.levels, self.last, &region.first)?;
         match look(pager, self.last, &leaf, &region.first, goal)? {
@@ -431,7 +457,8 @@ fn descend<S: PageStore>(
     key: &Key,
 ) -> Result<Seat, IndexFault>
     requires { 1 ≤ levels }
-    ensures given { IfOk result (Gives (index_view root levels last) pager.old key.now) }
+    ensures given { AreChecked last pager.old
+        → IfOk result (Gives (index_view root levels last) pager.old.store key.now) }
     ensures forgotten { IfErr result (IsForgotten pager.new) }
     ensures effect { GoesDown (λ k. k ≡ key.now) (index_view root levels last) pager.old pager.new
         result }
@@ -451,10 +478,8 @@ fn leaf_of<S: PageStore>(
 ) -> Result<Leaf, IndexFault>
     requires { 1 ≤ levels }
     ensures holds { IfOk result (HoldsLeaf key.now) }
-    ensures leads { IsHonest pager.old.store → IfOk result
-        (LeadsDown (index_view root levels last) pager.old key.now 1) }
-    ensures checked { IsHonest pager.old.store
-        → IfOk result (λ _. KeepsChecked last pager.old pager.new) }
+    ensures leads { IsHonest pager.old.store → AreChecked last pager.old → IfOk result
+        (LeadsDown (index_view root levels last) pager.old.store key.now 1) }
     ensures forgotten { IfErr result (IsForgotten pager.new) }
     ensures effect { GoesDown (λ k. k ≡ key.now) (index_view root levels last) pager.old pager.new
         result }

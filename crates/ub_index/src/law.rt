@@ -1,4 +1,4 @@
-ghost use Rattle.ub_index.specs.Laws.{AddedPagesAreOwn, ChangeFills, ChangeHasPages, ChangeIsMade, ChangeKeepsOrder, ChangeReplaces, DroppedPagesAreOwn, EntriesArePlaces, EntriesCount, FilledIndexIsLow, FullWaysPart, NewIndexIsFilled, OthersStay, OwnPagesStandApart, PagesAreThere, RegionsAreForeign, RegionsKeepFilled, RegionsMayChange, ReplacesAtSeat, RootsAreTaken, SeatsAreLedTo, TurnsBecome, WaysAreOne, WaysAreTheSame, WaysHold, WaysMissFirst, WaysNeverCross, WaysNeverStop, WaysStay, WholeAscends, ZerosAreNoIndexPage};
+ghost use Rattle.ub_index.specs.Laws.{AddedPagesAreOwn, ChangeFills, ChangeHasPages, ChangeIsMade, ChangeKeepsOrder, ChangeReplaces, DroppedPagesAreOwn, EntriesArePlaces, EntriesCount, FilledIndexIsLow, FullWaysPart, NewIndexIsFilled, OthersStay, OwnPagesStandApart, PagesAreThere, RegionsAreForeign, RegionsKeepFilled, RegionsMayChange, ReplacesAtSeat, RootsAreTaken, SeatsAreLedTo, TurnsBecome, WaysAreOne, WaysAreTheSame, WaysHold, WaysMissFirst, WaysNeverStop, WaysStay, WholeAscends, ZerosAreNoIndexPage};
 
 /// What an entry leads to is in order.
 pub fn whole_ascends()
@@ -8,11 +8,6 @@ pub fn whole_ascends()
 /// On an index no search is refused for what a page tells, nor for one that isn't there.
 pub fn ways_never_stop()
     ensures { WaysNeverStop }
-{}
-
-/// On an index the ways to two keys never cross, and so no search is refused for that.
-pub fn ways_never_cross()
-    ensures { WaysNeverCross }
 {}
 
 /// What an entry leads to stays where its pages stay.

@@ -39,14 +39,16 @@
 //    'I', and tells of a level and a count that there can be (WrongKind, BadCount); it is of the level that is due (BadCount);
 //    its first entry begins with the key of the entry that names it, and its last one before the key of the next one
 //    (OutOfRegion). The first refusal that holds is told.
-//  - Of a page that the pager holds already, the ends alone are looked at, but on a leaf as below. Mostly a search read it, and
-//    checked it then; or a change spelled it. A page that is read here and refused is let go again. But a page can be held that
-//    was never checked: another caller brought it, as a region's page or to look at it; or it was put while it was held. What
-//    stands between its ends is then taken as it is: keys that don't ascend, or entries that are out of range, lead to a wrong
-//    region, but never to one that doesn't hold the key by what the pages tell, and never to page 0: an entry that names it is
-//    refused where it is followed, as BadRow of the page on which it stands, as the page would be in full.
-//  - Where a search would go back on a leaf, the leaf is checked in full, and refused for what is wrong with it. Where the ways
-//    to two leaves contradict each other, so that a later region would not begin later, OutOfRegion of the root is told.
+//  - Of a page that the pager holds already, a search looks at the ends alone. That is enough where each page that is held was
+//    checked: over an honest store it is an index's page in full, or doesn't begin as one (`AreChecked` in specs/Held). Then what
+//    a search answers is what the store's pages say, whatever was read before.
+//  - Each call here keeps that. A page that is read and refused is let go again, and a change puts pages of an index alone. Who
+//    brings pages of the same pager for another use keeps it too: what isn't taken there is let go.
+//  - Searches don't require it: their clauses on what is found, and why they are refused, have it as a premise. On a pager that
+//    holds other pages what stands between the ends is followed as it is. A search still comes to an end, changes nothing of the
+//    store, and lets a page go that it refuses on its way.
+//  - Only a store that isn't honest, or a pager whose pages weren't checked, gives one page in two ways. Where a later region
+//    would not begin later then, OutOfRegion of the root is told: so each walk ends, and none comes to a first key twice.
 //  - A change checks each page on its way in full, held or not, since it spells the entries anew that stand there.
 //  - Who looks at all pages asks for them one by one (`entries`): each is checked in full, held or not.
 //

@@ -1,7 +1,8 @@
 // How a change is made in a store.
-ghost use Rattle.std.specs.Prelude.{◌≡◌, ◌+◌, IfErr, OnOk};
+ghost use Rattle.std.specs.Prelude.{◌≡◌, ◌+◌, ℕ, IfErr, OnOk};
 ghost use Rattle.ub_directory.specs.Writing.{Grows, put_store};
-ghost use Rattle.ub_index.specs.Changing.{AreOnce, Stand};
+ghost use Rattle.ub_index.specs.Changing.{AreIndexPages, AreOnce, Stand};
+ghost use Rattle.ub_index.specs.Held.{KeepsChecked};
 ghost use Rattle.ub_index.specs.Making.{IsGrowFault, IsPutFault, PutsSheets};
 ghost use Rattle.ub_store.specs.Facts.{IsHonest, page_count};
 ghost use Rattle.ub_store.specs.View.{SameTrace};
@@ -30,6 +31,8 @@ pub fn extend_by<S: PageStore>(pager: &mut Pager<S>, by: u32) -> Result<(), Stor
 pub fn put_all<S: PageStore>(pager: &mut Pager<S>, sheets: &[Sheet]) -> Result<(), StoreFault>
     ensures trace { SameTrace pager.old pager.new }
     ensures kept { PutsSheets sheets.now pager.old.store pager.new.store }
+    ensures checked { (last : ℕ) → AreIndexPages last sheets.now
+        → KeepsChecked last pager.old pager.new }
     ensures stand { AreOnce sheets.now → IsHonest pager.old.store
         → OnOk result (Stand pager.new.store.pages sheets.now) }
     ensures same { pager.new.store ≡ put_store result pager.old.store pager.new.store }

@@ -1,6 +1,7 @@
 // Opening an index that stands on a store, and making one of a single region.
 ghost use Rattle.std.specs.Prelude.{◌≡◌, ◌≤◌, ◌<◌, IfOk, IfErr, OnOk};
 ghost use Rattle.ub_index.specs.Descending.{IsForgotten};
+ghost use Rattle.ub_index.specs.Held.{KeepsChecked};
 ghost use Rattle.ub_index.specs.Opening.{HoldsRoot, IsAlone, IsPassing, IsRootFault, IsRooted, Opens, root_page};
 ghost use Rattle.ub_index.specs.View.{index_view};
 ghost use Rattle.ub_index_page.specs.declared.index.TheConstants.{MAX_LEVEL};
@@ -43,8 +44,8 @@ impl Index {
     }
 
     /// Makes an index of one region, which stands on the page `page` and begins with the least key, in a space with this last
-    /// address: puts its root, of level 1, on the page `root`, which isn't the store's first. Device comes where the store failed in this call, and that page
-    /// may then hold any bytes; NoPage where there is no such page.
+    /// address: puts its root, of level 1, on the page `root`, which isn't the store's first. Device comes where the store
+    /// failed in this call, and that page may then hold any bytes; NoPage where there is no such page.
     pub fn create<S: PageStore>(
         pager: &mut Pager<S>,
         root: u32,
@@ -57,6 +58,7 @@ impl Index {
             → IfOk result (λ index. IsAlone index page pager.new.store) }
         ensures trace { SameTrace pager.old pager.new }
         ensures there { OnOk result (root < page_count pager.old.store) }
+        ensures checked { 1 ≤ page → KeepsChecked last pager.old pager.new }
         ensures refused { IfErr result (IsRootFault root pager.old.store) }
         ensures effect { WritesAt root (root_page page) pager.old.store pager.new.store result }
     {

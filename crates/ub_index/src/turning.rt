@@ -3,7 +3,7 @@ ghost use Rattle.std.specs.Prelude.{◌≡◌, ◌+◌, ◌<◌, ◌≤◌, ℕ,
 ghost use Rattle.ub_index.specs.Changing.{NeedsNoGrowth, OpensTo, Prepares, Turns};
 ghost use Rattle.ub_index.specs.Descending.{IsForgotten, Steps};
 ghost use Rattle.ub_index.specs.Fitting.{FallsTo};
-ghost use Rattle.ub_index_page.specs.Index.{head_on, node_on, HasNodeEntries};
+ghost use Rattle.ub_index_page.specs.Index.{head_on, node_on};
 ghost use Rattle.ub_index_page.specs.declared.index.TheConstants.{MAX_LEVEL};
 ghost use Rattle.ub_page.specs.declared.entries.TheConstants.{MAX_ENTRIES};
 ghost use Rattle.ub_store.specs.Facts.{IsHonest};
@@ -85,7 +85,7 @@ fn open<S: PageStore>(
         o.before.items o.below.entry o.below.next o.after.items) }
     ensures few { IfOk result (λ o. length o.before.items + length o.after.items < MAX_ENTRIES) }
     ensures forgotten { IfErr result (IsForgotten pager.new) }
-    ensures effect { Steps last [] level place.now.entry place.now.next pager.old pager.new result }
+    ensures effect { Steps last level place.now.entry place.now.next pager.old pager.new result }
 {
     let head = bring_fitting(pager, last, level, place)?;
     let page = pager.cached(place.entry.page);
@@ -103,7 +103,6 @@ fn opened_at(
     requires count { count ≡ (head_on page.now).count }
     requires some { 1 ≤ count }
     requires few { count ≤ MAX_ENTRIES }
-    requires rows { (last : ℕ) × HasNodeEntries last page.now }
     ensures falls { IfOk result (λ o. (falls : FallsTo key.now (node_on page.now).entries end
         o.below.entry o.below.next) × (falls.before ≡ o.before.items) × (falls.after ≡ o.after.items)) }
     ensures few { IfOk result (λ o. length o.before.items + length o.after.items < MAX_ENTRIES) }

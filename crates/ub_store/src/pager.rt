@@ -1,6 +1,6 @@
 ghost use Rattle.std.specs.Prelude.{◌≡◌, ◌<◌, ◌≤◌, ◌⊎◌, ◌↔◌, [], false, Ok, Err, None, IfOk, IfErr, OnOk, OnErr, IsErrOf, option_map};
 ghost use Rattle.ub_store.specs.Facts.{page_count, IsPage, Reads, WritesAt, Extends, Syncs};
-ghost use Rattle.ub_store.specs.Cache.{page_at, NoneMoreBut, SameBut};
+ghost use Rattle.ub_store.specs.Cache.{page_at, NoneMore, NoneMoreBut, SameBut};
 ghost use Rattle.ub_store.specs.View.{pager_view, untouched, emptied, Holds, IsCached, IsFull, Notes, SameTrace};
 
 use crate::Page;
@@ -87,6 +87,7 @@ impl<S: PageStore> Pager<S> {
         ensures no_size { ¬ (IsErrOf result StoreFault.BadSize) }
         ensures effect { Reads self.old.store self.new.store result }
         ensures others { NoneMoreBut n self.old.cached self.new.cached }
+        ensures missed { OnErr result (NoneMore self.old.cached self.new.cached) }
     {
         if self.trace.reserve(1).is_err() {
             return Err(StoreFault::Memory);
@@ -104,11 +105,14 @@ impl<S: PageStore> Pager<S> {
         ensures trace { SameTrace self.old self.new }
         ensures cached { OnOk result (IsCached self.new n) }
         ensures hit { IsCached self.old n ↔ (result ≡ Ok false) }
+        ensures kept { IsCached self.old n
+            → page_at self.new.cached n ≡ page_at self.old.cached n }
         ensures there { OnOk result (n < page_count self.old.store) }
         ensures missing { IsErrOf result StoreFault.NoPage → page_count self.old.store ≤ n }
         ensures no_size { ¬ (IsErrOf result StoreFault.BadSize) }
         ensures effect { Reads self.old.store self.new.store result }
         ensures others { NoneMoreBut n self.old.cached self.new.cached }
+        ensures missed { OnErr result (NoneMore self.old.cached self.new.cached) }
     {
         if self.cache.touch(n) {
             return Ok(false);

@@ -12,7 +12,7 @@ use Rattle.ub_table.proofs.Laws.{before_from, before_parts, before_trans}
 use Rattle.ub_table.specs.Keys.{IsBefore, precedes}
 use Rattle.ub_table.specs.declared.row.Key.{Key}
 use Rattle.ub_tree.specs.Spans.{IsLater, Meets, Region as Span}
-use Rattle.ub_tree.specs.Told.{AreAnswers, GivesNext, IsRegionOf, pager_of}
+use Rattle.ub_tree.specs.Told.{AreAnswers, GivesNext, IsRegionOf}
 use Rattle.ub_tree.specs.View.{TreeView}
 
 -- ---- how many keys of a space are later than a region's first one
@@ -83,17 +83,17 @@ begins_up_to key first later = elim (cases_lt key.z first.z) [
 ]
 
 -- a region that is given is one that the tree tells of, and meets the boxes
-given_met : (boxes : List Corners) (t : TreeView) (held : List (ℕ × List ℕ)) (from : Option Key) (span : Span)
-    → GivesFrom t.inner.index (pager_of t held) (λ from. LeastFrom (HoldsAny boxes) from.z) from (Some span) → IsRegionOf t span × Meets boxes span
-given_met boxes t held None span h = absurd h
-given_met boxes t held (Some from) span (key, (z, least, le, aim), seat, given, is) =
+given_met : (boxes : List Corners) (t : TreeView) (from : Option Key) (span : Span)
+    → GivesFrom t.inner.index t.store (λ from. LeastFrom (HoldsAny boxes) from.z) from (Some span) → IsRegionOf t span × Meets boxes span
+given_met boxes t None span h = absurd h
+given_met boxes t (Some from) span (key, (z, least, le, aim), seat, given, is) =
     let key_z : key.z ≡ z = ap (λ (k : Key). k.z) aim ∙ at_least_z from z least.1 in
     let first = begins_up_to key seat.first given.holds.from in
     let begins : seat.first.z ≤ z = omega arith in
     let within : key.z ≤ t.inner.index.last = omega arith in
     let last = ends_from t.inner.index.last key seat.next given.holds.to within in
     let ends : z ≤ end_before t.inner.index.last seat.next = omega arith in (
-      record { key = key; seat = seat; falls = (held, given); region_is = is },
+      record { key = key; seat = seat; falls = given; region_is = is },
       subst (λ (r : Span). Meets boxes r) (sym is) (z, least.0, begins, ends),
     )
 
@@ -104,7 +104,7 @@ pub record HasAnswers (boxes : List Corners) (t : TreeView) (found : List Span) 
 module _ (boxes : List Corners) (t : TreeView) where
   pub next_later : (after : Option Span) (span : Span) → GivesNext boxes t after (Some span) → IsRegionOf t span × IsLater after span × Meets boxes span
   next_later after span gives =
-      let met = given_met boxes t gives.held gives.given.0 span gives.given.2 in
+      let met = given_met boxes t gives.given.0 span gives.given.2 in
       (met.0, gives.found_after.later, met.1)
 
   -- fewer are left after it

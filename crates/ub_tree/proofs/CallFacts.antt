@@ -5,16 +5,15 @@ use Rattle.std.proofs.Math.Pow.{pow-lt}
 use Rattle.std.proofs.lemmas.Bool.{cases_Bool, cases_lt}
 use Rattle.ub_bigmin.specs.Box.{Corners, HoldsAny}
 use Rattle.ub_bigmin.specs.Extremes.{LeastFrom}
+use Rattle.ub_index.proofs.LeadFacts.{ways_are_one}
 use Rattle.ub_index.specs.Index.{top}
 use Rattle.ub_index.specs.Preparing.{entry_at}
-use Rattle.ub_index.specs.Searching.{Cross, Gives, GivesAfter, IsWayFault, at_least, end_before}
+use Rattle.ub_index.specs.Searching.{Gives, GivesAfter, IsWayFault, at_least, end_before}
 use Rattle.ub_index.specs.View.{IndexView, IsIndexOn, Stops}
 use Rattle.ub_index.specs.declared.fault.IndexFault.{IndexFault}
 use Rattle.ub_index.specs.declared.fault.IndexFault.TheVariants as index
 use Rattle.ub_index.specs.declared.seat.Seat.{Seat}
-use Rattle.ub_page.specs.declared.entries.Entry.{Entry}
-use Rattle.ub_store.specs.Facts.{IsHonest}
-use Rattle.ub_store.specs.View.{PagerView}
+use Rattle.ub_store.specs.Facts.{StoreFacts, IsHonest}
 use Rattle.ub_store.specs.declared.fault.StoreFault.TheVariants as store
 use Rattle.ub_table.proofs.Laws.{before_parts}
 use Rattle.ub_table.specs.Keys.{IsBefore, precedes}
@@ -22,12 +21,12 @@ use Rattle.ub_table.specs.declared.fault.PageFault.{PageFault}
 use Rattle.ub_table.specs.declared.row.Key.{Key}
 use Rattle.ub_tree.proofs.AnswerFacts.{at_least_z, begins_up_to, up_to}
 use Rattle.ub_tree.proofs.IndexedFacts.{index_on}
-use Rattle.ub_tree.proofs.WayFacts.{KeepsIndexKinds, led_not_stopped, one_end, still_led, taken_whole}
+use Rattle.ub_tree.proofs.WayFacts.{KeepsIndexKinds, led_not_stopped, still_led}
 use Rattle.ub_tree.specs.Faults.{index_fault}
 use Rattle.ub_tree.specs.Opened.{IsPassing}
 use Rattle.ub_tree.specs.Placed.{entry_of}
 use Rattle.ub_tree.specs.Spans.{IsLater, Region as Span}
-use Rattle.ub_tree.specs.Told.{FallsSurely, FallsTo, GivesNext, IsRegionOf, pager_of}
+use Rattle.ub_tree.specs.Told.{FallsTo, GivesNext, IsRegionOf}
 use Rattle.ub_tree.specs.View.{TreeView}
 use Rattle.ub_tree.specs.declared.fault.TreeFault.{TreeFault}
 use Rattle.ub_tree.specs.inner.Change.{IsStored}
@@ -59,30 +58,29 @@ ends_after last z key None before up le = le
 ends_after last z key (Some next) before up le = let more = up_to key.z key.number next.z next.number (before_parts key next before) in omega arith
 
 -- what is sought after a region, up from an address, is a region that the tree tells of, which ends there or later
-pub seek_told : (t : TreeView) (held : List (ℕ × List ℕ)) (z : ℕ) (after found : Option Span) → GivesAfter t.inner.index (pager_of t held) (λ _ to. to ≡ Some z) after found
+pub seek_told : (t : TreeView) (z : ℕ) (after found : Option Span) → GivesAfter t.inner.index t.store (λ _ to. to ≡ Some z) after found
     → IfSome found (IsLater after) → IfSome found (λ r. IsRegionOf t r × IsLater after r × (z ≤ r.to))
-seek_told t held z after None given later = tt
-seek_told t held z after (Some r) (None, from, h) later = absurd h
-seek_told t held z after (Some r) (Some key, from, (aim, (to, is, le, aim_is), seat, given, same)) later =
+seek_told t z after None given later = tt
+seek_told t z after (Some r) (None, from, h) later = absurd h
+seek_told t z after (Some r) (Some key, from, (aim, (to, is, le, aim_is), seat, given, same)) later =
     let same_z : to ≡ z = cc in
     let up = at_least_up key to in
     let aim_z : aim.z ≡ (at_least key to).z = ap (λ (k : Key). k.z) aim_is in
     let ends = ends_after t.inner.index.last to aim seat.next given.holds.to (let more : to ≤ aim.z = omega arith in more) le in
     let to_is : r.to ≡ end_before t.inner.index.last seat.next = ap (λ (s : Span). s.to) same in
-    (record { key = aim; seat = seat; falls = (held, given); region_is = same }, later, omega arith)
+    (record { key = aim; seat = seat; falls = given; region_is = same }, later, omega arith)
 
 -- what is given after a region, as the tree tells it
-pub gives_next : (boxes : List Corners) (t : TreeView) (held : List (ℕ × List ℕ)) (after found : Option Span)
-    → GivesAfter t.inner.index (pager_of t held) (λ from. LeastFrom (HoldsAny boxes) from.z) after found
+pub gives_next : (boxes : List Corners) (t : TreeView) (after found : Option Span)
+    → GivesAfter t.inner.index t.store (λ from. LeastFrom (HoldsAny boxes) from.z) after found
     → IfSome found (IsLater after) → IfSome found (λ r. r.first.number < 2 ^ 32) → GivesNext boxes t after found
-gives_next boxes t held after None given later number = record { held = held; given = given; found_after = tt }
-gives_next boxes t held after (Some r) given later number = record {
-  held = held;
+gives_next boxes t after None given later number = record { given = given; found_after = tt }
+gives_next boxes t after (Some r) given later number = record {
   given = given;
   found_after = record { later = later; z = within given; number = number };
 }
   where
-    within : GivesAfter t.inner.index (pager_of t held) (λ from. LeastFrom (HoldsAny boxes) from.z) after (Some r) → r.first.z ≤ t.inner.index.last
+    within : GivesAfter t.inner.index t.store (λ from. LeastFrom (HoldsAny boxes) from.z) after (Some r) → r.first.z ≤ t.inner.index.last
     within (None, from, h) = absurd h
     within (Some key, from, (aim, (z, least, le, aim_is), seat, given, same)) =
         let aim_z : aim.z ≡ z = ap (λ (k : Key). k.z) aim_is ∙ at_least_z key z least.1 in
@@ -91,75 +89,42 @@ gives_next boxes t held after (Some r) given later number = record {
         let z_is : r.first.z ≡ seat.first.z = ap (λ (k : Key). k.z) first_is in
         omega arith
 
--- a way on which each page fits is one whichever pages are held
-pub gives_whole : (i : IndexView) (old : PagerView) (key : Key) (seat : Seat) → Gives i (record old { cached = [] }) key seat → Gives i old key seat
-gives_whole i old key seat given = record {
-  holds = given.holds;
-  way = λ honest. taken_whole i.last old.store.pages old.cached key i.levels (top i.root) None (record { first = seat.first; page = seat.page }) seat.next (given.way honest);
-}
-
-pub surely_falls : (t : TreeView) (key : Key) (seat : Seat) → FallsSurely t key seat → FallsTo t key seat
-surely_falls t key seat given = ([], given)
-
--- where each page on the way to a key fits, that way stops nowhere, whichever pages are held
-not_stopped : (i : IndexView) (old : PagerView) (key sought : Key) (seat : Seat) (n : ℕ) (fault : Option PageFault) → i.last < 2 ^ 128 → IsHonest old.store
-    → Gives i (record old { cached = [] }) key seat → sought ≡ key → ¬ (Stops i old.store old.cached sought n fault)
-not_stopped i old key sought seat n fault small honest given same stops =
-    led_not_stopped i.last old.store.pages old.cached key small i.levels (top i.root) None (record { first = seat.first; page = seat.page }) seat.next n fault (given.way honest)
-    (subst (λ (k : Key). Stops i old.store old.cached k n fault) same stops)
-
--- ways to one key don't cross
-not_crossed : (i : IndexView) (old : PagerView) (key one other : Key) → one ≡ key → other ≡ key → ¬ (Cross i old one other)
-not_crossed i old key one other same same_other cross =
-    let holds = subst (λ (o : Option Key). IfSome o (IsBefore one)) cross.next_is cross.given.holds.to in
-    cross.later (subst (λ (k : Key). IsBefore k cross.from) (same ∙ sym same_other) holds)
+-- where a way leads to a seat, it stops nowhere
+not_stopped : (i : IndexView) (facts : StoreFacts) (key sought : Key) (seat : Seat) (n : ℕ) (fault : Option PageFault) → i.last < 2 ^ 128 → IsHonest facts
+    → Gives i facts key seat → sought ≡ key → ¬ (Stops i facts sought n fault)
+not_stopped i facts key sought seat n fault small honest given same stops =
+    led_not_stopped i.last facts.pages key small i.levels (top i.root) None (record { first = seat.first; page = seat.page }) seat.next n fault (given.way honest)
+    (subst (λ (k : Key). Stops i facts k n fault) same stops)
 
 -- and a search to that key fails in passing alone
-pub way_passing : (i : IndexView) (old : PagerView) (key : Key) (seat : Seat) → i.last < 2 ^ 128 → IsHonest old.store → Gives i (record old { cached = [] }) key seat
-    → (e : IndexFault) → IsWayFault i old (λ k. k ≡ key) e → IsPassing (index_fault e)
-way_passing i old key seat small honest given (index.Page n fault) h = elim (h honest) [
-  | inl w ↦ absurd (not_stopped i old key w.0 seat n (Some fault) small honest given w.1 w.2)
-  | inr w ↦ absurd (not_crossed i old key w.2 w.3 w.4 w.5 w.6)
-]
-way_passing i old key seat small honest given index.Full h = absurd h
-way_passing i old key seat small honest given (index.Store store.Memory) h = inl refl
-way_passing i old key seat small honest given (index.Store store.Device) h = inr refl
-way_passing i old key seat small honest given (index.Store store.BadSize) h = absurd h
-way_passing i old key seat small honest given (index.Store store.NoPage) h = let w = h.2 honest in absurd (not_stopped i old key w.0 seat h.0 None small honest given w.1 w.2)
-
-abbrev seat_with : Key → ℕ → Option Key → Seat
-seat_with first page next = record { first = first; page = page; next = next }
-
-same_seat : (a b : Seat) → entry_at a ≡ entry_at b → a.next ≡ b.next → a ≡ b
-same_seat a b entries nexts =
-    ap (λ (k : Key). seat_with k a.page a.next) (ap (λ (e : Entry). e.first) entries)
-    ∙ (ap (λ (n : ℕ). seat_with b.first n a.next) (ap (λ (e : Entry). e.page) entries) ∙ ap (λ (o : Option Key). seat_with b.first b.page o) nexts)
+pub way_passing : (i : IndexView) (facts : StoreFacts) (key : Key) (seat : Seat) → i.last < 2 ^ 128 → IsHonest facts → Gives i facts key seat
+    → (e : IndexFault) → IsWayFault i facts (λ k. k ≡ key) e → IsPassing (index_fault e)
+way_passing i facts key seat small honest given (index.Page n fault) h = let w = h honest in absurd (not_stopped i facts key w.0 seat n (Some fault) small honest given w.1 w.2)
+way_passing i facts key seat small honest given index.Full h = absurd h
+way_passing i facts key seat small honest given (index.Store store.Memory) h = inl refl
+way_passing i facts key seat small honest given (index.Store store.Device) h = inr refl
+way_passing i facts key seat small honest given (index.Store store.BadSize) h = absurd h
+way_passing i facts key seat small honest given (index.Store store.NoPage) h = let w = h.2 honest in absurd (not_stopped i facts key w.0 seat h.0 None small honest given w.1 w.2)
 
 -- what it gives is the seat to which that way leads
-pub one_seat : (i : IndexView) (old : PagerView) (key : Key) (found seat : Seat) → IsHonest old.store → Gives i old key found → Gives i (record old { cached = [] }) key seat → found ≡ seat
-one_seat i old key found seat honest a b =
-    let same = one_end i.last old.store.pages old.cached key i.levels (top i.root) None (record { first = seat.first; page = seat.page }) seat.next
-    (record { first = found.first; page = found.page }) found.next (b.way honest) (a.way honest) in
-    same_seat found seat same.0 same.1
+pub one_seat : (i : IndexView) (facts : StoreFacts) (key : Key) (found seat : Seat) → IsHonest facts → Gives i facts key found → Gives i facts key seat → found ≡ seat
+one_seat i facts key found seat honest a b = ways_are_one i facts key found seat (a.way honest) (b.way honest)
 
--- so that a key that surely falls to a seat falls to no other
-pub falls_surely : (t : TreeView) (key : Key) (found seat : Seat) → IsHonest t.store → FallsTo t key found → FallsSurely t key seat → found ≡ seat
-falls_surely t key found seat honest falls surely = one_seat t.inner.index (pager_of t falls.0) key found seat honest falls.1 surely
+pub one_falls : (t : TreeView) (key : Key) (found seat : Seat) → IsHonest t.store → FallsTo t key found → FallsTo t key seat → found ≡ seat
+one_falls t key found seat honest a b = one_seat t.inner.index t.store key found seat honest a b
 
 -- where the index stays, and each page but the first that is of an index by its first byte, a key falls to the seat to which it fell
 pub kept_falls : (old new : TreeView) (key : Key) (seat : Seat) → new.inner.index ≡ old.inner.index → (IsHonest new.store → IsHonest old.store) → 1 ≤ old.inner.index.root
     → old.inner.index.last < 2 ^ 128 → (IsHonest old.store → KeepsIndexKinds old.store.pages new.store.pages) → FallsTo old key seat → FallsTo new key seat
-kept_falls old new key seat indexes honesty some small keeps falls = (
-  falls.0,
-  subst (λ (i : IndexView). Gives i (pager_of new falls.0) key seat) (sym indexes) (record {
-    holds = falls.1.holds;
-    way = λ honest. let was = honesty honest in still_led old.inner.index.last small old.store.pages new.store.pages (keeps was) falls.0 key old.inner.index.levels
-        (top old.inner.index.root) None (entry_at seat) seat.next some (falls.1.way was);
-  }),
-)
+kept_falls old new key seat indexes honesty some small keeps falls =
+    subst (λ (i : IndexView). Gives i new.store key seat) (sym indexes) (record {
+      holds = falls.holds;
+      way = λ honest. let was = honesty honest in still_led old.inner.index.last small old.store.pages new.store.pages (keeps was) key old.inner.index.levels
+          (top old.inner.index.root) None (entry_at seat) seat.next some (falls.way was);
+    })
 
 -- a search to a key that leads to a seat, which is refused
-pub seat_refused : (i : IndexView) (old : PagerView) (key : Key) (seat : Seat) (r : Result Seat TreeFault) (e : IndexFault) → i.last < 2 ^ 128 → IsHonest old.store
-    → Gives i (record old { cached = [] }) key seat → IsErrAnd r (λ x. x ≡ index_fault e) → IsWayFault i old (λ k. k ≡ key) e → MatchResult r (λ found. found ≡ seat) IsPassing
-seat_refused i old key seat (Ok x) e small honest given is h = absurd is
-seat_refused i old key seat (Err f) e small honest given is h = rw is (way_passing i old key seat small honest given e h)
+pub seat_refused : (i : IndexView) (facts : StoreFacts) (key : Key) (seat : Seat) (r : Result Seat TreeFault) (e : IndexFault) → i.last < 2 ^ 128 → IsHonest facts
+    → Gives i facts key seat → IsErrAnd r (λ x. x ≡ index_fault e) → IsWayFault i facts (λ k. k ≡ key) e → MatchResult r (λ found. found ≡ seat) IsPassing
+seat_refused i facts key seat (Ok x) e small honest given is h = absurd is
+seat_refused i facts key seat (Err f) e small honest given is h = rw is (way_passing i facts key seat small honest given e h)

@@ -30,7 +30,7 @@ use Rattle.ub_zaddr.specs.Address.{last_address}
 none_twice : IsDistinct nat_eq []
 none_twice = IsDistinct-from_count nat_eq_equiv [] refl
 
-empty_is_region : (schema : Schema) → IsRegion schema empty_region
+pub empty_is_region : (schema : Schema) → IsRegion schema empty_region
 empty_is_region schema = record { few = omega arith; first = (omega arith, omega arith); rows = tt; ascending = tt; within = tt }
 
 empty_regions : (schema : Schema) → AreRegions schema 1 (empty_region ∷ [])

@@ -22,7 +22,7 @@ use Rattle.ub_table.specs.declared.fault.PageFault.{PageFault}
 use Rattle.ub_table.specs.declared.fault.PageFault.TheVariants.{BadCount}
 use Rattle.ub_table.specs.declared.row.Key.{Key}
 use Rattle.ub_table.specs.declared.row.Row.{Row}
-use Rattle.ub_tree.proofs.CallFacts.{falls_surely}
+use Rattle.ub_tree.proofs.CallFacts.{one_falls}
 use Rattle.ub_tree.proofs.EffectFacts.{sound_stored}
 use Rattle.ub_tree.proofs.HoldingFacts.{on_seat}
 use Rattle.ub_tree.proofs.RemovalFacts.{IsHolder, seat_at}
@@ -37,7 +37,7 @@ use Rattle.ub_tree.specs.Opened.{IsPassing}
 use Rattle.ub_tree.specs.Others.{AddsEntry, KeepsEntries, WritesIndex, WritesPage}
 use Rattle.ub_tree.specs.Placed.{entry_of, regions_in}
 use Rattle.ub_tree.specs.Spans.{first_keys, Region as Span}
-use Rattle.ub_tree.specs.Told.{FallsSurely, FallsTo, IsRegionOf, KeepsTold}
+use Rattle.ub_tree.specs.Told.{FallsTo, IsRegionOf, KeepsTold}
 use Rattle.ub_tree.specs.View.{TreeView, IsSound, region_count, regions}
 use Rattle.ub_tree.specs.declared.fault.TreeFault.{TreeFault}
 use Rattle.ub_tree.specs.declared.fault.TreeFault.TheVariants.{Page, Store}
@@ -234,7 +234,7 @@ some_first [] end limit e = (limit, e)
 some_first (x ∷ after) end limit e = (x.first, refl)
 
 -- something follows what a way leads to, where something follows what it begins with
-next_some : (last : ℕ) (pages : List (List ℕ)) (key : Key) (level : ℕ) (entry : Entry) (end : Option Key) (found : Entry) (next : Option Key) → LeadsTo last pages [] key level entry end found next
+next_some : (last : ℕ) (pages : List (List ℕ)) (key : Key) (level : ℕ) (entry : Entry) (end : Option Key) (found : Entry) (next : Option Key) → LeadsTo last pages key level entry end found next
     → (limit : Key) → end ≡ Some limit → (first : Key) × (next ≡ Some first)
 next_some last pages key zero entry end found next leads limit e = (limit, leads.1 ∙ e)
 next_some last pages key (suc level) entry end found next (named, below, beyond, falls, leads) limit e =
@@ -242,7 +242,7 @@ next_some last pages key (suc level) entry end found next (named, below, beyond,
     next_some last pages key level below beyond found next leads middle.0 (falls.next_is ∙ middle.1)
 
 -- the way to each key that a region holds is full, where one of them is
-full_way_to : (last : ℕ) (pages : List (List ℕ)) (key other : Key) (level : ℕ) (entry : Entry) (end : Option Key) (found : Entry) (next : Option Key) → LeadsTo last pages [] key level entry end found next
+full_way_to : (last : ℕ) (pages : List (List ℕ)) (key other : Key) (level : ℕ) (entry : Entry) (end : Option Key) (found : Entry) (next : Option Key) → LeadsTo last pages key level entry end found next
     → HoldsKey other found.first next → IsFullWay last pages key level entry end → IsFullWay last pages other level entry end
 full_way_to last pages key other zero entry end found next leads h full = tt
 full_way_to last pages key other (suc level) entry end found next (named, below, beyond, falls, leads) h (fitting, many, below2, beyond2, falls2, way) =
@@ -260,7 +260,6 @@ full_way_to last pages key other (suc level) entry end found next (named, below,
         next_is = falls.next_is;
         from = inr (le_trans below.first found.first other (ends_from last pages key level below beyond found next leads) h.from);
         to = to_of falls.after falls.next_is;
-        some = falls.some;
       },
       full_way_to last pages key other level below beyond found next leads h there,
     )
@@ -297,11 +296,11 @@ added_answers {A} a b key seat read r same to taken none answers honest number r
     let taken_a = subst (λ (v : TreeView). IsHonest v.store → (q : Region) → IsOnSeat v seat q → read ≡ q) same taken in
     let read_is : read ≡ region = taken_a honest region on.0 in
     let h = subst (λ (v : TreeView). AnswersSeat (length read.rows ≡ v.schema.page_rows) v seat r) same answers in
-    let one : seat ≡ into.seat = falls_surely a key seat into.seat honest to into.falls in
-    let sure_key : FallsSurely a key seat = subst (λ (s : Seat). FallsSurely a key s) (sym one) into.falls in
+    let one : seat ≡ into.seat = one_falls a key seat into.seat honest to into.falls in
+    let sure_key : FallsTo a key seat = subst (λ (s : Seat). FallsTo a key s) (sym one) into.falls in
     let leads = sure_key.way honest in
     let holds = ways_hold a.inner.index a.store key seat leads in
-    let sure : FallsSurely a seat.first seat = record { holds = holds.1; way = λ _. holds.2 seat.first holds.1 } in
+    let sure : FallsTo a seat.first seat = record { holds = holds.1; way = λ _. holds.2 seat.first holds.1 } in
     let here : has_key a.schema.dims key region.rows ≡ false = subst (λ (q : Region). has_key a.schema.dims key q.rows ≡ false) read_is none in
     let long : length read.rows ≡ length region.rows = ap (λ (q : Region). length q.rows) read_is in (
       λ has. absurd (let bad : true ≡ false = sym has ∙ here in cc),

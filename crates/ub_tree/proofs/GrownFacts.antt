@@ -134,13 +134,10 @@ module _ (schema : Schema) (index : IndexView) (count next rows : ℕ) (changed 
     told = λ region is. record {
       key = is.key;
       seat = is.seat;
-      falls = (
-        is.falls.0,
-        record {
-          holds = is.falls.1.holds;
-          way = λ honest. (let was = sym honesty ∙ honest in (ways_stay index old.store new.store is.falls.0 is.key is.seat (λ m lt out. grows.kept was m lt)).0 (is.falls.1.way was));
-        },
-      );
+      falls = record {
+        holds = is.falls.holds;
+        way = λ honest. (let was = sym honesty ∙ honest in (ways_stay index old.store new.store is.key is.seat (λ m lt out. grows.kept was m lt)).0 (is.falls.way was));
+      };
       region_is = is.region_is;
     };
   }

@@ -21,7 +21,7 @@ use Rattle.ub_table.specs.declared.fault.PageFault.TheVariants.{BadCount, BadOrd
 use Rattle.ub_table.specs.declared.row.Key.{Key}
 use Rattle.ub_table.specs.declared.row.Row.{Row}
 use Rattle.ub_table.specs.declared.schema.Schema.{Schema}
-use Rattle.ub_tree.proofs.CallFacts.{falls_surely}
+use Rattle.ub_tree.proofs.CallFacts.{one_falls}
 use Rattle.ub_tree.proofs.StoredFacts.{IsSpelled}
 use Rattle.ub_tree.specs.Faults.{tree_fault}
 use Rattle.ub_tree.specs.Holding.{Answers, AnswersKey, AnswersRemoval, FallsInto, HasNoRoom}
@@ -64,7 +64,7 @@ never_full t small many sound =
 -- the region that a key falls into is that of the seat to which it falls
 pub on_seat : (t : TreeView) (key : Key) (page : ℕ) (region : Region) (seat : Seat) → IsHonest t.store → FallsInto t key page region → FallsTo t key seat → IsOnSeat t seat region × (seat.page ≡ page)
 on_seat t key page region seat honest h falls =
-    subst (λ (s : Seat). IsOnSeat t s region × (s.page ≡ page)) (sym (falls_surely t key seat h.seat honest falls h.falls))
+    subst (λ (s : Seat). IsOnSeat t s region × (s.page ≡ page)) (sym (one_falls t key seat h.seat honest falls h.falls))
     (record { is = h.taken.0; held = h.taken.1; page = h.taken.2 }, h.page_is)
 
 -- a read that failed, of a page that is there

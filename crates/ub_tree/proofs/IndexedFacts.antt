@@ -18,14 +18,13 @@ use Rattle.ub_page.specs.declared.entries.Entry.{Entry}
 use Rattle.ub_region.specs.Regions.{index_holding}
 use Rattle.ub_region.specs.Spans.{span_end}
 use Rattle.ub_store.specs.Facts.{StoreFacts, IsHonest}
-use Rattle.ub_store.specs.View.{PagerView}
 use Rattle.ub_table.specs.declared.row.Key.{Key}
 use Rattle.ub_index.proofs.Numbers.{distinct_left}
 use Rattle.ub_tree.proofs.TreeFacts.{span_entry}
 use Rattle.ub_tree.proofs.MeetFacts.{contained_at as contained, contains_at}
 use Rattle.ub_tree.specs.Indexed.{HasIndex, reserved}
 use Rattle.ub_tree.specs.Placed.{entry_of}
-use Rattle.ub_tree.specs.Told.{FallsSurely, FallsTo, IsRegionOf}
+use Rattle.ub_tree.specs.Told.{FallsTo, IsRegionOf}
 use Rattle.ub_tree.specs.View.{TreeView, IsSound, spans_of}
 use Rattle.ub_tree.specs.inner.Change.{IsSeatIn}
 use Rattle.ub_zaddr.specs.Address.{last_address}
@@ -52,10 +51,10 @@ seat_region last entries i seat at =
     end_is (e ∷ es) (suc j) = end_is es j
 
 -- what is given after a region is the first later one of the index that meets the boxes
-pub first_given : (index : IndexView) (old : PagerView) → IsIndexOn index old.store → (boxes : List Corners) (after found : Option Span)
-    → GivesAfter index old (λ from. LeastFrom (HoldsAny boxes) from.z) after found
-    → First (λ r. IsLater after r × Meets boxes r) (regions_of index.last (entries_in index old.store)) found
-first_given index old is boxes after found given = meeting_given index old is after (record { ref_ptr = (0, 0); now = boxes }) found given
+pub first_given : (index : IndexView) (store : StoreFacts) → IsIndexOn index store → (boxes : List Corners) (after found : Option Span)
+    → GivesAfter index store (λ from. LeastFrom (HoldsAny boxes) from.z) after found
+    → First (λ r. IsLater after r × Meets boxes r) (regions_of index.last (entries_in index store)) found
+first_given index store is boxes after found given = meeting_given index store is after (record { ref_ptr = (0, 0); now = boxes }) found given
 
 module _ (t : TreeView) (sound : IsSound t) where
   pub sound_index : IsIndexOn t.inner.index t.store
@@ -67,12 +66,12 @@ module _ (t : TreeView) (sound : IsSound t) where
   -- the seat to which a key falls is that of the region which holds it
   pub seat_of_key : (key : Key) (seat : Seat) → FallsTo t key seat → IsSeatIn t (index_holding key (first_keys (map entry_of t.placed))) seat
   seat_of_key key seat falls =
-      subst (λ (es : List Entry). IsSeatAt es (index_holding key (first_keys es)) seat) sound.indexed.entries_are (seat_is t.inner.index t.store falls.0 key seat sound_index (falls.1.way sound.honest))
+      subst (λ (es : List Entry). IsSeatAt es (index_holding key (first_keys es)) seat) sound.indexed.entries_are (seat_is t.inner.index t.store key seat sound_index (falls.way sound.honest))
 
   -- and to each seat its own first key falls, on a way on which each page fits
-  pub first_falls : (i : ℕ) (seat : Seat) → IsSeatIn t i seat → FallsSurely t seat.first seat
+  pub first_falls : (i : ℕ) (seat : Seat) → IsSeatIn t i seat → FallsTo t seat.first seat
   first_falls i seat at =
-      let leads = led_to t.inner.index t.store [] i seat sound_index (subst (λ (es : List Entry). IsSeatAt es i seat) (sym sound.indexed.entries_are) at) in
+      let leads = led_to t.inner.index t.store i seat sound_index (subst (λ (es : List Entry). IsSeatAt es i seat) (sym sound.indexed.entries_are) at) in
       let holds = ways_hold t.inner.index t.store seat.first seat leads in
       record { holds = holds.1; way = λ honest. leads }
 
@@ -93,7 +92,7 @@ module _ (t : TreeView) (sound : IsSound t) where
       let seated : IsSeatIn t i seat = seat_there (map entry_of t.placed) i e entry_at in
       let own = seat_region t.inner.index.last (map entry_of t.placed) i seat seated in
       let whole : slice_get (regions_of t.inner.index.last (map entry_of t.placed)) i ≡ Some span = ap (λ (last : ℕ). slice_get (regions_of last (map entry_of t.placed)) i) sound.last_is ∙ at in
-      record { key = seat.first; seat = seat; falls = ([], first_falls i seat seated); region_is = (let both = sym whole ∙ own in cc) }
+      record { key = seat.first; seat = seat; falls = first_falls i seat seated; region_is = (let both = sym whole ∙ own in cc) }
     where
       seat_there : (entries : List Entry) (i : ℕ) (e : Entry) → slice_get entries i ≡ Some e
           → IsSeatAt entries i (record { first = e.first; page = e.page; next = slice_get (first_keys entries) (suc i) })

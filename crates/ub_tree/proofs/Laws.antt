@@ -12,6 +12,7 @@ use Rattle.ub_table.specs.Region.{Region}
 use Rattle.ub_tree.proofs.AnswerFacts.{answers_up, next_later}
 use Rattle.ub_tree.proofs.CallFacts.{last_small}
 use Rattle.ub_tree.proofs.CheckFacts.{first_once}
+use Rattle.ub_tree.proofs.CoverFacts.{covered}
 use Rattle.ub_tree.proofs.IndexedFacts.{contained_told, first_given, sound_index, spans_told, told_contained}
 use Rattle.ub_tree.proofs.WalkFacts.{answers_are_those, those_few}
 use Rattle.ub_bigmin.specs.Box.{Corners}
@@ -20,11 +21,10 @@ use Rattle.ub_index.proofs.Numbers.{distinct_right}
 use Rattle.ub_index.specs.View.{entries_in}
 use Rattle.ub_index_page.specs.declared.index.TheConstants.{MAX_LEVEL}
 use Rattle.ub_tree.specs.Handing.{AreMetBy}
-use Rattle.ub_tree.specs.Laws.{SpansAscend, PagesDiffer, SpansCoverTheSpace, RowsLieInSpans, RegionsAreTold, NextIsTheFirst, NextIsLater, AnswersAreThoseThatMeet, AnswersAreRegionsThatMeet, AnswersAscend, GrownIsNotFull, WellPagesAreSound, SoundTreesAreWell, FirstFaultIsOne}
+use Rattle.ub_tree.specs.Laws.{SpansAscend, PagesDiffer, SpansCoverTheSpace, RowsLieInSpans, RegionsAreTold, NextIsTheFirst, NextIsLater, AnswersAreThoseThatMeet, AnswersAreRegionsThatMeet, AnswersAscend, AnswersCover, GrownIsNotFull, WellPagesAreSound, SoundTreesAreWell, FirstFaultIsOne}
 use Rattle.ub_tree.specs.Placed.{Placed, entry_of, regions_in}
 use Rattle.ub_tree.specs.Indexed.{reserved}
 use Rattle.ub_tree.specs.Spans.{first_keys, regions_of, First, IsLater, Meets, Region as Span}
-use Rattle.ub_tree.specs.Told.{pager_of}
 use Rattle.ub_tree.specs.View.{TreeView, IsSound, regions, spans_of}
 use Rattle.ub_tree.proofs.WellFacts.{opened_pages, opened_sound, sound_well}
 use Rattle.ub_zaddr.specs.Address.{last_address}
@@ -146,7 +146,7 @@ regions_are_told t span sound = (λ told. told_contained t sound span told, λ t
 pub next_is_the_first : NextIsTheFirst
 next_is_the_first t boxes after found sound gives =
     subst (λ (spans : List Span). First (λ r. IsLater after r × Meets boxes r) spans found) (spans_told t sound)
-    (first_given t.inner.index (pager_of t gives.held) (sound_index t sound) boxes after found gives.given)
+    (first_given t.inner.index t.store (sound_index t sound) boxes after found gives.given)
 
 pub next_is_later : NextIsLater
 next_is_later t boxes after span gives = next_later boxes t after span gives
@@ -168,6 +168,9 @@ answers_are_regions_that_meet t boxes answers are = answers_there boxes t None a
 
 pub answers_ascend : AnswersAscend
 answers_ascend t boxes answers i j a b are lt at_i at_j = answers_up boxes t None answers are i j a b lt at_i at_j
+
+pub answers_cover : AnswersCover
+answers_cover t boxes answers key honest are inside upto = covered boxes t honest key inside upto answers are
 
 pub grown_is_not_full : GrownIsNotFull
 grown_is_not_full t sound grown full =

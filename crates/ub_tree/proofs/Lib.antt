@@ -1,6 +1,7 @@
 pub mod ApartFacts
 pub mod TreeFacts
 pub mod WayFacts
+pub mod HeldFacts
 pub mod NewFacts
 pub mod RoomFacts
 pub mod AnswerFacts
@@ -32,6 +33,7 @@ pub mod ReadyFacts
 pub mod OpenedFacts
 pub mod OpeningFacts
 pub mod ClosingFacts
+pub mod CoverFacts
 pub mod CreationFacts
 pub mod ReadFacts
 pub mod ChainFacts

@@ -5,15 +5,16 @@ use Rattle.ub_index.proofs.KeyFacts.{le_before}
 use Rattle.ub_index.specs.Searching.{GivesAny, GoesDown, key_before}
 use Rattle.ub_index.specs.View.{IndexView}
 use Rattle.ub_index.specs.declared.seat.Seat.{Seat}
+use Rattle.ub_store.specs.Facts.{IsHonest}
 use Rattle.ub_store.specs.View.{PagerView}
 use Rattle.ub_table.proofs.Laws.{before_from, before_parts, before_trans, not_before_self}
 use Rattle.ub_table.specs.Keys.{IsBefore}
 use Rattle.ub_table.specs.declared.fault.PageFault.TheVariants.{OutOfRegion}
 use Rattle.ub_table.specs.declared.row.Key.{Key}
 use Rattle.ub_table.specs.declared.schema.Schema.{Schema}
-use Rattle.ub_tree.proofs.SearchFacts.{index_not_refused, not_empty, overlaps}
-use Rattle.ub_tree.specs.Effects.{IsIndexRefused, IsReadFault, Searches}
-use Rattle.ub_tree.specs.Told.{FallsTo, HasOverlap, pager_of}
+use Rattle.ub_tree.proofs.SearchFacts.{not_empty, overlaps}
+use Rattle.ub_tree.specs.Effects.{IsReadFault, Searches}
+use Rattle.ub_tree.specs.Told.{FallsTo}
 use Rattle.ub_tree.specs.Tree.{tree_view}
 use Rattle.ub_tree.specs.View.{TreeView}
 use Rattle.ub_tree.specs.declared.fault.TreeFault.{TreeFault}
@@ -43,17 +44,17 @@ same_or_later a b h = elim (cases_lt a.z b.z) [
   ]
 ]
 
--- what follows the first key of a seat, which another seat holds, is where that seat begins; or the two overlap
-pub next_begins : (t : TreeView) (key next_key : Key) (seat next : Seat) → FallsTo t key seat → seat.next ≡ Some next_key → FallsTo t next_key next → (seat.next ≡ Some next.first) ⊎ HasOverlap t
-next_begins t key next_key seat next falls next_is next_falls = elim (same_or_later next_key next.first next_falls.1.holds.from) [
+-- what follows the first key of a seat, which another seat holds, is where that seat begins, over an honest store
+pub next_begins : (t : TreeView) (key next_key : Key) (seat next : Seat) → FallsTo t key seat → seat.next ≡ Some next_key → FallsTo t next_key next → (seat.next ≡ Some next.first) ⊎ (¬ (IsHonest t.store))
+next_begins t key next_key seat next falls next_is next_falls = elim (same_or_later next_key next.first next_falls.holds.from) [
   | inl same ↦ inl (next_is ∙ ap (λ (k : Key). Some k) same)
   | inr later ↦
-      let within = not_empty key seat.first seat.next falls.1.holds in
+      let within = not_empty key seat.first seat.next falls.holds in
       let sooner : IsBefore seat.first next_key = subst (λ (o : Option Key). IfSome o (IsBefore seat.first)) next_is within in
       inr (overlaps t key next_key seat next falls next_falls
-      (λ one. not_before_self next_key (subst (λ (o : Option Key). IfSome o (IsBefore next_key)) (sym (ap (λ (s : Seat). s.next) one) ∙ next_is) next_falls.1.holds.to))
-      within (subst (λ (o : Option Key). IfSome o (IsBefore next.first)) (sym next_is) later) (before_end next.next next_falls.1.holds.to sooner)
-      (not_empty next_key next.first next.next next_falls.1.holds))
+      (λ one. not_before_self next_key (subst (λ (o : Option Key). IfSome o (IsBefore next_key)) (sym (ap (λ (s : Seat). s.next) one) ∙ next_is) next_falls.holds.to))
+      within (subst (λ (o : Option Key). IfSome o (IsBefore next.first)) (sym next_is) later) (before_end next.next next_falls.holds.to sooner)
+      (not_empty next_key next.first next.next next_falls.holds))
 ]
   where
     before_end : (o : Option Key) → IfSome o (IsBefore next_key) → IsBefore seat.first next_key → IfSome o (IsBefore seat.first)
@@ -94,59 +95,57 @@ greatest_before z (suc n) key h =
       ]
     ]
 
--- the seat that holds the greatest key before that with which another seat begins ends there; or the two overlap
+-- the seat that holds the greatest key before that with which another seat begins ends there, over an honest store
 pub before_ends : (t : TreeView) (key before_key : Key) (seat before : Seat) → FallsTo t key seat → key_before seat.first.z seat.first.number ≡ Some before_key → FallsTo t before_key before
-    → IfSome before.next (λ k. k.number < 2 ^ 32) → (before.next ≡ Some seat.first) ⊎ HasOverlap t
-before_ends t key before_key seat before falls before_is before_falls small = by_next before.next refl small before_falls.1.holds.to
+    → IfSome before.next (λ k. k.number < 2 ^ 32) → (before.next ≡ Some seat.first) ⊎ (¬ (IsHonest t.store))
+before_ends t key before_key seat before falls before_is before_falls small = by_next before.next refl small before_falls.holds.to
   where
     greatest : IsBefore before_key seat.first × ((end : Key) → end.number < 2 ^ 32 → IsBefore end seat.first → ¬ (IsBefore before_key end))
     greatest = greatest_before seat.first.z seat.first.number before_key before_is
 
     sooner : IsBefore before.first seat.first
-    sooner = le_before before.first before_key seat.first before_falls.1.holds.from greatest.0
+    sooner = le_before before.first before_key seat.first before_falls.holds.from greatest.0
 
     within : IfSome seat.next (IsBefore seat.first)
-    within = not_empty key seat.first seat.next falls.1.holds
+    within = not_empty key seat.first seat.next falls.holds
 
     before_end : (o : Option Key) → IfSome o (IsBefore seat.first) → IfSome o (IsBefore before.first)
     before_end None h = tt
     before_end (Some end) h = before_trans before.first seat.first end sooner h
 
-    over : IfSome before.next (IsBefore seat.first) → HasOverlap t
+    over : IfSome before.next (IsBefore seat.first) → ¬ (IsHonest t.store)
     over later =
         overlaps t before_key key before seat before_falls falls
         (λ one. not_before_self seat.first (subst (λ (k : Key). IsBefore k seat.first) (ap (λ (s : Seat). s.first) one) sooner))
-        (not_empty before_key before.first before.next before_falls.1.holds) later (before_end seat.next within) within
+        (not_empty before_key before.first before.next before_falls.holds) later (before_end seat.next within) within
 
-    by_next : (o : Option Key) → before.next ≡ o → IfSome o (λ k. k.number < 2 ^ 32) → IfSome o (IsBefore before_key) → (before.next ≡ Some seat.first) ⊎ HasOverlap t
+    by_next : (o : Option Key) → before.next ≡ o → IfSome o (λ k. k.number < 2 ^ 32) → IfSome o (IsBefore before_key) → (before.next ≡ Some seat.first) ⊎ (¬ (IsHonest t.store))
     by_next None is few to = inr (over (subst (λ (o : Option Key). IfSome o (IsBefore seat.first)) (sym is) tt))
     by_next (Some end) is few to = elim (same_or_later end seat.first (λ down. greatest.1 end few down to)) [
       | inl same ↦ inl (is ∙ ap (λ (k : Key). Some k) same)
       | inr later ↦ inr (over (subst (λ (o : Option Key). IfSome o (IsBefore seat.first)) (sym is) later))
     ]
 
--- which refuses the root's page
-pub apart_fault : (t : TreeView) → t.inner.index.last < 2 ^ 128 → HasOverlap t → IsReadFault t (Page t.inner.index.root OutOfRegion)
-apart_fault t small over =
-    let refused : IsIndexRefused t t.inner.index.root OutOfRegion = λ honest. inr (refl, refl, over) in
-    ((λ sound. index_not_refused t t.inner.index.root OutOfRegion small sound refused), inl refused)
+-- the root's page is refused over another store alone
+pub apart_fault : (t : TreeView) → ¬ (IsHonest t.store) → IsReadFault t (Page t.inner.index.root OutOfRegion)
+apart_fault t over = ((λ sound. over sound.honest), inl (λ honest. absurd (over honest)))
 
 -- what is given for a key that there may be
-pub given_next : (t : TreeView) (held : List (ℕ × List ℕ)) (sought : Option Key) (seat : Seat) → GivesAny t.inner.index (pager_of t held) sought (Some seat) → (key : Key) × (sought ≡ Some key) × FallsTo t key seat
-given_next t held None seat h = cc
-given_next t held (Some key) seat h = (key, refl, (held, h))
+pub given_next : (t : TreeView) (sought : Option Key) (seat : Seat) → GivesAny t.inner.index t.store sought (Some seat) → (key : Key) × (sought ≡ Some key) × FallsTo t key seat
+given_next t None seat h = cc
+given_next t (Some key) seat h = (key, refl, h)
 
 -- a refusal that follows a search
 module _ (schema : Schema) (i : IndexView) (count next rows : ℕ) (changed failed : Bool) (old new : PagerView) (Sought : Key → Type 0) where
   abbrev before : TreeView
   before = tree_view schema i count next rows changed failed old
 
-  pub search_apart : {T : Type 0} (U : Type 0) (y : U) (fault : TreeFault) → GoesDown {A = U} Sought i old new (Ok y) → fault ≡ Page i.root OutOfRegion → i.last < 2 ^ 128 → HasOverlap before
+  pub search_apart : {T : Type 0} (U : Type 0) (y : U) (fault : TreeFault) → GoesDown {A = U} Sought i old new (Ok y) → fault ≡ Page i.root OutOfRegion → ¬ (IsHonest old.store)
       → Searches {A = T} before (tree_view schema i count next rows changed failed new) (Err fault)
-  search_apart {T} U y fault h is small over =
+  search_apart {T} U y fault h is over =
       subst (λ (f : TreeFault). Searches {A = T} before (tree_view schema i count next rows changed failed new) (Err f)) (sym is) (record {
         same = ap (λ (p : PagerView). tree_view schema i count next rows changed failed p) h.same;
-        faults = apart_fault before small over;
+        faults = apart_fault before over;
       })
 
 -- a number of 32 bits that is one's

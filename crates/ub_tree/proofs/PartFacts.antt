@@ -29,7 +29,7 @@ use Rattle.ub_tree.specs.Indexed.{Inner}
 use Rattle.ub_tree.specs.Others.{AddsEntry, AreOthersKept, KeepsOthers, WritesIndex}
 use Rattle.ub_tree.specs.Placed.{Placed, entry_of}
 use Rattle.ub_tree.specs.Spans.{first_keys}
-use Rattle.ub_tree.specs.Told.{FallsSurely}
+use Rattle.ub_tree.specs.Told.{FallsTo}
 use Rattle.ub_tree.specs.View.{TreeView, IsSound, region_count}
 use Rattle.ub_tree.specs.declared.fault.TreeFault.{TreeFault}
 use Rattle.ub_tree.specs.declared.fault.TreeFault.TheVariants.{Full, Page, Store, Failed as HasFailed, Memory}
@@ -56,7 +56,7 @@ no_page_told e page fault (inr (inr (inr device))) same = cc
 
 -- what a parting answers for which the index can't be made ready
 pub unready_answers : {A : Type 0} (t : TreeView) (seat : Seat) (r : Result A TreeFault) (e : TreeFault) → IsErrAnd r (λ x. x ≡ e) → region_count t ≢ 4294967295
-    → (IsHonest t.store → FallsSurely t seat.first seat → HasNoRoom e) → AnswersSeat (Unit {0}) t seat r
+    → (IsHonest t.store → FallsTo t seat.first seat → HasNoRoom e) → AnswersSeat (Unit {0}) t seat r
 unready_answers t seat (Ok x) e is few led = absurd is
 unready_answers t seat (Err f) e is few led = (
   λ full many. absurd (few many),

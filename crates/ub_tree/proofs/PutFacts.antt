@@ -6,13 +6,14 @@ use Rattle.std.proofs.lemmas.List.Elements.{recursion_from_All}
 use Rattle.std.proofs.lemmas.Option.{slice_get_within}
 use Rattle.std.specs.List.{All, AllByRecursion, IsDistinct}
 use Rattle.ub_check.proofs.PlacedFacts.{placed_at}
-use Rattle.ub_index.proofs.Changes.{kept_index, kept_under, same_page, same_entries as under_same}
+use Rattle.ub_index.proofs.FirstFacts.{below_some}
+use Rattle.ub_index.proofs.Changes.{kept_named, kept_index, kept_under, same_page, same_entries as under_same}
 use Rattle.ub_index.proofs.HeldFacts.{ends_of}
 use Rattle.ub_index.proofs.Numbers.{distinct_apart, distinct_first, kept_pages}
 use Rattle.ub_index.specs.Changed.{PagesStay}
 use Rattle.ub_index.specs.Changing.{IsOutside}
-use Rattle.ub_index.specs.Fitting.{FallsTo, FitsAtEnds, IsHeld, NamesTaken}
-use Rattle.ub_index.specs.Index.{Fits, page_in, pages_under, top}
+use Rattle.ub_index.specs.Fitting.{FallsTo}
+use Rattle.ub_index.specs.Index.{NamesFitting, Fits, page_in, pages_under, top}
 use Rattle.ub_index.specs.Preparing.{entry_at}
 use Rattle.ub_index.specs.Standing.{region_pages}
 use Rattle.ub_index.specs.View.{IndexView, IsSeatAt}
@@ -205,28 +206,21 @@ put_rows schema index count next rows changed now failed old new i seat page own
 abbrev pub KeepsKinds : List (List ℕ) → List (List ℕ) → Type 0
 KeepsKinds old new = (n : ℕ) (page : List ℕ) → 1 ≤ n → slice_get old n ≡ Some page → IsIndexKind page → slice_get new n ≡ slice_get old n
 
--- then each way leads where it led, whichever pages are held: none goes over the first page
-module _ (last : ℕ) (small : last < 256 ^ 16) (old new : List (List ℕ)) (keeps : KeepsKinds old new) (held : List (ℕ × List ℕ)) (key : Key) where
-  kind_of : (level : ℕ) (entry : Entry) (end : Option Key) → NamesTaken last old held level entry end → IsIndexKind (page_in old entry.page)
-  kind_of level entry end named = elim named.fits [
-    | inl fits ↦ (ends_of last (page_in old entry.page) level entry end small fits).kind
-    | inr ends ↦ ends.1.kind
-  ]
+-- then each way leads where it led: none goes over the first page
+module _ (last : ℕ) (small : last < 256 ^ 16) (old new : List (List ℕ)) (keeps : KeepsKinds old new) (key : Key) where
+  kind_of : (level : ℕ) (entry : Entry) (end : Option Key) → NamesFitting last old level entry end → IsIndexKind (page_in old entry.page)
+  kind_of level entry end named = (ends_of last (page_in old entry.page) level entry end small named.fits).kind
 
-  pub still_taken : (level : ℕ) (entry : Entry) (end : Option Key) (found : Entry) (next : Option Key) → 1 ≤ entry.page → LeadsTo last old held key level entry end found next
-      → LeadsTo last new held key level entry end found next
+  pub still_taken : (level : ℕ) (entry : Entry) (end : Option Key) (found : Entry) (next : Option Key) → 1 ≤ entry.page → LeadsTo last old key level entry end found next
+      → LeadsTo last new key level entry end found next
   still_taken zero entry end found next some leads = leads
   still_taken (suc level) entry end found next some (named, below, beyond, falls, leads) =
-      let same = keeps entry.page (page_in old entry.page) some named.there (kind_of (suc level) entry end named) in
-      let page = same_page old new entry.page same in (
-        record {
-          there = same ∙ (named.there ∙ ap (λ (p : List ℕ). Some p) (sym page));
-          fits = subst (λ (p : List ℕ). Fits last p (suc level) entry end ⊎ (IsHeld held entry.page × FitsAtEnds p (suc level) entry end)) (sym page) named.fits;
-        },
+      let same = keeps entry.page (page_in old entry.page) some named.there (kind_of (suc level) entry end named) in (
+        kept_named last old new (suc level) entry end same named,
         below,
         beyond,
         subst (λ (xs : List Entry). FallsTo key xs end below beyond) (sym (under_same old new entry.page same)) falls,
-        still_taken level below beyond found next falls.some leads,
+        still_taken level below beyond found next (below_some last old key (suc level) entry end below beyond named falls) leads,
       )
 
 -- where those pages stay, the tree tells of the same regions
@@ -234,20 +228,16 @@ module _ (schema : Schema) (index : IndexView) (count next rows : ℕ) (was now 
   pub told_still : (IsHonest new.store → IsHonest old.store) → (IsHonest old.store → KeepsKinds old.store.pages new.store.pages)
       → (region : Span) → IsRegionOf (tree_view schema index count next rows was failed old) region → IsRegionOf (tree_view schema index count next rows now now_failed new) region
   told_still honest keeps region is =
-      let held = is.falls.0 in
       let room : index.last < 256 ^ 16 = (let less : index.last < 2 ^ 128 = small in omega arith) in
       record {
         key = is.key;
         seat = is.seat;
-        falls = (
-          held,
-          record {
-            holds = is.falls.1.holds;
-            way = λ honest_new.
-                let honest_old = honest honest_new in
-                still_taken index.last room old.store.pages new.store.pages (keeps honest_old) held is.key index.levels (top index.root) None (entry_at is.seat) is.seat.next some (is.falls.1.way honest_old);
-          },
-        );
+        falls = record {
+          holds = is.falls.holds;
+          way = λ honest_new.
+              let honest_old = honest honest_new in
+              still_taken index.last room old.store.pages new.store.pages (keeps honest_old) is.key index.levels (top index.root) None (entry_at is.seat) is.seat.next some (is.falls.way honest_old);
+        };
         region_is = is.region_is;
       }
 

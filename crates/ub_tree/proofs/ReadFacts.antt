@@ -17,7 +17,7 @@ use Rattle.ub_tree.specs.Effects.{IsReadFault, IsIndexRefused, IsPageRefused, Is
 use Rattle.ub_tree.specs.Indexed.{Inner}
 use Rattle.ub_tree.specs.Reading.{IsGiven, ReadsTree, SearchesTree, counted, fault_of_tree}
 use Rattle.ub_tree.specs.Spans.{Region}
-use Rattle.ub_tree.specs.Told.{GivesNext, HasOverlap, IsRegionOf, pager_of}
+use Rattle.ub_tree.specs.Told.{GivesNext, IsRegionOf}
 use Rattle.ub_tree.specs.View.{TreeView, IsSound, KeepsRegions, KeepsTrace}
 use Rattle.ub_tree.specs.declared.fault.TreeFault.{TreeFault}
 use Rattle.ub_tree.specs.declared.fault.TreeFault.TheVariants.{Full, Page, Store, Failed as HasFailed, Memory}
@@ -69,48 +69,12 @@ unchanged_traced old new is = is ∙ ap (λ (t : TreeView). record old { trace =
 pub unchanged_trace : (old new : TreeView) → new ≡ old → KeepsTrace old new
 unchanged_trace old new is = ap (λ (t : TreeView). t.trace) is
 
--- what is given isn't by the trace
-retraced_gives : (old : TreeView) (trace : Trace) (held : List (ℕ × List ℕ)) (key : Key) (seat : Seat) → Gives old.inner.index (pager_of (record old { trace = trace }) held) key seat
-    → Gives old.inner.index (pager_of old held) key seat
-retraced_gives old trace held key seat h = record { holds = h.holds; way = h.way }
-
-retraced_from : (old : TreeView) (trace : Trace) (held : List (ℕ × List ℕ)) (after : Option Region) (from : Option Key)
-    → IsFrom old.inner.index (pager_of (record old { trace = trace }) held) after from → IsFrom old.inner.index (pager_of old held) after from
-retraced_from old trace held None from h = h
-retraced_from old trace held (Some region) from (seat, given, next) = (seat, retraced_gives old trace held region.first seat given, next)
-
-retraced_found : (old : TreeView) (trace : Trace) (held : List (ℕ × List ℕ)) (To : Key → Option ℕ → Type 0) (from : Option Key) (found : Option Region)
-    → GivesFrom old.inner.index (pager_of (record old { trace = trace }) held) To from found → GivesFrom old.inner.index (pager_of old held) To from found
-retraced_found old trace held To from None h = h
-retraced_found old trace held To None (Some region) h = h
-retraced_found old trace held To (Some from) (Some region) (key, aim, seat, given, is) = (key, aim, seat, retraced_gives old trace held key seat given, is)
-
-retraced_overlap : (old : TreeView) (trace : Trace) → HasOverlap (record old { trace = trace }) → HasOverlap old
-retraced_overlap old trace h = record {
-  one = h.one;
-  other = h.other;
-  one_key = h.one_key;
-  other_key = h.other_key;
-  one_falls = (h.one_falls.0, retraced_gives old trace h.one_falls.0 h.one_key h.one h.one_falls.1);
-  other_falls = (h.other_falls.0, retraced_gives old trace h.other_falls.0 h.other_key h.other h.other_falls.1);
-  apart = h.apart;
-  common = h.common;
-  one_holds = h.one_holds;
-  other_holds = h.other_holds;
-}
-
-retraced_refused : (old : TreeView) (trace : Trace) (number : ℕ) (fault : PageFault) → IsIndexRefused (record old { trace = trace }) number fault → IsIndexRefused old number fault
-retraced_refused old trace number fault h honest = elim (h honest) [
-  | inl stops ↦ inl stops
-  | inr over ↦ inr (over.0, over.1, retraced_overlap old trace over.2)
-]
-
 -- a tree of which only the trace has changed tells of the same regions, and gives the same answers
 pub traced_told : (old new : TreeView) → IsTraced old new → (region : Region) → IsRegionOf new region → IsRegionOf old region
 traced_told old new is region told = retold_so new.trace (subst (λ (t : TreeView). IsRegionOf t region) is told)
   where
     retold_so : (trace : Trace) → IsRegionOf (record old { trace = trace }) region → IsRegionOf old region
-    retold_so trace h = record { key = h.key; seat = h.seat; falls = (h.falls.0, retraced_gives old trace h.falls.0 h.key h.seat h.falls.1); region_is = h.region_is }
+    retold_so trace h = record { key = h.key; seat = h.seat; falls = h.falls; region_is = h.region_is }
 
 -- and so does one that has the same pages and the same index
 pub told_kept : (old new : TreeView) → new.store.honest ≡ old.store.honest → new.store.pages ≡ old.store.pages → new.inner ≡ old.inner
@@ -118,14 +82,11 @@ pub told_kept : (old new : TreeView) → new.store.honest ≡ old.store.honest �
 told_kept old new honesty pages inners region told = record {
   key = told.key;
   seat = told.seat;
-  falls = (
-    told.falls.0,
-    subst (λ (i : Inner). Gives i.index (pager_of new told.falls.0) told.key told.seat) (sym inners) (record {
-      holds = told.falls.1.holds;
-      way = λ honest. subst (λ (ps : List (List ℕ)). LeadsTo old.inner.index.last ps told.falls.0 told.key old.inner.index.levels (top old.inner.index.root) None
-          (record { first = told.seat.first; page = told.seat.page }) told.seat.next) (sym pages) (told.falls.1.way (sym honesty ∙ honest));
-    }),
-  );
+  falls = subst (λ (i : Inner). Gives i.index new.store told.key told.seat) (sym inners) (record {
+    holds = told.falls.holds;
+    way = λ honest. subst (λ (ps : List (List ℕ)). LeadsTo old.inner.index.last ps told.key old.inner.index.levels (top old.inner.index.root) None
+        (record { first = told.seat.first; page = told.seat.page }) told.seat.next) (sym pages) (told.falls.way (sym honesty ∙ honest));
+  });
   region_is = told.region_is ∙ ap (λ (i : Inner). region_of i.index.last told.seat) (sym inners);
 }
 
@@ -133,15 +94,7 @@ pub traced_gives : (old new : TreeView) → IsTraced old new → (boxes : List C
 traced_gives old new is boxes after found gives = given_so new.trace (subst (λ (t : TreeView). GivesNext boxes t after found) is gives)
   where
     given_so : (trace : Trace) → GivesNext boxes (record old { trace = trace }) after found → GivesNext boxes old after found
-    given_so trace h = record {
-      held = h.held;
-      given = (
-        h.given.0,
-        retraced_from old trace h.held after h.given.0 h.given.1,
-        retraced_found old trace h.held (λ from. LeastFrom (HoldsAny boxes) from.z) h.given.0 found h.given.2,
-      );
-      found_after = h.found_after;
-    }
+    given_so trace h = record { given = h.given; found_after = h.found_after }
 
 pub Keeps-none : (t : TreeView) → Keeps t t
 Keeps-none t = Keeps-by t t refl
@@ -152,7 +105,7 @@ Keeps-more a b c h k = Keeps-by a c (k.traced ∙ ap (λ (t : TreeView). record 
 -- ---- a call's fault, seen from before an earlier call that only read
 
 page_refused_before : (a b : TreeView) (number : ℕ) (fault : PageFault) → IsTraced a b → IsPageRefused b number fault → IsPageRefused a number fault
-page_refused_before a b number fault h (inl stops) = inl (retraced_refused a b.trace number fault (subst (λ (t : TreeView). IsIndexRefused t number fault) h stops))
+page_refused_before a b number fault h (inl stops) = inl (subst (λ (t : TreeView). IsIndexRefused t number fault) h stops)
 page_refused_before a b number fault h (inr (span, told, same, page, is, refused)) =
     inr (
       span,

@@ -41,18 +41,18 @@ use Rattle.ub_tree.specs.declared.fault.TreeFault.{TreeFault}
 use Rattle.ub_tree.specs.inner.Change.{IsReadyFault, IsSpelledAt, MakesReady}
 
 -- where the way to a key leads to a seat, a region comes behind it, unless there is no room
-pub change_room : (i : IndexView) (old : PagerView) (key : Key) (seat : Seat) → i.last < 2 ^ 128 → IsHonest old.store → Gives i (record old { cached = [] }) key seat
-    → (added : Entry) (from : Spelled) (e : IndexFault) → IsChangeFault i old.store key (Some added) from e → HasNoRoom (index_fault e)
-change_room i old key seat small honest given added from (index.Page n fault) h = elim (h honest) [
-  | inl stops ↦ absurd (led_not_stopped i.last old.store.pages [] key small i.levels (top i.root) None (entry_at seat) seat.next n (Some fault) (given.way honest) stops)
-  | inr gone ↦ absurd (never_gone i.last old.store.pages key added i.levels (top i.root) None from gone.2 gone.3)
+pub change_room : (i : IndexView) (facts : StoreFacts) (key : Key) (seat : Seat) → i.last < 2 ^ 128 → IsHonest facts → Gives i facts key seat
+    → (added : Entry) (from : Spelled) (e : IndexFault) → IsChangeFault i facts key (Some added) from e → HasNoRoom (index_fault e)
+change_room i facts key seat small honest given added from (index.Page n fault) h = elim (h honest) [
+  | inl stops ↦ absurd (led_not_stopped i.last facts.pages key small i.levels (top i.root) None (entry_at seat) seat.next n (Some fault) (given.way honest) stops)
+  | inr gone ↦ absurd (never_gone i.last facts.pages key added i.levels (top i.root) None from gone.2 gone.3)
 ]
-change_room i old key seat small honest given added from index.Full h = inl refl
-change_room i old key seat small honest given added from (index.Store store.Memory) h = inr (inr (inl refl))
-change_room i old key seat small honest given added from (index.Store store.Device) h = inr (inr (inr refl))
-change_room i old key seat small honest given added from (index.Store store.BadSize) h = inr (inl refl)
-change_room i old key seat small honest given added from (index.Store store.NoPage) h =
-    absurd (led_not_stopped i.last old.store.pages [] key small i.levels (top i.root) None (entry_at seat) seat.next h.0 None (given.way honest) (h.2 honest))
+change_room i facts key seat small honest given added from index.Full h = inl refl
+change_room i facts key seat small honest given added from (index.Store store.Memory) h = inr (inr (inl refl))
+change_room i facts key seat small honest given added from (index.Store store.Device) h = inr (inr (inr refl))
+change_room i facts key seat small honest given added from (index.Store store.BadSize) h = inr (inl refl)
+change_room i facts key seat small honest given added from (index.Store store.NoPage) h =
+    absurd (led_not_stopped i.last facts.pages key small i.levels (top i.root) None (entry_at seat) seat.next h.0 None (given.way honest) (h.2 honest))
 
 pub room_err : {T : Type 0} (r : Result T TreeFault) (e : IndexFault) → IsErrAnd r (λ x. x ≡ index_fault e) → HasNoRoom (index_fault e) → IfErr r HasNoRoom
 room_err (Ok x) e is h = tt
@@ -63,7 +63,7 @@ pub add_fault : (t : TreeView) (key : Key) (added : Entry) → t.inner.index.las
     → IsChangeFault t.inner.index t.store key (Some added) (so_far [] (page_count t.store + 1)) e → IsReadyFault t (index_fault e)
 add_fault t key added small high (index.Page n fault) h =
     let refused : IsIndexRefused t n fault = λ honest. (elim (h honest) [
-      | inl stops ↦ inl (key, [], stops)
+      | inl stops ↦ (key, stops)
       | inr gone ↦ absurd (never_gone t.inner.index.last t.store.pages key added t.inner.index.levels (top t.inner.index.root) None _ gone.2 gone.3)
     ]) in
     ((λ sound. index_not_refused t n fault small sound refused), inl (inl refused))
@@ -78,7 +78,7 @@ add_fault t key added small high (index.Store store.BadSize) h = (
     | inr needs ↦ let w = needs honest in inr (key, w.0, w.1, w.2)
   ]),
 )
-add_fault t key added small high (index.Store store.NoPage) h = ((λ sound. no_stop t [] key h.0 None small sound (h.2 sound.honest)), inl (inl (h.0, h.1, λ honest. (key, [], h.2 honest))))
+add_fault t key added small high (index.Store store.NoPage) h = ((λ sound. no_stop t key h.0 None small sound (h.2 sound.honest)), inl (inl (h.0, h.1, λ honest. (key, h.2 honest))))
 
 -- a call that doesn't make a change ready, as one of the tree
 module _ (schema : Schema) (i : IndexView) (count next rows : ℕ) (changed failed : Bool) (old new : PagerView) where
@@ -216,7 +216,7 @@ drop_fault t key small more taken (index.Page n fault) (grows, why) = ((λ sound
         ⊎ ((first : ChangeView) × (IsHonest t.store → IsPrepared t.inner.index t.store key None (page_count t.store) (so_far [] (page_count t.store)) first)
         × IsLowerFault t.inner.index.last t.store first (index.Page n fault)) → ⊥
     never sound (inl change) = elim (change sound.honest) [
-      | inl stops ↦ no_stop t [] key n (Some fault) small sound stops
+      | inl stops ↦ no_stop t key n (Some fault) small sound stops
       | inr gone ↦ alone sound (gone_alone t.inner.index.last t.store.pages key t.inner.index.levels (top t.inner.index.root) None _ gone.2 gone.3)
     ]
     never sound (inr lower) = taken sound lower.0 n (Some fault) (lower.1 sound.honest) (lower.2 sound.honest)
@@ -232,7 +232,7 @@ drop_fault t key small more taken (index.Store store.NoPage) (grows, why) = ((λ
     never : IsSound t → IsChangeFault t.inner.index t.store key None (so_far [] (page_count t.store)) (index.Store store.NoPage)
         ⊎ ((first : ChangeView) × (IsHonest t.store → IsPrepared t.inner.index t.store key None (page_count t.store) (so_far [] (page_count t.store)) first)
         × IsLowerFault t.inner.index.last t.store first (index.Store store.NoPage)) → ⊥
-    never sound (inl change) = no_stop t [] key change.0 None small sound (change.2 sound.honest)
+    never sound (inl change) = no_stop t key change.0 None small sound (change.2 sound.honest)
     never sound (inr lower) = taken sound lower.0 lower.2.0 None (lower.1 sound.honest) (lower.2.2 sound.honest)
 
 -- a region that comes after another one isn't the first

@@ -24,7 +24,7 @@ use Rattle.ub_tree.specs.Placed.{Placed, entry_of, regions_in}
 use Rattle.ub_tree.specs.Effects.{IsReadFault}
 use Rattle.ub_tree.specs.Removal.{IsRemovalFault, IsRemoved}
 use Rattle.ub_tree.specs.Spans.{first_keys, Region as Span}
-use Rattle.ub_tree.specs.Told.{FallsSurely, FallsTo, IsRegionOf, KeepsTold}
+use Rattle.ub_tree.specs.Told.{FallsTo, IsRegionOf, KeepsTold}
 use Rattle.ub_tree.specs.View.{TreeView, IsSound, region_count, regions, tree_rows}
 use Rattle.ub_tree.specs.declared.fault.TreeFault.{TreeFault}
 use Rattle.ub_tree.specs.declared.fault.TreeFault.TheVariants.{Full, Page, Store, Failed as HasFailed, Memory}
@@ -311,7 +311,7 @@ passing_only (Ok x) e is h = tt
 passing_only (Err f) e is h = rw is h
 
 -- where no seat is found for the key
-pub unled_removal : (a : TreeView) (key : Key) (r : Result Bool TreeFault) (e : TreeFault) → IsErrAnd r (λ x. x ≡ e) → ((seat : Seat) → IsHonest a.store → FallsSurely a key seat → IsPassing e)
+pub unled_removal : (a : TreeView) (key : Key) (r : Result Bool TreeFault) (e : TreeFault) → IsErrAnd r (λ x. x ≡ e) → ((seat : Seat) → IsHonest a.store → FallsTo a key seat → IsPassing e)
     → IsHonest a.store → AnswersRemoval a key r
 unled_removal a key r e told led honest page region falls =
     let passing = led falls.seat honest falls.falls in

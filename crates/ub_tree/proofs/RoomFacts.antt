@@ -209,7 +209,7 @@ joined_region schema first second rows more left right before below fit =
 
 -- a seat to which some key falls ends after it begins
 pub begins_before : (t : TreeView) (key : Key) (seat : Seat) (next : Key) → FallsTo t key seat → seat.next ≡ Some next → IsBefore seat.first next
-begins_before t key seat next falls is = le_before seat.first key next falls.1.holds.from (subst (λ (o : Option Key). IfSome o (IsBefore key)) is falls.1.holds.to)
+begins_before t key seat next falls is = le_before seat.first key next falls.holds.from (subst (λ (o : Option Key). IfSome o (IsBefore key)) is falls.holds.to)
 
 pub next_region : (t : TreeView) (key : Key) (seat next : Seat) (rows more : List Row) → FallsTo t key seat → seat.next ≡ Some next.first → AreRowsFrom t.schema seat.first seat.next rows
     → AreRowsFrom t.schema next.first next.next more → length rows + length more ≤ t.schema.page_rows

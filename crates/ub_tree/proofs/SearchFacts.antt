@@ -4,10 +4,11 @@ use Rattle.std.proofs.lemmas.Bool.{cases_Bool}
 use Rattle.std.specs.Result.{IsErrAnd}
 use Rattle.ub_index.proofs.KeyFacts.{le_before}
 use Rattle.ub_index.proofs.LeadFacts.{ways_are_one, ways_hold}
-use Rattle.ub_index.proofs.WayFacts.{never_stops, way_in_full}
+use Rattle.ub_index.proofs.WayFacts.{never_stops}
+use Rattle.ub_index.specs.Held.{AreChecked}
 use Rattle.ub_index.specs.Index.{top}
-use Rattle.ub_index.specs.Searching.{Cross, GoesDown, IsPageFault, IsWayFault, store_after}
-use Rattle.ub_index.specs.View.{IndexView, Leads, Stops}
+use Rattle.ub_index.specs.Searching.{GoesDown, IsWayFault, store_after}
+use Rattle.ub_index.specs.View.{IndexView, Stops}
 use Rattle.ub_index.specs.Way.{HoldsKey}
 use Rattle.ub_index.specs.declared.fault.IndexFault.{IndexFault}
 use Rattle.ub_index.specs.declared.fault.IndexFault.TheVariants as index
@@ -18,12 +19,11 @@ use Rattle.ub_store.specs.declared.fault.StoreFault.TheVariants as store
 use Rattle.ub_table.proofs.Laws.{before_of, before_trans, not_before_self, not_both_before, precedes_of}
 use Rattle.ub_table.specs.Keys.{IsBefore, precedes}
 use Rattle.ub_table.specs.declared.fault.PageFault.{PageFault}
-use Rattle.ub_table.specs.declared.fault.PageFault.TheVariants.{OutOfRegion}
 use Rattle.ub_table.specs.declared.row.Key.{Key}
 use Rattle.ub_table.specs.declared.schema.Schema.{Schema}
 use Rattle.ub_tree.specs.Effects.{IsIndexRefused, IsReadFault, Searches, read_store}
 use Rattle.ub_tree.specs.Faults.{index_fault}
-use Rattle.ub_tree.specs.Told.{FallsTo, HasOverlap, pager_of}
+use Rattle.ub_tree.specs.Told.{FallsTo}
 use Rattle.ub_tree.specs.Tree.{known_pages, tree_view}
 use Rattle.ub_tree.specs.View.{TreeView, IsSound}
 use Rattle.ub_tree.specs.declared.fault.TreeFault.{TreeFault}
@@ -41,24 +41,10 @@ stores_alike T U (index.Store store.Device) s = refl
 stores_alike T U (index.Store store.NoPage) s = refl
 stores_alike T U (index.Store store.BadSize) s = refl
 
--- on a sound tree no way stops, whichever pages are held
-pub no_stop : (t : TreeView) (held : List (ℕ × List ℕ)) (key : Key) (n : ℕ) (fault : Option PageFault) → t.inner.index.last < 2 ^ 128 → IsSound t
-    → ¬ (Stops t.inner.index t.store held key n fault)
-no_stop t held key n fault small sound =
-    never_stops t.inner.index.last small t.store.pages held key t.inner.index.levels (top t.inner.index.root) None n fault sound.indexed.under_it
-
--- on a sound tree each page on the way to a seat fits, and the way to each key that the seat holds leads there
-pub sound_way : (t : TreeView) (key other : Key) (seat : Seat) → IsSound t → FallsTo t key seat → HoldsKey other seat.first seat.next → Leads t.inner.index t.store [] other seat
-sound_way t key other seat sound falls holds =
-    let full = way_in_full t.inner.index.last t.store.pages falls.0 key t.inner.index.levels (top t.inner.index.root) None (record { first = seat.first; page = seat.page }) seat.next
-    sound.indexed.under_it (falls.1.way sound.honest) in
-    (ways_hold t.inner.index t.store key seat full).2 other holds
-
--- so that no two seats overlap
-pub no_overlap : (t : TreeView) → IsSound t → ¬ (HasOverlap t)
-no_overlap t sound h =
-    h.apart (ways_are_one t.inner.index t.store h.common h.one h.other (sound_way t h.one_key h.common h.one sound h.one_falls h.one_holds)
-    (sound_way t h.other_key h.common h.other sound h.other_falls h.other_holds))
+-- on a sound tree no way stops
+pub no_stop : (t : TreeView) (key : Key) (n : ℕ) (fault : Option PageFault) → t.inner.index.last < 2 ^ 128 → IsSound t → ¬ (Stops t.inner.index t.store key n fault)
+no_stop t key n fault small sound =
+    never_stops t.inner.index.last small t.store.pages key t.inner.index.levels (top t.inner.index.root) None n fault sound.indexed.under_it
 
 -- the later one of two keys
 later_of : Key → Key → Key
@@ -86,71 +72,38 @@ before_all : (a b : Key) (end : Option Key) → IsBefore a b → IfSome end (IsB
 before_all a b None h k = tt
 before_all a b (Some end) h k = before_trans a b end h k
 
--- two seats that aren't one overlap, where each one begins before the other ends
+-- over an honest store two seats to which keys fall are one, where each begins before the other ends
 pub overlaps : (t : TreeView) (one_key other_key : Key) (one other : Seat) → FallsTo t one_key one → FallsTo t other_key other → ¬ (one ≡ other)
-    → IfSome one.next (IsBefore one.first) → IfSome one.next (IsBefore other.first) → IfSome other.next (IsBefore one.first) → IfSome other.next (IsBefore other.first) → HasOverlap t
-overlaps t one_key other_key one other falls other_falls apart within one_within other_within within_other =
+    → IfSome one.next (IsBefore one.first) → IfSome one.next (IsBefore other.first) → IfSome other.next (IsBefore one.first) → IfSome other.next (IsBefore other.first)
+    → ¬ (IsHonest t.store)
+overlaps t one_key other_key one other falls other_falls apart within one_within other_within within_other honest =
     let from = later_from one.first other.first in
-    record {
-      one = one;
-      other = other;
-      one_key = one_key;
-      other_key = other_key;
-      one_falls = falls;
-      other_falls = other_falls;
-      apart = apart;
-      common = later_of one.first other.first;
-      one_holds = record { from = from.0; to = later_within one.first other.first one.next within one_within };
-      other_holds = record { from = from.1; to = later_within one.first other.first other.next other_within within_other };
-    }
+    let common = later_of one.first other.first in
+    apart (ways_are_one t.inner.index t.store common one other
+    ((ways_hold t.inner.index t.store one_key one (falls.way honest)).2 common (record { from = from.0; to = later_within one.first other.first one.next within one_within }))
+    ((ways_hold t.inner.index t.store other_key other (other_falls.way honest)).2 common (record { from = from.1; to = later_within one.first other.first other.next other_within within_other })))
 
 -- a seat that holds a key isn't empty
 pub not_empty : (key first : Key) (next : Option Key) → HoldsKey key first next → IfSome next (IsBefore first)
 not_empty key first None h = tt
 not_empty key first (Some end) h = le_before first key end h.from h.to
 
--- what begins before a key, and what another key holds that isn't before that one
-reaches : (key first from : Key) (next : Option Key) → HoldsKey key first next → ¬ (IsBefore key from) → (other : Key) → IsBefore other from → IfSome next (IsBefore other)
-reaches key first from None h later other sooner = tt
-reaches key first from (Some end) h later other sooner = before_trans other from end sooner (le_before from key end later h.to)
-
--- where two ways cross, the seats overlap to which they lead
-pub crossed : (t : TreeView) (held : List (ℕ × List ℕ)) (key other : Key) → Cross t.inner.index (pager_of t held) key other → HasOverlap t
-crossed t held key other h =
-    let ends = subst (λ (o : Option Key). IfSome o (IsBefore key)) h.next_is h.given.holds.to in
-    let begins = le_before h.seat.first key h.from h.given.holds.from ends in
-    overlaps t key other h.seat h.found (held, h.given) (held, h.found_given)
-    (λ same. h.later (subst (λ (o : Option Key). IfSome o (IsBefore other)) (sym (ap (λ (s : Seat). s.next) same) ∙ h.next_is) h.found_given.holds.to))
-    (not_empty key h.seat.first h.seat.next h.given.holds)
-    (subst (λ (o : Option Key). IfSome o (IsBefore h.found.first)) (sym h.next_is) h.sooner)
-    (reaches other h.found.first h.from h.found.next h.found_given.holds h.later h.seat.first begins)
-    (not_empty other h.found.first h.found.next h.found_given.holds)
-
--- why a page is refused
-page_refused : (t : TreeView) (held : List (ℕ × List ℕ)) (Sought : Key → Type 0) (n : ℕ) (fault : PageFault) → IsPageFault t.inner.index (pager_of t held) Sought n fault
-    → ((key : Key) × (held : List (ℕ × List ℕ)) × Stops t.inner.index t.store held key n (Some fault)) ⊎ ((n ≡ t.inner.index.root) × (fault ≡ OutOfRegion) × HasOverlap t)
-page_refused t held Sought n fault (inl (key, sought, stops)) = inl (key, held, stops)
-page_refused t held Sought n fault (inr (root, is, key, other, sought, other_sought, cross)) = inr (root, is, crossed t held key other cross)
-
 pub index_not_refused : (t : TreeView) (n : ℕ) (fault : PageFault) → t.inner.index.last < 2 ^ 128 → IsSound t → ¬ (IsIndexRefused t n fault)
-index_not_refused t n fault small sound h = elim (h sound.honest) [
-  | inl stops ↦ no_stop t stops.1 stops.0 n (Some fault) small sound stops.2
-  | inr over ↦ no_overlap t sound over.2
-]
+index_not_refused t n fault small sound h = let stops = h sound.honest in no_stop t stops.0 n (Some fault) small sound stops.1
 
 -- why a search is refused
-pub search_fault : (t : TreeView) (held : List (ℕ × List ℕ)) (Sought : Key → Type 0) → t.inner.index.last < 2 ^ 128 → (e : IndexFault)
-    → IsWayFault t.inner.index (pager_of t held) Sought e → IsReadFault t (index_fault e)
-search_fault t held Sought small (index.Page n fault) h =
-    let refused : IsIndexRefused t n fault = λ honest. page_refused t held Sought n fault (h honest) in
+pub search_fault : (t : TreeView) (Sought : Key → Type 0) → t.inner.index.last < 2 ^ 128 → (e : IndexFault)
+    → IsWayFault t.inner.index t.store Sought e → IsReadFault t (index_fault e)
+search_fault t Sought small (index.Page n fault) h =
+    let refused : IsIndexRefused t n fault = λ honest. (let w = h honest in (w.0, w.2)) in
     ((λ sound. index_not_refused t n fault small sound refused), inl refused)
-search_fault t held Sought small index.Full h = absurd h
-search_fault t held Sought small (index.Store store.Memory) h = tt
-search_fault t held Sought small (index.Store store.Device) h = h
-search_fault t held Sought small (index.Store store.BadSize) h = absurd h
-search_fault t held Sought small (index.Store store.NoPage) h = (
-  (λ sound. let w = h.2 sound.honest in no_stop t held w.0 h.0 None small sound w.2),
-  inl (h.0, h.1, λ honest. let w = h.2 honest in (w.0, held, w.2)),
+search_fault t Sought small index.Full h = absurd h
+search_fault t Sought small (index.Store store.Memory) h = tt
+search_fault t Sought small (index.Store store.Device) h = h
+search_fault t Sought small (index.Store store.BadSize) h = absurd h
+search_fault t Sought small (index.Store store.NoPage) h = (
+  (λ sound. let w = h.2 sound.honest in no_stop t w.0 h.0 None small sound w.2),
+  inl (h.0, h.1, λ honest. let w = h.2 honest in (w.0, w.2)),
 )
 
 -- a search, as one of the tree
@@ -164,11 +117,11 @@ module _ (schema : Schema) (i : IndexView) (count next rows : ℕ) (changed fail
   pub searched_there : {T : Type 0} (U : Type 0) (x : T) (y : U) → GoesDown {A = U} Sought i old new (Ok y) → Searches before after (Ok x)
   searched_there U x y h = record { same = ap (λ (p : PagerView). tree_view schema i count next rows changed failed p) h.same; faults = tt }
 
-  pub search_refused : {T : Type 0} (U : Type 0) (r : Result T TreeFault) (e : IndexFault) → i.last < 2 ^ 128 → IsErrAnd r (λ x. x ≡ index_fault e) → GoesDown {A = U} Sought i old new (Err e)
-      → Searches before after r
-  search_refused U (Ok x) e small is h = absurd is
-  search_refused {T} U (Err f) e small is h = rw is (record {
+  pub search_refused : {T : Type 0} (U : Type 0) (r : Result T TreeFault) (e : IndexFault) → i.last < 2 ^ 128 → AreChecked i.last old → IsErrAnd r (λ x. x ≡ index_fault e)
+      → GoesDown {A = U} Sought i old new (Err e) → Searches before after r
+  search_refused U (Ok x) e small sure is h = absurd is
+  search_refused {T} U (Err f) e small sure is h = rw is (record {
     same = ap (λ (p : PagerView). tree_view schema i count next rows changed failed p) h.same
         ∙ ap (λ (s : StoreFacts). record before { store = s }) (stores_alike T U e old.store);
-    faults = search_fault before old.cached Sought small e h.faults;
+    faults = search_fault before Sought small e (h.faults sure);
   })

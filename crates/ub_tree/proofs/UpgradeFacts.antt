@@ -317,11 +317,11 @@ versions head is = by_version head.version is.version.0 is.version.1
     by_version (suc (suc (suc n))) low high = absurd (omega arith)
 
 -- a check stops at the root, where that isn't taken
-stops_at_root : (t : TreeView) (fault : Option PageFault) → 1 ≤ t.inner.index.levels → IsNotTaken t.inner.index.last t.store.pages [] t.inner.index.levels (top t.inner.index.root) None fault
+stops_at_root : (t : TreeView) (fault : Option PageFault) → 1 ≤ t.inner.index.levels → IsNotTaken t.inner.index.last t.store.pages t.inner.index.levels (top t.inner.index.root) None fault
     → StopsTree t t.inner.index.root fault
 stops_at_root t fault level h = by_level t.inner.index.levels level h
   where
-    by_level : (n : ℕ) → 1 ≤ n → IsNotTaken t.inner.index.last t.store.pages [] n (top t.inner.index.root) None fault → StopsIn (asked_of t) n (top t.inner.index.root) None [] t.inner.index.root fault
+    by_level : (n : ℕ) → 1 ≤ n → IsNotTaken t.inner.index.last t.store.pages n (top t.inner.index.root) None fault → StopsIn (asked_of t) n (top t.inner.index.root) None [] t.inner.index.root fault
     by_level zero low h = absurd (omega arith)
     by_level (suc n) low h = inl (refl, h)
 
@@ -359,8 +359,8 @@ module _ (from new : StoreFacts) (head : OldHeader) (i : IndexView) (pager : Pag
       let old_at : slice_get from.pages n ≡ Some h.1 = sym ((b.index second).0 n (subst (λ (m : ℕ). 1 ≤ m) (sym h.0) root_some)) ∙ at in
       let at_root : slice_get pager.store.pages i.root ≡ Some h.1 = ap (slice_get pager.store.pages) (sym h.0) ∙ at in
       let page : page_in pager.store.pages i.root ≡ h.1 = get_or_from_slice_get pager.store.pages i.root h.1 [] at_root in
-      let taken : IsNotTaken i.last pager.store.pages [] i.levels (top i.root) None (Some fault) =
-      (at_root ∙ ap (λ (x : List ℕ). Some x) (sym page), inl (subst (λ (x : List ℕ). IsUnfit i.last x i.levels (top i.root) None fault) (sym page) h.3)) in (
+      let taken : IsNotTaken i.last pager.store.pages i.levels (top i.root) None (Some fault) =
+      (at_root ∙ ap (λ (x : List ℕ). Some x) (sym page), subst (λ (x : List ℕ). IsUnfit i.last x i.levels (top i.root) None fault) (sym page) h.3) in (
         h.1,
         old_at,
         inr (

@@ -5,13 +5,15 @@ use Rattle.std.proofs.lemmas.List.{length-append, append-nil}
 use Rattle.std.proofs.lemmas.Option.{slice_get_within}
 use Rattle.std.specs.List.{AllByRecursion, flat_map}
 use Rattle.ub_index.proofs.Changes.{kept_named, same_entries, same_page}
-use Rattle.ub_index.proofs.HeldFacts.{ends_of, in_full, taken_of, unfit_of}
+use Rattle.ub_index.proofs.HeldFacts.{ends_of}
+use Rattle.ub_index.proofs.FirstFacts.{below_some}
 use Rattle.ub_index.proofs.KeyFacts.{before_le}
 use Rattle.ub_index.proofs.Lists.{ascend_right}
+use Rattle.ub_index.proofs.WayFacts.{named_not_refused}
 use Rattle.ub_index.proofs.WaysFacts.{compare, first_up_to}
 use Rattle.ub_index_page.proofs.Laws.{node_not_refused}
 use Rattle.ub_index.specs.Changing.{IsOutside, Mends, Spelled, Spreads, Turns, sheet_of, so_far}
-use Rattle.ub_index.specs.Fitting.{FallsTo, FitsAtEnds, IsHeld, IsNotTaken, IsUnfit, IsUnfitAtEnds, NamesTaken}
+use Rattle.ub_index.specs.Fitting.{FallsTo}
 use Rattle.ub_index.specs.Index.{AscendTo, Fits, IsIndexPage, NamesFitting, entries_of, first_or, page_in, pages_under}
 use Rattle.ub_index.specs.Way.{LeadsTo, StopsAt}
 use Rattle.ub_index.specs.declared.sheet.Sheet.{Sheet}
@@ -67,55 +69,17 @@ module _ (key : Key) (entries : List Entry) (end : Option Key) (ascends : Ascend
         ]
       ]
 
--- a page that fits isn't refused
-misfit_or_fault : (last : ℕ) (page : List ℕ) (level : ℕ) (entry : Entry) (end : Option Key) (fault : PageFault) → Fits last page level entry end
-    → IsUnfit last page level entry end fault → IsIndexFault last page fault
-misfit_or_fault last page level entry end BadCount fits (inl h) = h
-misfit_or_fault last page level entry end BadCount fits (inr h) = absurd (h.1 fits.level_is)
-misfit_or_fault last page level entry end OutOfRegion fits h = absurd (h.2 fits)
-misfit_or_fault last page level entry end fault fits h = h
-
-named_not_refused : (last : ℕ) → last < 2 ^ 128 → (pages : List (List ℕ)) (held : List (ℕ × List ℕ)) (level : ℕ) (entry : Entry) (end : Option Key) (fault : Option PageFault)
-    → NamesFitting last pages level entry end → ¬ (IsNotTaken last pages held level entry end fault)
-named_not_refused last small pages held level entry end None h far = let near = slice_get_within pages entry.page (page_in pages entry.page) h.there in omega arith
-named_not_refused last small pages held level entry end (Some fault) h refused =
-    node_not_refused (node_on (page_in pages entry.page)) (page_in pages entry.page) last small h.fits.is.is h.fits.is.spelled fault
-    (misfit_or_fault last (page_in pages entry.page) level entry end fault h.fits (by_fault refused.1))
-  where
-    by_fault : IsUnfit last (page_in pages entry.page) level entry end fault ⊎ (IsHeld held entry.page × IsUnfitAtEnds (page_in pages entry.page) level entry end fault)
-        → IsUnfit last (page_in pages entry.page) level entry end fault
-    by_fault (inl unfit) = unfit
-    by_fault (inr ends) = unfit_of last (page_in pages entry.page) level entry end fault h.fits.is ends.1
-
--- a way on which each page fits, and another way to the same key, whichever pages are held on that one
-module _ (last : ℕ) (pages : List (List ℕ)) (held : List (ℕ × List ℕ)) (key : Key) where
-  -- it is taken
-  pub taken_whole : (level : ℕ) (entry : Entry) (end : Option Key) (found : Entry) (next : Option Key) → LeadsTo last pages [] key level entry end found next
-      → LeadsTo last pages held key level entry end found next
-  taken_whole zero entry end found next leads = leads
-  taken_whole (suc level) entry end found next (named, below, beyond, falls, leads) =
-      (taken_of last pages held (suc level) entry end (in_full last pages (suc level) entry end named), below, beyond, falls, taken_whole level below beyond found next leads)
-
-  -- both lead to one entry
-  pub one_end : (level : ℕ) (entry : Entry) (end : Option Key) (found : Entry) (next : Option Key) (other : Entry) (after : Option Key)
-      → LeadsTo last pages [] key level entry end found next → LeadsTo last pages held key level entry end other after → (other ≡ found) × (after ≡ next)
-  one_end zero entry end found next other after leads h = (h.0 ∙ sym leads.0, h.1 ∙ sym leads.1)
-  one_end (suc level) entry end found next other after (named, below, beyond, falls, leads) (named2, below2, beyond2, falls2, leads2) =
-      let same = falls_once key (entries_of pages entry.page) end (in_full last pages (suc level) entry end named).fits.ascends below2 beyond2 falls2 below beyond falls in
-      let there : LeadsTo last pages held key level below beyond other after =
-      subst (λ (o : Option Key). LeadsTo last pages held key level below o other after) same.1 (subst (λ (e : Entry). LeadsTo last pages held key level e beyond2 other after) same.0 leads2) in
-      one_end level below beyond found next other after leads there
-
-  -- and the other one doesn't stop
+-- a way that leads to an entry doesn't stop
+module _ (last : ℕ) (pages : List (List ℕ)) (key : Key) where
   pub led_not_stopped : last < 2 ^ 128 → (level : ℕ) (entry : Entry) (end : Option Key) (found : Entry) (next : Option Key) (n : ℕ) (fault : Option PageFault)
-      → LeadsTo last pages [] key level entry end found next → ¬ (StopsAt last pages held key level entry end n fault)
+      → LeadsTo last pages key level entry end found next → ¬ (StopsAt last pages key level entry end n fault)
   led_not_stopped small zero entry end found next n fault leads stops = stops
   led_not_stopped small (suc level) entry end found next n fault (named, below, beyond, falls, leads) (inl here) =
-      named_not_refused last small pages held (suc level) entry end fault (in_full last pages (suc level) entry end named) here.1
+      named_not_refused last small pages key (suc level) entry end fault named here.1
   led_not_stopped small (suc level) entry end found next n fault (named, below, beyond, falls, leads) (inr (named2, below2, beyond2, falls2, stops)) =
-      let same = falls_once key (entries_of pages entry.page) end (in_full last pages (suc level) entry end named).fits.ascends below2 beyond2 falls2 below beyond falls in
-      let there : StopsAt last pages held key level below beyond n fault =
-      subst (λ (o : Option Key). StopsAt last pages held key level below o n fault) same.1 (subst (λ (e : Entry). StopsAt last pages held key level e beyond2 n fault) same.0 stops) in
+      let same = falls_once key (entries_of pages entry.page) end named.fits.ascends below2 beyond2 falls2 below beyond falls in
+      let there : StopsAt last pages key level below beyond n fault =
+      subst (λ (o : Option Key). StopsAt last pages key level below o n fault) same.1 (subst (λ (e : Entry). StopsAt last pages key level e beyond2 n fault) same.0 stops) in
       led_not_stopped small level below beyond found next n fault leads there
 
 -- no page of an index has this number
@@ -134,51 +98,37 @@ module _ (last : ℕ) (old new : List (List ℕ)) (keeps : KeepsIndexPages last 
     | inr none ↦ absurd (none (page_in old entry.page) named.there named.fits.is)
   ]
 
-  -- no entry of an index names the first page
-  some_below : (level : ℕ) (entry : Entry) (end : Option Key) (below : Entry) (beyond : Option Key) → NamesFitting last old level entry end → (falls : FallsTo key (entries_of old entry.page) end below beyond)
-      → 1 ≤ below.page
-  some_below level entry end below beyond named falls =
-      (all_right (IsEntry last) falls.before (below ∷ falls.after) (subst (AllByRecursion (IsEntry last)) falls.parts named.fits.is.is.entries)).0.some_page
-
-  pub still_leads : (level : ℕ) (entry : Entry) (end : Option Key) (found : Entry) (next : Option Key) → 1 ≤ entry.page → LeadsTo last old [] key level entry end found next
-      → LeadsTo last new [] key level entry end found next
+  pub still_leads : (level : ℕ) (entry : Entry) (end : Option Key) (found : Entry) (next : Option Key) → 1 ≤ entry.page → LeadsTo last old key level entry end found next
+      → LeadsTo last new key level entry end found next
   still_leads zero entry end found next some leads = leads
   still_leads (suc level) entry end found next some (named, below, beyond, falls, leads) =
-      let full = in_full last old (suc level) entry end named in
-      let same = stays (suc level) entry end some full in (
-        taken_of last new [] (suc level) entry end (kept_named last old new (suc level) entry end same full),
+      let same = stays (suc level) entry end some named in (
+        kept_named last old new (suc level) entry end same named,
         below,
         beyond,
         subst (λ (xs : List Entry). FallsTo key xs end below beyond) (sym (same_entries old new entry.page same)) falls,
-        still_leads level below beyond found next (some_below (suc level) entry end below beyond full falls) leads,
+        still_leads level below beyond found next (below_some last old key (suc level) entry end below beyond named falls) leads,
       )
 
 -- each page but the first that is of an index by its first byte is as it was
 abbrev pub KeepsIndexKinds : List (List ℕ) → List (List ℕ) → Type 0
 KeepsIndexKinds old new = (n : ℕ) (page : List ℕ) → 1 ≤ n → slice_get old n ≡ Some page → IsIndexKind page → slice_get new n ≡ slice_get old n
 
--- then each way leads where it led, whichever pages are held
-module _ (last : ℕ) (small : last < 256 ^ 16) (old new : List (List ℕ)) (keeps : KeepsIndexKinds old new) (held : List (ℕ × List ℕ)) (key : Key) where
-  kind_of : (level : ℕ) (entry : Entry) (end : Option Key) → NamesTaken last old held level entry end → IsIndexKind (page_in old entry.page)
-  kind_of level entry end named = elim named.fits [
-    | inl fits ↦ (ends_of last (page_in old entry.page) level entry end small fits).kind
-    | inr ends ↦ ends.1.kind
-  ]
+-- then each way leads where it led
+module _ (last : ℕ) (small : last < 256 ^ 16) (old new : List (List ℕ)) (keeps : KeepsIndexKinds old new) (key : Key) where
+  kind_of : (level : ℕ) (entry : Entry) (end : Option Key) → NamesFitting last old level entry end → IsIndexKind (page_in old entry.page)
+  kind_of level entry end named = (ends_of last (page_in old entry.page) level entry end small named.fits).kind
 
-  pub still_led : (level : ℕ) (entry : Entry) (end : Option Key) (found : Entry) (next : Option Key) → 1 ≤ entry.page → LeadsTo last old held key level entry end found next
-      → LeadsTo last new held key level entry end found next
+  pub still_led : (level : ℕ) (entry : Entry) (end : Option Key) (found : Entry) (next : Option Key) → 1 ≤ entry.page → LeadsTo last old key level entry end found next
+      → LeadsTo last new key level entry end found next
   still_led zero entry end found next some leads = leads
   still_led (suc level) entry end found next some (named, below, beyond, falls, leads) =
-      let same = keeps entry.page (page_in old entry.page) some named.there (kind_of (suc level) entry end named) in
-      let page = same_page old new entry.page same in (
-        record {
-          there = same ∙ (named.there ∙ ap (λ (p : List ℕ). Some p) (sym page));
-          fits = subst (λ (p : List ℕ). Fits last p (suc level) entry end ⊎ (IsHeld held entry.page × FitsAtEnds p (suc level) entry end)) (sym page) named.fits;
-        },
+      let same = keeps entry.page (page_in old entry.page) some named.there (kind_of (suc level) entry end named) in (
+        kept_named last old new (suc level) entry end same named,
         below,
         beyond,
         subst (λ (xs : List Entry). FallsTo key xs end below beyond) (sym (same_entries old new entry.page same)) falls,
-        still_led level below beyond found next falls.some leads,
+        still_led level below beyond found next (below_some last old key (suc level) entry end below beyond named falls) leads,
       )
 
 -- the page of a region is none of an index

@@ -15,12 +15,12 @@ use Rattle.ub_table.specs.declared.row.TheConstants.{MAX_ROW_NUMBER}
 use Rattle.ub_page.specs.Region.{region_page}
 use Rattle.ub_table.specs.Region.{Region, IsRegion}
 use Rattle.ub_table.specs.declared.fault.PageFault.{PageFault}
-use Rattle.ub_table.specs.declared.fault.PageFault.TheVariants.{BadCount, BadOrder, OutOfRegion}
+use Rattle.ub_table.specs.declared.fault.PageFault.TheVariants.{BadCount, BadOrder}
 use Rattle.ub_table.specs.declared.row.Key.{Key}
 use Rattle.ub_table.specs.declared.row.Row.{Row}
 use Rattle.ub_tree.specs.Others.{WritesOneRegion}
 use Rattle.ub_writing.specs.Marks.{HasMark, KeepsUnless}
-use Rattle.ub_tree.specs.Told.{HasOverlap, IsRegionOf, TellsStill}
+use Rattle.ub_tree.specs.Told.{IsRegionOf, TellsStill}
 use Rattle.ub_tree.specs.View.{TreeView, IsSound, KeepsTrace, region_count}
 use Rattle.ub_tree.specs.declared.fault.TreeFault.{TreeFault}
 use Rattle.ub_tree.specs.declared.fault.TreeFault.TheVariants.{Full, Page, Store, Failed, Memory}
@@ -44,12 +44,9 @@ read_store result old = record old { failed_reads = counted result old.failed_re
 abbrev pub written_store : {A : Type 0} → Result A TreeFault → StoreFacts → StoreFacts → StoreFacts
 written_store result old new = record old { pages = new.pages; synced = new.synced; failed_writes = counted result old.failed_writes }
 
--- a way to some key stops at the page of this number, which is refused; or it is the root's, and two ways lead to seats that overlap. Over
--- a sound tree neither comes, whichever pages are held
+-- a way to some key stops at the page of this number, which is refused; over a sound tree none does
 abbrev pub IsIndexRefused : TreeView → ℕ → PageFault → Type 0
-IsIndexRefused t number fault =
-    IsHonest t.store → ((key : Key) × (held : List (ℕ × List ℕ)) × Stops t.inner.index t.store held key number (Some fault))
-    ⊎ ((number ≡ t.inner.index.root) × (fault ≡ OutOfRegion) × HasOverlap t)
+IsIndexRefused t number fault = IsHonest t.store → (key : Key) × Stops t.inner.index t.store key number (Some fault)
 
 -- the page of this number is refused, on which the tree tells of a region, or on the way to one
 abbrev pub IsPageRefused : TreeView → ℕ → PageFault → Type 0
@@ -62,7 +59,7 @@ IsPageRefused t number fault =
 abbrev pub IsStopped : TreeView → Type 0
 IsStopped t =
     (n : ℕ) × (page_count t.store ≤ n)
-    × (IsHonest t.store → (key : Key) × (held : List (ℕ × List ℕ)) × Stops t.inner.index t.store held key n None)
+    × (IsHonest t.store → (key : Key) × Stops t.inner.index t.store key n None)
 
 -- it does, or the tree tells of a region on such a page
 abbrev pub IsPageMissing : TreeView → Type 0

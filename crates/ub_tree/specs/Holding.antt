@@ -16,7 +16,7 @@ use Rattle.ub_table.specs.declared.row.TheConstants.{MAX_ROW_NUMBER}
 use Rattle.ub_tree.specs.Effects.{IsTakenIn}
 use Rattle.ub_tree.specs.Opened.{IsPassing}
 use Rattle.ub_tree.specs.Others.{AddsEntry, DropsEntry, KeepsEntries, WritesIndex, WritesPage}
-use Rattle.ub_tree.specs.Told.{FallsSurely, FallsTo}
+use Rattle.ub_tree.specs.Told.{FallsTo}
 use Rattle.ub_tree.specs.View.{TreeView, region_count}
 use Rattle.ub_tree.specs.declared.fault.TreeFault.{TreeFault}
 use Rattle.ub_tree.specs.declared.fault.TreeFault.TheVariants.{Full, Page, Store}
@@ -24,7 +24,7 @@ use Rattle.ub_tree.specs.declared.fault.TreeFault.TheVariants.{Full, Page, Store
 -- a key falls into the region that the page of this number spells, in its place
 pub record FallsInto (t : TreeView) (key : Key) (page : ℕ) (region : Region) : Type 0 where
   pub seat : Seat
-  pub falls : FallsSurely t key seat
+  pub falls : FallsTo t key seat
   pub page_is : seat.page ≡ page
   pub taken : IsTakenIn t (region_of t.inner.index.last seat) region
 
@@ -64,8 +64,8 @@ HasNoRoom fault = (fault ≡ Full) ⊎ ((fault ≡ Store store.BadSize) ⊎ IsPa
 abbrev pub AnswersSeat : {A : Type 0} → Type 0 → TreeView → Seat → Result A TreeFault → Type 0
 AnswersSeat IsFull t seat result =
     (IsFull → region_count t ≡ 4294967295 → result ≡ Err (Page 0 BadCount))
-    × (IsHonest t.store → FallsSurely t seat.first seat → (page : ℕ) (fault : PageFault) → result ≡ Err (Page page fault) → IsFull × (region_count t ≡ 4294967295))
-    × (IsHonest t.store → FallsSurely t seat.first seat → IsFull → region_count t ≢ 4294967295 → t.inner.index.levels ≡ MAX_LEVEL
+    × (IsHonest t.store → FallsTo t seat.first seat → (page : ℕ) (fault : PageFault) → result ≡ Err (Page page fault) → IsFull × (region_count t ≡ 4294967295))
+    × (IsHonest t.store → FallsTo t seat.first seat → IsFull → region_count t ≢ 4294967295 → t.inner.index.levels ≡ MAX_LEVEL
     → HasFullWay t.inner.index t.store seat.first → IsErrAnd result HasNoRoom)
 
 -- what an insertion of a row with this key must answer: BadOrder of the page of the region that it falls into, where that has

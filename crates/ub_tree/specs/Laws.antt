@@ -3,10 +3,12 @@
 -- `ub_region`.
 use Rattle.std.specs.Prelude.{◌≡◌, ◌≤◌, ◌<◌, ◌↔◌, ℕ, List, Option, Some, None, Contains, slice_get}
 use Rattle.std.specs.List.{AllByRecursion}
-use Rattle.ub_bigmin.specs.Box.{Corners}
+use Rattle.ub_bigmin.specs.Box.{Corners, HoldsAny}
+use Rattle.ub_index.specs.Way.{HoldsKey}
 use Rattle.ub_region.specs.Those.{AreThose}
 use Rattle.ub_table.specs.Keys.{IsBefore}
 use Rattle.ub_table.specs.Region.{Region, key_of}
+use Rattle.ub_table.specs.declared.row.Key.{Key}
 use Rattle.ub_table.specs.declared.row.Row.{Row}
 use Rattle.ub_store.specs.Facts.{StoreFacts, IsHonest}
 use Rattle.ub_tree.specs.Calls.{StandsAt}
@@ -76,6 +78,13 @@ abbrev pub AnswersAscend : Type 0
 AnswersAscend = (t : TreeView) (boxes : List Corners) (answers : List Span) (i j : ℕ) (a b : Span)
     → AreAnswers boxes t None answers → i < j
     → slice_get answers i ≡ Some a → slice_get answers j ≡ Some b → IsBefore a.first b.first
+
+-- over an honest store, of the answers from the beginning on, until there is none, each key of the space whose address is in
+-- the boxes is held by one of them, so that no page that is refused is passed over
+abbrev pub AnswersCover : Type 0
+AnswersCover = (t : TreeView) (boxes : List Corners) (answers : List Span) (key : Key) → IsHonest t.store
+    → AreAnswers boxes t None answers → HoldsAny boxes key.z → key.z ≤ t.inner.index.last
+    → (span : Span) × Contains answers span × HoldsKey key span.first span.next
 
 -- the index of a sound tree into which rows were only put isn't full: there would be more regions than can be counted
 abbrev pub GrownIsNotFull : Type 0

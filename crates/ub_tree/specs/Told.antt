@@ -4,38 +4,14 @@ use Rattle.std.specs.Prelude.{◌≤◌, ◌<◌, ◌^◌, ℕ, List, [], ◌∷
 use Rattle.ub_bigmin.specs.Box.{Corners, HoldsAny}
 use Rattle.ub_bigmin.specs.Extremes.{LeastFrom}
 use Rattle.ub_index.specs.Searching.{Gives, GivesAfter, region_of}
-use Rattle.ub_index.specs.Way.{HoldsKey}
 use Rattle.ub_index.specs.declared.seat.Seat.{Seat}
-use Rattle.ub_store.specs.View.{PagerView}
 use Rattle.ub_table.specs.declared.row.Key.{Key}
 use Rattle.ub_tree.specs.Spans.{IsLater, Region}
 use Rattle.ub_tree.specs.View.{TreeView, region_count}
 
--- the store of a tree as its pager sees it that holds these pages
-abbrev pub pager_of : TreeView → List (ℕ × List ℕ) → PagerView
-pager_of t held = record { store = t.store; trace = t.trace; cached = held }
-
--- a seat to which a key falls: it holds the key, and over an honest store a way to the key leads there, on which each page fits, or
--- is held, and fits at its ends
+-- a seat to which a key falls: it holds the key, and over an honest store the way to the key leads there, on which each page fits
 abbrev pub FallsTo : TreeView → Key → Seat → Type 0
-FallsTo t key seat = (held : List (ℕ × List ℕ)) × Gives t.inner.index (pager_of t held) key seat
-
--- the seat to which a key falls, whichever pages are held: over an honest store each page on the way there fits
-abbrev pub FallsSurely : TreeView → Key → Seat → Type 0
-FallsSurely t key seat = Gives t.inner.index (pager_of t []) key seat
-
--- two seats to which keys fall are not one, and hold a key in common, as those of a sound tree never do
-pub record HasOverlap (t : TreeView) : Type 0 where
-  pub one : Seat
-  pub other : Seat
-  pub one_key : Key
-  pub other_key : Key
-  pub one_falls : FallsTo t one_key one
-  pub other_falls : FallsTo t other_key other
-  pub apart : ¬ (one ≡ other)
-  pub common : Key
-  pub one_holds : HoldsKey common one.first one.next
-  pub other_holds : HoldsKey common other.first other.next
+FallsTo t key seat = Gives t.inner.index t.store key seat
 
 -- a region that the tree tells of: one to which some key falls; of a sound tree each of its regions, with its span, and no other
 pub record IsRegionOf (t : TreeView) (region : Region) : Type 0 where
@@ -53,8 +29,7 @@ pub record IsFoundAfter (last : ℕ) (after : Option Region) (region : Region) :
 -- what the tree gives, asked for the next region that meets the boxes, after one or from the beginning on: of a sound tree the
 -- first one later than that which meets them, or none
 pub record GivesNext (boxes : List Corners) (t : TreeView) (after found : Option Region) : Type 0 where
-  pub held : List (ℕ × List ℕ)
-  pub given : GivesAfter t.inner.index (pager_of t held) (λ from. LeastFrom (HoldsAny boxes) from.z) after found
+  pub given : GivesAfter t.inner.index t.store (λ from. LeastFrom (HoldsAny boxes) from.z) after found
   pub found_after : IfSome found (IsFoundAfter t.inner.index.last after)
 
 -- what it gives, asked for the next one after each, until there is none

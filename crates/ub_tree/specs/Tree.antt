@@ -2,6 +2,7 @@
 use Rattle.std.specs.Prelude.{◌+◌, ◌≡◌, ◌≤◌, ◌<◌, ◌^◌, ℕ, Bool, if◌then◌else◌, List, []}
 use Rattle.ub_table.specs.declared.row.TheConstants.{MAX_ROW_NUMBER}
 use Rattle.ub_zaddr.specs.Address.{last_address}
+use Rattle.ub_index.specs.Held.{AreChecked}
 use Rattle.ub_index.specs.View.{IndexView}
 use Rattle.ub_store.specs.Facts.{StoreFacts}
 use Rattle.ub_store.specs.View.{PagerView}
@@ -34,11 +35,13 @@ tree_view schema index count next rows is_changed is_failed pager = record {
 }
 
 -- what is true of a tree's parts: its index is one of its schema's space; it counts a region at least, and no more than a header
--- can; there are fewer rows than the next number, which is at most one above the last; its mark is one of its schema
-pub record IsTree (schema : Schema) (index : IndexView) (count next rows : ℕ) (mark : Mark) : Type 0 where
+-- can; there are fewer rows than the next number, which is at most one above the last; its mark is one of its schema; and over an
+-- honest store each page that its pager holds was checked, as far as it is one of an index
+pub record IsTree (schema : Schema) (index : IndexView) (count next rows : ℕ) (mark : Mark) (pager : PagerView) : Type 0 where
   pub last_is : index.last ≡ last_address schema.dims
   pub some : 1 ≤ count
   pub few : count < 2 ^ 32
   pub fewer : rows < next
   pub last_next : next ≤ MAX_ROW_NUMBER + 1
   pub mark_is : IsMarkOf schema mark
+  pub checked : AreChecked index.last pager

@@ -1,9 +1,10 @@
 ghost use Rattle.std.specs.Int.{w64};
 ghost use Rattle.std.specs.Prelude.{FitsSigned, ℕ, map, ◌≡◌, ◌≢◌, ◌+◌, ◌-◌, pos, replicate, ◌<◌, ◌≤◌, ◌++◌, ◌∷◌, [], true, false, IsTrue, Some, Err, length, slice_get, IfOk, IfErr, MatchResult, OnOk};
 ghost use Rattle.std.specs.List.{AllByRecursion, insert, list_any};
-ghost use Rattle.ub_index.specs.Changing.{AreOnce, Stand};
+ghost use Rattle.ub_index.specs.Changing.{AreIndexPages, AreOnce, Stand};
 ghost use Rattle.ub_index.specs.Making.{PutsSheets, changed};
 ghost use Rattle.ub_index.specs.Preparing.{IsWithinSeat};
+ghost use Rattle.ub_index_page.specs.Index.{IsIndexKind};
 ghost use Rattle.ub_page.specs.Bytes.{padded};
 ghost use Rattle.ub_page.specs.Region.{region_page};
 ghost use Rattle.ub_region.specs.Rows.{insert_row};
@@ -81,7 +82,7 @@ impl<S: PageStore> Tree<S> {
         Ok(())
     }
 
-    // Reads the region of a seat. After a fault any region may stand there.
+    // Reads the region of a seat. After a fault any region may stand there. A page that is refused isn't held after it.
     pub(crate) fn read_at(&mut self, seat: &Seat, region: &mut RegionPage) -> Result<(), TreeFault>
         requires { IsSeatOf self.old seat.now }
         ensures read { OnOk result (IsReadAt self.old seat.now region.new) }
@@ -96,15 +97,20 @@ impl<S: PageStore> Tree<S> {
     {
         let number = seat.page;
         self.pager.bring(number)?;
-        take_region(
+        match take_region(
             &self.schema,
             &seat.first,
             seat.next,
             number,
             self.pager.cached(number),
             region,
-        )?;
-        Ok(())
+        ) {
+            Ok(()) => Ok(()),
+            Err(fault) => {
+                self.pager.forget(number);
+                Err(TreeFault::from(fault))
+            }
+        }
     }
 
     // Puts these rows on the page of the region of a seat. After a fault the tree has failed.
@@ -182,6 +188,8 @@ impl<S: PageStore> Tree<S> {
     fn put_halves(&mut self, seat: &Seat, number: u32, drafts: &Drafts) -> Result<(), TreeFault>
         requires seat { seat.now.page < page_count self.old.store }
         requires there { number < page_count self.old.store }
+        requires kinds { (¬ (IsIndexKind (padded drafts.now.other)))
+            × (¬ (IsIndexKind (padded drafts.now.page))) }
         ensures same { OnOk result (IsPut self.old self.new) }
         ensures put { OnOk result (PutsTwo number (padded drafts.now.other) seat.now.page
             (padded drafts.now.page)
@@ -201,6 +209,8 @@ impl<S: PageStore> Tree<S> {
 
     // Puts the pages of the index that a change spells, and takes over its root. After a fault the tree has failed.
     pub(crate) fn put_index(&mut self, change: &Change) -> Result<(), TreeFault>
+        requires { facts.IsHonest self.old.store
+            → AreIndexPages self.old.inner.index.last change.now.sheets }
         ensures now { OnOk result (self.new ≡ record self.old {
           placed = self.new.placed;
           store = self.new.store;

@@ -1,4 +1,5 @@
 ghost use Rattle.std.specs.Prelude.{◌≡◌, Err, IfOk, IfErr, OnOk, OnErr};
+ghost use Rattle.ub_index.specs.Held.{KeepsChecked};
 ghost use Rattle.ub_index.specs.Opening.{IsAlone};
 ghost use Rattle.ub_index.specs.View.{index_view};
 ghost use Rattle.ub_zaddr.specs.Address.{last_address};
@@ -84,6 +85,8 @@ fn lay_out<S: PageStore>(pager: &mut Pager<S>, schema: &Schema) -> Result<Index,
     ensures first { OnErr result (IsHonest pager.old.store
         → IsUncreated schema.now pager.new.store) }
     ensures trace { SameTrace pager.old pager.new }
+    ensures checked { OnOk result
+        (KeepsChecked (last_address schema.now.dims) pager.old pager.new) }
     ensures left { pager.new.store ≡ written_store result pager.old.store pager.new.store }
     ensures refused { IfErr result (IsCreateFault pager.old.store) }
 {

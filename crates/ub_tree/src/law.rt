@@ -1,4 +1,4 @@
-ghost use Rattle.ub_tree.specs.Laws.{SpansAscend, PagesDiffer, SpansCoverTheSpace, RowsLieInSpans, RegionsAreTold, NextIsTheFirst, NextIsLater, AnswersAreThoseThatMeet, AnswersAreRegionsThatMeet, AnswersAscend, GrownIsNotFull, WellPagesAreSound, SoundTreesAreWell, FirstFaultIsOne};
+ghost use Rattle.ub_tree.specs.Laws.{SpansAscend, PagesDiffer, SpansCoverTheSpace, RowsLieInSpans, RegionsAreTold, NextIsTheFirst, NextIsLater, AnswersAreThoseThatMeet, AnswersAreRegionsThatMeet, AnswersAscend, AnswersCover, GrownIsNotFull, WellPagesAreSound, SoundTreesAreWell, FirstFaultIsOne};
 
 // Each function here does nothing, and its clause is a law of the definitions in specs/. So the law is proved, and is read
 // beside the code.
@@ -52,6 +52,12 @@ pub fn answers_are_regions_that_meet()
 /// Over any tree, of two such answers the later one begins with the later key, so that none comes twice.
 pub fn answers_ascend()
     ensures { AnswersAscend }
+{}
+
+/// Over an honest store, of such answers until there is none each key of the space whose address is in the boxes is held by one of
+/// them: no page that is refused is passed over.
+pub fn answers_cover()
+    ensures { AnswersCover }
 {}
 
 /// The index of a sound tree into which rows were only put, and none taken out, isn't full.

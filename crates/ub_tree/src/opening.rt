@@ -1,4 +1,5 @@
-ghost use Rattle.std.specs.Prelude.{◌≡◌, ℕ, List, false, Err, MatchResult, IsErrAnd, IfOk, IfErr};
+ghost use Rattle.std.specs.Prelude.{◌≡◌, ℕ, List, false, Err, MatchResult, IsErrAnd, IfOk, IfErr, OnOk};
+ghost use Rattle.ub_index.specs.Held.{KeepsChecked};
 ghost use Rattle.ub_page.specs.Header.{IsHeader};
 ghost use Rattle.ub_page.specs.declared.header.Header as spec;
 ghost use Rattle.ub_store.specs.Facts.{IsHonest};
@@ -67,6 +68,7 @@ impl<S: PageStore> Tree<S> {
 fn read_table<S: PageStore>(pager: &mut Pager<S>) -> Result<(Header, Index), TreeFault>
     ensures header { IfOk result (λ table. IsHeader table.0) }
     ensures index { IfOk result (λ table. table.1 ≡ index_of table.0) }
+    ensures checked { IfOk result (λ table. KeepsChecked table.1.last pager.old pager.new) }
     ensures rooted { IsHonest pager.old.store
         → IfOk result (λ table. IsRooted pager.old.store.pages table.0) }
     ensures exact { (header : spec.Header) → IsHonest pager.old.store
@@ -82,10 +84,14 @@ fn read_table<S: PageStore>(pager: &mut Pager<S>) -> Result<(Header, Index), Tre
 // The header on the first page.
 fn read_first<S: PageStore>(pager: &mut Pager<S>) -> Result<Header, TreeFault>
     ensures header { IfOk result (HasHeader pager.old.store) }
+    ensures checked { (last : ℕ) → OnOk result (KeepsChecked last pager.old pager.new) }
     ensures exact { (header : spec.Header) → IsHonest pager.old.store
         → IsRooted pager.old.store.pages header → IfErr result IsPassing }
     ensures effect { Opens pager.old pager.new result }
 {
     pager.bring(0)?;
-    read_header(pager.cached(0)).map_err(|fault| TreeFault::Page { page: 0, fault })
+    match read_header(pager.cached(0)) {
+        Ok(header) => Ok(header),
+        Err(fault) => Err(TreeFault::Page { page: 0, fault }),
+    }
 }

@@ -14,7 +14,7 @@ ghost use Rattle.ub_tree.specs.Opened.{IsPassing};
 ghost use Rattle.ub_tree.specs.Placed.{entry_of};
 ghost use Rattle.ub_tree.specs.Removal.{IsRemovalFault};
 ghost use Rattle.ub_tree.specs.Spans.{first_keys};
-ghost use Rattle.ub_tree.specs.Told.{FallsSurely, FallsTo};
+ghost use Rattle.ub_tree.specs.Told.{FallsTo};
 ghost use Rattle.ub_tree.specs.View.{region_count};
 ghost use Rattle.ub_tree.specs.inner.Change.{IsAddReady, IsDropReady, IsSeatIn, IsSeatOf, IsStored, MakesReady};
 
@@ -31,7 +31,7 @@ impl<S: PageStore> Tree<S> {
         ensures falls { IfOk result (FallsTo self.old key.now) }
         ensures seat { IsStored self.old → IfOk result (IsSeatIn self.old
             (index_holding key.now (first_keys (map entry_of self.old.placed)))) }
-        ensures led { (seat : spec.Seat) → IsHonest self.old.store → FallsSurely self.old key.now seat
+        ensures led { (seat : spec.Seat) → IsHonest self.old.store → FallsTo self.old key.now seat
             → MatchResult result (λ found. found ≡ seat) IsPassing }
         ensures effect { Searches self.old self.new result }
     {
@@ -39,8 +39,8 @@ impl<S: PageStore> Tree<S> {
         Ok(seat)
     }
 
-    // The seat of the region after that of a seat, if there is one: where that begins. Pages that are held and don't ascend can tell of
-    // another one, and so can a store that isn't honest.
+    // The seat of the region after that of a seat, if there is one: where that begins. Only a store that isn't honest can tell of
+    // another one, which is refused: so no region is changed together with one that isn't its neighbour.
     pub(crate) fn seat_after(&mut self, seat: &Seat) -> Result<Option<Seat>, TreeFault>
         requires { IsSeatOf self.old seat.now }
         ensures begins { IfOk result (λ found. IfSome found
@@ -88,7 +88,7 @@ impl<S: PageStore> Tree<S> {
     // Makes ready that a region comes behind that of a seat, with this first key.
     pub(crate) fn prepare_add(&mut self, seat: &Seat, first: &Key) -> Result<Change, TreeFault>
         ensures ready { IfOk result (IsAddReady self.old seat.now first.now) }
-        ensures led { IsHonest self.old.store → FallsSurely self.old seat.now.first seat.now
+        ensures led { IsHonest self.old.store → FallsTo self.old seat.now.first seat.now
             → IfErr result HasNoRoom }
         ensures full { IsHonest self.old.store → self.old.inner.index.levels ≡ MAX_LEVEL
             → HasFullWay self.old.inner.index self.old.store seat.now.first → ¬ (IsOk result) }

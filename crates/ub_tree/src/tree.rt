@@ -27,6 +27,8 @@ use ub_writing::Mark;
 /// addresses.
 ///
 /// The index, which tells where each region begins and its page, stands in the store, and is read as calls come to its pages.
+/// Over an honest store each page of it that is held in memory was checked: so what a call tells of doesn't depend on what was
+/// read before.
 /// After a write, an extension or a sync that failed the tree does no more: every call that could fail answers Failed.
 #[derive(Drop)]
 pub struct Tree<S: PageStore> {
@@ -56,7 +58,7 @@ impl<S: PageStore> Model for Tree<S> {
 
     ghost view = { λ t. tree_view t.schema t.index t.count t.next t.rows (is_written t.mark) t.is_failed t.pager };
 
-    ghost invariant = { λ t. IsTree t.schema t.index t.count t.next t.rows t.mark };
+    ghost invariant = { λ t. IsTree t.schema t.index t.count t.next t.rows t.mark t.pager };
 }
 
 impl<S: PageStore> Tree<S> {
@@ -68,7 +70,7 @@ impl<S: PageStore> Tree<S> {
         mark: Mark,
         pager: Pager<S>,
     ) -> Tree<S>
-        requires { IsTree header.schema index header.regions header.next header.rows mark }
+        requires { IsTree header.schema index header.regions header.next header.rows mark pager }
         ensures { result ≡ tree_view header.schema index header.regions header.next
             header.rows (is_written mark) false pager }
     {
@@ -197,7 +199,8 @@ impl<S: PageStore> Tree<S> {
     /// region; otherwise OutOfRegion. So of a region that isn't the tree's, the refusal is told
     /// under what that one says. Failed where the tree has failed; Page where the page is refused;
     /// Store where the store failed in this call or has no such page; Memory where memory was
-    /// refused, for the note or for the page. After a fault any region may stand in `page`.
+    /// refused, for the note or for the page. After a fault any region may stand in `page`. A page
+    /// that is refused isn't held after it.
     pub fn read_region(&mut self, region: &Region, page: &mut RegionPage) -> Result<(), TreeFault>
         ensures dims { OnOk result (page.new.dims ≡ self.old.schema.dims) }
         ensures first { OnOk result (page.new.region.first ≡ region.now.first) }
@@ -211,14 +214,19 @@ impl<S: PageStore> Tree<S> {
             return Err(TreeFault::Failed);
         }
         self.pager.bring_region(region.page)?;
-        take_region(
+        match take_region(
             &self.schema,
             &region.first,
             region.next,
             region.page,
             self.pager.cached(region.page),
             page,
-        )?;
-        Ok(())
+        ) {
+            Ok(()) => Ok(()),
+            Err(fault) => {
+                self.pager.forget(region.page);
+                Err(TreeFault::from(fault))
+            }
+        }
     }
 }

@@ -1,6 +1,7 @@
 // A table of an older format, over a new store. First the new store is marked as changed; then all other pages are brought over,
 // the index that stands there is opened, and all pages are checked.
 ghost use Rattle.std.specs.Prelude.{◌≡◌, ◌≤◌, ◌+◌, ℕ, List, Err, IfOk, IfErr, MatchResult, OnErr, OnOk};
+ghost use Rattle.ub_index.specs.Held.{AreChecked};
 ghost use Rattle.ub_page.specs.declared.header.OldHeader as spec;
 ghost use Rattle.ub_store.specs.Facts.{page_count, IsHonest};
 ghost use Rattle.ub_table.specs.declared.schema.Schema.{Schema};
@@ -11,7 +12,7 @@ ghost use Rattle.ub_tree.specs.Opened.{IsPassing};
 ghost use Rattle.ub_tree.specs.Placed.{Placed};
 ghost use Rattle.ub_tree.specs.View.{IsSound};
 ghost use Rattle.ub_tree.specs.Upgrade.{HasTable, HasWorked, IsLeftBy, IsUnopened, IsUpgraded, IsUpgradeFault, IsUpgradePassing};
-ghost use Rattle.ub_tree.specs.inner.Upgrading.{Brings, IsCarried, root_in};
+ghost use Rattle.ub_tree.specs.inner.Upgrading.{Brings, HoldsNone, IsCarried, root_in};
 ghost use Rattle.ub_upgrade.specs.Bringing.{HasOldHeader, IsBrought};
 ghost use Rattle.ub_upgrade.specs.Levels.{index_pages};
 ghost use Rattle.ub_writing.specs.Marks.{HasMark};
@@ -108,6 +109,8 @@ fn bring_over<O: PageStore, S: PageStore>(
     ensures header { IfOk result (λ brought. HasOldHeader (O.facts old.old) brought.0) }
     ensures last { IfOk result
         (λ brought. brought.1.last ≡ last_address brought.0.header.schema.dims) }
+    ensures checked { HoldsNone pager.old
+        → IfOk result (λ brought. AreChecked brought.1.last pager.new) }
     ensures root { IfOk result (λ brought. (1 ≤ brought.1.root) × (1 ≤ brought.1.levels)) }
     ensures stands { IsHonest (O.facts old.old) → IsHonest pager.old.store
         → IfOk result (λ brought. IsBrought brought.0 (O.facts old.old) pager.new.store.pages
@@ -145,6 +148,7 @@ fn bring_first<O: PageStore, S: PageStore>(
         → HasOldHeader (O.facts old.old) head
         → MatchResult result (λ read. read ≡ head) IsPassing }
     ensures one { OnOk result (page_count pager.new.store ≡ 1) }
+    ensures none { HoldsNone pager.old → HoldsNone pager.new }
     ensures few { page_count pager.new.store ≤ 1 }
     ensures marked { IsHonest pager.old.store
         → IfOk result (λ head. HasMark head.header.schema pager.new.store.pages) }
@@ -167,6 +171,8 @@ fn bring_rest<O: PageStore, S: PageStore>(
     requires some { 1 ≤ page_count (O.facts old.old) }
     requires one { page_count pager.old.store ≡ 1 }
     ensures last { IfOk result (λ index. index.last ≡ last_address head.now.header.schema.dims) }
+    ensures checked { HoldsNone pager.old
+        → IfOk result (λ index. AreChecked index.last pager.new) }
     ensures root { IfOk result (λ index. (1 ≤ index.root) × (1 ≤ index.levels)) }
     ensures stands { IsHonest (O.facts old.old) → IsHonest pager.old.store
         → IfOk result (λ index. IsBrought head.now (O.facts old.old) pager.new.store.pages

@@ -1,14 +1,16 @@
 -- What a store is to which pages are added, and what its counts of failures are.
-use Rattle.std.proofs.Common.{◌≡◌, ◌≤◌, ◌<◌, ◌+◌, ◌++◌, ◌∙◌, inl, inr, ℕ, zero, suc, List, [], ◌∷◌, Some, Result, Ok, Err, IsTrue, ap, arith, length, refl, sym, slice_get, slice_set}
-use Rattle.std.specs.Prelude.{OnOk, IfErr}
+use Rattle.std.proofs.Common.{◌≡◌, ◌≤◌, ◌<◌, ◌+◌, ◌++◌, ◌∙◌, inl, inr, ℕ, zero, suc, List, [], ◌∷◌, Option, Some, None, Result, Ok, Err, IsTrue, ap, arith, length, refl, subst, sym, slice_get, slice_set}
+use Rattle.std.specs.Prelude.{OnOk, OnErr, IfErr, option_map}
+use Rattle.std.proofs.lemmas.Bool.{cases_eq}
 use Rattle.std.specs.Result.{IsErrAnd}
 use Rattle.ub_directory.specs.Writing.{Grows}
 use Rattle.ub_index.specs.Making.{IsGrowFault}
+use Rattle.ub_store.specs.Cache.{NoneMore, NoneMoreBut, SameBut, page_at}
 use Rattle.ub_store.specs.Facts.{StoreFacts, Appends, Extends, IsHonest, MayFlush, Reads, WritesAt, counted, page_count, raised, zero_page}
 use Rattle.ub_store.specs.View.{PagerView, SameTrace, Trace}
 use Rattle.ub_store.specs.declared.fault.StoreFault.{StoreFault}
 use Rattle.ub_store.specs.declared.fault.StoreFault.TheVariants as store
-use Rattle.ub_upgrade.specs.Effects.{AddsPages, Counts, HasFailedOnce, HasNotFailed, written}
+use Rattle.ub_upgrade.specs.Effects.{AddsPages, Counts, HasFailedOnce, HasNotFailed, HoldsNoMore, written}
 
 -- ---- lists
 
@@ -148,10 +150,42 @@ pub grow_by : {A : Type 0} (m n : ℕ) (a b : StoreFacts) (r : Result A StoreFau
 grow_by m n a b (Ok x) fault is le can h = tt
 grow_by m n a b (Err e) fault is le can h = rw is (grow_more m n a b fault le can h)
 
+-- ---- pages that are held
+
+-- what is there under the first look-up is there under the second, which finds nothing
+none_there : (o p : Option (List ℕ)) → ((page : List ℕ) → o ≡ Some page → p ≡ Some page) → p ≡ None → o ≡ None
+none_there None p so none = refl
+none_there (Some page) p so none = let there = so page refl in cc
+
+pub holds_less : (a b : PagerView) → NoneMore a.cached b.cached → HoldsNoMore a b
+holds_less a b less m = none_there (page_at b.cached m) (page_at a.cached m) (less m)
+
+-- but for one, which is forgotten then
+pub holds_forgotten : (a b c : PagerView) (n : ℕ) → NoneMoreBut n a.cached b.cached → page_at c.cached n ≡ None → SameBut n b.cached c.cached → HoldsNoMore a c
+holds_forgotten a b c n less gone others m none = elim (cases_eq m n) [
+  | inl same ↦ subst (λ (k : ℕ). page_at c.cached k ≡ None) (sym same) gone
+  | inr other ↦ others m other ∙ none_there (page_at b.cached m) (page_at a.cached m) (λ page. less m page other) none
+]
+
+pub holds_put : {A : Type 0} (a b : PagerView) (page : List ℕ) (n : ℕ) (r : Result A StoreFault) → OnOk r (page_at b.cached n ≡ option_map (λ _. page) (page_at a.cached n))
+    → OnErr r (page_at b.cached n ≡ None) → SameBut n a.cached b.cached → HoldsNoMore a b
+holds_put {A} a b page n r renewed forgotten others m none = elim (cases_eq m n) [
+  | inl same ↦ subst (λ (k : ℕ). page_at b.cached k ≡ None) (sym same) (by_result r renewed forgotten (subst (λ (k : ℕ). page_at a.cached k ≡ None) same none))
+  | inr other ↦ others m other ∙ none
+]
+  where
+    by_result : (q : Result A StoreFault) → OnOk q (page_at b.cached n ≡ option_map (λ _. page) (page_at a.cached n)) → OnErr q (page_at b.cached n ≡ None)
+        → page_at a.cached n ≡ None → page_at b.cached n ≡ None
+    by_result (Ok x) renewed forgotten none = renewed ∙ ap (option_map (λ _. page)) none
+    by_result (Err e) renewed forgotten none = forgotten
+
+pub holds_same : (a b : PagerView) → b.cached ≡ a.cached → HoldsNoMore a b
+holds_same a b same m none = ap (λ (pages : List (ℕ × List ℕ)). page_at pages m) same ∙ none
+
 -- ---- pagers
 
 pub adds_self : (a : PagerView) → AddsPages a a
-adds_self a = record { same = refl; grows = grows_self a.store }
+adds_self a = record { same = refl; grows = grows_self a.store; held = λ m none. none }
 
 pub store_same : (a b : PagerView) → AddsPages a b → b.store ≡ written a.store b.store
 store_same a b h = ap (λ (v : PagerView). v.store) h.same
@@ -169,6 +203,7 @@ pub adds_trans : (a b c : PagerView) → AddsPages a b → AddsPages b c → Add
 adds_trans a b c g h = record {
   same = h.same ∙ ap (λ (v : PagerView). record v { store = written v.store c.store; cached = c.cached }) g.same;
   grows = grows_trans a.store b.store c.store (honest_after a b g) g.grows h.grows;
+  held = λ m none. h.held m (g.held m none);
 }
 
 pager_same : (a b : PagerView) → SameTrace a b → b.store ≡ written a.store b.store → b ≡ record a { store = written a.store b.store; cached = b.cached }
@@ -176,9 +211,9 @@ pager_same a b trace is =
     ap (λ (s : StoreFacts). record b { store = s }) is ∙ ap (λ (t : Trace). record a { store = written a.store b.store; trace = t; cached = b.cached }) trace
 
 -- a page of the store was brought
-pub brought : {A : Type 0} (a b : PagerView) (r : Result A StoreFault) → SameTrace a b → Reads a.store b.store r
+pub brought : {A : Type 0} (a b : PagerView) (r : Result A StoreFault) → SameTrace a b → Reads a.store b.store r → HoldsNoMore a b
     → AddsPages a b × Counts r a.store b.store × (b.store.pages ≡ a.store.pages)
-brought {A} a b r trace reads =
+brought {A} a b r trace reads held =
     let pages : b.store.pages ≡ a.store.pages = ap (λ (s : StoreFacts). s.pages) reads.same in
     let synced : b.store.synced ≡ a.store.synced = ap (λ (s : StoreFacts). s.synced) reads.same in
     let failed : counted r a.store.failed_reads ≡ b.store.failed_reads = sym (ap (λ (s : StoreFacts). s.failed_reads) reads.same) in
@@ -195,26 +230,43 @@ brought {A} a b r trace reads =
           kept = λ honest m less. ap (λ (p : List (List ℕ)). slice_get p m) pages;
           lasting = λ honest. inl synced;
         };
+        held = held;
       },
       counts_read a.store b.store r reads,
       pages,
     )
 
+-- and forgotten
+pub read_once : {A : Type 0} (a b c : PagerView) (n : ℕ) (r : Result A StoreFault) → SameTrace a b → Reads a.store b.store r → NoneMoreBut n a.cached b.cached
+    → c ≡ record b { cached = c.cached } → page_at c.cached n ≡ None → SameBut n b.cached c.cached
+    → AddsPages a c × Counts r a.store c.store × (c.store.pages ≡ a.store.pages)
+read_once a b c n r trace reads less same gone others =
+    brought a c r (ap (λ (v : PagerView). v.trace) same ∙ trace) (subst (λ (s : StoreFacts). Reads a.store s r) (sym (ap (λ (v : PagerView). v.store) same)) reads)
+    (holds_forgotten a b c n less gone others)
+
 -- a page of zeros was added
-pub page_begun : {A : Type 0} (a b : PagerView) (r : Result A StoreFault) → SameTrace a b → Extends a.store b.store r → AddsPages a b × Counts r a.store b.store
-page_begun a b r trace e =
-    (record { same = pager_same a b trace (written_of a.store b.store r e.frame); grows = extended a.store b.store r e }, counts_of a.store b.store r e.frame)
+pub page_begun : {A : Type 0} (a b : PagerView) (r : Result A StoreFault) → SameTrace a b → b.cached ≡ a.cached → Extends a.store b.store r
+    → AddsPages a b × Counts r a.store b.store
+page_begun a b r trace same e = (
+  record {
+    same = pager_same a b trace (written_of a.store b.store r e.frame);
+    grows = extended a.store b.store r e;
+    held = holds_same a b same;
+  },
+  counts_of a.store b.store r e.frame,
+)
 
 -- and another one put in its place
-pub page_added : {A : Type 0} (a b c : PagerView) (page : List ℕ) (n : ℕ) (r : Result A StoreFault) → n ≡ page_count a.store → SameTrace a b → Extends {A = ℕ} a.store b.store (Ok n)
-    → SameTrace b c → WritesAt n page b.store c.store r → AddsPages a c × Counts r a.store c.store × OnOk r (Appends page a.store c.store)
-page_added {A} a b c page n r is trace e trace_on w =
-    let begun = page_begun a b (Ok n) trace e in
+pub page_added : {A : Type 0} (a b c : PagerView) (page : List ℕ) (n : ℕ) (r : Result A StoreFault) → n ≡ page_count a.store → SameTrace a b → b.cached ≡ a.cached
+    → Extends {A = ℕ} a.store b.store (Ok n) → SameTrace b c → WritesAt n page b.store c.store r → HoldsNoMore b c → AddsPages a c × Counts r a.store c.store × OnOk r (Appends page a.store c.store)
+page_added {A} a b c page n r is trace same e trace_on w held =
+    let begun = page_begun a b (Ok n) trace same e in
     let still = honest_after a b begun.0 in
     let both = written_trans a.store b.store c.store (store_same a b begun.0) (written_of b.store c.store r w.frame) in (
       record {
         same = pager_same a c (trace_on ∙ trace) both;
         grows = put_after a.store b.store c.store page n r still begun.0.grows (omega arith) w;
+        held = λ m none. held m (begun.0.held m none);
       },
       counts_after a.store b.store c.store r begun.1 (counts_of b.store c.store r w.frame),
       by_result r w.written,
@@ -223,9 +275,9 @@ page_added {A} a b c page n r is trace e trace_on w =
     by_result : (q : Result A StoreFault) → OnOk q (IsHonest b.store → c.store.pages ≡ slice_set b.store.pages n page) → OnOk q (Appends page a.store c.store)
     by_result (Err x) h = tt
     by_result (Ok x) h = (
-      (let more = e.added.0 in let same = w.count in omega arith),
+      (let more = e.added.0 in let count = w.count in omega arith),
       λ honest.
-          let still = honest_after a b (page_begun a b (Ok n) trace e).0 honest in
+          let still = honest_after a b (page_begun a b (Ok n) trace same e).0 honest in
           h still ∙ ap (λ (pages : List (List ℕ)). slice_set pages n page) (e.added.1 honest)
           ∙ ap (λ (k : ℕ). slice_set (a.store.pages ++ zero_page ∷ []) k page) is ∙ set_last a.store.pages zero_page page,
     )

@@ -1,6 +1,7 @@
 -- What is left of the two stores where pages are brought over from the old one to the new one.
-use Rattle.std.specs.Prelude.{◌≡◌, ◌⊎◌, ℕ, Result, Err}
+use Rattle.std.specs.Prelude.{◌≡◌, ◌⊎◌, ℕ, None, Result, Err}
 use Rattle.ub_directory.specs.Writing.{Grows}
+use Rattle.ub_store.specs.Cache.{page_at}
 use Rattle.ub_store.specs.Facts.{StoreFacts, raised}
 use Rattle.ub_store.specs.View.{PagerView}
 use Rattle.ub_store.specs.declared.fault.StoreFault.{StoreFault}
@@ -27,10 +28,15 @@ Counts _ old new = HasNotFailed old new
 abbrev pub written : StoreFacts → StoreFacts → StoreFacts
 written old new = record old { pages = new.pages; synced = new.synced; failed_reads = new.failed_reads; failed_writes = new.failed_writes }
 
--- the store of a pager has got pages, or none, and its other ones are as they were; no page is noted
+-- under no number a page is held where none was
+abbrev pub HoldsNoMore : PagerView → PagerView → Type 0
+HoldsNoMore old new = (m : ℕ) → page_at old.cached m ≡ None → page_at new.cached m ≡ None
+
+-- the store of a pager has got pages, or none, and its other ones are as they were; no page is noted, and none held more
 pub record AddsPages (old new : PagerView) : Type 0 where
   pub same : new ≡ record old { store = written old.store new.store; cached = new.cached }
   pub grows : Grows old.store new.store
+  pub held : HoldsNoMore old new
 
 -- the count of failed reads of the old store after a call with this result: its device's fault raises it by one
 abbrev pub counted_old : {A : Type 0} → Result A UpgradeFault → ℕ → ℕ
@@ -43,9 +49,11 @@ CountsNew (Err (New store.Device)) old new = HasFailedOnce old new
 CountsNew _ old new = HasNotFailed old new
 
 -- a call with this result that brings pages over from one store to that of a pager: of the first nothing changes but, at its
--- device's fault, the count of failed reads; the pages that the second one had are as they were, and others may stand after them
+-- device's fault, the count of failed reads; the pages that the second one had are as they were, and others may stand after them;
+-- the pager holds no page more
 pub record BringsOver {A : Type 0} (from from_then : StoreFacts) (old new : PagerView) (result : Result A UpgradeFault) : Type 0 where
   pub read : from_then ≡ record from { failed_reads = counted_old result from.failed_reads }
   pub same : new ≡ record old { store = written old.store new.store; cached = new.cached }
   pub counts : CountsNew result old.store new.store
   pub grows : Grows old.store new.store
+  pub held : HoldsNoMore old new

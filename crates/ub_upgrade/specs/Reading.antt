@@ -1,5 +1,5 @@
 -- Reading a directory of format 1: which pages are one, what is read of them, and why they are refused.
-use Rattle.std.specs.Prelude.{◌≡◌, ◌≤◌, ◌<◌, ◌-◌, ◌^◌, ◌↔◌, ◌⊎◌, ◌++◌, ℕ, min, All, IsTrue, List, [], ◌∷◌, Some, length, take, drop, slice_get, slice_index_or, Option, None}
+use Rattle.std.specs.Prelude.{◌≡◌, ◌≤◌, ◌<◌, ◌-◌, ◌^◌, ◌↔◌, ◌⊎◌, ◌++◌, ℕ, min, IsTrue, List, [], ◌∷◌, Some, length, take, drop, slice_get, slice_index_or, Option, None}
 use Rattle.std.specs.List.{AllByRecursion}
 use Rattle.ub_page.specs.declared.entries.TheConstants.{MAX_ENTRIES}
 use Rattle.ub_zaddr.specs.Address.{last_address}

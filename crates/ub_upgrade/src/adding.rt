@@ -44,7 +44,8 @@ pub fn add_index_page<S: PageStore>(
     add_page(pager, draft.page())
 }
 
-// The entry that names the page of this number, which there is: with the key that stands where its first one is.
+// The entry that names the page of this number, which there is: with the key that stands where its first one is. The page, which
+// nothing has checked, isn't held any more then.
 fn read_name<S: PageStore>(pager: &mut Pager<S>, n: u32) -> Result<Entry, StoreFault>
     requires { n < page_count pager.old.store }
     ensures name { IsHonest pager.old.store
@@ -55,10 +56,9 @@ fn read_name<S: PageStore>(pager: &mut Pager<S>, n: u32) -> Result<Entry, StoreF
     ensures refused { IfErr result (IsGrowFault 0 pager.old.store) }
 {
     pager.bring(n)?;
-    Ok(Entry {
-        first: read_key(pager.cached(n), 16),
-        page: n,
-    })
+    let first = read_key(pager.cached(n), 16);
+    pager.forget(n);
+    Ok(Entry { first, page: n })
 }
 
 // Puts the entries that name so many pages, from this one on, before the others.

@@ -1,6 +1,12 @@
 -- Which pages a call puts.
-use Rattle.std.specs.Prelude.{◌≡◌, ◌≢◌, ◌<◌, ℕ, List, Some, slice_get}
+use Rattle.std.specs.Prelude.{◌≡◌, ◌≢◌, ◌<◌, ◌⊎◌, ℕ, List, Some, Contains, slice_get}
+use Rattle.ub_page.specs.Header.{IsHeader, header_page}
+use Rattle.ub_page.specs.declared.header.Header.{Header}
 use Rattle.ub_store.specs.Facts.{StoreFacts, IsHonest, page_count}
+
+-- one of these pages, or one that spells a header
+abbrev pub IsPutPage : List (List ℕ) → List ℕ → Type 0
+IsPutPage pages page = Contains pages page ⊎ ((header : Header) × IsHeader header × (page ≡ header_page header))
 
 -- this page stands at the number now, and the others but the first are as they were
 pub record Puts (n : ℕ) (page : List ℕ) (old new : StoreFacts) : Type 0 where

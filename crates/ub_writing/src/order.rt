@@ -11,6 +11,7 @@
 ghost use Rattle.std.specs.Prelude.{◌≡◌, ◌⊎◌, ◌<◌, ◌≤◌, [], ◌∷◌, false, IfErr, OnOk, OnErr, IsErrOf};
 ghost use Rattle.ub_page.specs.Header.{AreInRange, IsHeader, header_page, numbers_of};
 ghost use Rattle.ub_page.specs.Region.{region_on, region_page};
+ghost use Rattle.ub_store.specs.Cache.{Renews};
 ghost use Rattle.ub_store.specs.Facts.{page_count, IsHonest, WritesAt};
 ghost use Rattle.ub_store.specs.View.{SameTrace};
 ghost use Rattle.ub_directory.specs.Writing.{WritesStore, put_store};
@@ -18,7 +19,7 @@ ghost use Rattle.ub_writing.specs.Closing.{IsClosed, IsSaveFault, IsSaved, IsUnc
 ghost use Rattle.ub_writing.specs.Creation.{IsLaidOut, IsLayoutFault, IsUncreated, empty_region};
 ghost use Rattle.ub_table.specs.declared.schema.Schema.{Schema};
 ghost use Rattle.ub_writing.specs.Marks.{HasMark, IsMarkOf, Marks};
-ghost use Rattle.ub_writing.specs.Puts.{Puts, PutsTwo};
+ghost use Rattle.ub_writing.specs.Puts.{IsPutPage, Puts, PutsTwo};
 ghost use Rattle.ub_writing.specs.declared.mark.Mark.TheVariants.{Written};
 
 use crate::header::first_header;
@@ -44,6 +45,8 @@ pub fn write_first_pages<S: PageStore>(
     ensures trace { SameTrace pager.old pager.new }
     ensures left { pager.new.store ≡ put_store result pager.old.store pager.new.store }
     ensures refused { IfErr result (IsLayoutFault pager.old.store) }
+    ensures held { Renews (IsPutPage (region_page schema.now empty_region ∷ []))
+        pager.old.cached pager.new.cached }
 {
     write_mark(pager, schema)?;
     pager.extend()?;
@@ -65,6 +68,7 @@ pub fn write_mark<S: PageStore>(pager: &mut Pager<S>, schema: &Schema) -> Result
     ensures trace { SameTrace pager.old pager.new }
     ensures left { pager.new.store ≡ put_store result pager.old.store pager.new.store }
     ensures refused { IfErr result (IsLayoutFault pager.old.store) }
+    ensures held { Renews (IsPutPage []) pager.old.cached pager.new.cached }
 {
     pager.extend()?;
     put_header(pager, &first_header(schema))
@@ -101,6 +105,8 @@ pub fn write_pages<S: PageStore>(
         ⊎ (page_count pager.old.store ≤ second.entry.0) }
     ensures faults { IfErr result (λ fault. (fault ≡ StoreFault.Device)
         ⊎ (fault ≡ StoreFault.NoPage)) }
+    ensures held { Renews (IsPutPage (first.entry.1.now ∷ second.entry.1.now ∷ []))
+        pager.old.cached pager.new.cached }
 {
     write_page(pager, mark, first.0, first.1)?;
     write_page(pager, mark, second.0, second.1)
@@ -125,6 +131,7 @@ pub fn write_page<S: PageStore>(
         ⊎ (page_count pager.old.store ≤ n) }
     ensures faults { IfErr result (λ fault. (fault ≡ StoreFault.Device)
         ⊎ (fault ≡ StoreFault.NoPage)) }
+    ensures held { Renews (IsPutPage (page.now ∷ [])) pager.old.cached pager.new.cached }
 {
     if let Mark::Due(first) = mark {
         put_header(pager, first)?;
@@ -162,6 +169,7 @@ fn put_header<S: PageStore>(pager: &mut Pager<S>, header: &Header) -> Result<(),
     ensures faults { IfErr result (λ fault. (fault ≡ StoreFault.Device)
         ⊎ (fault ≡ StoreFault.NoPage)) }
     ensures effect { WritesAt 0 (header_page header.now) pager.old.store pager.new.store result }
+    ensures held { Renews (IsPutPage []) pager.old.cached pager.new.cached }
 {
     let mut draft = Draft::new();
     write_header(header, &mut draft);

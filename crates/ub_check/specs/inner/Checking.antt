@@ -12,6 +12,7 @@ use Rattle.ub_check.specs.Checking.{Asked, StopsEach, StopsIn, TakesAll, TakesEa
 use Rattle.ub_check.specs.Numbers.{AreNew, HasJust, NumbersView}
 use Rattle.ub_check.specs.Placed.{Placed, regions_in}
 use Rattle.ub_check.specs.declared.walk.Walk.{Walk}
+use Rattle.ub_index.specs.Held.{KeepsChecked}
 use Rattle.ub_index.specs.Searching.{store_after}
 use Rattle.ub_index.specs.declared.fault.IndexFault.{IndexFault}
 use Rattle.ub_index.specs.declared.fault.IndexFault.TheVariants.{Full, Page, Store}
@@ -46,15 +47,17 @@ IsWalkFault schema last level entry end old from (Store store.NoPage) =
 IsWalkFault schema last level entry end old from (Store store.BadSize) = ⊥
 
 -- a step of a check with this result: with the device's fault the store has one failed read more, and else nothing has changed
--- but the pages that the pager holds
+-- but the pages that the pager holds, each of which was checked, if they were before
 pub record Walks {A : Type 0} (schema : Schema) (last level : ℕ) (entry : Entry) (end : Option Key) (from : Walk) (old new : PagerView)
     (result : Result A IndexFault) : Type 0 where
   pub same : new ≡ record old { store = store_after result old.store; cached = new.cached }
+  pub checked : KeepsChecked last old new
   pub faults : IfErr result (IsWalkFault schema last level entry end old.store from)
 
 -- so many of some entries of this level were walked through: what comes of the others comes of all
 pub record IsWalkedTo (schema : Schema) (last level : ℕ) (entries : List Entry) (end : Option Key) (old now : PagerView) (from to : Walk) (i : ℕ) : Type 0 where
   pub same : now ≡ record old { cached = now.cached }
+  pub checked : KeepsChecked last old now
   pub bound : to.numbers.bound ≡ from.numbers.bound
   pub goes : (count : ℕ) (before : List Placed) → IsHonest old.store → HasTaken count from before
       → (between : List Placed) × HasTaken count to between

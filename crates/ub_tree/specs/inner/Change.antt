@@ -4,7 +4,7 @@ use Rattle.std.specs.List.{AllByRecursion}
 use Rattle.ub_check.specs.Standing.{IsHeldBy}
 use Rattle.ub_directory.specs.Writing.{Grows}
 use Rattle.ub_index.specs.Changed.{Replaces}
-use Rattle.ub_index.specs.Changing.{IsOutside}
+use Rattle.ub_index.specs.Changing.{AreIndexPages, IsOutside}
 use Rattle.ub_index.specs.Filling.{KeepsFilled}
 use Rattle.ub_index.specs.Making.{IsPutFault}
 use Rattle.ub_index.specs.Preparing.{ChangeView, IsWithinSeat, MakesIndex, TakesNeeded, added_at, entry_at}
@@ -142,6 +142,8 @@ pub record IsAddReady (t : TreeView) (seat : Seat) (first : Key) (change : Chang
   pub few : change.next ≤ page_count t.store + 1 + (t.inner.index.levels + 1)
   pub needed : IsHonest t.store → TakesNeeded t.inner.index t.store seat.first change
   pub spelled : IsHonest t.store → AllByRecursion (IsSpelledAt t (page_count t.store + 1) change) change.sheets
+  pub pages : IsHonest t.store → FallsTo t seat.first seat → IsWithinSeat t.inner.index.last seat.first seat.next first
+      → AreIndexPages t.inner.index.last change.sheets
   pub makes : (i : ℕ) → IsStored t → IsSeatIn t i seat → IsWithinSeat t.inner.index.last seat.first seat.next first
       → MakesIndex t.inner.index t.store (page_count t.store + 1) change
       (Replaces (entry_at seat) (entry_at seat ∷ added_at first t.store ∷ []) (entries_in t.inner.index t.store))
@@ -151,6 +153,7 @@ pub record IsAddReady (t : TreeView) (seat : Seat) (first : Key) (change : Chang
 -- what is prepared for the region of a seat that goes
 pub record IsDropReady (t : TreeView) (seat : Seat) (change : ChangeView) : Type 0 where
   pub spelled : IsHonest t.store → AllByRecursion (IsSpelledAt t (page_count t.store) change) change.sheets
+  pub pages : IsHonest t.store → AreIndexPages t.inner.index.last change.sheets
   pub next : IsHonest t.store → change.next ≡ page_count t.store
   pub makes : (i : ℕ) → IsStored t → IsSeatIn t i seat → IsBefore origin seat.first
       → MakesIndex t.inner.index t.store (page_count t.store) change (Replaces (entry_at seat) [] (entries_in t.inner.index t.store))

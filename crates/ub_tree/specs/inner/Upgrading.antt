@@ -1,8 +1,9 @@
 -- What the steps of an upgrade do.
-use Rattle.std.specs.Prelude.{◌≡◌, ℕ, List, Result, MatchResult, length, map}
+use Rattle.std.specs.Prelude.{◌≡◌, ℕ, List, None, Result, MatchResult, length, map}
 use Rattle.ub_index.specs.View.{IndexView}
 use Rattle.ub_page.specs.declared.header.OldHeader.{OldHeader}
 use Rattle.ub_region.specs.Regions.{AreRegions, rows_of}
+use Rattle.ub_store.specs.Cache.{page_at}
 use Rattle.ub_store.specs.Facts.{StoreFacts}
 use Rattle.ub_store.specs.View.{PagerView, SameTrace}
 use Rattle.ub_table.specs.declared.schema.Schema.{Schema}
@@ -20,6 +21,10 @@ root_in index = record { page = index.root; level = index.levels }
 pub record Brings {A : Type 0} (from from_now : StoreFacts) (old new : PagerView) (result : Result A TreeFault) : Type 0 where
   pub trace : SameTrace old new
   pub left : MatchResult result (λ _. HasWorked from from_now old.store new.store) (λ fault. IsLeftBy fault from from_now old.store new.store)
+
+-- a pager holds no page
+abbrev pub HoldsNone : PagerView → Type 0
+HoldsNone pager = (n : ℕ) → page_at pager.cached n ≡ None
 
 -- the new pages hold these regions of an old table: the header tells of them, an index of them stands there, and each stands on a page of
 -- its own that spells it

@@ -1,5 +1,6 @@
-use Rattle.std.proofs.Common.{Err, [], ◌≡◌, ◌≤◌, ◌<◌, ◌+◌, ◌-◌, ◌∙◌, suc, ℕ, List, Some, OnOk, drop, length, slice_get, slice_index_or, ap, arith, refl, rules, subst, sym}
+use Rattle.std.proofs.Common.{Err, ◌≡◌, ◌≤◌, ◌<◌, ◌+◌, ◌-◌, ◌∙◌, suc, ℕ, List, Some, OnOk, drop, length, slice_get, slice_index_or, ap, arith, refl, rules, subst, sym}
 use Rattle.std.proofs.lemmas.Option.{slice_get-get_or}
+use Rattle.ub_index.proofs.HeldFacts.{keeps_on}
 use Rattle.ub_index.specs.Descending.{Steps}
 use Rattle.ub_index.specs.Index.{NamesFitting, first_or}
 use Rattle.ub_page.specs.declared.entries.Entry.{Entry}
@@ -21,7 +22,7 @@ returns-in_err-entries-clause-effect g t c =
     subst (λ (n : ℕ). Walks c.args.schema.now c.args.last n c.args.entry.now c.args.end c.args.walk.now c.args.pager.now c.entries_at.new.pager c.from_residual.result) one
     (page_stops c.args.schema.now c.args.last (c.args.level - 1) c.args.entry.now c.args.end c.args.walk.now c.args.pager.now _ c.from_residual.result c.in_err-entries.field-0.0
     c.entries_at.new.pager c.from_residual.ensures.1
-    (subst (λ (n : ℕ). Steps c.args.last [] n c.args.entry.now c.args.end c.args.pager.now c.entries_at.new.pager (Err c.in_err-entries.field-0.0)) (sym one) c.in_err-entries.ensures.effect))
+    (subst (λ (n : ℕ). Steps c.args.last n c.args.entry.now c.args.end c.args.pager.now c.entries_at.new.pager (Err c.in_err-entries.field-0.0)) (sym one) c.in_err-entries.ensures.effect))
 
 pub returns-in_err-check_under-clause-effect : goal.returns-in_err-check_under-clause-effect
 returns-in_err-check_under-clause-effect g t c =
@@ -36,7 +37,7 @@ returns-in_err-check_under-clause-effect g t c =
     let next : c.first_from-next.result ≡ first_or (drop (suc i) entries) c.args.end =
     c.first_from-next.ensures ∙ (ap (λ (es : List Entry). first_or (drop (i + 1) es) c.args.end) c.as_slice.ensures.value ∙ ap (λ (j : ℕ). first_or (drop j entries) c.args.end) (sym one)) in
     subst (λ (n : ℕ). Walks c.args.schema.now c.args.last n c.args.entry.now c.args.end c.args.walk.now c.args.pager.now c.check_under.new.pager c.from_residual-in_err-check_under.result) level
-    (below_stops c.args.schema.now c.args.last (c.args.level - 1) c.args.entry.now c.args.end c.args.walk.now c.args.pager.now entries c.entries_at.new.pager c.in_ok-entries.ensures.effect.same
+    (below_stops c.args.schema.now c.args.last (c.args.level - 1) c.args.entry.now c.args.end c.args.walk.now c.args.pager.now entries c.entries_at.new.pager c.in_ok-entries.ensures.effect.same c.in_ok-entries.ensures.effect.checked
     (λ honest. subst (λ (n : ℕ). NamesFitting c.args.last c.args.pager.now.store.pages n c.args.entry.now c.args.end) (sym level) (c.in_ok-entries.ensures.named honest))
     (λ honest. c.in_ok-entries.ensures.entries honest) c.loop-i.pager c.loop-i.walk i c.index.result.now c.first_from-next.result c.loop-i.invariant at next
     c.from_residual-in_err-check_under.result c.in_err-check_under.field-0.0 c.check_under.new.pager c.from_residual-in_err-check_under.ensures.1 c.in_err-check_under.ensures.effect)
@@ -54,7 +55,7 @@ loop-i-preserved g t c =
     subst (λ (j : ℕ). IsWalkedTo c.args.schema.now c.args.last (c.args.level - 1) entries c.args.end c.entries_at.new.pager c.check_under.new.pager c.args.walk.now c.check_under.new.walk j) one
     (walked_more c.args.schema.now c.args.last (c.args.level - 1) entries c.args.end c.entries_at.new.pager c.loop-i.pager c.args.walk.now c.loop-i.walk i
     c.index.result.now c.first_from-next.result c.loop-i.invariant at next c.check_under.new.pager c.check_under.new.walk
-    c.in_ok-check_under.ensures.effect.same c.in_ok-check_under.ensures.bound c.in_ok-check_under.ensures.taken)
+    c.in_ok-check_under.ensures.effect.same c.in_ok-check_under.ensures.effect.checked c.in_ok-check_under.ensures.bound c.in_ok-check_under.ensures.taken)
 
 pub returns-clause-taken : goal.returns-clause-taken
 returns-clause-taken g t c =
@@ -63,7 +64,7 @@ returns-clause-taken g t c =
     let end : length c.in_ok-entries.entries.items ≤ c.loop-i.i = search rules in
     subst (λ (n : ℕ). TakesOn c.args.schema.now c.args.last n c.args.entry.now c.args.end c.args.pager.now.store c.args.walk.now c.loop-i.walk) one
     (page_taken c.args.schema.now c.args.last (c.args.level - 1) c.args.entry.now c.args.end c.args.walk.now c.args.pager.now c.in_ok-entries.entries.items c.entries_at.new.pager
-    c.in_ok-entries.ensures.effect.same
+    c.in_ok-entries.ensures.effect.same c.in_ok-entries.ensures.effect.checked
     (λ honest. subst (λ (n : ℕ). NamesFitting c.args.last c.args.pager.now.store.pages n c.args.entry.now c.args.end) (sym one) (c.in_ok-entries.ensures.named honest))
     (λ honest. c.in_ok-entries.ensures.entries honest) c.loop-i.pager c.loop-i.walk c.loop-i.i end c.loop-i.invariant)
 
@@ -94,4 +95,8 @@ returns-clause-bound g t c = c.loop-i.invariant.bound
 
 pub returns-clause-effect : goal.returns-clause-effect
 returns-clause-effect g t c =
-    record { same = c.loop-i.invariant.same ∙ ap (λ (p : PagerView). record p { cached = c.loop-i.pager.cached }) c.in_ok-entries.ensures.effect.same; faults = tt }
+    record {
+      same = c.loop-i.invariant.same ∙ ap (λ (p : PagerView). record p { cached = c.loop-i.pager.cached }) c.in_ok-entries.ensures.effect.same;
+      checked = keeps_on c.args.last c.args.pager.now c.entries_at.new.pager c.loop-i.pager c.in_ok-entries.ensures.effect.checked c.loop-i.invariant.checked;
+      faults = tt;
+    }

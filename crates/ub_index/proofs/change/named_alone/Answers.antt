@@ -17,7 +17,7 @@ pub returns-in-Some-clause-some : goal.returns-in-Some-clause-some
 returns-in-Some-clause-some g c = c.sole_on.ensures.some
 
 pub returns-in-Some-clause-effect : goal.returns-in-Some-clause-effect
-returns-in-Some-clause-effect g c = stepped c.args.last [] c.args.level (top c.args.root) None c.args.pager.now c.args.pager.now c.sole_on.result refl refl
+returns-in-Some-clause-effect g c = stepped c.args.last c.args.level (top c.args.root) None c.args.pager.now c.args.pager.now c.sole_on.result refl refl (λ was. was)
 
 pub returns-in_err-bring_root-clause-sole : goal.returns-in_err-bring_root-clause-sole
 returns-in_err-bring_root-clause-sole g c = λ honest. none_ok _ c.from_residual.result _ c.from_residual.ensures.1

@@ -1,8 +1,9 @@
-use Rattle.std.proofs.Common.{◌≡◌, ◌∙◌, List, ℕ, refl, subst, sym}
+use Rattle.std.proofs.Common.{◌≡◌, ◌∙◌, List, ℕ, inl, refl, subst, sym}
 use Rattle.ub_index_page.specs.Index.{head_on}
-use Rattle.ub_index.specs.Index.{Fits}
+use Rattle.ub_index.specs.Index.{Fits, IsIndexPage}
 use Rattle.ub_index.proofs.FitFacts.{page_is, same_page}
-use Rattle.ub_index.proofs.StepFacts.{forgets, held_once, names_fitting, pager_so, unbrought, unbrought_passes}
+use Rattle.ub_index.proofs.HeldFacts.{keeps_but, keeps_gone}
+use Rattle.ub_index.proofs.StepFacts.{forgets, held_once, honest_back, names_fitting, pager_so, same_honest, unbrought, unbrought_passes}
 use Rattle.ub_index.proofs.descent.bring_fitting.Goals as goal
 
 pub returns-in_err-bring-clause-exact : goal.returns-in_err-bring-clause-exact
@@ -13,7 +14,7 @@ returns-in_err-bring-clause-exact g c = λ honest named.
 pub returns-in_err-bring-clause-effect : goal.returns-in_err-bring-clause-effect
 returns-in_err-bring-clause-effect g c =
     unbrought c.args.last c.args.level c.args.place.now.entry c.args.place.now.next c.args.pager.now c.bring.new.self c.from_residual.result c.in_err-bring.field-0.0 c.from_residual.ensures.1
-    c.in_err-bring.ensures.effect c.in_err-bring.ensures.trace c.in_err-bring.ensures.others c.in_err-bring.ensures.missing c.in_err-bring.ensures.no_size
+    c.in_err-bring.ensures.effect c.in_err-bring.ensures.trace c.in_err-bring.ensures.others c.in_err-bring.ensures.missed c.in_err-bring.ensures.missing c.in_err-bring.ensures.no_size
 
 pub returns-in-Ok-clause-effect : goal.returns-in-Ok-clause-effect
 returns-in-Ok-clause-effect g c = record {
@@ -27,6 +28,10 @@ returns-in-Ok-clause-effect g c = record {
       (same_page c.args.pager.now.store c.bring.new.self.store c.args.place.now.entry.page _ c.cached.result.now c.in_ok-bring.ensures.effect.same c.cached.ensures.page honest)
       c.in-Ok.ensures.found;
   others = c.in_ok-bring.ensures.others;
+  checked = keeps_but c.args.last c.args.pager.now c.bring.new.self c.args.place.now.entry.page
+      (honest_back c.args.pager.now.store c.bring.new.self.store _ c.in_ok-bring.ensures.effect.same) c.in_ok-bring.ensures.others
+      (λ good page held. inl (subst (λ (p : List ℕ). IsIndexPage c.args.last p)
+      (held_once c.bring.new.self.cached c.args.place.now.entry.page c.cached.result.now page c.cached.ensures.held held) c.in-Ok.ensures.found.is));
   forgotten = tt;
   faults = tt;
 }
@@ -46,6 +51,9 @@ returns-in-Err-clause-effect g c = record {
   fits = tt;
   named = λ honest. tt;
   others = λ m page ne h. c.in_ok-bring.ensures.others m page ne (sym (c.forget.ensures.others m ne) ∙ h);
+  checked = keeps_gone c.args.last c.args.pager.now c.forget.new.self c.args.place.now.entry.page
+      (λ good. honest_back c.args.pager.now.store c.bring.new.self.store _ c.in_ok-bring.ensures.effect.same (same_honest c.bring.new.self c.forget.new.self c.forget.ensures.same good))
+      (λ m page ne h. c.in_ok-bring.ensures.others m page ne (sym (c.forget.ensures.others m ne) ∙ h)) c.forget.ensures.gone;
   forgotten = c.forget.ensures.gone;
   faults = (
     refl,

@@ -1,69 +1,56 @@
-use Rattle.std.proofs.Common.{Ok, ap, refl}
+use Rattle.std.proofs.Common.{◌≡◌, ◌≤◌, ap, subst, sym}
+use Rattle.ub_index_page.specs.declared.index.Head.{Head}
+use Rattle.ub_store.specs.View.{PagerView}
 use Rattle.ub_index.proofs.BehindFacts.{below_holds}
 use Rattle.ub_index.proofs.FitFacts.{falls_there, same_page}
-use Rattle.ub_index.proofs.HeldFacts.{checked_so, refused_either, step_kept, taken_so}
 use Rattle.ub_index.specs.Descending.{IsForgotten}
-use Rattle.ub_index.specs.declared.fault.IndexFault.TheVariants.{Store}
-use Rattle.ub_index.proofs.StepFacts.{bring_refused, forgets, if_err, none_ok, stepped}
+use Rattle.ub_index.proofs.StepFacts.{if_err, none_ok, page_now, refused_step, stepped_as}
 use Rattle.ub_index.proofs.descent.step_down.Goals as goal
 
-pub returns-in-Ok-clause-holds : goal.returns-in-Ok-clause-holds
-returns-in-Ok-clause-holds g c =
-    below_holds c.cached-page.result.now c.args.level c.args.key.now c.args.place.now.entry c.args.place.now.next c.in-Ok.below.entry c.in-Ok.below.next c.in-Ok.ensures.ends c.requires
-    c.in-Ok.ensures.falls
+pub cached-page-requires : goal.cached-page-requires
+cached-page-requires g c = c.in_ok-head.ensures.cached
 
-pub returns-in-Ok-clause-below : goal.returns-in-Ok-clause-below
-returns-in-Ok-clause-below g c = λ honest. record {
-  named = taken_so c.args.pager.now.store.pages c.args.pager.now.cached c.args.last c.args.level c.args.place.now.entry c.args.place.now.next c.cached-page.result.now
-      (same_page c.args.pager.now.store c.bring.new.self.store c.args.place.now.entry.page _ c.cached-page.result.now c.in_ok-is_read.ensures.effect.same c.cached-page.ensures.page honest)
-      c.in_ok-is_read.is_read
-      (λ e. c.in_ok-is_read.ensures.hit.1 (ap (λ b. Ok b) e)) c.in-Ok.ensures.fits;
-  falls = falls_there c.args.pager.now.store.pages c.args.place.now.entry.page c.cached-page.result.now c.args.key.now c.args.place.now.next c.in-Ok.below.next c.in-Ok.below.entry
-      (same_page c.args.pager.now.store c.bring.new.self.store c.args.place.now.entry.page _ c.cached-page.result.now c.in_ok-is_read.ensures.effect.same c.cached-page.ensures.page honest)
-      c.in-Ok.ensures.falls;
+pub fall-requires-clause-count : goal.fall-requires-clause-count
+fall-requires-clause-count g c = ap (λ (h : Head). h.count) (c.in_ok-head.ensures.ends c.cached-page.result.now c.cached-page.ensures.held).0
+
+pub fall-requires-clause-some : goal.fall-requires-clause-some
+fall-requires-clause-some g c =
+    let here = c.in_ok-head.ensures.ends c.cached-page.result.now c.cached-page.ensures.held in
+    subst (λ (h : Head). 1 ≤ h.count) (sym here.0) here.1.head.1
+
+pub fall-requires-clause-few : goal.fall-requires-clause-few
+fall-requires-clause-few g c =
+    let here = c.in_ok-head.ensures.ends c.cached-page.result.now c.cached-page.ensures.held in
+    subst (λ (h : Head). h.count ≤ 170) (sym here.0) here.1.head.2
+
+pub returns-clause-holds : goal.returns-clause-holds
+returns-clause-holds g c =
+    below_holds c.cached-page.result.now c.args.level c.args.key.now c.args.place.now.entry c.args.place.now.next c.fall.result.entry c.fall.result.next
+    (c.in_ok-head.ensures.ends c.cached-page.result.now c.cached-page.ensures.held).1 c.requires c.fall.ensures
+
+pub returns-clause-below : goal.returns-clause-below
+returns-clause-below g c = λ honest sure. record {
+  named = c.in_ok-head.ensures.named honest sure;
+  falls = falls_there c.args.pager.now.store.pages c.args.place.now.entry.page c.cached-page.result.now c.args.key.now c.args.place.now.next c.fall.result.next c.fall.result.entry
+      (page_now c.args.pager.now c.bring_next.new.pager c.args.place.now.entry.page c.cached-page.result.now (ap (λ (p : PagerView). p.store) c.in_ok-head.ensures.steps.same)
+      c.cached-page.ensures.page honest) c.fall.ensures;
 }
 
-pub returns-in-Ok-clause-checked : goal.returns-in-Ok-clause-checked
-returns-in-Ok-clause-checked g c = λ honest.
-    step_kept c.args.last c.args.pager.now c.bring.new.self c.args.place.now.entry.page c.in_ok-is_read.ensures.others
-    (checked_so c.args.pager.now.store.pages c.args.pager.now.cached c.args.last c.args.level c.args.place.now.entry c.args.place.now.next c.cached-page.result.now
-    (same_page c.args.pager.now.store c.bring.new.self.store c.args.place.now.entry.page _ c.cached-page.result.now c.in_ok-is_read.ensures.effect.same c.cached-page.ensures.page honest)
-    c.in_ok-is_read.is_read
-    (λ e. c.in_ok-is_read.ensures.hit.1 (ap (λ b. Ok b) e)) c.in-Ok.ensures.fits)
+pub returns-clause-effect : goal.returns-clause-effect
+returns-clause-effect g c =
+    stepped_as c.args.last c.args.level c.args.place.now.entry c.args.place.now.next c.args.pager.now c.bring_next.new.pager c.in_ok-head.head c.fall.result c.in_ok-head.ensures.steps
 
-pub returns-in-Err-clause-effect : goal.returns-in-Err-clause-effect
-returns-in-Err-clause-effect g c = record {
-  same = forgets c.args.pager.now c.bring.new.self c.forget.new.self c.in_ok-is_read.ensures.effect.same c.in_ok-is_read.ensures.trace c.forget.ensures.same;
-  faults = (
-    refl,
-    λ honest.
-        refused_either c.args.pager.now.store.pages c.args.pager.now.cached c.args.last c.args.level c.args.place.now.entry c.args.place.now.next c.cached-page.result.now
-        (same_page c.args.pager.now.store c.bring.new.self.store c.args.place.now.entry.page _ c.cached-page.result.now c.in_ok-is_read.ensures.effect.same c.cached-page.ensures.page honest)
-        c.in_ok-is_read.is_read c.in-Err.fault
-        (λ e. c.in_ok-is_read.ensures.hit.1 (ap (λ b. Ok b) e)) c.in-Err.ensures.refused,
-  );
-}
+pub returns-in_err-head-clause-holds : goal.returns-in_err-head-clause-holds
+returns-in_err-head-clause-holds g c = none_ok _ c.from_residual.result _ c.from_residual.ensures.1
 
-pub returns-in_err-is_read-clause-holds : goal.returns-in_err-is_read-clause-holds
-returns-in_err-is_read-clause-holds g c = none_ok _ c.from_residual.result _ c.from_residual.ensures.1
+pub returns-in_err-head-clause-below : goal.returns-in_err-head-clause-below
+returns-in_err-head-clause-below g c = λ honest sure. none_ok _ c.from_residual.result _ c.from_residual.ensures.1
 
-pub returns-in_err-is_read-clause-below : goal.returns-in_err-is_read-clause-below
-returns-in_err-is_read-clause-below g c = λ honest. none_ok _ c.from_residual.result _ c.from_residual.ensures.1
+pub returns-in_err-head-clause-forgotten : goal.returns-in_err-head-clause-forgotten
+returns-in_err-head-clause-forgotten g c =
+    if_err (IsForgotten c.bring_next.new.pager) c.from_residual.result c.in_err-head.field-0.0 c.from_residual.ensures.1 c.in_err-head.ensures.forgotten
 
-pub returns-in_err-is_read-clause-checked : goal.returns-in_err-is_read-clause-checked
-returns-in_err-is_read-clause-checked g c = λ honest. none_ok _ c.from_residual.result _ c.from_residual.ensures.1
-
-pub returns-in_err-is_read-clause-forgotten : goal.returns-in_err-is_read-clause-forgotten
-returns-in_err-is_read-clause-forgotten g c = if_err (IsForgotten c.bring.new.self) c.from_residual.result (Store c.in_err-is_read.field-0.0) c.from_residual.ensures.1 tt
-
-pub returns-in_err-is_read-clause-effect : goal.returns-in_err-is_read-clause-effect
-returns-in_err-is_read-clause-effect g c =
-    bring_refused c.args.last c.args.pager.now.cached c.args.level c.args.place.now.entry c.args.place.now.next c.args.pager.now c.bring.new.self c.from_residual.result c.in_err-is_read.field-0.0 c.from_residual.ensures.1
-    c.in_err-is_read.ensures.effect c.in_err-is_read.ensures.trace c.in_err-is_read.ensures.missing c.in_err-is_read.ensures.no_size
-
-pub returns-in-Ok-clause-effect : goal.returns-in-Ok-clause-effect
-returns-in-Ok-clause-effect g c =
-    stepped c.args.last c.args.pager.now.cached c.args.level c.args.place.now.entry c.args.place.now.next c.args.pager.now c.bring.new.self c.in-Ok.below c.in_ok-is_read.ensures.effect.same c.in_ok-is_read.ensures.trace
-
-pub returns-in-Err-clause-forgotten : goal.returns-in-Err-clause-forgotten
-returns-in-Err-clause-forgotten g c = c.forget.ensures.gone
+pub returns-in_err-head-clause-effect : goal.returns-in_err-head-clause-effect
+returns-in_err-head-clause-effect g c =
+    refused_step c.args.last c.args.level c.args.place.now.entry c.args.place.now.next c.args.pager.now c.bring_next.new.pager c.from_residual.result c.in_err-head.field-0.0
+    c.from_residual.ensures.1 c.in_err-head.ensures.steps

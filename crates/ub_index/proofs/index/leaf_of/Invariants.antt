@@ -1,5 +1,6 @@
 use Rattle.std.proofs.Common.{◌≡◌, ◌≤◌}
-use Rattle.ub_index.specs.Descending.{HoldsLeaf, KeepsChecked, LeadsDown}
+use Rattle.ub_index.specs.Descending.{HoldsLeaf, LeadsDown}
+use Rattle.ub_index.specs.Held.{AreChecked, KeepsChecked}
 use Rattle.ub_index.specs.View.{index_view}
 use Rattle.ub_store.specs.Facts.{IsHonest}
 use Rattle.ub_index.proofs.index.leaf_of.Given as goal
@@ -10,8 +11,8 @@ invariant-loop-level g l = record {
   store : l.pager.store ≡ l.initial.pager.store;
   trace : l.pager.trace ≡ l.initial.pager.trace;
   holds : HoldsLeaf l.fn.key l.leaf;
-  kept : IsHonest l.initial.pager.store → KeepsChecked l.fn.last l.initial.pager l.pager;
-  down : IsHonest l.initial.pager.store → LeadsDown (index_view l.fn.root l.fn.levels l.fn.last) l.initial.pager l.fn.key l.level l.leaf;
+  kept : KeepsChecked l.fn.last l.initial.pager l.pager;
+  down : IsHonest l.initial.pager.store → AreChecked l.fn.last l.initial.pager → LeadsDown (index_view l.fn.root l.fn.levels l.fn.last) l.initial.pager.store l.fn.key l.level l.leaf;
 }
 
 abbrev pub decreases-loop-level : goal.decreases-loop-level

@@ -5,8 +5,8 @@ use Rattle.ub_index.specs.declared.turning.Opened.{Opened}
 use Rattle.ub_page.specs.declared.entries.Entry.{Entry}
 use Rattle.ub_store.specs.Facts.{StoreFacts, IsHonest}
 use Rattle.ub_store.specs.View.{PagerView}
-use Rattle.ub_index.proofs.HeldFacts.{taken_of}
 use Rattle.ub_index.proofs.ClimbFacts.{below_refused, mend_refused, open_refused, turned_so, turns_on}
+use Rattle.ub_index.proofs.HeldFacts.{keeps_on}
 use Rattle.ub_index.proofs.SpreadFacts.{mend_next}
 use Rattle.ub_index.proofs.StepFacts.{if_err, none_ok, pager_so, step_no_growth}
 use Rattle.ub_index.proofs.turning.+turn.Goals as goal
@@ -20,8 +20,8 @@ pub returns-in_err-news-clause-effect : goal.returns-in_err-news-clause-effect
 returns-in_err-news-clause-effect g t c =
     below_refused Told Told c.args.last c.args.level c.args.aim.now.key c.args.place.now.entry c.in_ok-opened.opened.below.entry c.args.place.now.next c.in_ok-opened.opened.below.next
     c.args.sheets.now.next c.args.pager.now c.open.new.pager c.turn.new.pager c.from_residual-in_err-news.result c.in_err-news.field-0.0 (omega (arith, c.if-level-eq0.false))
-    (ap (λ (p : PagerView). p.store) c.in_ok-opened.ensures.effect.same) (ap (λ (p : PagerView). p.trace) c.in_ok-opened.ensures.effect.same)
-    (λ honest. let o = c.in_ok-opened.ensures.opened honest in record { named = taken_of c.args.last c.args.pager.now.store.pages [] c.args.level c.args.place.now.entry c.args.place.now.next o.named; falls = o.falls })
+    (ap (λ (p : PagerView). p.store) c.in_ok-opened.ensures.effect.same) (ap (λ (p : PagerView). p.trace) c.in_ok-opened.ensures.effect.same) c.in_ok-opened.ensures.effect.checked
+    (λ honest. let o = c.in_ok-opened.ensures.opened honest in record { named = o.named; falls = o.falls })
     c.from_residual-in_err-news.ensures.1 c.in_err-news.ensures.effect
 
 pub returns-clause-turned : goal.returns-clause-turned
@@ -53,6 +53,7 @@ returns-clause-effect g t c =
     (pager_so c.args.pager.now c.turn.new.pager c.args.pager.now.store
     (ap (λ (p : PagerView). p.store) c.in_ok-news.ensures.effect.same ∙ ap (λ (p : PagerView). p.store) c.in_ok-opened.ensures.effect.same)
     (ap (λ (p : PagerView). p.trace) c.in_ok-news.ensures.effect.same ∙ ap (λ (p : PagerView). p.trace) c.in_ok-opened.ensures.effect.same))
+    (keeps_on c.args.last c.args.pager.now c.open.new.pager c.turn.new.pager c.in_ok-opened.ensures.effect.checked c.in_ok-news.ensures.effect.checked)
     c.mend.ensures.refused c.mend.ensures.narrow
     (subst (λ (xs : List Entry). length c.in_ok-opened.opened.before.items + length xs + 2 ≤ 170 → NeedsNoGrowth c.mend.result) c.deref.ensures.value c.mend.ensures.fits)
 
@@ -75,7 +76,7 @@ pub returns-in_err-opened-clause-narrow : goal.returns-in_err-opened-clause-narr
 returns-in_err-opened-clause-narrow g t c = λ none. (
   none_ok IsAtMostOne c.from_residual.result _ c.from_residual.ensures.1,
   if_err IsNoGrowth c.from_residual.result c.in_err-opened.field-0.0 c.from_residual.ensures.1
-      (step_no_growth c.args.last c.args.pager.now.store [] c.args.level c.args.place.now.entry c.args.place.now.next c.in_err-opened.field-0.0 c.in_err-opened.ensures.effect.faults),
+      (step_no_growth c.args.last c.args.pager.now.store c.args.level c.args.place.now.entry c.args.place.now.next c.in_err-opened.field-0.0 c.in_err-opened.ensures.effect.faults),
 )
 
 pub returns-in_err-news-clause-turned : goal.returns-in_err-news-clause-turned

@@ -15,9 +15,6 @@ opened_at-requires-clause-few g c =
     let fits = c.in_ok-head.ensures.effect.fits c.cached-page.result.now c.cached-page.ensures.held in
     few_count c.cached-page.result.now c.args.last c.args.level c.in_ok-head.head.count c.args.place.now.entry c.args.place.now.next (ap (λ (h : Head). h.count) fits.0) fits.1.is.is
 
-pub opened_at-requires-clause-rows : goal.opened_at-requires-clause-rows
-opened_at-requires-clause-rows g c = (c.args.last, (c.in_ok-head.ensures.effect.fits c.cached-page.result.now c.cached-page.ensures.held).1.is.is.entries)
-
 pub returns-clause-opened : goal.returns-clause-opened
 returns-clause-opened g c = λ honest.
     opens_page c.args.pager.now.store.pages c.args.last c.args.key.now c.args.level c.args.place.now.entry c.args.place.now.next

@@ -3,7 +3,7 @@ use Rattle.ub_index_page.specs.Index.{node_on}
 use Rattle.ub_index_page.proofs.Laws.{length-node_on}
 use Rattle.ub_page.specs.Entries.{entries_on}
 use Rattle.ub_page.specs.declared.entries.Entry.{Entry}
-use Rattle.ub_index.proofs.FitFacts.{falls_around, names_some}
+use Rattle.ub_index.proofs.FitFacts.{falls_around}
 use Rattle.ub_index.proofs.turning.opened_at.Goals as goal
 
 pub around-requires-clause-within : goal.around-requires-clause-within
@@ -21,4 +21,3 @@ returns-clause-falls c =
     c.slot_in-slot.ensures c.first_after.ensures
     (c.in_ok-before.ensures.before ∙ ap (λ (xs : List Entry). take c.slot_in-slot.result xs) all)
     (c.in_ok-before.ensures.after ∙ ap (λ (xs : List Entry). drop (c.slot_in-slot.result + 1) xs) all)
-    (names_some c.requires.rows.0 c.args.page.now c.slot_in-slot.result (omega (arith, c.slot_in-slot.ensures.within, c.requires.count)) c.requires.rows.1)

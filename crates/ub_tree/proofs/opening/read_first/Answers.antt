@@ -1,8 +1,12 @@
-use Rattle.std.proofs.Common.{◌<◌, Bool, arith}
+use Rattle.std.proofs.Common.{◌<◌, Bool, List, inl, ℕ, arith, refl, subst, sym}
+use Rattle.ub_check.proofs.StandingFacts.{page_still}
+use Rattle.ub_index.proofs.StepFacts.{pager_so}
+use Rattle.ub_index_page.specs.Index.{IsIndexKind}
+use Rattle.ub_tree.proofs.HeldFacts.{header_no_kind, kind_checked}
 use Rattle.std.proofs.lemmas.Option.{slice_get_within}
 use Rattle.ub_page.specs.Header.{header_page}
 use Rattle.ub_store.specs.Facts.{page_count}
-use Rattle.ub_tree.proofs.EffectFacts.{refused_all}
+use Rattle.ub_tree.proofs.EffectFacts.{refused_all, refused_none}
 use Rattle.ub_tree.proofs.ReadingFacts.{passing_there}
 use Rattle.ub_tree.proofs.opening.read_first.Goals as goal
 
@@ -18,3 +22,17 @@ returns-in_err-bring-clause-exact g c = λ header honest rooted.
     let past = c.in_err-bring.ensures.missing no_page in
     omega arith)
     c.in_err-bring.ensures.no_size
+
+pub returns-in_err-bring-clause-checked : goal.returns-in_err-bring-clause-checked
+returns-in_err-bring-clause-checked g c = λ last. refused_none _ c.from_residual.result _ c.from_residual.ensures.1
+
+pub returns-in-Ok-clause-checked : goal.returns-in-Ok-clause-checked
+returns-in-Ok-clause-checked g c = λ last.
+    kind_checked last 0 c.args.pager.now c.bring.new.self _ c.in_ok-bring.ensures.effect.same c.in_ok-bring.ensures.others c.cached.result.now c.cached.ensures.held
+    (subst (λ (p : List ℕ). ¬ (IsIndexKind p)) (sym c.in-Ok.ensures.found.2) (header_no_kind c.in-Ok.header))
+
+pub returns-in-Err-clause-effect : goal.returns-in-Err-clause-effect
+returns-in-Err-clause-effect g c = record {
+  same = pager_so c.args.pager.now c.bring.new.self c.args.pager.now.store c.in_ok-bring.ensures.effect.same c.in_ok-bring.ensures.trace;
+  faults = (c.cached.result.now, page_still _ _ _ _ _ c.in_ok-bring.ensures.effect c.cached.ensures.page, inl (refl, c.in-Err.ensures.refused));
+}

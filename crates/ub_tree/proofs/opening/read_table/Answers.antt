@@ -1,6 +1,8 @@
-use Rattle.std.proofs.Common.{◌∙◌, Err, ℕ, ap, subst}
+use Rattle.std.proofs.Common.{◌∙◌, Err, ℕ, ap, subst, sym}
+use Rattle.ub_index.proofs.HeldFacts.{keeps_on}
+use Rattle.ub_index.specs.Held.{KeepsChecked}
 use Rattle.ub_index.specs.Opening.{IsPassing, IsRooted, Opens}
-use Rattle.ub_index.specs.View.{index_view}
+use Rattle.ub_index.specs.View.{IndexView, index_view}
 use Rattle.ub_index.specs.declared.index.Index.{Index}
 use Rattle.ub_store.specs.Facts.{IsHonest}
 use Rattle.ub_tree.proofs.OpeningFacts.{root_passes, root_refused}
@@ -24,3 +26,11 @@ returns-in_err-index-clause-effect g c =
     (c.last-last.ensures ∙ ap last_address c.shape.ensures) c.in_err-index.ensures.effect in
     root_refused c.args.pager.now mid c.open.new.pager h c.in_ok-header.ensures.effect c.in_ok-header.ensures.header c.in_err-index.field-0.0 Index c.from_residual-in_err-index.result
     c.from_residual-in_err-index.ensures.1 effect
+
+pub returns-clause-checked : goal.returns-clause-checked
+returns-clause-checked g c =
+    let h = c.in_ok-header.header in
+    let mid = c.read_first.new.pager in
+    let last = ap (λ (v : IndexView). v.last) c.in_ok-index.ensures.index in
+    subst (λ (n : ℕ). KeepsChecked n c.args.pager.now c.open.new.pager) (sym last)
+    (keeps_on c.last-last.result c.args.pager.now mid c.open.new.pager (c.in_ok-header.ensures.checked c.last-last.result) c.in_ok-index.ensures.effect.checked)

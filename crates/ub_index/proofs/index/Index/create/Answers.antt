@@ -1,6 +1,10 @@
-use Rattle.std.proofs.Common.{◌≡◌, arith, rules, subst, sym}
+use Rattle.std.proofs.Common.{◌≡◌, List, ℕ, ap, arith, inl, inr, rules, subst, sym}
 use Rattle.ub_index.specs.Opening.{IsAlone, root_page}
 use Rattle.ub_index.specs.View.{IndexView}
+use Rattle.ub_index.specs.Index.{IsIndexPage}
+use Rattle.ub_store.specs.Facts.{StoreFacts}
+use Rattle.ub_index.proofs.PutFacts.{put_checked}
+use Rattle.ub_index.proofs.SheetFacts.{root_page_is}
 use Rattle.ub_index.proofs.StandFacts.{made_alone}
 use Rattle.ub_index.proofs.index.Index.create.Goals as goal
 
@@ -10,3 +14,17 @@ returns-clause-stands g c = λ honest some_root some.
     subst (λ (index : IndexView). IsAlone index c.args.page c.put.new.self.store) (sym c.new.ensures)
     (made_alone c.args.root c.args.page c.args.last c.page.result.now c.args.pager.now.store c.put.new.self.store (omega arith) (omega arith) honest c.in_ok-put.ensures.there
     c.in_ok-put.ensures.effect page_is some_root some)
+
+pub returns-clause-checked : goal.returns-clause-checked
+returns-clause-checked g c = λ some.
+    let page_is : c.page.result.now ≡ root_page c.args.page = search rules in
+    put_checked c.args.last c.args.root c.page.result.now c.args.pager.now c.put.new.self (ap (λ (s : StoreFacts). s.honest) c.in_ok-put.ensures.effect.frame)
+    (subst (λ (p : List ℕ). IsIndexPage c.args.last p) (sym page_is) (root_page_is c.args.last c.args.page (omega arith) some (omega arith)))
+    (inl c.in_ok-put.ensures.renewed) c.in_ok-put.ensures.others
+
+pub returns-in_err-put-clause-checked : goal.returns-in_err-put-clause-checked
+returns-in_err-put-clause-checked g c = λ some.
+    let page_is : c.page.result.now ≡ root_page c.args.page = search rules in
+    put_checked c.args.last c.args.root c.page.result.now c.args.pager.now c.put.new.self (ap (λ (s : StoreFacts). s.honest) c.in_err-put.ensures.effect.frame)
+    (subst (λ (p : List ℕ). IsIndexPage c.args.last p) (sym page_is) (root_page_is c.args.last c.args.page (omega arith) some (omega arith)))
+    (inr c.in_err-put.ensures.forgotten) c.in_err-put.ensures.others

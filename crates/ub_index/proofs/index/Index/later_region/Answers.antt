@@ -1,4 +1,4 @@
-use Rattle.std.proofs.Common.{◌∙◌, ℕ, Option, inr, ap, refl, subst, sym}
+use Rattle.std.proofs.Common.{◌∙◌, ℕ, Option, ap, subst, sym}
 use Rattle.std.specs.Option.{option_copied}
 use Rattle.ub_directory.specs.declared.region.Region.{Region}
 use Rattle.ub_table.proofs.Laws.{before_of}
@@ -7,57 +7,57 @@ use Rattle.ub_index.specs.Descending.{FindsAfter}
 use Rattle.ub_index.specs.Searching.{Aims, IsSought, region_of}
 use Rattle.ub_index.specs.View.{IndexView}
 use Rattle.ub_index.specs.declared.seat.Seat.{Seat}
-use Rattle.ub_index.proofs.BehindFacts.{crossed}
+use Rattle.ub_index.proofs.BehindFacts.{not_crossed}
 use Rattle.ub_index.proofs.LaterFacts.{found_given, found_later, none_given}
 use Rattle.ub_index.proofs.StepFacts.{none_ok, refused_as}
 use Rattle.ub_index.proofs.index.Index.later_region.Goals as goal
 
 pub returns-in_err-from-clause-given : goal.returns-in_err-from-clause-given
-returns-in_err-from-clause-given g c = none_ok _ c.from_residual.result _ c.from_residual.ensures.1
+returns-in_err-from-clause-given g c = λ sure. none_ok _ c.from_residual.result _ c.from_residual.ensures.1
 
 pub returns-in_err-from-clause-later : goal.returns-in_err-from-clause-later
-returns-in_err-from-clause-later g c = none_ok _ c.from_residual.result _ c.from_residual.ensures.1
+returns-in_err-from-clause-later g c = λ sure. none_ok _ c.from_residual.result _ c.from_residual.ensures.1
 
 pub returns-in_err-from-clause-small : goal.returns-in_err-from-clause-small
 returns-in_err-from-clause-small g c = none_ok _ c.from_residual.result _ c.from_residual.ensures.1
 
 pub returns-in_err-from-clause-effect : goal.returns-in_err-from-clause-effect
 returns-in_err-from-clause-effect g c =
-    refused_as (Option Region) (Option (Key × Seat)) (IsSought c.args.self.now c.args.pager.now (Aims c.args.goal.now) (option_copied c.args.after)) c.args.self.now c.args.pager.now
+    refused_as (Option Region) (Option (Key × Seat)) (IsSought c.args.self.now c.args.pager.now.store (Aims c.args.goal.now) (option_copied c.args.after)) c.args.self.now c.args.pager.now
     c.seat_after.new.pager c.from_residual.result c.in_err-from.field-0.0 c.from_residual.ensures.1 c.in_err-from.ensures.effect
 
 pub returns-in-Some-clause-effect : goal.returns-in-Some-clause-effect
 returns-in-Some-clause-effect g c = record {
   same = c.in_ok-from.ensures.effect.same;
-  faults = λ honest.
-      let found = subst (λ (o : Option (Key × Seat)). FindsAfter c.args.self.now c.args.pager.now (Aims c.args.goal.now) (option_copied c.args.after) o) c.in-Some.is c.in_ok-from.ensures.found in
-      let sooner = before_of c.in-Some.seat.first c.in-Some.from (sym c.is_before.ensures ∙ c.if-is_before.true) in
-      let cross = crossed c.args.self.now c.args.pager.now (Aims c.args.goal.now) (option_copied c.args.after) c.in-Some.from c.in-Some.seat found sooner in
-      inr (ap (λ (v : IndexView). v.root) c.self.view_is, refl, cross.0, cross.1, cross.2, cross.3, cross.4);
+  checked = c.in_ok-from.ensures.effect.checked;
+  faults = λ sure honest.
+      let found = subst (λ (o : Option (Key × Seat)). FindsAfter c.args.self.now c.args.pager.now.store (Aims c.args.goal.now) (option_copied c.args.after) o) c.in-Some.is (c.in_ok-from.ensures.found sure) in
+      absurd (not_crossed c.args.self.now c.args.pager.now.store (Aims c.args.goal.now) (option_copied c.args.after) c.in-Some.from c.in-Some.seat found honest
+      (before_of c.in-Some.seat.first c.in-Some.from (sym c.is_before.ensures ∙ c.if-is_before.true)));
 }
 
 pub returns-in-Some-2-clause-given : goal.returns-in-Some-2-clause-given
-returns-in-Some-2-clause-given g c =
+returns-in-Some-2-clause-given g c = λ sure.
     let last = ap (λ (v : IndexView). v.last) c.self.view_is in
-    found_given c.args.self.now c.args.pager.now (Aims c.args.goal.now) (option_copied c.args.after) c.in_ok-from.field-0 c.in-Some.from c.in-Some.seat c.region_at.result
-    c.in_ok-from.ensures.found c.in-Some.is (c.region_at.ensures.region ∙ ap (λ (n : ℕ). region_of n c.in-Some.seat) last)
+    found_given c.args.self.now c.args.pager.now.store (Aims c.args.goal.now) (option_copied c.args.after) c.in_ok-from.field-0 c.in-Some.from c.in-Some.seat c.region_at.result
+    (c.in_ok-from.ensures.found sure) c.in-Some.is (c.region_at.ensures.region ∙ ap (λ (n : ℕ). region_of n c.in-Some.seat) last)
 
 pub returns-in-Some-2-clause-later : goal.returns-in-Some-2-clause-later
-returns-in-Some-2-clause-later g c =
+returns-in-Some-2-clause-later g c = λ sure.
     let last = ap (λ (v : IndexView). v.last) c.self.view_is in
-    found_later c.args.self.now c.args.pager.now (Aims c.args.goal.now) (option_copied c.args.after) c.in_ok-from.field-0 c.in-Some.from c.in-Some.seat c.region_at.result
-    c.in_ok-from.ensures.found c.in-Some.is (sym c.is_before.ensures ∙ c.if-is_before.false) (c.region_at.ensures.region ∙ ap (λ (n : ℕ). region_of n c.in-Some.seat) last)
+    found_later c.args.self.now c.args.pager.now.store (Aims c.args.goal.now) (option_copied c.args.after) c.in_ok-from.field-0 c.in-Some.from c.in-Some.seat c.region_at.result
+    (c.in_ok-from.ensures.found sure) c.in-Some.is (sym c.is_before.ensures ∙ c.if-is_before.false) (c.region_at.ensures.region ∙ ap (λ (n : ℕ). region_of n c.in-Some.seat) last)
 
 pub returns-in-Some-2-clause-small : goal.returns-in-Some-2-clause-small
 returns-in-Some-2-clause-small g c = c.region_at.ensures.small
 
 pub returns-in-Some-2-clause-effect : goal.returns-in-Some-2-clause-effect
-returns-in-Some-2-clause-effect g c = record { same = c.in_ok-from.ensures.effect.same; faults = tt }
+returns-in-Some-2-clause-effect g c = record { same = c.in_ok-from.ensures.effect.same; checked = c.in_ok-from.ensures.effect.checked; faults = λ sure. tt }
 
 pub returns-in-None-clause-given : goal.returns-in-None-clause-given
-returns-in-None-clause-given g c =
-    none_given c.args.self.now c.args.pager.now (Aims c.args.goal.now) (option_copied c.args.after)
-    (subst (λ (o : Option (Key × Seat)). FindsAfter c.args.self.now c.args.pager.now (Aims c.args.goal.now) (option_copied c.args.after) o) c.in-None.is c.in_ok-from.ensures.found)
+returns-in-None-clause-given g c = λ sure.
+    none_given c.args.self.now c.args.pager.now.store (Aims c.args.goal.now) (option_copied c.args.after)
+    (subst (λ (o : Option (Key × Seat)). FindsAfter c.args.self.now c.args.pager.now.store (Aims c.args.goal.now) (option_copied c.args.after) o) c.in-None.is (c.in_ok-from.ensures.found sure))
 
 pub returns-in-None-clause-effect : goal.returns-in-None-clause-effect
-returns-in-None-clause-effect g c = record { same = c.in_ok-from.ensures.effect.same; faults = tt }
+returns-in-None-clause-effect g c = record { same = c.in_ok-from.ensures.effect.same; checked = c.in_ok-from.ensures.effect.checked; faults = λ sure. tt }

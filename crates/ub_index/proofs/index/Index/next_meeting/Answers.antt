@@ -7,7 +7,7 @@ use Rattle.ub_index.proofs.FoundFacts.{if_ok, meeting_given}
 use Rattle.ub_index.proofs.index.Index.next_meeting.Goals as goal
 
 pub returns-clause-found : goal.returns-clause-found
-returns-clause-found g c = λ is.
-    if_ok c.later_region.result (GivesAfter c.args.self.now c.args.pager.now (Aims (Boxes c.args.boxes)) (option_copied c.args.after))
+returns-clause-found g c = λ sure is.
+    if_ok c.later_region.result (GivesAfter c.args.self.now c.args.pager.now.store (Aims (Boxes c.args.boxes)) (option_copied c.args.after))
     (First (λ r. IsLater (option_copied c.args.after) r × Meets c.args.boxes.now r) (regions_of c.args.self.now.last (entries_in c.args.self.now c.args.pager.now.store)))
-    (λ found given. meeting_given c.args.self.now c.args.pager.now is (option_copied c.args.after) c.args.boxes found given) c.later_region.ensures.given
+    (λ found given. meeting_given c.args.self.now c.args.pager.now.store is (option_copied c.args.after) c.args.boxes found given) (c.later_region.ensures.given sure)

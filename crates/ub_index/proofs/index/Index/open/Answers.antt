@@ -46,4 +46,4 @@ returns-clause-rooted g c = λ honest.
 pub returns-clause-effect : goal.returns-clause-effect
 returns-clause-effect g c =
     let brought = c.in_ok-bring_root.ensures.effect in
-    record { same = brought.same; cached = brought.others; faults = tt }
+    record { same = brought.same; checked = brought.checked; cached = brought.others; faults = tt }

@@ -1,6 +1,6 @@
 use Rattle.std.proofs.Common.{◌+◌, [], ◌∷◌, Some, IfOk, refl, rules}
 use Rattle.ub_index.specs.Changed.{Replaces}
-use Rattle.ub_index.specs.Changing.{so_far}
+use Rattle.ub_index.specs.Changing.{AreIndexPages, so_far}
 use Rattle.ub_index.specs.Filling.{KeepsFilled}
 use Rattle.ub_index.specs.Preparing.{ChangeView, IsPrepared, MakesIndex, TakesNeeded, added_at, entry_at}
 use Rattle.ub_index.specs.View.{entries_in}
@@ -8,6 +8,7 @@ use Rattle.ub_store.specs.Facts.{page_count}
 use Rattle.ub_index.proofs.FoundFacts.{if_ok}
 use Rattle.ub_index.proofs.FullFacts.{takes_needed}
 use Rattle.ub_index.proofs.ReadyFacts.{fills_added, ready_added}
+use Rattle.ub_index.proofs.SheetFacts.{added_pages}
 use Rattle.ub_index.proofs.index.Index.prepare_add.Goals as goal
 
 pub returns-clause-ready : goal.returns-clause-ready
@@ -53,4 +54,17 @@ returns-clause-fills g c = λ i is own at within.
     (KeepsFilled c.args.self.now c.args.pager.now.store)
     (λ (change : ChangeView) made.
     fills_added c.args.self.now c.args.pager.now.store i c.args.seat.now c.args.first.now change c.prepare.ensures.bounds.0 c.prepare.ensures.bounds.1 (search rules) is own at within made)
+    prepared
+
+pub returns-clause-pages : goal.returns-clause-pages
+returns-clause-pages g c = λ honest leads within.
+    let prepared : IfOk c.prepare.result
+    (IsPrepared c.args.self.now c.args.pager.now.store c.args.seat.now.first (Some (added_at c.args.first.now c.args.pager.now.store)) (page_count c.args.pager.now.store)
+    (so_far [] (page_count c.args.pager.now.store + 1))) = search (rules, honest) in
+    if_ok c.prepare.result
+    (IsPrepared c.args.self.now c.args.pager.now.store c.args.seat.now.first (Some (added_at c.args.first.now c.args.pager.now.store)) (page_count c.args.pager.now.store)
+    (so_far [] (page_count c.args.pager.now.store + 1)))
+    (λ (change : ChangeView). AreIndexPages c.args.self.now.last change.sheets)
+    (λ (change : ChangeView) made.
+    added_pages c.args.self.now c.args.pager.now.store c.args.seat.now c.args.first.now change c.prepare.ensures.bounds.0 c.prepare.ensures.bounds.2 c.prepare.ensures.bounds.3 (search rules) leads within made)
     prepared

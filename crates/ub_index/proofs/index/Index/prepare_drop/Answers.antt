@@ -1,6 +1,6 @@
-use Rattle.std.proofs.Common.{◌≡◌, [], None, IfOk, ap, rules}
+use Rattle.std.proofs.Common.{◌≡◌, [], None, IfOk, ap, rules, subst, sym}
 use Rattle.ub_index.specs.Changed.{Replaces}
-use Rattle.ub_index.specs.Changing.{so_far}
+use Rattle.ub_index.specs.Changing.{AreIndexPages, so_far}
 use Rattle.ub_index.specs.Lowering.{LowersTo, MakesLow}
 use Rattle.ub_index.specs.Preparing.{ChangeView, IsPrepared, MakesIndex, entry_at}
 use Rattle.ub_index.specs.View.{IndexView, entries_in}
@@ -9,6 +9,7 @@ use Rattle.ub_store.specs.Facts.{page_count}
 use Rattle.ub_store.specs.View.{PagerView}
 use Rattle.ub_index.proofs.DropFacts.{dropped_effect, dropped_low, dropped_makes}
 use Rattle.ub_index.proofs.FoundFacts.{if_ok}
+use Rattle.ub_index.proofs.SheetFacts.{dropped_pages}
 use Rattle.ub_index.proofs.index.Index.prepare_drop.Goals as goal
 
 pub returns-clause-ready : goal.returns-clause-ready
@@ -43,5 +44,18 @@ pub returns-clause-effect : goal.returns-clause-effect
 returns-clause-effect g c =
     dropped_effect Change c.args.self.now c.self.inside.last c.args.seat.now.first c.args.pager.now c.prepare.new.pager c.lowered.new.pager c.in_ok-change.change c.lowered.result
     (ap (λ (v : IndexView). v.last) c.self.view_is)
-    (ap (λ (p : PagerView). p.store) c.in_ok-change.ensures.effect.same) (ap (λ (p : PagerView). p.trace) c.in_ok-change.ensures.effect.same)
+    (ap (λ (p : PagerView). p.store) c.in_ok-change.ensures.effect.same) (ap (λ (p : PagerView). p.trace) c.in_ok-change.ensures.effect.same) c.in_ok-change.ensures.effect.checked
     (λ honest. search (rules, honest)) c.lowered.ensures.effect
+
+pub returns-clause-pages : goal.returns-clause-pages
+returns-clause-pages g c = λ honest.
+    let first : IsPrepared c.args.self.now c.args.pager.now.store c.args.seat.now.first None (page_count c.args.pager.now.store) (so_far [] (page_count c.args.pager.now.store)) c.in_ok-change.change =
+    search (rules, honest) in
+    let lowers : IfOk c.lowered.result (LowersTo c.args.pager.now.store.pages c.in_ok-change.change) = search (rules, honest) in
+    if_ok c.lowered.result (LowersTo c.args.pager.now.store.pages c.in_ok-change.change)
+    (λ (change : ChangeView). AreIndexPages c.args.self.now.last change.sheets)
+    (λ (change : ChangeView) lowered.
+    subst (λ (v : ChangeView). AreIndexPages c.args.self.now.last v.sheets) (sym lowered.same)
+    (dropped_pages c.args.self.now c.args.pager.now.store c.args.seat.now.first c.in_ok-change.change c.in_ok-change.ensures.bounds.0 c.in_ok-change.ensures.bounds.2 c.in_ok-change.ensures.bounds.3
+    (search rules) first))
+    lowers

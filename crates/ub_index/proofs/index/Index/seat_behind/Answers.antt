@@ -1,63 +1,70 @@
 use Rattle.std.proofs.Common.{◌≡◌, ◌∙◌, ℕ, None, Some, Option, Err, inl, ap, arith, refl, subst, sym}
-use Rattle.ub_store.specs.Facts.{StoreFacts, IsHonest}
+use Rattle.ub_store.specs.Facts.{StoreFacts}
 use Rattle.ub_store.specs.View.{PagerView}
 use Rattle.ub_table.specs.declared.row.Key.{Key}
-use Rattle.ub_index.specs.Descending.{FindsAfter, IsForgotten, KeepsChecked, LooksAt}
+use Rattle.ub_index.specs.Descending.{FindsAfter, IsForgotten, LooksAt}
+use Rattle.ub_index.specs.Held.{AreChecked, KeepsChecked}
 use Rattle.ub_index.specs.Searching.{Aims, Gives, GoesDown, IsSought}
 use Rattle.ub_index.specs.View.{IndexView, index_view}
 use Rattle.ub_index.specs.declared.descent.Found.{Found}
 use Rattle.ub_index.specs.declared.descent.Leaf.{Leaf}
 use Rattle.ub_index.specs.declared.seat.Seat.{Seat}
 use Rattle.ub_index.proofs.BehindFacts.{beyond_found, beyond_sought, here_found, nothing_found}
-use Rattle.ub_index.proofs.HeldFacts.{keeps_on, keeps_self}
-use Rattle.ub_index.proofs.SearchFacts.{answered, gives_before, search_refused, step_refused}
+use Rattle.ub_index.proofs.HeldFacts.{keeps_on}
+use Rattle.ub_index.proofs.SearchFacts.{answered, search_refused, step_refused}
 use Rattle.ub_index.proofs.StepFacts.{if_err, none_ok}
 use Rattle.ub_index.proofs.index.Index.seat_behind.Goals as goal
 
+-- what is looked at on the pages of a store that is the same
+looked : (last : ℕ) (old mid : StoreFacts) → mid ≡ old → (To : Key → Option ℕ → Type 0) (key : Key) (leaf : Leaf) (found now : Found) → found ≡ now
+    → LooksAt last mid To key leaf found → LooksAt last old To key leaf now
+looked last old mid stores To key leaf found now is h = subst (λ (f : Found). LooksAt last old To key leaf f) is (subst (λ (s : StoreFacts). LooksAt last s To key leaf found) stores h)
+
+kept_so : (inside last : ℕ) (old new : PagerView) → inside ≡ last → KeepsChecked inside old new → KeepsChecked last old new
+kept_so inside last old new same kept = subst (λ (n : ℕ). KeepsChecked n old new) same kept
+
 pub returns-in-Nothing-clause-found : goal.returns-in-Nothing-clause-found
-returns-in-Nothing-clause-found g c =
+returns-in-Nothing-clause-found g c = λ sure_now.
+    let sure : AreChecked c.self.inside.last c.args.pager.now = subst (λ (v : IndexView). AreChecked v.last c.args.pager.now) (sym c.self.view_is) sure_now in
     let stores = ap (λ (p : PagerView). p.store) c.in_ok-leaf.ensures.effect.same in
-    let looks = subst (λ (f : Found). LooksAt c.self.inside.last c.leaf_of.new.pager (Aims c.args.goal.now) c.args.region.now.first c.in_ok-leaf.leaf f) c.in-Nothing.is c.in_ok-look.ensures.looks in
-    subst (λ (v : IndexView). FindsAfter v c.args.pager.now (Aims c.args.goal.now) (Some c.args.region.now) None) c.self.view_is
-    (nothing_found (index_view c.self.inside.root c.self.inside.levels c.self.inside.last) c.args.pager.now c.leaf_of.new.pager stores c.in_ok-leaf.ensures.checked (Aims c.args.goal.now)
-    c.args.region.now c.in_ok-leaf.leaf c.in_ok-leaf.ensures.holds c.in_ok-leaf.ensures.leads looks)
+    let looks = looked c.self.inside.last c.args.pager.now.store c.leaf_of.new.pager.store stores (Aims c.args.goal.now) c.args.region.now.first c.in_ok-leaf.leaf _ _ c.in-Nothing.is (c.in_ok-look.ensures.looks (c.in_ok-leaf.ensures.effect.checked sure)) in
+    subst (λ (v : IndexView). FindsAfter v c.args.pager.now.store (Aims c.args.goal.now) (Some c.args.region.now) None) c.self.view_is
+    (nothing_found (index_view c.self.inside.root c.self.inside.levels c.self.inside.last) c.args.pager.now.store (Aims c.args.goal.now)
+    c.args.region.now c.in_ok-leaf.leaf c.in_ok-leaf.ensures.holds (λ honest. c.in_ok-leaf.ensures.leads honest sure) looks)
 
 pub returns-in-Here-clause-found : goal.returns-in-Here-clause-found
-returns-in-Here-clause-found g c =
+returns-in-Here-clause-found g c = λ sure_now.
+    let sure : AreChecked c.self.inside.last c.args.pager.now = subst (λ (v : IndexView). AreChecked v.last c.args.pager.now) (sym c.self.view_is) sure_now in
     let stores = ap (λ (p : PagerView). p.store) c.in_ok-leaf.ensures.effect.same in
-    let looks = subst (λ (f : Found). LooksAt c.self.inside.last c.leaf_of.new.pager (Aims c.args.goal.now) c.args.region.now.first c.in_ok-leaf.leaf f) c.in-Here.is c.in_ok-look.ensures.looks in
-    subst (λ (s : Seat). FindsAfter c.args.self.now c.args.pager.now (Aims c.args.goal.now) (Some c.args.region.now) (Some (c.in-Here.from, s))) (sym c.seat_at.ensures)
-    (subst (λ (v : IndexView). FindsAfter v c.args.pager.now (Aims c.args.goal.now) (Some c.args.region.now)
+    let looks = looked c.self.inside.last c.args.pager.now.store c.leaf_of.new.pager.store stores (Aims c.args.goal.now) c.args.region.now.first c.in_ok-leaf.leaf _ _ c.in-Here.is (c.in_ok-look.ensures.looks (c.in_ok-leaf.ensures.effect.checked sure)) in
+    subst (λ (s : Seat). FindsAfter c.args.self.now c.args.pager.now.store (Aims c.args.goal.now) (Some c.args.region.now) (Some (c.in-Here.from, s))) (sym c.seat_at.ensures)
+    (subst (λ (v : IndexView). FindsAfter v c.args.pager.now.store (Aims c.args.goal.now) (Some c.args.region.now)
     (Some (c.in-Here.from, record { first = c.in-Here.place.entry.first; page = c.in-Here.place.entry.page; next = c.in-Here.place.next }))) c.self.view_is
-    (here_found (index_view c.self.inside.root c.self.inside.levels c.self.inside.last) c.args.pager.now c.leaf_of.new.pager stores c.in_ok-leaf.ensures.checked (Aims c.args.goal.now)
-    c.args.region.now c.in_ok-leaf.leaf c.in_ok-leaf.ensures.holds c.in_ok-leaf.ensures.leads c.in-Here.from c.in-Here.place looks))
-
--- the pager after both steps, as it was before them
-both : (last : ℕ) (old mid new : PagerView) → mid.store ≡ old.store → (IsHonest old.store → KeepsChecked last old mid) → (IsHonest mid.store → KeepsChecked last mid new) → IsHonest old.store
-    → KeepsChecked last old new
-both last old mid new stores before after honest = keeps_on last old mid new stores (before honest) (after (subst (λ (s : StoreFacts). IsHonest s) (sym stores) honest))
+    (here_found (index_view c.self.inside.root c.self.inside.levels c.self.inside.last) c.args.pager.now.store (Aims c.args.goal.now)
+    c.args.region.now c.in_ok-leaf.leaf c.in_ok-leaf.ensures.holds (λ honest. c.in_ok-leaf.ensures.leads honest sure) c.in-Here.from c.in-Here.place looks))
 
 pub returns-in_ok-seat_of-in-Beyond-clause-found : goal.returns-in_ok-seat_of-in-Beyond-clause-found
-returns-in_ok-seat_of-in-Beyond-clause-found g c =
+returns-in_ok-seat_of-in-Beyond-clause-found g c = λ sure_now.
+    let sure : AreChecked c.self.inside.last c.args.pager.now = subst (λ (v : IndexView). AreChecked v.last c.args.pager.now) (sym c.self.view_is) sure_now in
     let stores = ap (λ (p : PagerView). p.store) c.in_ok-leaf.ensures.effect.same in
     let stores_too = ap (λ (p : PagerView). p.store) c.in_ok-look.ensures.effect.same in
-    let looks = subst (λ (f : Found). LooksAt c.self.inside.last c.leaf_of.new.pager (Aims c.args.goal.now) c.args.region.now.first c.in_ok-leaf.leaf f) c.in-Beyond.is c.in_ok-look.ensures.looks in
-    let given = subst (λ (v : IndexView). Gives v c.look.new.pager c.in-Beyond.aim c.in_ok-seat_of-in-Beyond.field-0) (sym c.self.view_is) c.in_ok-seat_of-in-Beyond.ensures.given in
-    let kept = both c.self.inside.last c.args.pager.now c.leaf_of.new.pager c.look.new.pager stores c.in_ok-leaf.ensures.checked c.in_ok-look.ensures.checked in
-    let before = gives_before (index_view c.self.inside.root c.self.inside.levels c.self.inside.last) c.args.pager.now c.look.new.pager (stores_too ∙ stores) kept c.in-Beyond.aim
-    c.in_ok-seat_of-in-Beyond.field-0 given in
-    subst (λ (v : IndexView). FindsAfter v c.args.pager.now (Aims c.args.goal.now) (Some c.args.region.now) (Some (c.in-Beyond.from, c.in_ok-seat_of-in-Beyond.field-0))) c.self.view_is
-    (beyond_found (index_view c.self.inside.root c.self.inside.levels c.self.inside.last) c.args.pager.now c.leaf_of.new.pager stores c.in_ok-leaf.ensures.checked (Aims c.args.goal.now)
-    c.args.region.now c.in_ok-leaf.leaf c.in_ok-leaf.ensures.holds c.in_ok-leaf.ensures.leads c.in-Beyond.from c.in-Beyond.aim c.in_ok-seat_of-in-Beyond.field-0 looks before)
+    let looks = looked c.self.inside.last c.args.pager.now.store c.leaf_of.new.pager.store stores (Aims c.args.goal.now) c.args.region.now.first c.in_ok-leaf.leaf _ _ c.in-Beyond.is (c.in_ok-look.ensures.looks (c.in_ok-leaf.ensures.effect.checked sure)) in
+    let given = subst (λ (v : IndexView). Gives v c.look.new.pager.store c.in-Beyond.aim c.in_ok-seat_of-in-Beyond.field-0) (sym c.self.view_is) (c.in_ok-seat_of-in-Beyond.ensures.given (kept_so c.self.inside.last c.args.self.now.last c.args.pager.now c.look.new.pager (ap (λ (v : IndexView). v.last) c.self.view_is)
+    (keeps_on c.self.inside.last c.args.pager.now c.leaf_of.new.pager c.look.new.pager c.in_ok-leaf.ensures.effect.checked c.in_ok-look.ensures.effect.checked) sure_now)) in
+    let before = subst (λ (f : StoreFacts). Gives (index_view c.self.inside.root c.self.inside.levels c.self.inside.last) f c.in-Beyond.aim c.in_ok-seat_of-in-Beyond.field-0)
+    (stores_too ∙ stores) given in
+    subst (λ (v : IndexView). FindsAfter v c.args.pager.now.store (Aims c.args.goal.now) (Some c.args.region.now) (Some (c.in-Beyond.from, c.in_ok-seat_of-in-Beyond.field-0))) c.self.view_is
+    (beyond_found (index_view c.self.inside.root c.self.inside.levels c.self.inside.last) c.args.pager.now.store (Aims c.args.goal.now)
+    c.args.region.now c.in_ok-leaf.leaf c.in_ok-leaf.ensures.holds (λ honest. c.in_ok-leaf.ensures.leads honest sure) c.in-Beyond.from c.in-Beyond.aim c.in_ok-seat_of-in-Beyond.field-0 looks before)
 
 pub returns-in_err-look-clause-effect : goal.returns-in_err-look-clause-effect
 returns-in_err-look-clause-effect g c =
-    subst (λ (v : IndexView). GoesDown (IsSought v c.args.pager.now (Aims c.args.goal.now) (Some c.args.region.now)) v c.args.pager.now c.look.new.pager c.from_residual-in_err-look.result) c.self.view_is
+    subst (λ (v : IndexView). GoesDown (IsSought v c.args.pager.now.store (Aims c.args.goal.now) (Some c.args.region.now)) v c.args.pager.now c.look.new.pager c.from_residual-in_err-look.result) c.self.view_is
     (step_refused (Option (Key × Seat)) Found
-    (IsSought (index_view c.self.inside.root c.self.inside.levels c.self.inside.last) c.args.pager.now (Aims c.args.goal.now) (Some c.args.region.now))
+    (IsSought (index_view c.self.inside.root c.self.inside.levels c.self.inside.last) c.args.pager.now.store (Aims c.args.goal.now) (Some c.args.region.now))
     (index_view c.self.inside.root c.self.inside.levels c.self.inside.last) c.args.region.now.first (inl (c.args.region.now, refl, refl)) 1 (omega arith) c.in_ok-leaf.leaf.place.entry
     c.in_ok-leaf.leaf.place.next c.args.pager.now c.leaf_of.new.pager c.look.new.pager (ap (λ (p : PagerView). p.store) c.in_ok-leaf.ensures.effect.same)
-    (ap (λ (p : PagerView). p.trace) c.in_ok-leaf.ensures.effect.same) c.in_ok-leaf.ensures.checked (λ honest. (c.in_ok-leaf.ensures.leads honest).stops)
+    (ap (λ (p : PagerView). p.trace) c.in_ok-leaf.ensures.effect.same) c.in_ok-leaf.ensures.effect.checked (λ honest sure. (c.in_ok-leaf.ensures.leads honest sure).stops)
     c.from_residual-in_err-look.result c.in_err-look.field-0.0 c.from_residual-in_err-look.ensures.1 c.in_err-look.ensures.effect)
 
 pub returns-in_err-seat_of-in-Beyond-clause-effect : goal.returns-in_err-seat_of-in-Beyond-clause-effect
@@ -66,43 +73,46 @@ returns-in_err-seat_of-in-Beyond-clause-effect g c =
     let stores_too = ap (λ (p : PagerView). p.store) c.in_ok-look.ensures.effect.same in
     let traces = ap (λ (p : PagerView). p.trace) c.in_ok-leaf.ensures.effect.same in
     let traces_too = ap (λ (p : PagerView). p.trace) c.in_ok-look.ensures.effect.same in
-    let looks = subst (λ (f : Found). LooksAt c.self.inside.last c.leaf_of.new.pager (Aims c.args.goal.now) c.args.region.now.first c.in_ok-leaf.leaf f) c.in-Beyond.is c.in_ok-look.ensures.looks in
-    let kept = both c.self.inside.last c.args.pager.now c.leaf_of.new.pager c.look.new.pager stores c.in_ok-leaf.ensures.checked c.in_ok-look.ensures.checked in
-    let sought = beyond_sought (index_view c.self.inside.root c.self.inside.levels c.self.inside.last) c.args.pager.now c.leaf_of.new.pager stores c.in_ok-leaf.ensures.checked (Aims c.args.goal.now)
-    c.args.region.now c.in_ok-leaf.leaf c.in_ok-leaf.ensures.holds c.in_ok-leaf.ensures.leads c.in-Beyond.from c.in-Beyond.aim looks in
+    let kept = keeps_on c.self.inside.last c.args.pager.now c.leaf_of.new.pager c.look.new.pager c.in_ok-leaf.ensures.effect.checked c.in_ok-look.ensures.effect.checked in
+    let sought = λ (sure : AreChecked c.self.inside.last c.args.pager.now).
+    let looks = looked c.self.inside.last c.args.pager.now.store c.leaf_of.new.pager.store stores (Aims c.args.goal.now) c.args.region.now.first c.in_ok-leaf.leaf _ _ c.in-Beyond.is (c.in_ok-look.ensures.looks (c.in_ok-leaf.ensures.effect.checked sure)) in
+    beyond_sought (index_view c.self.inside.root c.self.inside.levels c.self.inside.last) c.args.pager.now.store (Aims c.args.goal.now)
+    c.args.region.now c.in_ok-leaf.leaf c.in_ok-leaf.ensures.holds (λ honest. c.in_ok-leaf.ensures.leads honest sure) c.in-Beyond.from c.in-Beyond.aim looks in
     let effect = subst (λ (v : IndexView). GoesDown {A = Seat} (λ (k : Key). k ≡ c.in-Beyond.aim) v c.look.new.pager c.seat_of.new.pager (Err c.in_err-seat_of-in-Beyond.field-0.0)) (sym c.self.view_is)
     c.in_err-seat_of-in-Beyond.ensures.effect in
-    subst (λ (v : IndexView). GoesDown (IsSought v c.args.pager.now (Aims c.args.goal.now) (Some c.args.region.now)) v c.args.pager.now c.seat_of.new.pager c.from_residual-in_err-seat_of-in-Beyond.result)
+    subst (λ (v : IndexView). GoesDown (IsSought v c.args.pager.now.store (Aims c.args.goal.now) (Some c.args.region.now)) v c.args.pager.now c.seat_of.new.pager c.from_residual-in_err-seat_of-in-Beyond.result)
     c.self.view_is
     (search_refused (Option (Key × Seat)) Seat (λ (k : Key). k ≡ c.in-Beyond.aim)
-    (IsSought (index_view c.self.inside.root c.self.inside.levels c.self.inside.last) c.args.pager.now (Aims c.args.goal.now) (Some c.args.region.now))
-    (λ k is. subst (λ (x : Key). IsSought (index_view c.self.inside.root c.self.inside.levels c.self.inside.last) c.args.pager.now (Aims c.args.goal.now) (Some c.args.region.now) x) (sym is) sought)
-    (index_view c.self.inside.root c.self.inside.levels c.self.inside.last) c.args.pager.now c.look.new.pager c.seat_of.new.pager (stores_too ∙ stores) (traces_too ∙ traces) kept
+    (IsSought (index_view c.self.inside.root c.self.inside.levels c.self.inside.last) c.args.pager.now.store (Aims c.args.goal.now) (Some c.args.region.now))
+    (index_view c.self.inside.root c.self.inside.levels c.self.inside.last) c.args.pager.now c.look.new.pager c.seat_of.new.pager
+    (λ sure k is. subst (λ (x : Key). IsSought (index_view c.self.inside.root c.self.inside.levels c.self.inside.last) c.args.pager.now.store (Aims c.args.goal.now) (Some c.args.region.now) x) (sym is) (sought sure))
+    (stores_too ∙ stores) (traces_too ∙ traces) kept
     c.from_residual-in_err-seat_of-in-Beyond.result c.in_err-seat_of-in-Beyond.field-0.0 c.from_residual-in_err-seat_of-in-Beyond.ensures.1 effect)
 
 pub returns-in_err-leaf-clause-found : goal.returns-in_err-leaf-clause-found
-returns-in_err-leaf-clause-found g c = none_ok _ c.from_residual.result _ c.from_residual.ensures.1
+returns-in_err-leaf-clause-found g c = λ sure. none_ok _ c.from_residual.result _ c.from_residual.ensures.1
 
 pub returns-in_err-leaf-clause-forgotten : goal.returns-in_err-leaf-clause-forgotten
 returns-in_err-leaf-clause-forgotten g c = if_err (IsForgotten c.leaf_of.new.pager) c.from_residual.result c.in_err-leaf.field-0.0 c.from_residual.ensures.1 c.in_err-leaf.ensures.forgotten
 
 pub returns-in_err-leaf-clause-effect : goal.returns-in_err-leaf-clause-effect
 returns-in_err-leaf-clause-effect g c =
-    subst (λ (v : IndexView). GoesDown (IsSought v c.args.pager.now (Aims c.args.goal.now) (Some c.args.region.now)) v c.args.pager.now c.leaf_of.new.pager c.from_residual.result) c.self.view_is
+    subst (λ (v : IndexView). GoesDown (IsSought v c.args.pager.now.store (Aims c.args.goal.now) (Some c.args.region.now)) v c.args.pager.now c.leaf_of.new.pager c.from_residual.result) c.self.view_is
     (search_refused (Option (Key × Seat)) Leaf (λ (k : Key). k ≡ c.args.region.now.first)
-    (IsSought (index_view c.self.inside.root c.self.inside.levels c.self.inside.last) c.args.pager.now (Aims c.args.goal.now) (Some c.args.region.now))
-    (λ k is. inl (c.args.region.now, refl, is)) (index_view c.self.inside.root c.self.inside.levels c.self.inside.last) c.args.pager.now c.args.pager.now c.leaf_of.new.pager refl refl
-    (λ honest. keeps_self c.self.inside.last c.args.pager.now) c.from_residual.result c.in_err-leaf.field-0.0 c.from_residual.ensures.1 c.in_err-leaf.ensures.effect)
+    (IsSought (index_view c.self.inside.root c.self.inside.levels c.self.inside.last) c.args.pager.now.store (Aims c.args.goal.now) (Some c.args.region.now))
+    (index_view c.self.inside.root c.self.inside.levels c.self.inside.last) c.args.pager.now c.args.pager.now c.leaf_of.new.pager
+    (λ sure k is. inl (c.args.region.now, refl, is)) refl refl
+    (λ was. was) c.from_residual.result c.in_err-leaf.field-0.0 c.from_residual.ensures.1 c.in_err-leaf.ensures.effect)
 
 pub returns-in_err-look-clause-found : goal.returns-in_err-look-clause-found
-returns-in_err-look-clause-found g c = none_ok _ c.from_residual-in_err-look.result _ c.from_residual-in_err-look.ensures.1
+returns-in_err-look-clause-found g c = λ sure. none_ok _ c.from_residual-in_err-look.result _ c.from_residual-in_err-look.ensures.1
 
 pub returns-in_err-look-clause-forgotten : goal.returns-in_err-look-clause-forgotten
 returns-in_err-look-clause-forgotten g c =
     if_err (IsForgotten c.look.new.pager) c.from_residual-in_err-look.result c.in_err-look.field-0.0 c.from_residual-in_err-look.ensures.1 c.in_err-look.ensures.forgotten
 
 pub returns-in_err-seat_of-in-Beyond-clause-found : goal.returns-in_err-seat_of-in-Beyond-clause-found
-returns-in_err-seat_of-in-Beyond-clause-found g c = none_ok _ c.from_residual-in_err-seat_of-in-Beyond.result _ c.from_residual-in_err-seat_of-in-Beyond.ensures.1
+returns-in_err-seat_of-in-Beyond-clause-found g c = λ sure. none_ok _ c.from_residual-in_err-seat_of-in-Beyond.result _ c.from_residual-in_err-seat_of-in-Beyond.ensures.1
 
 pub returns-in_err-seat_of-in-Beyond-clause-forgotten : goal.returns-in_err-seat_of-in-Beyond-clause-forgotten
 returns-in_err-seat_of-in-Beyond-clause-forgotten g c =
@@ -111,21 +121,29 @@ returns-in_err-seat_of-in-Beyond-clause-forgotten g c =
 
 pub returns-in-Nothing-clause-effect : goal.returns-in-Nothing-clause-effect
 returns-in-Nothing-clause-effect g c =
-    answered (IsSought c.args.self.now c.args.pager.now (Aims c.args.goal.now) (Some c.args.region.now)) c.args.self.now c.args.pager.now c.look.new.pager None
+    answered (IsSought c.args.self.now c.args.pager.now.store (Aims c.args.goal.now) (Some c.args.region.now)) c.args.self.now c.args.pager.now c.look.new.pager None
     (ap (λ (p : PagerView). p.store) c.in_ok-look.ensures.effect.same ∙ ap (λ (p : PagerView). p.store) c.in_ok-leaf.ensures.effect.same)
     (ap (λ (p : PagerView). p.trace) c.in_ok-look.ensures.effect.same ∙ ap (λ (p : PagerView). p.trace) c.in_ok-leaf.ensures.effect.same)
+    (kept_so c.self.inside.last c.args.self.now.last c.args.pager.now c.look.new.pager (ap (λ (v : IndexView). v.last) c.self.view_is)
+    (keeps_on c.self.inside.last c.args.pager.now c.leaf_of.new.pager c.look.new.pager c.in_ok-leaf.ensures.effect.checked c.in_ok-look.ensures.effect.checked))
 
 pub returns-in-Here-clause-effect : goal.returns-in-Here-clause-effect
 returns-in-Here-clause-effect g c =
-    answered (IsSought c.args.self.now c.args.pager.now (Aims c.args.goal.now) (Some c.args.region.now)) c.args.self.now c.args.pager.now c.look.new.pager (Some (c.in-Here.from, c.seat_at.result))
+    answered (IsSought c.args.self.now c.args.pager.now.store (Aims c.args.goal.now) (Some c.args.region.now)) c.args.self.now c.args.pager.now c.look.new.pager (Some (c.in-Here.from, c.seat_at.result))
     (ap (λ (p : PagerView). p.store) c.in_ok-look.ensures.effect.same ∙ ap (λ (p : PagerView). p.store) c.in_ok-leaf.ensures.effect.same)
     (ap (λ (p : PagerView). p.trace) c.in_ok-look.ensures.effect.same ∙ ap (λ (p : PagerView). p.trace) c.in_ok-leaf.ensures.effect.same)
+    (kept_so c.self.inside.last c.args.self.now.last c.args.pager.now c.look.new.pager (ap (λ (v : IndexView). v.last) c.self.view_is)
+    (keeps_on c.self.inside.last c.args.pager.now c.leaf_of.new.pager c.look.new.pager c.in_ok-leaf.ensures.effect.checked c.in_ok-look.ensures.effect.checked))
 
 pub returns-in_ok-seat_of-in-Beyond-clause-effect : goal.returns-in_ok-seat_of-in-Beyond-clause-effect
 returns-in_ok-seat_of-in-Beyond-clause-effect g c =
-    answered (IsSought c.args.self.now c.args.pager.now (Aims c.args.goal.now) (Some c.args.region.now)) c.args.self.now c.args.pager.now c.seat_of.new.pager
+    answered (IsSought c.args.self.now c.args.pager.now.store (Aims c.args.goal.now) (Some c.args.region.now)) c.args.self.now c.args.pager.now c.seat_of.new.pager
     (Some (c.in-Beyond.from, c.in_ok-seat_of-in-Beyond.field-0))
     (ap (λ (p : PagerView). p.store) c.in_ok-seat_of-in-Beyond.ensures.effect.same
     ∙ (ap (λ (p : PagerView). p.store) c.in_ok-look.ensures.effect.same ∙ ap (λ (p : PagerView). p.store) c.in_ok-leaf.ensures.effect.same))
     (ap (λ (p : PagerView). p.trace) c.in_ok-seat_of-in-Beyond.ensures.effect.same
     ∙ (ap (λ (p : PagerView). p.trace) c.in_ok-look.ensures.effect.same ∙ ap (λ (p : PagerView). p.trace) c.in_ok-leaf.ensures.effect.same))
+    (keeps_on c.args.self.now.last c.args.pager.now c.look.new.pager c.seat_of.new.pager
+    (kept_so c.self.inside.last c.args.self.now.last c.args.pager.now c.look.new.pager (ap (λ (v : IndexView). v.last) c.self.view_is)
+    (keeps_on c.self.inside.last c.args.pager.now c.leaf_of.new.pager c.look.new.pager c.in_ok-leaf.ensures.effect.checked c.in_ok-look.ensures.effect.checked))
+    c.in_ok-seat_of-in-Beyond.ensures.effect.checked)

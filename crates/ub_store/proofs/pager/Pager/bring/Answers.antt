@@ -106,3 +106,25 @@ returns-clause-no_size g c = search rules
 pub returns-clause-others : goal.returns-clause-others
 returns-clause-others g c =
     λ m page other h. rw (← c.self.view_is) (sym (c.touch.ensures.same m) ∙ (rw c.take_spare.ensures at (c.hold.ensures.others m page other h)))
+
+pub returns-in_default-clause-missed : goal.returns-in_default-clause-missed
+returns-in_default-clause-missed g c = λ m page h. rw (← c.self.view_is) (sym (c.touch.ensures.same m) ∙ (rw c.take_spare.ensures at h))
+
+pub returns-in-Err-clause-missed : goal.returns-in-Err-clause-missed
+returns-in-Err-clause-missed g c =
+    λ m page h. rw (← c.self.view_is) (sym (c.touch.ensures.same m) ∙ (rw (c.keep_spare.ensures, c.take_spare.ensures) at h))
+
+pub returns-then-touch-clause-kept : goal.returns-then-touch-clause-kept
+returns-then-touch-clause-kept g c = λ held. rw (← c.self.view_is) (c.touch.ensures.same c.args.n)
+
+pub returns-in_default-clause-kept : goal.returns-in_default-clause-kept
+returns-in_default-clause-kept g c = λ held. absurd (none_of _ (sym c.touch.ensures.found ∙ c.if-touch.false) held.0 (rw (← c.self.view_is) at held.1))
+
+pub returns-in-Err-clause-kept : goal.returns-in-Err-clause-kept
+returns-in-Err-clause-kept g c = λ held. absurd (none_of _ (sym c.touch.ensures.found ∙ c.if-touch.false) held.0 (rw (← c.self.view_is) at held.1))
+
+pub returns-clause-kept : goal.returns-clause-kept
+returns-clause-kept g c = λ held. absurd (none_of _ (sym c.touch.ensures.found ∙ c.if-touch.false) held.0 (rw (← c.self.view_is) at held.1))
+
+pub returns-clause-missed : goal.returns-clause-missed
+returns-clause-missed g c = search rules

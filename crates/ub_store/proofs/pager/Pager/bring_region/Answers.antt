@@ -1,4 +1,4 @@
-use Rattle.std.proofs.Common.{rules}
+use Rattle.std.proofs.Common.{rules, Result, Ok, Err, OnErr}
 use Rattle.ub_store.proofs.pager.Pager.bring_region.Goals as goal
 
 pub returns-then-is_err-clause-noted : goal.returns-then-is_err-clause-noted
@@ -6,3 +6,10 @@ returns-then-is_err-clause-noted g c = search rules
 
 pub returns-then-is_err-clause-hit : goal.returns-then-is_err-clause-hit
 returns-then-is_err-clause-hit g c = search rules
+
+on_err : {T E : Type 0} (P : Type 0) (r : Result T E) → P → OnErr r P
+on_err P (Ok x) h = tt
+on_err P (Err e) h = h
+
+pub returns-in_err-bring-clause-missed : goal.returns-in_err-bring-clause-missed
+returns-in_err-bring-clause-missed g c = on_err _ c.from_residual.result (rw (← c.self.view_is) c.in_err-bring.ensures.missed)

@@ -18,7 +18,7 @@ use Rattle.ub_tree.specs.Effects.{Changes}
 use Rattle.ub_tree.specs.Holding.{AnswersKey}
 use Rattle.ub_tree.specs.Placed.{entry_of}
 use Rattle.ub_tree.specs.Spans.{first_keys}
-use Rattle.ub_tree.specs.Told.{FallsSurely, FallsTo}
+use Rattle.ub_tree.specs.Told.{FallsTo}
 use Rattle.ub_tree.specs.Tree.{tree_view}
 use Rattle.ub_tree.specs.View.{TreeView}
 use Rattle.ub_tree.specs.declared.fault.TreeFault.TheVariants.{Page}
@@ -115,7 +115,7 @@ store_with-requires-clause-rows g c =
     let good : IsRow a.schema.dims (measures_of a.schema) row = numbered_row a.schema.dims (measures_of a.schema) row c.requires.row.0 (omega arith, omega arith) in
     let last : b.inner.index.last ≡ last_address b.schema.dims = subst (λ (v : TreeView). v.inner.index.last ≡ last_address v.schema.dims) (c.self.view_is ∙ sym same) c.self.invariant.last_is in
     let on : IsOnSeat b seat region = subst (λ (v : TreeView). IsOnSeat v seat region) (sym c.in_ok-read_at.ensures.effect.same) c.in_ok-read_at.ensures.read.on in
-    let holds = subst (λ (v : TreeView). HoldsKey (key_of v.schema.dims row) seat.first seat.next) (sym same) falls.1.holds in
+    let holds = subst (λ (v : TreeView). HoldsKey (key_of v.schema.dims row) seat.first seat.next) (sym same) falls.holds in
     can_stand b seat row region.rows last (rows_on b seat region on) holds
     (subst (λ (v : TreeView). IsRow v.schema.dims (measures_of v.schema) row) (sym same) good)
     (subst (λ (v : TreeView). has_key v.schema.dims (key_of v.schema.dims row) region.rows ≡ false) (sym same) none)
@@ -238,7 +238,7 @@ returns-in_err-seat-clause-refused g c = λ honest number region into.
     let a = c.args.self.now in
     let row = c.args.row.now in
     let is = next_key _ a c.shape.result row c.key-key.result c.self.view_is c.shape.ensures c.key-key.ensures in
-    let falls = subst (λ (k : Key). FallsSurely a k into.seat) (sym is) into.falls in
+    let falls = subst (λ (k : Key). FallsTo a k into.seat) (sym is) into.falls in
     passing_answers_key a (key_of a.schema.dims row) c.from_residual.result c.in_err-seat.field-0.0 c.from_residual.ensures.1 (c.in_err-seat.ensures.led into.seat honest falls) number region into
 
 pub store_with-requires-clause-seat : goal.store_with-requires-clause-seat

@@ -8,7 +8,6 @@ use Rattle.ub_tree.proofs.CallFacts.{gives_next, last_small}
 use Rattle.ub_tree.proofs.IndexedFacts.{sound_index, spans_told}
 use Rattle.ub_tree.proofs.SearchFacts.{search_refused, searched_there}
 use Rattle.ub_tree.specs.Spans.{First, IsLater, Meets, Region}
-use Rattle.ub_tree.specs.Told.{pager_of}
 use Rattle.ub_tree.specs.View.{TreeView}
 use Rattle.ub_writing.specs.Marks.{is_written}
 use Rattle.ub_tree.proofs.tree.Tree.next_meeting.Goals as goal
@@ -18,19 +17,18 @@ returns-clause-found g c = λ sound.
     let t = c.args.self.now in
     let on = subst (λ (v : TreeView). IsIndexOn v.inner.index v.store) (sym c.self.view_is) (sound_index t sound) in
     let spans = ap (λ (v : TreeView). regions_of v.inner.index.last (entries_in v.inner.index v.store)) c.self.view_is ∙ spans_told t sound in
-    subst (λ (rs : List Region). First (λ r. IsLater (option_copied c.args.after) r × Meets c.args.boxes.now r) rs c.in_ok-found.found) spans (c.in_ok-found.ensures.found on)
+    subst (λ (rs : List Region). First (λ r. IsLater (option_copied c.args.after) r × Meets c.args.boxes.now r) rs c.in_ok-found.found) spans (c.in_ok-found.ensures.found c.self.invariant.checked on)
 
 pub returns-clause-gives : goal.returns-clause-gives
 returns-clause-gives g c =
-    let held = c.self.inside.pager.cached in
-    let given = subst (λ (v : TreeView). GivesAfter v.inner.index (pager_of v held) (λ from. LeastFrom (HoldsAny c.args.boxes.now) from.z) (option_copied c.args.after) c.in_ok-found.found) c.self.view_is c.in_ok-found.ensures.given in
-    gives_next c.args.boxes.now c.args.self.now held (option_copied c.args.after) c.in_ok-found.found given c.in_ok-found.ensures.later c.in_ok-found.ensures.small
+    let given = subst (λ (v : TreeView). GivesAfter v.inner.index v.store (λ from. LeastFrom (HoldsAny c.args.boxes.now) from.z) (option_copied c.args.after) c.in_ok-found.found) c.self.view_is (c.in_ok-found.ensures.given c.self.invariant.checked) in
+    gives_next c.args.boxes.now c.args.self.now (option_copied c.args.after) c.in_ok-found.found given (c.in_ok-found.ensures.later c.self.invariant.checked) c.in_ok-found.ensures.small
 
 pub returns-in_err-found-clause-effect : goal.returns-in_err-found-clause-effect
 returns-in_err-found-clause-effect g c =
     let t = c.self.inside in
     let small = subst (λ n. n < 2 ^ 128) (sym c.self.invariant.last_is) (last_small t.schema.dims t.schema.counts.few_dims) in
-    rw (← c.self.view_is) (search_refused t.schema t.index t.count t.next t.rows (is_written t.mark) t.is_failed t.pager c.next_meeting.new.pager _ (Option Region) c.from_residual.result c.in_err-found.field-0.0 small
+    rw (← c.self.view_is) (search_refused t.schema t.index t.count t.next t.rows (is_written t.mark) t.is_failed t.pager c.next_meeting.new.pager _ (Option Region) c.from_residual.result c.in_err-found.field-0.0 small c.self.invariant.checked
     c.from_residual.ensures.1 c.in_err-found.ensures.effect)
 
 pub returns-clause-effect : goal.returns-clause-effect

@@ -17,9 +17,9 @@ pub returns-in_err-change-clause-led : goal.returns-in_err-change-clause-led
 returns-in_err-change-clause-led g c =
     let t = c.self.inside in
     let small = subst (λ n. n < 2 ^ 128) (sym c.self.invariant.last_is) (last_small t.schema.dims t.schema.counts.few_dims) in
-    rw (← c.self.view_is) (λ honest surely.
+    rw (← c.self.view_is) (λ honest falls.
     room_err c.from_residual.result c.in_err-change.field-0.0 c.from_residual.ensures.1
-    (change_room t.index t.pager c.args.seat.now.first c.args.seat.now small honest surely (added_at c.args.first.now t.pager.store) _ c.in_err-change.field-0.0 c.in_err-change.ensures.effect.faults))
+    (change_room t.index t.pager.store c.args.seat.now.first c.args.seat.now small honest falls (added_at c.args.first.now t.pager.store) _ c.in_err-change.field-0.0 c.in_err-change.ensures.effect.faults))
 
 pub returns-in_err-change-clause-effect : goal.returns-in_err-change-clause-effect
 returns-in_err-change-clause-effect g c =
@@ -42,6 +42,7 @@ returns-clause-ready g c =
           let (middle, told, turns, settles) = c.in_ok-change.ensures.made honest in
           all_spelled old (page_count t.pager.store + 1) (omega arith) (page_count t.pager.store) t.index.root t.index.levels middle c.in_ok-change.change
           (spells t.index.last t.pager.store.pages c.args.seat.now.first (Some (added_at c.args.first.now t.pager.store)) t.index.levels (top t.index.root) _ _ middle told (omega arith) turns) told settles;
+      pages = λ honest falls within. c.in_ok-change.ensures.pages honest (falls.way honest) within;
       makes = λ i stored at within. c.in_ok-change.ensures.ready i (stored_on old stored) (reached_once t.index t.pager.store _ stored.placed_are.own)
           (subst (λ (es : List Entry). IsSeatAt es i c.args.seat.now) (sym stored.indexed.entries_are) at) within;
       fills = λ i stored at within. c.in_ok-change.ensures.fills i (stored_on old stored) (reached_once t.index t.pager.store _ stored.placed_are.own)

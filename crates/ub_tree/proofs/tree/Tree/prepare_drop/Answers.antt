@@ -24,6 +24,7 @@ returns-clause-ready g c =
     rw (← c.self.view_is) (record {
       spelled = λ honest. drop_spelled old c.args.seat.now.first c.in_ok-change.change (c.in_ok-change.ensures.made honest);
       next = λ honest. drop_next t.index t.pager.store c.args.seat.now.first c.in_ok-change.change (c.in_ok-change.ensures.made honest);
+      pages = λ honest. c.in_ok-change.ensures.pages honest;
       makes = λ i stored at behind. c.in_ok-change.ensures.ready i (stored_on old stored) (reached_once t.index t.pager.store _ stored.placed_are.own)
           (subst (λ (es : List Entry). IsSeatAt es i c.args.seat.now) (sym stored.indexed.entries_are) at) behind;
     })

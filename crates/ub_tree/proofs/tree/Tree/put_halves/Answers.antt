@@ -1,6 +1,6 @@
-use Rattle.std.proofs.Common.{ap, ◌<◌, ◌∙◌, ◌∷◌, [], ℕ, List, true, Ok, Err, subst, sym, refl, length}
+use Rattle.std.proofs.Common.{ap, ◌<◌, ◌∙◌, ◌∷◌, [], ℕ, List, true, Ok, Err, subst, sym, refl, length, Bool, IsTrue}
 use Rattle.ub_page.specs.Bytes.{padded}
-use Rattle.ub_store.specs.Facts.{page_count}
+use Rattle.ub_store.specs.Facts.{StoreFacts, page_count}
 use Rattle.ub_store.specs.declared.fault.StoreFault.{StoreFault}
 use Rattle.ub_tree.proofs.PartFacts.{marks_then}
 use Rattle.ub_tree.proofs.ReadingFacts.{only_device, past_pages}
@@ -8,6 +8,9 @@ use Rattle.ub_tree.proofs.WriteFacts.{ended_by, others_written, put_is, write_re
 use Rattle.ub_tree.specs.Tree.{tree_view}
 use Rattle.ub_tree.specs.View.{TreeView}
 use Rattle.ub_tree.specs.declared.fault.TreeFault.TheVariants.{Store}
+use Rattle.ub_index_page.specs.Index.{IsIndexKind}
+use Rattle.ub_tree.proofs.HeldFacts.{tree_written, written_checked}
+use Rattle.ub_tree.proofs.WayFacts.{region_no_kind}
 use Rattle.ub_writing.specs.Marks.{is_written}
 use Rattle.ub_writing.specs.Puts.{PutsTwo}
 use Rattle.ub_tree.proofs.tree.Tree.put_halves.Goals as goal
@@ -51,3 +54,17 @@ returns-in-Err-clause-effect g c =
           (ended_by t.schema t.index t.count t.next t.rows (is_written t.mark) (is_written c.write_pages.new.mark) t.is_failed true t.pager c.write_pages.new.pager (Unit {0}) c.in-Err.fault refl c.in-Err.ensures.effect.same c.in-Err.ensures.trace);
       others = others_written (0 ∷ c.args.number ∷ c.args.seat.now.page ∷ []) t.pager.store c.write_pages.new.pager.store c.write_pages.ensures.marks.others;
     })
+
+pub invariant_of-self : goal.invariant_of-self
+invariant_of-self g c =
+    let t = c.self.inside in
+    tree_written t.schema t.index t.count t.next t.rows t.mark t.pager c.write_pages.new.pager c.self.invariant
+    (written_checked t.index.last (c.page.result.now ∷ c.page-2.result.now ∷ []) t.pager c.write_pages.new.pager (subst (λ (b : Bool). IsTrue b) (ap (λ (s : StoreFacts). s.honest) c.write_pages.ensures.effect.same)) (subst (λ (p : List ℕ). ¬ (IsIndexKind p)) (sym c.page.ensures) c.requires.kinds.0, (subst (λ (p : List ℕ). ¬ (IsIndexKind p)) (sym c.page-2.ensures) c.requires.kinds.1, tt)) c.write_pages.ensures.held)
+    c.write_pages.new.mark c.write_pages.ensures.marks.stays
+
+pub invariant_of-self-in-Err : goal.invariant_of-self-in-Err
+invariant_of-self-in-Err g c =
+    let t = c.self.inside in
+    tree_written t.schema t.index t.count t.next t.rows t.mark t.pager c.write_pages.new.pager c.self.invariant
+    (written_checked t.index.last (c.page.result.now ∷ c.page-2.result.now ∷ []) t.pager c.write_pages.new.pager (subst (λ (b : Bool). IsTrue b) (ap (λ (s : StoreFacts). s.honest) c.write_pages.ensures.effect.same)) (subst (λ (p : List ℕ). ¬ (IsIndexKind p)) (sym c.page.ensures) c.requires.kinds.0, (subst (λ (p : List ℕ). ¬ (IsIndexKind p)) (sym c.page-2.ensures) c.requires.kinds.1, tt)) c.write_pages.ensures.held)
+    c.write_pages.new.mark c.write_pages.ensures.marks.stays

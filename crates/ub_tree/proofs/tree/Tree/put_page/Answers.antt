@@ -1,4 +1,4 @@
-use Rattle.std.proofs.Common.{◌≡◌, ◌<◌, ◌^◌, ◌∙◌, ◌∷◌, [], true, Ok, Err, ap, subst, sym, refl, length}
+use Rattle.std.proofs.Common.{◌≡◌, ◌<◌, ◌^◌, ◌∙◌, ◌∷◌, [], true, Ok, Err, ap, subst, sym, refl, length, Bool, IsTrue, List, ℕ}
 use Rattle.ub_page.specs.Region.{region_page}
 use Rattle.ub_store.specs.Facts.{StoreFacts}
 use Rattle.ub_store.specs.declared.fault.StoreFault.{StoreFault}
@@ -12,6 +12,9 @@ use Rattle.ub_tree.specs.Tree.{tree_view}
 use Rattle.ub_tree.specs.View.{TreeView}
 use Rattle.ub_tree.specs.declared.fault.TreeFault.TheVariants.{Store}
 use Rattle.ub_tree.specs.inner.Change.{IsSeatThere}
+use Rattle.ub_index_page.specs.Index.{IsIndexKind}
+use Rattle.ub_tree.proofs.HeldFacts.{tree_written, written_checked}
+use Rattle.ub_tree.proofs.WayFacts.{region_no_kind}
 use Rattle.ub_writing.specs.Marks.{is_written}
 use Rattle.ub_tree.proofs.tree.Tree.put_page.Goals as goal
 
@@ -70,3 +73,17 @@ returns-in-Ok-clause-stays g c = λ was. mark_stays c.self.inside.mark c.write_p
 
 pub returns-in-Err-clause-stays : goal.returns-in-Err-clause-stays
 returns-in-Err-clause-stays g c = λ was. mark_stays c.self.inside.mark c.write_page.new.mark c.write_page.ensures.marks.stays (ap (λ (v : TreeView). v.is_changed) c.self.view_is ∙ was)
+
+pub invariant_of-self : goal.invariant_of-self
+invariant_of-self g c =
+    let t = c.self.inside in
+    tree_written t.schema t.index t.count t.next t.rows t.mark t.pager c.write_page.new.pager c.self.invariant
+    (written_checked t.index.last (c.args.page.now ∷ []) t.pager c.write_page.new.pager (subst (λ (b : Bool). IsTrue b) (ap (λ (s : StoreFacts). s.honest) c.write_page.ensures.effect.same)) (subst (λ (p : List ℕ). ¬ (IsIndexKind p)) (sym c.requires.page.2) (region_no_kind c.args.self.now.schema c.requires.page.0 c.requires.page.1), tt) c.write_page.ensures.held)
+    c.write_page.new.mark c.write_page.ensures.marks.stays
+
+pub invariant_of-self-in-Err : goal.invariant_of-self-in-Err
+invariant_of-self-in-Err g c =
+    let t = c.self.inside in
+    tree_written t.schema t.index t.count t.next t.rows t.mark t.pager c.write_page.new.pager c.self.invariant
+    (written_checked t.index.last (c.args.page.now ∷ []) t.pager c.write_page.new.pager (subst (λ (b : Bool). IsTrue b) (ap (λ (s : StoreFacts). s.honest) c.write_page.ensures.effect.same)) (subst (λ (p : List ℕ). ¬ (IsIndexKind p)) (sym c.requires.page.2) (region_no_kind c.args.self.now.schema c.requires.page.0 c.requires.page.1), tt) c.write_page.ensures.held)
+    c.write_page.new.mark c.write_page.ensures.marks.stays

@@ -4,7 +4,7 @@ use Rattle.ub_tree.proofs.CallFacts.{last_small}
 use Rattle.ub_tree.proofs.EffectFacts.{refused_all}
 use Rattle.ub_tree.proofs.NeighbourFacts.{given_next, next_begins, search_apart}
 use Rattle.ub_tree.proofs.SearchFacts.{search_refused}
-use Rattle.ub_tree.specs.Told.{HasOverlap}
+use Rattle.ub_store.specs.Facts.{IsHonest}
 use Rattle.ub_tree.specs.Tree.{tree_view}
 use Rattle.ub_tree.specs.View.{TreeView}
 use Rattle.ub_tree.specs.inner.Change.{IsSeatOf}
@@ -15,23 +15,22 @@ pub returns-in_err-next-clause-effect : goal.returns-in_err-next-clause-effect
 returns-in_err-next-clause-effect g c =
     let t = c.self.inside in
     let small = subst (λ n. n < 2 ^ 128) (sym c.self.invariant.last_is) (last_small t.schema.dims t.schema.counts.few_dims) in
-    rw (← c.self.view_is) (search_refused t.schema t.index t.count t.next t.rows (is_written t.mark) t.is_failed t.pager c.after.new.pager _ (Option Seat) c.from_residual.result c.in_err-next.field-0.0 small
+    rw (← c.self.view_is) (search_refused t.schema t.index t.count t.next t.rows (is_written t.mark) t.is_failed t.pager c.after.new.pager _ (Option Seat) c.from_residual.result c.in_err-next.field-0.0 small c.self.invariant.checked
     c.from_residual.ensures.1 c.in_err-next.ensures.effect)
 
 pub returns-else-begins_at-clause-effect : goal.returns-else-begins_at-clause-effect
 returns-else-begins_at-clause-effect g c =
     let t = c.self.inside in
-    let small = subst (λ n. n < 2 ^ 128) (sym c.self.invariant.last_is) (last_small t.schema.dims t.schema.counts.few_dims) in
     let v : TreeView = tree_view t.schema t.index t.count t.next t.rows (is_written t.mark) t.is_failed t.pager in
     let told = subst (λ (x : TreeView). IsSeatOf x c.args.seat.now) (sym c.self.view_is) c.requires in
-    let given = given_next v t.pager.cached c.args.seat.now.next c.in-Some.next (rw c.in-Some.is at c.in_ok-next.ensures.given) in
-    let over : HasOverlap v =
+    let given = given_next v c.args.seat.now.next c.in-Some.next (rw c.in-Some.is at (c.in_ok-next.ensures.given c.self.invariant.checked)) in
+    let over : ¬ (IsHonest t.pager.store) =
     elim (next_begins v told.0 given.0 c.args.seat.now c.in-Some.next told.1 given.1 given.2) [
       | inl same ↦ let no = c.if-begins_at.ensures.1 same in cc
       | inr over ↦ over
     ] in
     rw (← c.self.view_is) (search_apart t.schema t.index t.count t.next t.rows (is_written t.mark) t.is_failed t.pager c.after.new.pager _ (Option Seat) c.in_ok-next.field-0 c.apart.result
-    c.in_ok-next.ensures.effect c.apart.ensures small over)
+    c.in_ok-next.ensures.effect c.apart.ensures over)
 
 pub returns-in_err-next-clause-begins : goal.returns-in_err-next-clause-begins
 returns-in_err-next-clause-begins g c = refused_all _ c.from_residual.result _ c.from_residual.ensures.1

@@ -9,7 +9,8 @@ use Rattle.ub_tree.proofs.HoldingFacts.{no_answer}
 use Rattle.ub_tree.proofs.NeighbourFacts.{before_ends, few_of, given_next, search_apart}
 use Rattle.ub_tree.proofs.SearchFacts.{search_refused, searched_there}
 use Rattle.ub_tree.specs.Faults.{index_fault}
-use Rattle.ub_tree.specs.Told.{FallsTo, HasOverlap}
+use Rattle.ub_tree.specs.Told.{FallsTo}
+use Rattle.ub_store.specs.Facts.{IsHonest}
 use Rattle.ub_tree.specs.Tree.{tree_view}
 use Rattle.ub_tree.specs.View.{TreeView}
 use Rattle.ub_tree.specs.inner.Change.{IsSeatOf}
@@ -20,7 +21,7 @@ pub returns-in_err-before-clause-effect : goal.returns-in_err-before-clause-effe
 returns-in_err-before-clause-effect g c =
     let t = c.self.inside in
     let small = subst (λ n. n < 2 ^ 128) (sym c.self.invariant.last_is) (last_small t.schema.dims t.schema.counts.few_dims) in
-    rw (← c.self.view_is) (search_refused t.schema t.index t.count t.next t.rows (is_written t.mark) t.is_failed t.pager c.before-2.new.pager _ (Option Seat) c.from_residual.result c.in_err-before.field-0.0 small
+    rw (← c.self.view_is) (search_refused t.schema t.index t.count t.next t.rows (is_written t.mark) t.is_failed t.pager c.before-2.new.pager _ (Option Seat) c.from_residual.result c.in_err-before.field-0.0 small c.self.invariant.checked
     c.from_residual.ensures.1 c.in_err-before.ensures.effect)
 
 pub returns-else-begins_at-clause-effect : goal.returns-else-begins_at-clause-effect
@@ -28,18 +29,17 @@ returns-else-begins_at-clause-effect g c =
     let t = c.self.inside in
     let seat = c.args.seat.now in
     let before = c.in-Some.before in
-    let small = subst (λ n. n < 2 ^ 128) (sym c.self.invariant.last_is) (last_small t.schema.dims t.schema.counts.few_dims) in
     let v : TreeView = tree_view t.schema t.index t.count t.next t.rows (is_written t.mark) t.is_failed t.pager in
     let told = subst (λ (x : TreeView). IsSeatOf x seat) (sym c.self.view_is) c.requires in
-    let given = given_next v t.pager.cached (key_before seat.first.z seat.first.number) before (rw c.in-Some.is at c.in_ok-before.ensures.given) in
+    let given = given_next v (key_before seat.first.z seat.first.number) before (rw c.in-Some.is at (c.in_ok-before.ensures.given c.self.invariant.checked)) in
     let few = few_of (λ (k : Key). k.number) before.next c.number_in-number.result c.number_in-number.type_inv c.number_in-number.ensures in
-    let over : HasOverlap v =
+    let over : ¬ (IsHonest t.pager.store) =
     elim (before_ends v told.0 given.0 seat before told.1 given.1 given.2 few) [
       | inl same ↦ let no = c.if-begins_at.ensures.1 same in cc
       | inr over ↦ over
     ] in
     rw (← c.self.view_is) (search_apart t.schema t.index t.count t.next t.rows (is_written t.mark) t.is_failed t.pager c.before-2.new.pager _ (Option Seat) c.in_ok-before.field-0 c.apart.result
-    c.in_ok-before.ensures.effect c.apart.ensures small over)
+    c.in_ok-before.ensures.effect c.apart.ensures over)
 
 pub returns-in_err-before-clause-ends : goal.returns-in_err-before-clause-ends
 returns-in_err-before-clause-ends g c = no_answer c.from_residual.result (index_fault c.in_err-before.field-0.0) _ c.from_residual.ensures.1
@@ -62,7 +62,7 @@ returns-in_default-clause-before g c = λ i stored at.
     let seat = c.args.seat.now in
     let found = c.in_ok-before.field-0 in
     let told = subst (λ (v : TreeView). (j : ℕ) → IsIndexOn v.inner.index v.store → IsSeatAt (entries_in v.inner.index v.store) j seat → IsPreviousSeat (entries_in v.inner.index v.store) j found)
-    c.self.view_is c.in_ok-before.ensures.before in
+    c.self.view_is (c.in_ok-before.ensures.before c.self.invariant.checked) in
     let previous = subst (λ (es : List Entry). IsSeatAt es i seat → IsPreviousSeat es i found) stored.indexed.entries_are (told i (stored_on a stored)) at in
     rw c.in_default.is at previous
 
@@ -77,7 +77,7 @@ returns-then-begins_at-clause-falls g c =
     let seat = c.args.seat.now in
     let before = c.in-Some.before in
     let v : TreeView = tree_view t.schema t.index t.count t.next t.rows (is_written t.mark) t.is_failed t.pager in
-    let given = given_next v t.pager.cached (key_before seat.first.z seat.first.number) before (rw c.in-Some.is at c.in_ok-before.ensures.given) in
+    let given = given_next v (key_before seat.first.z seat.first.number) before (rw c.in-Some.is at (c.in_ok-before.ensures.given c.self.invariant.checked)) in
     subst (λ (x : TreeView). (k : Key) × (key_before seat.first.z seat.first.number ≡ Some k) × FallsTo x k before) c.self.view_is given
 
 pub returns-then-begins_at-clause-before : goal.returns-then-begins_at-clause-before
@@ -86,7 +86,7 @@ returns-then-begins_at-clause-before g c = λ i stored at.
     let seat = c.args.seat.now in
     let found = c.in_ok-before.field-0 in
     let told = subst (λ (v : TreeView). (j : ℕ) → IsIndexOn v.inner.index v.store → IsSeatAt (entries_in v.inner.index v.store) j seat → IsPreviousSeat (entries_in v.inner.index v.store) j found)
-    c.self.view_is c.in_ok-before.ensures.before in
+    c.self.view_is (c.in_ok-before.ensures.before c.self.invariant.checked) in
     let previous = subst (λ (es : List Entry). IsSeatAt es i seat → IsPreviousSeat es i found) stored.indexed.entries_are (told i (stored_on a stored)) at in
     rw c.in-Some.is at previous
 

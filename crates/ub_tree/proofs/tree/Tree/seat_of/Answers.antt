@@ -7,28 +7,27 @@ use Rattle.ub_region.specs.Regions.{index_holding}
 use Rattle.ub_tree.proofs.CallFacts.{last_small, one_seat, seat_refused, stored_on}
 use Rattle.ub_tree.proofs.SearchFacts.{search_refused, searched_there}
 use Rattle.ub_tree.specs.Spans.{first_keys}
-use Rattle.ub_tree.specs.Told.{FallsTo, pager_of}
+use Rattle.ub_tree.specs.Told.{FallsTo}
 use Rattle.ub_tree.specs.View.{TreeView}
 use Rattle.ub_writing.specs.Marks.{is_written}
 use Rattle.ub_tree.proofs.tree.Tree.seat_of.Goals as goal
 
 pub returns-clause-falls : goal.returns-clause-falls
-returns-clause-falls g c = subst (λ (v : TreeView). FallsTo v c.args.key.now c.in_ok-seat.seat) c.self.view_is (c.self.inside.pager.cached, c.in_ok-seat.ensures.given)
+returns-clause-falls g c = subst (λ (v : TreeView). FallsTo v c.args.key.now c.in_ok-seat.seat) c.self.view_is (c.in_ok-seat.ensures.given c.self.invariant.checked)
 
 pub returns-clause-seat : goal.returns-clause-seat
 returns-clause-seat g c = λ stored.
     let t = c.args.self.now in
     let key = c.args.key.now in
     let told = subst (λ (v : TreeView). IsIndexOn v.inner.index v.store → IsSeatAt (entries_in v.inner.index v.store) (index_holding key (first_keys (entries_in v.inner.index v.store))) c.in_ok-seat.seat)
-    c.self.view_is c.in_ok-seat.ensures.seat in
+    c.self.view_is (c.in_ok-seat.ensures.seat c.self.invariant.checked) in
     subst (λ (es : List Entry). IsSeatAt es (index_holding key (first_keys es)) c.in_ok-seat.seat) stored.indexed.entries_are (told (stored_on t stored))
 
 pub returns-clause-led : goal.returns-clause-led
 returns-clause-led g c = λ seat honest falls.
     let t = c.args.self.now in
-    let held = c.self.inside.pager.cached in
-    let given = subst (λ (v : TreeView). Gives v.inner.index (pager_of v held) c.args.key.now c.in_ok-seat.seat) c.self.view_is c.in_ok-seat.ensures.given in
-    one_seat t.inner.index (pager_of t held) c.args.key.now c.in_ok-seat.seat seat honest given falls
+    let given = subst (λ (v : TreeView). Gives v.inner.index v.store c.args.key.now c.in_ok-seat.seat) c.self.view_is (c.in_ok-seat.ensures.given c.self.invariant.checked) in
+    one_seat t.inner.index t.store c.args.key.now c.in_ok-seat.seat seat honest given falls
 
 pub returns-in_err-seat-clause-led : goal.returns-in_err-seat-clause-led
 returns-in_err-seat-clause-led g c = λ seat honest falls.
@@ -36,14 +35,14 @@ returns-in_err-seat-clause-led g c = λ seat honest falls.
     let i = c.self.inside in
     let small = subst (λ n. n < 2 ^ 128) (sym c.self.invariant.last_is) (last_small i.schema.dims i.schema.counts.few_dims) in
     let near = subst (λ (v : TreeView). v.inner.index.last < 2 ^ 128) c.self.view_is small in
-    let fault = subst (λ (v : TreeView). IsWayFault v.inner.index (pager_of v i.pager.cached) (λ k. k ≡ c.args.key.now) c.in_err-seat.field-0.0) c.self.view_is c.in_err-seat.ensures.effect.faults in
-    seat_refused t.inner.index (pager_of t i.pager.cached) c.args.key.now seat c.from_residual.result c.in_err-seat.field-0.0 near honest falls c.from_residual.ensures.1 fault
+    let fault = subst (λ (v : TreeView). IsWayFault v.inner.index v.store (λ k. k ≡ c.args.key.now) c.in_err-seat.field-0.0) c.self.view_is (c.in_err-seat.ensures.effect.faults c.self.invariant.checked) in
+    seat_refused t.inner.index t.store c.args.key.now seat c.from_residual.result c.in_err-seat.field-0.0 near honest falls c.from_residual.ensures.1 fault
 
 pub returns-in_err-seat-clause-effect : goal.returns-in_err-seat-clause-effect
 returns-in_err-seat-clause-effect g c =
     let t = c.self.inside in
     let small = subst (λ n. n < 2 ^ 128) (sym c.self.invariant.last_is) (last_small t.schema.dims t.schema.counts.few_dims) in
-    rw (← c.self.view_is) (search_refused t.schema t.index t.count t.next t.rows (is_written t.mark) t.is_failed t.pager c.seat_of.new.pager _ Seat c.from_residual.result c.in_err-seat.field-0.0 small
+    rw (← c.self.view_is) (search_refused t.schema t.index t.count t.next t.rows (is_written t.mark) t.is_failed t.pager c.seat_of.new.pager _ Seat c.from_residual.result c.in_err-seat.field-0.0 small c.self.invariant.checked
     c.from_residual.ensures.1 c.in_err-seat.ensures.effect)
 
 pub returns-clause-effect : goal.returns-clause-effect

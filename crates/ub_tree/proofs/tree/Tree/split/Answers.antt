@@ -1,5 +1,5 @@
-use Rattle.std.proofs.Common.{◌≡◌, ◌≤◌, ◌+◌, ◌-◌, ◌∙◌, ℕ, Err, Ok, ap, arith, inl, inr, subst, sym, refl}
-use Rattle.ub_store.specs.Facts.{StoreFacts, page_count}
+use Rattle.std.proofs.Common.{◌≡◌, ◌≤◌, ◌+◌, ◌-◌, ◌∙◌, ℕ, Err, Ok, ap, arith, inl, inr, subst, sym, refl, List}
+use Rattle.ub_store.specs.Facts.{StoreFacts, IsHonest, page_count}
 use Rattle.ub_index.specs.Making.{changed}
 use Rattle.ub_index.specs.View.{IndexView}
 use Rattle.ub_index_page.specs.declared.index.TheConstants.{MAX_LEVEL}
@@ -14,6 +14,10 @@ use Rattle.ub_tree.specs.View.{TreeView, region_count}
 use Rattle.ub_tree.specs.declared.fault.TreeFault.{TreeFault}
 use Rattle.ub_tree.specs.declared.fault.TreeFault.TheVariants.{Page}
 use Rattle.ub_tree.specs.inner.Change.{GrowsTo, IsGrowthLeft, IsIndexFault, IsWriteFault}
+use Rattle.ub_index.proofs.LeadFacts.{ways_hold}
+use Rattle.ub_index.specs.Changing.{AreIndexPages}
+use Rattle.ub_index_page.specs.Index.{IsIndexKind}
+use Rattle.ub_tree.proofs.WayFacts.{region_no_kind}
 use Rattle.ub_writing.specs.Marks.{is_written}
 use Rattle.ub_tree.proofs.tree.Tree.split.Goals as goal
 
@@ -199,3 +203,25 @@ returns-clause-counted g c =
     let few = c.if-self.false in
     let count = ap (λ (v : TreeView). v.inner.count) c.self.view_is in
     parted_answers c.args.self.now c.args.seat.now tt (λ many. few (count ∙ many)) (λ honest levels way. c.in_ok-change.ensures.full honest levels way refl)
+
+pub put_halves-requires-clause-kinds : goal.put_halves-requires-clause-kinds
+put_halves-requires-clause-kinds g c =
+    let schema : c.self-2.inside.schema ≡ c.args.self.now.schema = ap (λ (v : TreeView). v.schema) c.self-2.view_is ∙ ap (λ (v : TreeView). v.schema) c.in_ok-change.ensures.effect.same in
+    let right = c.write_region-2.ensures.page ∙ ap (λ (s : Schema). region_page s (record { first = c.args.halves.now.first; rows = c.args.halves.now.right.now })) schema in
+    let left = c.write_region.ensures.page ∙ ap (λ (s : Schema). region_page s (record { first = c.args.seat.now.first; rows = c.args.halves.now.left.now })) schema in (
+      subst (λ (p : List ℕ). ¬ (IsIndexKind p)) (sym right) (region_no_kind c.args.self.now.schema _ c.requires.right),
+      subst (λ (p : List ℕ). ¬ (IsIndexKind p)) (sym left) (region_no_kind c.args.self.now.schema _ c.requires.left),
+    )
+
+pub put_index-requires : goal.put_index-requires
+put_index-requires g c = λ honest.
+    let a = c.args.self.now in
+    let grew = subst (λ (v : TreeView). GrowsTo {A = Unit {0}} (page_count v.store + (c.in_ok-change.change.next - c.in_ok-change.change.start)) v c.grow.new.self (Ok tt)) c.in_ok-change.ensures.effect.same
+    c.in_ok-grow.ensures in
+    let was : IsHonest a.store = sym (ap (λ (v : TreeView). v.store.honest) grew.frame) ∙ (sym (ap (λ (v : TreeView). v.store.honest) c.in_ok-put_halves.ensures.effect.frame) ∙ honest) in
+    let seat = c.requires.seat.seat_is in
+    let holds = ways_hold a.inner.index a.store seat.0 c.args.seat.now (seat.1.way was) in
+    let last : c.put_halves.new.self.inner.index.last ≡ a.inner.index.last =
+    ap (λ (v : TreeView). v.inner.index.last) c.in_ok-put_halves.ensures.same ∙ ap (λ (v : TreeView). v.inner.index.last) grew.frame in
+    subst (λ (n : ℕ). AreIndexPages n c.in_ok-change.change.sheets) (sym last)
+    (c.in_ok-change.ensures.ready.pages was (record { holds = holds.1; way = λ _. holds.2 c.args.seat.now.first holds.1 }) c.requires.within)

@@ -1,4 +1,5 @@
-use Rattle.std.proofs.Common.{◌∙◌, inr, ap, subst, sym}
+use Rattle.std.proofs.Common.{◌∙◌, inr, ap, subst, sym, ◌≡◌, None, refl, rules}
+use Rattle.ub_store.specs.Cache.{page_at}
 use Rattle.ub_store.specs.Facts.{StoreFacts, IsHonest}
 use Rattle.ub_store.specs.View.{PagerView}
 use Rattle.ub_tree.proofs.UpgradeFacts.{over, stands_over}
@@ -69,3 +70,17 @@ returns-in-Err-bring_over-clause-made g c = λ version next schema placed honest
 pub returns-in-Err-bring_over-clause-unopened : goal.returns-in-Err-bring_over-clause-unopened
 returns-in-Err-bring_over-clause-unopened g c = λ new_honest.
     subst IsUnopened (sym c.into_store.ensures) (c.in-Err-bring_over.ensures.unopened (ap (λ (q : PagerView). q.store.honest) c.in-Ok.ensures.made ∙ new_honest))
+
+pub over-requires : goal.over-requires
+over-requires g c =
+    let made = c.in-Ok.ensures.made in
+    let t = c.in-Ok-bring_over in
+    record {
+      last_is = search rules;
+      some = search rules;
+      few = search rules;
+      fewer = search rules;
+      last_next = search rules;
+      mark_is = search rules;
+      checked = t.ensures.checked (λ n. subst (λ (p : PagerView). page_at p.cached n ≡ None) (sym made) refl);
+    }

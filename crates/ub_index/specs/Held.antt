@@ -1,0 +1,21 @@
+-- What is known of the pages that a pager holds.
+use Rattle.std.specs.Prelude.{◌≡◌, ◌⊎◌, ℕ, Bool, false, List, Some}
+use Rattle.ub_index.specs.Index.{IsIndexPage}
+use Rattle.ub_index_page.specs.Index.{IsIndexKind}
+use Rattle.ub_store.specs.Cache.{page_at}
+use Rattle.ub_store.specs.Facts.{IsHonest}
+use Rattle.ub_store.specs.View.{PagerView}
+
+-- over an honest store each page that is held is one of an index, or doesn't begin as one does: so of a page of an index that is
+-- held its ends tell whether it fits
+abbrev pub AreChecked : ℕ → PagerView → Type 0
+AreChecked last pager =
+    IsHonest pager.store → (n : ℕ) (page : List ℕ) → page_at pager.cached n ≡ Some page → IsIndexPage last page ⊎ (¬ (IsIndexKind page))
+
+-- it is so after a call, if it was before
+abbrev pub KeepsChecked : ℕ → PagerView → PagerView → Type 0
+KeepsChecked last old new = AreChecked last old → AreChecked last new
+
+-- the page was read in this call, or was held, and so was checked before
+abbrev pub WasChecked : Bool → ℕ → List ℕ → Type 0
+WasChecked is_read last page = is_read ≡ false → IsIndexPage last page ⊎ (¬ (IsIndexKind page))

@@ -1,0 +1,99 @@
+-- Over an honest store a tree that is asked for the next region again and again, until there is none, leaves out no key of the boxes.
+use Rattle.std.proofs.Common.{◌≡◌, ◌≤◌, ◌<◌, ◌⊎◌, ◌∙◌, inl, inr, ℕ, zero, suc, List, [], ◌∷◌, Option, Some, None, IfSome, ap, arith, sym, subst, refl}
+use Rattle.std.proofs.lemmas.Bool.{cases_Bool, cases_lt}
+use Rattle.std.specs.Prelude.{Contains}
+use Rattle.ub_bigmin.specs.Box.{Corners, HoldsAny}
+use Rattle.ub_bigmin.specs.Extremes.{LeastFrom}
+use Rattle.ub_index.proofs.KeyFacts.{le_trans}
+use Rattle.ub_index.proofs.LeadFacts.{ways_are_one, ways_hold}
+use Rattle.ub_index.specs.Searching.{Gives, GivesAfter, IsAim, IsAimless, IsFrom, region_of}
+use Rattle.ub_index.specs.Way.{HoldsKey}
+use Rattle.ub_index.specs.declared.seat.Seat.{Seat}
+use Rattle.ub_store.specs.Facts.{IsHonest}
+use Rattle.ub_table.proofs.Laws.{before_from, before_of, before_parts, not_before_origin, precedes_of}
+use Rattle.ub_table.specs.Keys.{IsBefore, origin, precedes}
+use Rattle.ub_table.specs.declared.row.Key.{Key}
+use Rattle.ub_tree.proofs.MeetFacts.{contained_at, contains_at}
+use Rattle.ub_tree.specs.Spans.{Region as Span}
+use Rattle.ub_tree.specs.Told.{AreAnswers, GivesNext}
+use Rattle.ub_tree.specs.View.{TreeView}
+
+module _ (boxes : List Corners) (tree : TreeView) (honest : IsHonest tree.store) (key : Key) (inside : HoldsAny boxes key.z) (upto : key.z ≤ tree.inner.index.last) where
+  abbrev To : Key → Option ℕ → Type 0
+  To from = LeastFrom (HoldsAny boxes) from.z
+
+  -- the search after this region goes on from a key that isn't behind the one in question
+  abbrev IsAhead : Option Span → Type 0
+  IsAhead after = (from : Option Key) → IsFrom tree.inner.index tree.store after from → (f : Key) × (from ≡ Some f) × (¬ (IsBefore key f))
+
+  address_up : (f : Key) → ¬ (IsBefore key f) → f.z ≤ key.z
+  address_up f ahead = elim (cases_lt key.z f.z) [
+    | inl lt ↦ absurd (ahead (before_from key f (inl lt)))
+    | inr ge ↦ omega arith
+  ]
+
+  not_aimless : (f : Key) → ¬ (IsBefore key f) → IsAimless tree.inner.index.last To (Some f) → ⊥
+  not_aimless f ahead (inl none) = ahead (before_from key f (inl (none key.z inside)))
+  not_aimless f ahead (inr (z, least, far)) =
+      let least_is : z ≤ key.z = least.2 key.z inside (address_up f ahead) in
+      omega arith
+
+  not_before_aim : (f aim : Key) → ¬ (IsBefore key f) → IsAim tree.inner.index.last To f aim → ¬ (IsBefore key aim)
+  not_before_aim f aim ahead (z, least, le, is) =
+      let least_is : z ≤ key.z = least.2 key.z inside (address_up f ahead) in
+      let behind : ¬ (IsBefore key (record { z = z; number = 0 })) = λ before.
+      elim (before_parts key (record { z = z; number = 0 }) before) [
+        | inl lt ↦ omega arith
+        | inr same ↦ let few = same.1 in omega arith
+      ] in
+      subst (λ (k : Key). ¬ (IsBefore key k)) (sym is) (elim (cases_Bool (precedes (record { z = z; number = 0 }) f)) [
+        | inl t ↦ rw t ahead
+        | inr f ↦ rw f behind
+      ])
+
+  -- a seat that doesn't begin behind the key holds it, or ends before it
+  holds_or_ends : (seat : Seat) → ¬ (IsBefore key seat.first) → (next : Option Key) → seat.next ≡ next
+      → HoldsKey key seat.first seat.next ⊎ ((n : Key) × (seat.next ≡ Some n) × (¬ (IsBefore key n)))
+  holds_or_ends seat from None e = inl (record { from = from; to = subst (λ (o : Option Key). IfSome o (IsBefore key)) (sym e) tt })
+  holds_or_ends seat from (Some n) e = elim (cases_Bool (precedes key n)) [
+    | inl t ↦ inl (record { from = from; to = subst (λ (o : Option Key). IfSome o (IsBefore key)) (sym e) (before_of key n t) })
+    | inr f ↦ inr (n, e, λ before. let t = precedes_of key n before in cc)
+  ]
+
+  -- the way to the first key of the seat that is given leads to it alone
+  one_next : (aim : Key) (seat other : Seat) → Gives tree.inner.index tree.store aim seat → Gives tree.inner.index tree.store seat.first other → other ≡ seat
+  one_next aim seat other given again =
+      let ways = ways_hold tree.inner.index tree.store aim seat (given.way honest) in
+      ways_are_one tree.inner.index tree.store seat.first other seat (again.way honest) (ways.2 seat.first ways.1)
+
+  -- so what is given holds the key, or the search after it goes on from no later one
+  step : (after : Option Span) (found : Span) → IsAhead after → GivesAfter tree.inner.index tree.store To after (Some found) → HoldsKey key found.first found.next ⊎ IsAhead (Some found)
+  step after found ahead (None, is_from, gone) = absurd gone
+  step after found ahead (Some f, is_from, (aim, is_aim, seat, given, region_is)) =
+      let there = ahead (Some f) is_from in
+      let same : there.0 ≡ f = let e = there.1 in cc in
+      let up = not_before_aim f aim (subst (λ (k : Key). ¬ (IsBefore key k)) same there.2) is_aim in
+      subst (λ (r : Span). HoldsKey key r.first r.next ⊎ IsAhead (Some r)) (sym region_is)
+      (elim (holds_or_ends seat (le_trans seat.first aim key given.holds.from up) seat.next refl) [
+        | inl holds ↦ inl holds
+        | inr ends ↦ inr (λ from is. (ends.0, is.2 ∙ (ap (λ (s : Seat). s.next) (one_next aim seat is.0 given is.1) ∙ ends.1), ends.2))
+      ])
+
+  none_left : (after : Option Span) → IsAhead after → GivesAfter tree.inner.index tree.store To after None → ⊥
+  none_left after ahead (None, is_from, none) = let there = ahead None is_from in let e = there.1 in cc
+  none_left after ahead (Some f, is_from, none) =
+      let there = ahead (Some f) is_from in
+      let same : there.0 ≡ f = let e = there.1 in cc in
+      not_aimless f (subst (λ (k : Key). ¬ (IsBefore key k)) same there.2) none
+
+  cover : (after : Option Span) (answers : List Span) → IsAhead after → AreAnswers boxes tree after answers → (span : Span) × Contains answers span × HoldsKey key span.first span.next
+  cover after [] ahead gives = absurd (none_left after ahead gives.given)
+  cover after (found ∷ more) ahead are = elim (step after found ahead are.0.given) [
+    | inl holds ↦ (found, contains_at (found ∷ more) 0 found refl, holds)
+    | inr later ↦
+        let r = cover (Some found) more later are.1 in
+        (r.0, contains_at (found ∷ more) (suc r.1.0) r.0 (contained_at more r.0 r.1), r.2)
+  ]
+
+  pub covered : (answers : List Span) → AreAnswers boxes tree None answers → (span : Span) × Contains answers span × HoldsKey key span.first span.next
+  covered answers are = cover None answers (λ from is. (origin, is, not_before_origin key)) are
