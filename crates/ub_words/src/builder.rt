@@ -1,6 +1,6 @@
-ghost use Rattle.std.specs.Prelude.{IfOk, codes};
-ghost use Rattle.clap.specs.Words.{App, Rule, with_rule, with_subcommand};
-ghost use Rattle.ub_words.specs.CommandLine.{IsArgFor, IsCommandFor, append_app, check_app, data_app, describe_app, dims_rule, load_app, next_app, option_rule, page_rows_rule, query_app, run_app, signed_rule, try_app, ubq_app, upgrade_app, word_rule};
+ghost use Rattle.std.specs.Prelude.{IfOk};
+ghost use Rattle.clap.specs.Words.{App, Rule, new_app, with_rule, with_subcommand};
+ghost use Rattle.ub_words.specs.CommandLine.{IsArgFor, IsCommandFor, append_app, check_app, data_app, describe_app, dims_rule, load_app, name_rule, next_app, option_rule, page_rows_rule, query_app, run_app, signed_rule, try_app, ubq_app, upgrade_app, word_rule};
 
 use clap::{Arg, Command, value_parser};
 use std::alloc::{AllocError, Global};
@@ -322,11 +322,26 @@ fn with_command<'a>(command: Making<'a>, below: Making<'a>) -> Making<'a>
     command?.subcommand(below?)
 }
 
+// A command of this name, with what the program's help says of it, and what stands at the end of its own.
+fn new_command<'a>(alloc: Global, name: &'a str, about: &'a str, help: &'a str) -> Command<'a>
+    ensures { IsCommandFor (new_app name.entry.now) result }
+{
+    Command::new(alloc, name).about(about).after_help(help)
+}
+
 // A word that is to be given at its place.
 fn word_arg<'a>(alloc: Global, id: &'a str, help: &'a str) -> Arg<'a>
     ensures { IsArgFor (word_rule id.entry.now) result }
 {
     Arg::new(alloc, id).required(true).help(help)
+}
+
+// Adds such a word to a command.
+fn with_word<'a>(alloc: Global, command: Making<'a>, id: &'a str, help: &'a str) -> Making<'a>
+    ensures { (app : App) → IfOk command.entry (IsCommandFor app)
+        → IfOk result (IsCommandFor (with_rule app (word_rule id.entry.now))) }
+{
+    with_arg(command, word_arg(alloc, id, help))
 }
 
 // An option with a value.
@@ -368,42 +383,40 @@ fn page_rows_arg<'a>(alloc: Global) -> Arg<'a>
         .value_parser(value_parser!(u32).range(2..=64))
 }
 
-// The path of a CSV file, which is another command's argument beside this one, and how a table is made of it.
-fn with_data<'a>(alloc: Global, command: Command<'a>, other: Arg<'a>) -> Making<'a>
-    ensures { (app : App) (rule : Rule) → IsCommandFor app command.entry → IsArgFor rule other.entry
-        → IfOk result (IsCommandFor (data_app app rule)) }
+// The option that says which name the table has.
+fn name_arg<'a>(alloc: Global) -> Arg<'a>
+    ensures { IsArgFor name_rule result }
+{
+    let help = "The name of the table in the statements";
+    option_arg(alloc, "name", "T", help).default_value("t")
+}
+
+// The path of a CSV file, another word beside it, and how a table is made of the file.
+fn with_data<'a>(alloc: Global, command: Command<'a>, id: &'a str, help: &'a str) -> Making<'a>
+    ensures { (app : App) → IsCommandFor app command.entry
+        → IfOk result (IsCommandFor (data_app app (word_rule id.entry.now))) }
 {
     let data =
         "A CSV file with a header, the dimensions first and then the measures; - is standard input";
-    let name = "The name of the table in the statements";
-    let command = with_arg(Ok(command), word_arg(alloc, "DATA", data));
-    let command = with_arg(command, other);
+    let command = with_word(alloc, Ok(command), "DATA", data);
+    let command = with_word(alloc, command, id, help);
     let command = with_arg(command, dims_arg(alloc));
     let command = with_arg(command, signed_arg(alloc));
     let command = with_arg(command, page_rows_arg(alloc));
-    with_arg(
-        command,
-        option_arg(alloc, "name", "T", name).default_value("t"),
-    )
+    with_arg(command, name_arg(alloc))
 }
 
-// A word for the file of a script.
-fn script_arg<'a>(alloc: Global) -> Arg<'a>
-    ensures { IsArgFor (word_rule (codes "SCRIPT")) result }
-{
-    let help = "A file of statements, each ended by a semicolon; - is standard input";
-    word_arg(alloc, "SCRIPT", help)
-}
+// What the help of `run` and `try` says of the file of a script.
+const SCRIPT: &str = "A file of statements, each ended by a semicolon; - is standard input";
 
 // The command `load` as `clap` reads it.
 fn load_command<'a>(alloc: Global) -> Making<'a>
     ensures { IfOk result (IsCommandFor load_app) }
 {
     let table = "The table file to make; what it held is lost";
-    let command = Command::new(alloc, "load")
-        .about("Load a CSV file into a table file")
-        .after_help(LOAD_HELP);
-    with_data(alloc, command, word_arg(alloc, "TABLE", table))
+    let about = "Load a CSV file into a table file";
+    let command = new_command(alloc, "load", about, LOAD_HELP);
+    with_data(alloc, command, "TABLE", table)
 }
 
 // The command `run` as `clap` reads it.
@@ -411,12 +424,10 @@ fn run_command<'a>(alloc: Global) -> Making<'a>
     ensures { IfOk result (IsCommandFor run_app) }
 {
     let table = "A table file that `load` made; INSERT and DELETE change it";
-    let command = Command::new(alloc, "run")
-        .about("Run a script of statements on a table file")
-        .override_usage(RUN_USAGE)
-        .after_help(RUN_HELP);
-    let command = with_arg(Ok(command), word_arg(alloc, "TABLE", table));
-    with_arg(command, script_arg(alloc))
+    let about = "Run a script of statements on a table file";
+    let command = new_command(alloc, "run", about, RUN_HELP).override_usage(RUN_USAGE);
+    let command = with_word(alloc, Ok(command), "TABLE", table);
+    with_word(alloc, command, "SCRIPT", SCRIPT)
 }
 
 // The command `query` as `clap` reads it.
@@ -425,11 +436,10 @@ fn query_command<'a>(alloc: Global) -> Making<'a>
 {
     let table = "A table file that `load` made; INSERT and DELETE change it";
     let statements = "The statements themselves, parted by semicolons";
-    let command = Command::new(alloc, "query")
-        .about("Write the answers of statements on a table file, and nothing else")
-        .after_help(QUERY_HELP);
-    let command = with_arg(Ok(command), word_arg(alloc, "TABLE", table));
-    with_arg(command, word_arg(alloc, "STATEMENTS", statements))
+    let about = "Write the answers of statements on a table file, and nothing else";
+    let command = new_command(alloc, "query", about, QUERY_HELP);
+    let command = with_word(alloc, Ok(command), "TABLE", table);
+    with_word(alloc, command, "STATEMENTS", statements)
 }
 
 // The command `append` as `clap` reads it.
@@ -438,21 +448,19 @@ fn append_command<'a>(alloc: Global) -> Making<'a>
 {
     let table = "A table file that `load` made; it gets the rows";
     let data = "A CSV file whose header names each column of TABLE; - is standard input";
-    let command = Command::new(alloc, "append")
-        .about("Put the rows of a CSV file into a table file")
-        .after_help(APPEND_HELP);
-    let command = with_arg(Ok(command), word_arg(alloc, "TABLE", table));
-    with_arg(command, word_arg(alloc, "DATA", data))
+    let about = "Put the rows of a CSV file into a table file";
+    let command = new_command(alloc, "append", about, APPEND_HELP);
+    let command = with_word(alloc, Ok(command), "TABLE", table);
+    with_word(alloc, command, "DATA", data)
 }
 
 // The command `try` as `clap` reads it.
 fn try_command<'a>(alloc: Global) -> Making<'a>
     ensures { IfOk result (IsCommandFor try_app) }
 {
-    let command = Command::new(alloc, "try")
-        .about("Run a script of statements on a CSV file, in memory")
-        .after_help(TRY_HELP);
-    with_data(alloc, command, script_arg(alloc))
+    let about = "Run a script of statements on a CSV file, in memory";
+    let command = new_command(alloc, "try", about, TRY_HELP);
+    with_data(alloc, command, "SCRIPT", SCRIPT)
 }
 
 // The command `upgrade` as `clap` reads it.
@@ -461,11 +469,10 @@ fn upgrade_command<'a>(alloc: Global) -> Making<'a>
 {
     let old = "A table file that an older ubq made; it is left as it was";
     let made = "The table file to make; what it held is lost";
-    let command = Command::new(alloc, "upgrade")
-        .about("Make a table file anew that an older ubq made")
-        .after_help(UPGRADE_HELP);
-    let command = with_arg(Ok(command), word_arg(alloc, "OLD", old));
-    with_arg(command, word_arg(alloc, "NEW", made))
+    let about = "Make a table file anew that an older ubq made";
+    let command = new_command(alloc, "upgrade", about, UPGRADE_HELP);
+    let command = with_word(alloc, Ok(command), "OLD", old);
+    with_word(alloc, command, "NEW", made)
 }
 
 // The command `describe` as `clap` reads it.
@@ -473,10 +480,9 @@ fn describe_command<'a>(alloc: Global) -> Making<'a>
     ensures { IfOk result (IsCommandFor describe_app) }
 {
     let table = "A table file, also one that an older ubq made; it is only read";
-    let command = Command::new(alloc, "describe")
-        .about("Say what a table file holds, as its header tells it")
-        .after_help(DESCRIBE_HELP);
-    with_arg(Ok(command), word_arg(alloc, "TABLE", table))
+    let about = "Say what a table file holds, as its header tells it";
+    let command = new_command(alloc, "describe", about, DESCRIBE_HELP);
+    with_word(alloc, Ok(command), "TABLE", table)
 }
 
 // The command `check` as `clap` reads it.
@@ -484,10 +490,9 @@ fn check_command<'a>(alloc: Global) -> Making<'a>
     ensures { IfOk result (IsCommandFor check_app) }
 {
     let table = "The table file to check; it is only read";
-    let command = Command::new(alloc, "check")
-        .about("Check each page of a table file")
-        .after_help(CHECK_HELP);
-    with_arg(Ok(command), word_arg(alloc, "TABLE", table))
+    let about = "Check each page of a table file";
+    let command = new_command(alloc, "check", about, CHECK_HELP);
+    with_word(alloc, Ok(command), "TABLE", table)
 }
 
 // The command `next` as `clap` reads it.
@@ -497,12 +502,11 @@ fn next_command<'a>(alloc: Global) -> Making<'a>
     let low = "The least coordinate in each dimension, joined by commas, as in 2,2";
     let high = "The greatest coordinate in each dimension, joined by commas, as in 6,3";
     let address = "The Z-address from which to look, as in 19";
-    let command = Command::new(alloc, "next")
-        .about("Find the addresses of a box that are nearest to a Z-address, on either side")
-        .after_help(NEXT_HELP);
-    let command = with_arg(Ok(command), word_arg(alloc, "LO", low));
-    let command = with_arg(command, word_arg(alloc, "HI", high));
-    with_arg(command, word_arg(alloc, "Z", address))
+    let about = "Find the addresses of a box that are nearest to a Z-address, on either side";
+    let command = new_command(alloc, "next", about, NEXT_HELP);
+    let command = with_word(alloc, Ok(command), "LO", low);
+    let command = with_word(alloc, command, "HI", high);
+    with_word(alloc, command, "Z", address)
 }
 
 // The whole command line.

@@ -1,9 +1,6 @@
-use Rattle.std.proofs.Common.{codes, rules}
+use Rattle.std.proofs.Common.{codes}
 use Rattle.clap.specs.Words.{new_app}
-use Rattle.ub_words.specs.CommandLine.{IsCommandFor, word_rule}
 use Rattle.ub_words.proofs.builder.describe_command.Goals as goal
 
 pub returns : goal.returns
-returns c =
-    let bare : IsCommandFor (new_app (codes "describe")) c.after_help-command.result = (search rules, search rules) in
-    c.with_arg.ensures (new_app (codes "describe")) (word_rule (codes "TABLE")) bare c.word_arg.ensures
+returns c = c.with_word.ensures (new_app (codes "describe")) c.new_command-command.ensures

@@ -1,10 +1,9 @@
 use Rattle.std.proofs.Common.{codes, rules}
 use Rattle.clap.specs.Words.{new_app}
-use Rattle.ub_words.specs.CommandLine.{IsCommandFor, word_rule}
+use Rattle.ub_words.specs.CommandLine.{IsCommandFor}
 use Rattle.ub_words.proofs.builder.run_command.Goals as goal
 
 pub returns : goal.returns
 returns c =
-    let bare : IsCommandFor (new_app (codes "run")) c.after_help-command.result = (search rules, search rules) in
-    let first = c.with_arg-command.ensures (new_app (codes "run")) (word_rule (codes "TABLE")) bare c.word_arg.ensures in
-    c.with_arg.ensures _ (word_rule (codes "SCRIPT")) first c.script_arg.ensures
+    let bare : IsCommandFor (new_app (codes "run")) c.override_usage-command.result = (search rules, search rules) in
+    c.with_word.ensures _ (c.with_word-command.ensures (new_app (codes "run")) bare)

@@ -1,10 +1,6 @@
-use Rattle.std.proofs.Common.{codes, rules}
+use Rattle.std.proofs.Common.{codes}
 use Rattle.clap.specs.Words.{new_app}
-use Rattle.ub_words.specs.CommandLine.{IsCommandFor, word_rule}
 use Rattle.ub_words.proofs.builder.upgrade_command.Goals as goal
 
 pub returns : goal.returns
-returns c =
-    let bare : IsCommandFor (new_app (codes "upgrade")) c.after_help-command.result = (search rules, search rules) in
-    let first = c.with_arg-command.ensures (new_app (codes "upgrade")) (word_rule (codes "OLD")) bare c.word_arg.ensures in
-    c.with_arg.ensures _ (word_rule (codes "NEW")) first c.word_arg-2.ensures
+returns c = c.with_word.ensures _ (c.with_word-command.ensures (new_app (codes "upgrade")) c.new_command-command.ensures)
