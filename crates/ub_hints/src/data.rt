@@ -86,12 +86,24 @@ fn fault_hint(
     schema: &Schema,
     fault: LoadFault,
 ) -> Result<String, AllocError> {
+    match faulty_record(alloc, text, header, fault) {
+        Some(record) => record_hint(alloc, path, header, &record, schema, fault),
+        None => Ok(String::new(alloc)),
+    }
+}
+
+// What this fault of this record is.
+fn record_hint(
+    alloc: Global,
+    path: &str,
+    header: &Record,
+    record: &Record,
+    schema: &Schema,
+    fault: LoadFault,
+) -> Result<String, AllocError> {
     let mut line = String::new(alloc);
-    let Some(record) = faulty_record(alloc, text, header, fault) else {
-        return Ok(line);
-    };
     put_path(&mut line, path)?;
-    put_fault(&mut line, header, &record, schema, fault)?;
+    put_fault(&mut line, header, record, schema, fault)?;
     line.push('\n')?;
     Ok(line)
 }

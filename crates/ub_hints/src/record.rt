@@ -40,15 +40,20 @@ impl Record {
 /// The record that is sought in a text, if it is there and could be read.
 pub(crate) fn find_record(alloc: Global, text: &[u8], sought: Sought) -> Option<Record> {
     let text = without_mark(text);
-    let mut reader = reader_of(alloc, text);
     let mut fields = ByteRecord::new(alloc);
+    let row = read_up_to(&mut reader_of(alloc, text), &mut fields, sought)?;
+    let line = line_of(text, &fields);
+    Some(Record { row, fields, line })
+}
+
+// Reads records up to the one that is sought, and gives its number, if it is there and all could be read.
+fn read_up_to(reader: &mut Reader<&[u8]>, fields: &mut ByteRecord, sought: Sought) -> Option<u32> {
     for row in 0..u32::MAX {
-        if !reads(&mut reader, &mut fields) {
+        if !reads(reader, fields) {
             return None;
         }
-        if sought.is(row, &fields) {
-            let line = line_of(text, &fields);
-            return Some(Record { row, fields, line });
+        if sought.is(row, fields) {
+            return Some(row);
         }
     }
     None
