@@ -5,7 +5,7 @@ ghost use Rattle.ub_journal.specs.Place.{counted, looked};
 ghost use Rattle.ub_store.specs.Facts.{raised};
 
 use crate::opening::TableFile;
-use std::alloc::Global;
+use std::alloc::{AllocError, Global};
 use std::fs::{Metadata, OpenFile, OpenOptions, Permissions};
 use std::io::{self, Write};
 use std::os::fd::AsFd;
@@ -13,7 +13,7 @@ use std::os::unix::fs::{FileExt, MetadataExt, OpenOptionsExt, PermissionsExt, fc
 use std::path::Path;
 use std::{fs, rt};
 use ub_file::host::open_store;
-use ub_file::{FileStore, HostFile, PAGE_BYTES, SystemFile};
+use ub_file::{FileStore, HostFile, PAGE_BYTES, RawFile};
 use ub_journal::{Failed, Journal, JournalFault, Place, Tells};
 use ub_journal_page::{page_total, read_journal, spell_page};
 use ub_store::Page;
@@ -37,8 +37,23 @@ struct Names {
     draft: String,
 }
 
-/// What stands after a table file's name in that of its journal.
-pub const JOURNAL: &str = "-journal";
+// What stands after a table file's name in that of its journal.
+const JOURNAL: &str = "-journal";
+
+/// What a place tells of its calls that were refused.
+pub trait Reasons {
+    /// The system's reason for the last call that it refused.
+    fn why(&self) -> Option<io::Error>;
+
+    /// Whether the table file is locked so that no other program has it open.
+    fn is_alone(&self) -> bool;
+
+    /// What became of the changes that were put last.
+    fn kept(&self) -> Kept;
+
+    /// The name of the journal.
+    fn journal_name(&self) -> &str;
+}
 
 /// A table file of the system that is open and locked, with what may stand beside it: the journal, which has the file's name and
 /// `-journal` after it, and its draft, which has `.tmp` after that.
@@ -71,18 +86,22 @@ impl Names {
         };
         Ok(Names {
             folder: String::from_str(alloc, folder)?,
-            journal: format!(in alloc; "{real}{JOURNAL}")?,
+            journal: journal_beside(alloc, real)?,
             draft: format!(in alloc; "{real}{JOURNAL}.tmp")?,
         })
     }
 }
 
-impl<'r, R: rt::Files + AllocGlobal> HostPlace<'r, R>
+impl<'r, R: rt::Files> HostPlace<'r, R>
 where
     R::File: FileExt + AsFd,
 {
     /// The place of a table file. Only memory may be refused.
-    pub fn new(rt: &'r R, table: TableFile<R::File>) -> io::Result<HostPlace<'r, R>> {
+    pub fn new(
+        rt: &'r R,
+        alloc: Global,
+        table: TableFile<R::File>,
+    ) -> io::Result<HostPlace<'r, R>> {
         let TableFile {
             file,
             told,
@@ -90,7 +109,7 @@ where
             is_alone,
         } = table;
         let names = match real {
-            Some(real) => Some(Names::of(rt.alloc(), real.as_str())?),
+            Some(real) => Some(Names::of(alloc, real.as_str())?),
             None => None,
         };
         let length = told.len();
@@ -107,29 +126,6 @@ where
             why: None,
             kept: Kept::Nothing,
         })
-    }
-
-    /// The system's reason for the last call that it refused.
-    pub fn why(&self) -> Option<io::Error> {
-        self.why
-    }
-
-    /// Whether the table file is locked so that no other program has it open.
-    pub fn is_alone(&self) -> bool {
-        self.is_alone
-    }
-
-    /// What became of the changes that were put last.
-    pub fn kept(&self) -> Kept {
-        self.kept
-    }
-
-    /// The name of the journal.
-    pub fn journal_name(&self) -> &str {
-        match &self.names {
-            Some(names) => names.journal.as_str(),
-            None => "",
-        }
     }
 
     // Notes a call that the system refused, and its reason.
@@ -160,23 +156,23 @@ where
         }
     }
 
-    // Reads the journal that a store spells.
-    fn read(
+    // What a journal is that was read, or couldn't be, for this reason of the system's.
+    fn take_journal(
         &mut self,
-        alloc: Global,
-        mut store: FileStore<HostFile<SystemFile<R::File>>>,
+        read: Result<Journal, (JournalFault, Option<io::Error>)>,
     ) -> Result<Option<Journal>, JournalFault>
+        requires { IfOk read (λ j. IsJournal (told j)) }
         ensures journal { IfOk result (λ found. IfSome found (λ j. IsJournal (told j))) }
         ensures failures { self.new.failures ≡ looked result self.old.failures }
         ensures same { (self.new.pages ≡ self.old.pages) × (self.new.rest ≡ self.old.rest) }
     {
-        match read_journal(alloc, &mut store) {
+        match read {
             Ok(journal) => Ok(Some(journal)),
-            Err(JournalFault::Device) => {
-                self.refuse(store.into_medium().why());
+            Err((JournalFault::Device, why)) => {
+                self.refuse(why);
                 Err(JournalFault::Device)
             }
-            Err(fault) => Err(fault),
+            Err((fault, _)) => Err(fault),
         }
     }
 
@@ -205,10 +201,14 @@ where
         let Some(names) = &self.names else {
             return Err(no_names());
         };
-        let mut file = open_draft(self.rt, names.draft.as_str(), &self.told)?;
-        write_pages(&mut file, journal)?;
-        self.draft = Some(file);
-        Ok(())
+        let opened = open_draft(self.rt, names.draft.as_str());
+        match filled(opened, &self.told, journal) {
+            Ok(file) => {
+                self.draft = Some(file);
+                Ok(())
+            }
+            Err(why) => Err(why),
+        }
     }
 
     // Takes the draft away, if that can be done: nobody reads it.
@@ -219,6 +219,24 @@ where
         if let Some(names) = &self.names {
             let _ = self.rt.remove_file(names.draft.as_str());
         }
+    }
+}
+
+/// The name of the journal beside a table file.
+pub fn journal_beside(alloc: Global, path: &str) -> Result<String, AllocError> {
+    format!(in alloc; "{path}{JOURNAL}")
+}
+
+// Reads the journal that a store spells. Beside a fault stands the system's reason, where it gave one.
+fn read_whole<F: RawFile>(
+    alloc: Global,
+    mut store: FileStore<HostFile<F>>,
+) -> Result<Journal, (JournalFault, Option<io::Error>)>
+    ensures { IfOk result (λ j. IsJournal (told j)) }
+{
+    match read_journal(alloc, &mut store) {
+        Ok(journal) => Ok(journal),
+        Err(fault) => Err((fault, store.into_medium().why())),
     }
 }
 
@@ -235,30 +253,50 @@ fn no_names() -> io::Error {
     io::Error::from(io::ErrorKind::Unsupported)
 }
 
-// Opens the draft of a journal anew, for this user alone, and then gives it the group, the mode and the owner of a file of which
-// the system told this. Where the group is refused, no other group gets its rights; where the owner is, this user stays the owner.
-fn open_draft<R: rt::Files>(rt: &R, path: &str, told: &Metadata) -> io::Result<R::File>
-where
-    R::File: AsFd,
-{
+// Opens the draft of a journal anew, for this user alone.
+fn open_draft<R: rt::Files>(rt: &R, path: &str) -> io::Result<R::File> {
     let _ = rt.remove_file(path);
+    way_of_draft().open(rt, path)
+}
+
+// The way to open a draft: it is made, for this user alone.
+fn way_of_draft() -> OpenOptions {
     let mut how = OpenOptions::new();
     how.write(true);
     how.create_new(true);
     how.mode(0o600);
-    let file = how.open(rt, path)?;
-    let mode = match fchown(&file, None, Some(told.gid())) {
+    how
+}
+
+// Gives a draft the group, the mode and the owner of a file of which the system told this. Where the group is refused, no other group
+// gets its rights; where the owner is, this user stays the owner.
+fn give_rights<F: OpenFile + AsFd>(file: &F, told: &Metadata) -> io::Result<()> {
+    let mode = match fchown(file, None, Some(told.gid())) {
         Ok(()) => told.mode() & 0o777,
         Err(_) => told.mode() & 0o707,
     };
     file.set_permissions(Permissions::from_mode(mode))?;
-    let _ = fchown(&file, Some(told.uid()), None);
-    Ok(file)
+    let _ = fchown(file, Some(told.uid()), None);
+    Ok(())
 }
 
 // Makes last which names stand in a folder.
 fn sync_folder<R: rt::Files>(rt: &R, folder: &str) -> io::Result<()> {
     fs::open(rt, folder)?.sync_all()
+}
+
+// Gives a draft that was opened its rights, and writes a journal.
+fn filled<F: OpenFile + AsFd + Write + Drop, J: Tells>(
+    opened: io::Result<F>,
+    told: &Metadata,
+    journal: &J,
+) -> io::Result<F>
+    requires { IsJournal (J.told journal.now) }
+{
+    let mut file = opened?;
+    give_rights(&file, told)?;
+    write_pages(&mut file, journal)?;
+    Ok(file)
 }
 
 // Writes the pages of a journal, one after the other.
@@ -273,8 +311,29 @@ fn write_pages<F: Write, J: Tells>(file: &mut F, journal: &J) -> io::Result<()>
     Ok(())
 }
 
+impl<R: rt::Files> Reasons for HostPlace<'_, R> {
+    fn why(&self) -> Option<io::Error> {
+        self.why
+    }
+
+    fn is_alone(&self) -> bool {
+        self.is_alone
+    }
+
+    fn kept(&self) -> Kept {
+        self.kept
+    }
+
+    fn journal_name(&self) -> &str {
+        match &self.names {
+            Some(names) => names.journal.as_str(),
+            None => "",
+        }
+    }
+}
+
 #[tactic(auto, unfolding(crate::specs::Host::is_honest_host, crate::specs::Host::seen_at))]
-impl<'r, R: rt::Files + AllocGlobal> Place for HostPlace<'r, R>
+impl<'r, R: rt::Files> Place for HostPlace<'r, R>
 where
     R::File: FileExt + AsFd,
 {
@@ -297,7 +356,7 @@ where
             return Ok(None);
         };
         match open_store(self.rt, names.journal.as_str()) {
-            Ok(store) => self.read(alloc, store),
+            Ok(store) => self.take_journal(read_whole(alloc, store)),
             Err(refusal) => self.unopened(refusal.why),
         }
     }
@@ -319,10 +378,11 @@ where
 
     fn resize(&mut self, count: u32) -> Result<(), Failed> {
         let done = self.file.set_len(PAGE_BYTES * u64::from(count));
-        self.tell(done)?;
-        self.pages = u64::from(count);
-        self.rest = 0;
-        Ok(())
+        if done.is_ok() {
+            self.pages = u64::from(count);
+            self.rest = 0;
+        }
+        self.tell(done)
     }
 
     fn sync(&mut self) -> Result<(), Failed> {
@@ -367,11 +427,10 @@ where
             Some(names) => self.rt.remove_file(names.journal.as_str()),
             None => Err(no_names()),
         };
-        self.tell(done)?;
-        if self.kept == Kept::Beside {
+        if done.is_ok() && self.kept == Kept::Beside {
             self.kept = Kept::Whole;
         }
-        Ok(())
+        self.tell(done)
     }
 
     fn sync_folder(&mut self) -> Result<(), Failed> {

@@ -1,0 +1,2 @@
+pub mod HostFacts
+pub mod PlaceFacts
