@@ -5,3 +5,4 @@ pub mod FoundFacts
 pub mod KeptFacts
 pub mod MadeFacts
 pub mod BeginFacts
+pub mod StepFacts

@@ -4,6 +4,7 @@ use Rattle.ub_keeping.specs.inner.Made.{HasZero}
 use Rattle.ub_keeping.proofs.BeginFacts.{zero_torn}
 use Rattle.ub_keeping.proofs.CalmFacts.{still}
 use Rattle.ub_keeping.proofs.MadeFacts.{puts_next, puts_none}
+use Rattle.ub_keeping.proofs.StepFacts.{none_of, refused_counts, then_counts}
 use Rattle.ub_keeping.proofs.making.put_others.Goals as goal
 
 pub loop-n-init : goal.loop-n-init
@@ -39,3 +40,20 @@ pub returns-in_err-write_page-clause-zero : goal.returns-in_err-write_page-claus
 returns-in_err-write_page-clause-zero g c honest =
     let up = c.loop-n.auto.n in
     (steps HasZero (c.loop-n.invariant.at honest) c.write_page.ensures.effect (λ d i is torn. zero_torn c.loop-n.n d i (λ e. omega (arith, e, up)) is torn) (λ i is. is)).now_is
+
+pub returns-in_err-write_page-clause-seen : goal.returns-in_err-write_page-clause-seen
+returns-in_err-write_page-clause-seen g c = none_of _ c.from_residual.result c.from_residual.ensures.0
+
+pub returns-in_err-write_page-clause-cause : goal.returns-in_err-write_page-clause-cause
+returns-in_err-write_page-clause-cause g c =
+    then_counts c.from_residual.result (g.P.Place.facts c.args.place.now) (g.P.Place.facts c.loop-n.place) (g.P.Place.facts c.write_page.new.self) c.loop-n.invariant.honest c.loop-n.invariant.failures
+    (refused_counts c.from_residual.result c.in_err-write_page.field-0.0 (g.P.Place.facts c.loop-n.place) (g.P.Place.facts c.write_page.new.self) c.from_residual.ensures.0 c.in_err-write_page.ensures.effect.counts)
+
+pub returns-clause-zero : goal.returns-clause-zero
+returns-clause-zero g c honest = (c.loop-n.invariant.at honest).now_is
+
+pub returns-clause-any_moment : goal.returns-clause-any_moment
+returns-clause-any_moment g c honest = (c.loop-n.invariant.at honest).run
+
+pub returns-clause-cause : goal.returns-clause-cause
+returns-clause-cause g c = record { honest = c.loop-n.invariant.honest; failures = c.loop-n.invariant.failures }
