@@ -64,9 +64,9 @@ fn tells<J: Tells>(journal: &J, wanted: &[(u32, u8)]) -> bool {
         return false;
     }
     for at in 0..wanted.len() {
-        let change = journal.change(at);
-        let (number, byte) = wanted[at];
-        if change.number != number || change.page != [byte; 4096] {
+        let (number, page) = journal.change(at);
+        let (wanted_number, byte) = wanted[at];
+        if number != wanted_number || *page != [byte; 4096] {
             return false;
         }
     }

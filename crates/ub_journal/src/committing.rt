@@ -152,8 +152,8 @@ fn put_changes<P: Place, J: Tells>(place: &mut P, journal: &J) -> Result<(), Fai
 {
     place.resize(journal.count())?;
     for at in 0..journal.changes() {
-        let change = journal.change(at);
-        place.write_page(change.number, &change.page)?;
+        let (number, page) = journal.change(at);
+        place.write_page(number, page)?;
     }
     Ok(())
 }

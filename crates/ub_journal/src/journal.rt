@@ -45,10 +45,11 @@ pub trait Tells {
     fn changes(&self) -> usize
         ensures { result ≡ length (told self.now).changes };
 
-    /// One of these, by its place among them.
-    fn change(&self, at: usize) -> Change
+    /// One of these, by its place among them: its number, and its bytes, which are lent.
+    fn change(&self, at: usize) -> (u32, &Page)
         requires within { at < length (told self.now).changes }
-        ensures { slice_get (told self.now).changes at ≡ Some result };
+        ensures { slice_get (told self.now).changes at
+            ≡ Some (record { number = result.0; page = result.1.now }) };
 }
 
 impl Tells for Journal {
@@ -72,12 +73,9 @@ impl Tells for Journal {
         self.changes.len()
     }
 
-    fn change(&self, at: usize) -> Change {
+    fn change(&self, at: usize) -> (u32, &Page) {
         let change = &self.changes[at];
-        Change {
-            number: change.number,
-            page: change.page,
-        }
+        (change.number, &change.page)
     }
 }
 

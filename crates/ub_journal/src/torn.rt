@@ -6,7 +6,7 @@ ghost use Rattle.ub_journal.specs.Torn.{HoldsAt, Notes, StandsAtFirst, done, fir
 ghost use Rattle.ub_journal.specs.inner.TornBeside.{IsBeside, drafted};
 
 use crate::fault::JournalFault;
-use crate::journal::{Journal, Tells, is_journal};
+use crate::journal::{Change, Journal, Tells, is_journal};
 use crate::place::{Failed, Place};
 use std::alloc::{AllocError, Global};
 use ub_store::Page;
@@ -224,7 +224,11 @@ fn copy_of<J: Tells>(alloc: Global, journal: &J) -> Result<Journal, AllocError>
 {
     let mut changes = Vec::new(alloc);
     for at in 0..journal.changes() {
-        changes.push(journal.change(at))?;
+        let (number, page) = journal.change(at);
+        changes.push(Change {
+            number,
+            page: *page,
+        })?;
     }
     Ok(Journal {
         before: journal.before(),

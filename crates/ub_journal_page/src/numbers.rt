@@ -37,8 +37,8 @@ pub fn spell_numbers<J: Tells>(journal: &J, from: usize, to: usize, page: &mut P
 {
     *page = [0; 4096];
     for at in from..to {
-        let change = journal.change(at);
-        put(page, at - from, change.number);
+        let (number, _) = journal.change(at);
+        put(page, at - from, number);
     }
 }
 

@@ -63,8 +63,7 @@ fn spell_later<J: Tells>(journal: &J, n: u64, page: &mut Page)
         let to = (from + MAX_NUMBERS).min(journal.changes());
         spell_numbers(journal, from, to, page);
     } else {
-        let change = journal.change((n - parts) as usize);
-        let new = change.page;
-        *page = new;
+        let (_, new) = journal.change((n - parts) as usize);
+        *page = *new;
     }
 }

@@ -1,7 +1,7 @@
 // The journal that makes a table anew.
 ghost use Rattle.ub_keeping.specs.Kept.{replacing};
 
-use ub_journal::{Change, Tells};
+use ub_journal::Tells;
 use ub_store::{MemStore, Page, PageStore};
 
 /// The journal that makes these pages of any table with this first page. The pages are lent: none is copied but to tell it.
@@ -37,12 +37,9 @@ impl<'a> Tells for Replacing<'a> {
         self.pages.pages().saturating_sub(1) as usize
     }
 
-    fn change(&self, at: usize) -> Change {
+    fn change(&self, at: usize) -> (u32, &Page) {
         let _count = self.pages.pages();
         let number = at as u32 + 1;
-        Change {
-            number,
-            page: *self.pages.page(number),
-        }
+        (number, self.pages.page(number))
     }
 }

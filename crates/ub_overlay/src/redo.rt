@@ -5,7 +5,7 @@ ghost use Rattle.ub_overlay.specs.inner.Split.{IsSplitOf};
 use crate::changes::Changes;
 use std::alloc::AllocError;
 use std::marker::Model;
-use ub_journal::{Change, Tells};
+use ub_journal::Tells;
 use ub_store::Page;
 
 /// The changed pages of an overlay that was taken apart, and how many pages there are to be. The pages stand in their boxes.
@@ -74,15 +74,13 @@ impl Changed {
     }
 
     // One of these, by its place among them.
-    fn change(&self, at: usize) -> Change
+    fn change(&self, at: usize) -> (u32, &Page)
         requires { at < length self.now.others }
-        ensures { slice_get self.now.others at ≡ Some result }
+        ensures { slice_get self.now.others at
+            ≡ Some (record { number = result.0; page = result.1.now }) }
     {
         let (number, page) = &self.others[at];
-        Change {
-            number: *number,
-            page: **page,
-        }
+        (*number, page)
     }
 }
 
@@ -107,7 +105,7 @@ impl Tells for Redo {
         self.changed.len()
     }
 
-    fn change(&self, at: usize) -> Change {
+    fn change(&self, at: usize) -> (u32, &Page) {
         self.changed.change(at)
     }
 }

@@ -1,4 +1,5 @@
 use Rattle.std.proofs.Common.{refl, arith, ap, ◌∙◌}
+use Rattle.ub_journal.specs.declared.journal.Change.{Change}
 use Rattle.ub_journal_page.specs.Pages.{number_page}
 use Rattle.ub_journal_page.proofs.PageFacts.{length_up_to, more_up_to, none_up_to}
 use Rattle.ub_journal_page.proofs.numbers.spell_numbers.Goals as goal
@@ -13,9 +14,10 @@ loop-at-preserved g c =
     let less = c.loop-at-test.true in
     let within = c.requires.within in
     let changes = (g.J.Tells.told c.args.journal.now).changes in
+    let change : Change = record { number = c.change-number.result.0; page = c.change-number.result.1.now } in
     record {
       same = inv.same;
       past = omega arith;
       page = c.put.ensures _ (length_up_to changes c.args.from c.loop-at.at (omega arith)) inv.page
-          ∙ ap number_page (more_up_to changes c.args.from c.loop-at.at c.change-change.result inv.past c.change-change.ensures);
+          ∙ ap number_page (more_up_to changes c.args.from c.loop-at.at change inv.past c.change-number.ensures);
     }

@@ -1,10 +1,11 @@
 use Rattle.std.proofs.Common.{◌≡◌, ◌+◌, ◌-◌, ◌*◌, ℕ, List, length, min, arith, ◌∙◌, ap, Some}
+use Rattle.ub_journal.specs.declared.journal.Change.{Change}
 use Rattle.ub_journal_page.specs.Pages.{parts_of}
 use Rattle.ub_journal_page.proofs.PageFacts.{behind_parts, get_changed, get_part, part_spelled}
 use Rattle.ub_journal_page.proofs.spelling.spell_later.Goals as goal
 
-pub change-change-requires : goal.change-change-requires
-change-change-requires g c =
+pub change-requires : goal.change-requires
+change-requires g c =
     let j = g.J.Tells.told c.args.journal.now in
     record { within = behind_parts j c.args.n c.parts-parts.result c.requires.there (c.parts-parts.ensures ∙ ap parts_of c.changed.ensures) (omega arith) }
 
@@ -21,4 +22,5 @@ returns-else-n-parts g c =
     let j = g.J.Tells.told c.args.journal.now in
     let count : c.parts-parts.result ≡ parts_of (length j.changes) = c.parts-parts.ensures ∙ ap parts_of c.changed.ensures in
     let past = c.if-n-parts.false in
-    get_changed j (c.args.n + 3) (c.args.n - c.parts-parts.result) c.change-change.result (omega arith) c.change-change.ensures
+    let change : Change = record { number = c.change.result.0; page = c.change.result.1.now } in
+    get_changed j (c.args.n + 3) (c.args.n - c.parts-parts.result) change (omega arith) c.change.ensures
