@@ -22,6 +22,8 @@ TICK = os.sysconf("SC_CLK_TCK")
 # tried in turn; where each has one of its own, the folder is named by the edit's number.
 OF_EDITS = re.compile(r"/rt-edits-[^/]*(?:/(\w+))?$")
 KINDS = ("proof", "tests", "edits")
+# So many of the dearest edits are told.
+MOST_TOLD = 40
 
 
 def processors():
@@ -92,7 +94,7 @@ def tell(used, wall, before, after):
     sums = [sum(it for (_, kind), it in minutes.items() if kind == wanted) for wanted in KINDS]
     print("\nIn sum, in minutes: " + ", ".join(f"{kind} {it:.1f}" for kind, it in zip(KINDS, sums)))
     dearest = sorted(((s, c, n) for (c, kind, n), s in used.items() if kind == "edits" and n.isdigit()), reverse=True)
-    for seconds, crate, number in dearest[:15]:
+    for seconds, crate, number in dearest[:MOST_TOLD]:
         # After the last edit the crate itself is checked once more.
         name = dict(enumerate(edits_of(crate))).get(int(number), "(the crate itself)")
         print(f"  {seconds:5.0f} s {crate}/{name}")
