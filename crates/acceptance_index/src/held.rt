@@ -3,8 +3,8 @@
 use crate::pages::Sheet;
 use crate::searches::THREE;
 use crate::trial::{Answer, DEVICE, Run, Step, all_go};
-use ub_directory::Region;
 use ub_index_page::{Key, PageFault};
+use ub_region::Region;
 
 // Leaves whose keys don't ascend: from the second key on, and from the first one, a search goes back.
 const ON_ONE: Sheet = Sheet::Index(1, &[(20, 0, 103), (25, 0, 104), (22, 0, 106), (31, 1, 105)]);

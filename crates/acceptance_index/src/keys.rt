@@ -1,9 +1,9 @@
 // What an index is to answer by the flat list of its regions' entries, and whether it does.
 use crate::pages::{Listed, Tried};
 use ub_bigmin::ZBox;
-use ub_directory::Region;
 use ub_index::{Index, IndexFault, Seat};
 use ub_index_page::Key;
+use ub_region::Region;
 use ub_zaddr::{Point, Shape};
 
 // The first key of a region that is listed.

@@ -4,9 +4,9 @@ use crate::opening::begins;
 use crate::pages::{Listed, Sheet, Tried, page_of, stored};
 use std::alloc::Global;
 use std::process::Abort;
-use ub_directory::Region;
 use ub_index::{Change, Index, IndexFault, Seat};
 use ub_index_page::{Key, PageFault};
+use ub_region::Region;
 use ub_store::StoreFault;
 
 // A step on a store, on an index, or on both.

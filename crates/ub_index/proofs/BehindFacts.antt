@@ -1,6 +1,6 @@
 -- How a search goes down to a leaf, and what it finds there behind a region.
 use Rattle.std.proofs.Common.{◌≡◌, ◌<◌, ◌-◌, ◌↔◌, ◌⊎◌, inl, inr, ℕ, List, [], ◌∷◌, Option, Some, None, IfSome, ◌∙◌, sym, ap, subst, refl, arith}
-use Rattle.ub_directory.specs.declared.region.Region.{Region}
+use Rattle.ub_region.specs.declared.region.Region.{Region}
 use Rattle.ub_index_page.specs.Index.{node_on}
 use Rattle.ub_page.specs.declared.entries.Entry.{Entry}
 use Rattle.ub_store.specs.Facts.{StoreFacts, IsHonest}

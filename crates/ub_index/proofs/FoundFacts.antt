@@ -4,9 +4,9 @@ use Rattle.std.proofs.lemmas.Bool.{cases_Bool, le-leb, lt-leb}
 use Rattle.std.proofs.lemmas.Option.{slice_get_within, slice_get_cases}
 use Rattle.ub_bigmin.specs.Box.{Corners, HoldsAny}
 use Rattle.ub_bigmin.specs.Extremes.{LeastFrom}
-use Rattle.ub_directory.proofs.Laws.{next_meets, no_address, none_of, region_first, region_is, region_with, seek_first}
-use Rattle.ub_directory.specs.Spans.{first_keys, regions_of, First, IsLater, Meets}
-use Rattle.ub_directory.specs.declared.region.Region.{Region}
+use Rattle.ub_index.proofs.Laws.{next_meets, no_address, none_of, region_first, region_is, region_with, seek_first}
+use Rattle.ub_index.specs.Spans.{first_keys, regions_of, First, IsLater, Meets}
+use Rattle.ub_region.specs.declared.region.Region.{Region}
 use Rattle.ub_page.specs.declared.entries.Entry.{Entry}
 use Rattle.ub_region.specs.Regions.{index_holding}
 use Rattle.ub_region.specs.Spans.{span_end}

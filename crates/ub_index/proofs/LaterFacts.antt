@@ -1,7 +1,7 @@
 -- The region that is given after another one, where a search finds a seat.
 use Rattle.std.proofs.Common.{◌≡◌, ℕ, false, Option, Some, None, IfSome, subst, sym}
-use Rattle.ub_directory.specs.Spans.{IsLater}
-use Rattle.ub_directory.specs.declared.region.Region.{Region}
+use Rattle.ub_index.specs.Spans.{IsLater}
+use Rattle.ub_region.specs.declared.region.Region.{Region}
 use Rattle.ub_store.specs.Facts.{StoreFacts}
 use Rattle.ub_table.proofs.Laws.{precedes_of}
 use Rattle.ub_table.specs.Keys.{IsBefore, precedes}

@@ -3,7 +3,7 @@ use Rattle.std.proofs.Common.{◌≡◌, ◌≤◌, ◌∙◌, ◌⊎◌, ◌↔
 use Rattle.std.proofs.lemmas.Bool.{cases_Bool, cases_lt}
 use Rattle.std.proofs.lemmas.List.{length-append}
 use Rattle.std.proofs.lemmas.Option.{slice_get_within}
-use Rattle.ub_directory.specs.Spans.{first_keys}
+use Rattle.ub_index.specs.Spans.{first_keys}
 use Rattle.ub_page.specs.Bytes.{number_at}
 use Rattle.std.specs.List.{AllByRecursion}
 use Rattle.ub_page.specs.Entries.{IsEntry}

@@ -1,4 +1,8 @@
 pub mod KeyFacts
+pub mod IndexFacts
+pub mod SpanFacts
+pub mod SeekFacts
+pub mod Laws
 pub mod FitFacts
 pub mod HeldFacts
 pub mod WayFacts

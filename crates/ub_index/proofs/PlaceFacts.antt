@@ -3,8 +3,8 @@ use Rattle.std.proofs.Common.{◌≡◌, ◌≤◌, ◌+◌, ◌⊎◌, inl, inr
 use Rattle.std.proofs.lemmas.Bool.{and_from, and_parts, cases_Bool}
 use Rattle.std.proofs.lemmas.Option.{slice_get_within, slice_get_cases}
 use Rattle.std.specs.List.{All, AllByRecursion, flat_map}
-use Rattle.ub_directory.specs.Spans.{first_keys}
-use Rattle.ub_directory.proofs.Laws.{first_at}
+use Rattle.ub_index.specs.Spans.{first_keys}
+use Rattle.ub_index.proofs.Laws.{first_at}
 use Rattle.ub_page.specs.Entries.{IsEntry}
 use Rattle.ub_page.specs.declared.entries.Entry.{Entry}
 use Rattle.ub_region.specs.Regions.{index_holding}

@@ -3,7 +3,7 @@ use Rattle.std.proofs.Common.{Result, Ok, Err, Bool, Option, None, option_map, â
 use Rattle.std.proofs.lemmas.Bool.{cases_eq}
 use Rattle.std.specs.Prelude.{IsTrue}
 use Rattle.std.specs.Result.{IsErrAnd, IsErrOf}
-use Rattle.ub_directory.specs.Writing.{Grows, put_store}
+use Rattle.ub_store.specs.Writing.{Grows, put_store}
 use Rattle.ub_store.specs.Cache.{SameBut, page_at}
 use Rattle.ub_store.specs.View.{PagerView}
 use Rattle.ub_store.specs.Facts.{StoreFacts, IsHonest, MayFlush, WritesAt, Appends, page_count}

@@ -6,7 +6,7 @@ use Rattle.std.proofs.lemmas.Option.{slice_get_within}
 use Rattle.ub_index_page.proofs.Laws.{node_not_refused}
 use Rattle.ub_index_page.specs.Index.{IsIndexFault, node_on}
 use Rattle.std.specs.List.{flat_map}
-use Rattle.ub_directory.specs.Spans.{first_keys, IsSeat}
+use Rattle.ub_index.specs.Spans.{first_keys, IsSeat}
 use Rattle.ub_page.specs.declared.entries.Entry.{Entry}
 use Rattle.ub_region.specs.Regions.{index_holding}
 use Rattle.ub_store.specs.Facts.{StoreFacts}

@@ -1,3 +1,5 @@
+pub mod Seats
+pub mod Spans
 pub mod Index
 pub mod Changed
 pub mod Laws

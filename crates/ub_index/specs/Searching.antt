@@ -2,7 +2,7 @@
 use Rattle.std.specs.Prelude.{◌≡◌, ◌≤◌, ◌<◌, ◌⊎◌, if◌then◌else◌, ℕ, zero, suc, IsTrue, Option, Some, None, Result, Err, IfErr}
 use Rattle.ub_bigmin.specs.Box.{HoldsAny}
 use Rattle.ub_bigmin.specs.Extremes.{LeastFrom}
-use Rattle.ub_directory.specs.declared.region.Region.{Region}
+use Rattle.ub_region.specs.declared.region.Region.{Region}
 use Rattle.ub_index.specs.Held.{AreChecked, KeepsChecked}
 use Rattle.ub_index.specs.View.{IndexView, Leads, Stops}
 use Rattle.ub_index.specs.Way.{HoldsKey}

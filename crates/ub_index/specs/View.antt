@@ -1,6 +1,6 @@
 -- What contracts see of an index.
 use Rattle.std.specs.Prelude.{◌≡◌, ◌≤◌, ◌+◌, ℕ, List, Option, Some, None, length}
-use Rattle.ub_directory.specs.Spans.{IsSeat}
+use Rattle.ub_index.specs.Spans.{IsSeat}
 use Rattle.ub_index.specs.Index.{IsUnder, top, under}
 use Rattle.ub_index.specs.Way.{LeadsTo, StopsAt}
 use Rattle.ub_index.specs.declared.seat.Seat.{Seat}

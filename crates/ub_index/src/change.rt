@@ -1,6 +1,6 @@
 // A change of an index that is prepared, and not yet made.
 ghost use Rattle.std.specs.Prelude.{◌≡◌, ◌≤◌, ◌<◌, ◌+◌, ◌-◌, ◌⊎◌, [], None, IfOk, IfErr, IfSome, OnOk};
-ghost use Rattle.ub_directory.specs.Writing.{Grows, put_store};
+ghost use Rattle.ub_store.specs.Writing.{Grows, put_store};
 ghost use Rattle.ub_index.specs.Changing.{IsAtMostOne, IsNoGrowth};
 ghost use Rattle.ub_index.specs.Descending.{IsForgotten, Steps};
 ghost use Rattle.ub_index.specs.Index.{top};

@@ -15,10 +15,9 @@ ghost use Rattle.ub_table.specs.Keys.{IsBefore};
 
 use crate::fault::IndexFault;
 use crate::goal::{Goal, aimed_at};
-use ub_directory::ORIGIN;
 use ub_index_page::{Head, MAX_ENTRIES, check_index, entry_at, first_at, read_head, slot_in};
 use ub_page::{Entry, Page};
-use ub_region::is_equal;
+use ub_region::{ORIGIN, is_equal};
 use ub_store::{PageStore, Pager};
 use ub_table::{Key, PageFault};
 

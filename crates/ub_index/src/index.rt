@@ -1,9 +1,9 @@
 ghost use Rattle.std.specs.Prelude.{◌≡◌, ◌≤◌, ◌<◌, ◌+◌, ◌^◌, ◌⊎◌, ℕ, [], ◌∷◌, None, Some, IfOk, IfErr, IfSome, OnOk, OnErr, option_copied};
 ghost use Rattle.ub_bigmin.specs.Box.{HoldsAny};
 ghost use Rattle.ub_bigmin.specs.Extremes.{LeastFrom};
-ghost use Rattle.ub_directory.specs.Spans.{first_keys, regions_of, Meets, IsLater, First};
+ghost use Rattle.ub_index.specs.Spans.{first_keys, regions_of, Meets, IsLater, First};
 ghost use Rattle.ub_index.specs.Changed.{Replaces};
-ghost use Rattle.ub_directory.specs.Writing.{put_store};
+ghost use Rattle.ub_store.specs.Writing.{put_store};
 ghost use Rattle.ub_index.specs.Changing.{AreIndexPages, AreOnce, IsNoGrowth, Stand, so_far};
 ghost use Rattle.ub_index.specs.Making.{IsPutFault, PutsSheets};
 ghost use Rattle.ub_store.specs.View.{SameTrace};
@@ -31,8 +31,8 @@ use crate::turning::{Aim, turn};
 use std::alloc::Global;
 use std::marker::Model;
 use ub_bigmin::ZBox;
-use ub_directory::{ORIGIN, Region};
 use ub_page::Entry;
+use ub_region::{ORIGIN, Region};
 use ub_store::{PageStore, Pager, StoreFault};
 use ub_table::{Key, PageFault};
 

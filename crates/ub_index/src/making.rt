@@ -1,6 +1,6 @@
 // How a change is made in a store.
 ghost use Rattle.std.specs.Prelude.{◌≡◌, ◌+◌, ℕ, IfErr, OnOk};
-ghost use Rattle.ub_directory.specs.Writing.{Grows, put_store};
+ghost use Rattle.ub_store.specs.Writing.{Grows, put_store};
 ghost use Rattle.ub_index.specs.Changing.{AreIndexPages, AreOnce, Stand};
 ghost use Rattle.ub_index.specs.Held.{KeepsChecked};
 ghost use Rattle.ub_index.specs.Making.{IsGrowFault, IsPutFault, PutsSheets};

@@ -1,7 +1,7 @@
 -- What a tree is once a region of it was parted: the store grew, both halves were put, and then what the change of the index spells.
 use Rattle.std.proofs.Common.{◌≡◌, ◌<◌, ◌+◌, ◌∙◌, ℕ, suc, List, [], ◌∷◌, Some, length, map, take, drop, ap, sym, subst, refl, arith, slice_get}
 use Rattle.std.specs.List.{AllByRecursion}
-use Rattle.ub_directory.specs.Writing.{Grows}
+use Rattle.ub_store.specs.Writing.{Grows}
 use Rattle.ub_index.proofs.MadeFacts.{made_filled}
 use Rattle.ub_index.proofs.OwnFacts.{count_replaced, foreign_regions, own_added}
 use Rattle.ub_index.specs.Changed.{Replaces}

@@ -1,7 +1,7 @@
 -- What the steps of an upgrade leave of the two stores, as the upgrade tells it.
 use Rattle.std.proofs.Common.{◌≡◌, ◌∙◌, inl, inr, ℕ, Ok, Err, Result, ap, arith, refl, slice_get, sym, subst}
 use Rattle.std.specs.Result.{IsErrAnd}
-use Rattle.ub_directory.specs.Writing.{Grows, put_store}
+use Rattle.ub_store.specs.Writing.{Grows, put_store}
 use Rattle.ub_index.specs.Searching.{store_after}
 use Rattle.ub_index.specs.declared.fault.IndexFault.{IndexFault}
 use Rattle.ub_index.specs.declared.fault.IndexFault.TheVariants as index

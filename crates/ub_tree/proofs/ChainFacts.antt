@@ -19,7 +19,7 @@ use Rattle.ub_table.proofs.Laws.{not_before_self}
 use Rattle.ub_table.specs.Keys.{AreKeysAscending, IsBefore}
 use Rattle.ub_table.specs.declared.row.Key.{Key}
 use Rattle.ub_table.specs.declared.schema.Schema.{Schema}
-use Rattle.ub_directory.specs.Spans.{first_keys}
+use Rattle.ub_index.specs.Spans.{first_keys}
 use Rattle.ub_tree.proofs.ApartFacts.{IsOnPage}
 use Rattle.ub_tree.specs.Placed.{Placed}
 use Rattle.ub_upgrade.specs.Chain.{IsChain}

@@ -6,7 +6,7 @@ use Rattle.std.proofs.lemmas.List.Elements.{recursion_from_All}
 use Rattle.std.proofs.lemmas.Option.{slice_get_past, slice_get_within}
 use Rattle.std.specs.List.{AllByRecursion, IsDistinct, remove as remove_at_index}
 use Rattle.ub_check.proofs.StandingFacts.{each_get}
-use Rattle.ub_directory.specs.Writing.{Grows}
+use Rattle.ub_store.specs.Writing.{Grows}
 use Rattle.ub_index.proofs.Numbers.{apart_swap, within_store}
 use Rattle.ub_index.proofs.OwnFacts.{count_replaced, own_apart, own_dropped}
 use Rattle.ub_index.proofs.StandFacts.{stands_as}

@@ -3,7 +3,7 @@ use Rattle.std.proofs.Common.{◌≡◌, ◌<◌, ◌≤◌, ◌∙◌, ◌++◌
 use Rattle.std.proofs.lemmas.List.Elements.{recursion_from_All}
 use Rattle.std.proofs.lemmas.Option.{slice_get_within}
 use Rattle.std.specs.List.{All, AllByRecursion, IsDistinct}
-use Rattle.ub_directory.specs.Writing.{Grows, put_store}
+use Rattle.ub_store.specs.Writing.{Grows, put_store}
 use Rattle.ub_index.proofs.Changes.{kept_index, kept_under}
 use Rattle.ub_index.proofs.LeadFacts.{ways_stay}
 use Rattle.ub_index.proofs.Numbers.{kept_pages, within_store}

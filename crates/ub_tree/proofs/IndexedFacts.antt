@@ -4,9 +4,9 @@ use Rattle.std.proofs.lemmas.Option.{slice_get_within}
 use Rattle.std.specs.List.{Contains, IsDistinct}
 use Rattle.ub_bigmin.specs.Box.{Corners, HoldsAny}
 use Rattle.ub_bigmin.specs.Extremes.{LeastFrom}
-use Rattle.ub_directory.proofs.Laws.{region_is, region_with}
-use Rattle.ub_directory.specs.Spans.{First, IsLater, Meets, first_keys, regions_of}
-use Rattle.ub_directory.specs.declared.region.Region.{Region as Span}
+use Rattle.ub_index.proofs.Laws.{region_is, region_with}
+use Rattle.ub_index.specs.Spans.{First, IsLater, Meets, first_keys, regions_of}
+use Rattle.ub_region.specs.declared.region.Region.{Region as Span}
 use Rattle.ub_index.proofs.FoundFacts.{meeting_given}
 use Rattle.ub_index.proofs.LeadFacts.{led_to, ways_hold}
 use Rattle.ub_index.proofs.WayFacts.{seat_is}

@@ -3,7 +3,7 @@ use Rattle.std.proofs.Common.{◌≡◌, ◌<◌, ◌≤◌, ◌+◌, ◌-◌, �
 use Rattle.std.proofs.lemmas.Bool.{cases_Bool, and_from, eq-eqb, le-leb, lt-leb, leb-true, leb-false}
 use Rattle.std.proofs.lemmas.List.{length-drop}
 use Rattle.std.specs.List.{AllByRecursion, list_any}
-use Rattle.ub_directory.proofs.Laws.{same_key}
+use Rattle.ub_index.proofs.Laws.{same_key}
 use Rattle.ub_index.proofs.KeyFacts.{le_before}
 use Rattle.ub_index.specs.Preparing.{IsWithinSeat}
 use Rattle.ub_index.specs.Way.{HoldsKey}

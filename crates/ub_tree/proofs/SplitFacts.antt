@@ -6,7 +6,7 @@ use Rattle.std.proofs.lemmas.List.Elements.{All-from_recursion, recursion_from_A
 use Rattle.std.proofs.lemmas.Option.{slice_get_within}
 use Rattle.std.specs.List.{All, AllByRecursion, IsDistinct}
 use Rattle.ub_check.proofs.PlacedFacts.{placed_at}
-use Rattle.ub_directory.specs.Writing.{Grows}
+use Rattle.ub_store.specs.Writing.{Grows}
 use Rattle.ub_index.proofs.MadeFacts.{made}
 use Rattle.ub_index.proofs.Numbers.{distinct_apart, distinct_first, distinct_right, within_store}
 use Rattle.ub_index.proofs.OwnFacts.{foreign_regions, replaced_at}

@@ -21,7 +21,7 @@ use Rattle.ub_table.specs.declared.schema.Schema.{Schema}
 use Rattle.ub_tree.specs.Spans.{first_keys, regions_of, Region as Span}
 use Rattle.ub_tree.specs.Placed.{Placed, ArePlaced, placed_of, regions_in, entry_of}
 use Rattle.ub_tree.specs.View.{spans_in}
-use Rattle.ub_directory.proofs.Laws.{region_with}
+use Rattle.ub_index.proofs.Laws.{region_with}
 
 pub entries_back : (schema : Schema) (pages : List (List ℕ)) (entries : List Entry) → map entry_of (placed_of schema pages entries) ≡ entries
 entries_back schema pages [] = refl

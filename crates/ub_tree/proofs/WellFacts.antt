@@ -7,7 +7,7 @@ use Rattle.ub_check.proofs.PlacedFacts.{placed_at}
 use Rattle.ub_check.proofs.TakenFacts.{IsTaken, new_below, new_differ, new_of, taken_walk, walk_taken}
 use Rattle.ub_check.specs.Checking.{Asked, StandsHere, numbers_in, numbers_of}
 use Rattle.ub_check.specs.Numbers.{AreNew, IsNone}
-use Rattle.ub_directory.specs.Spans.{first_keys}
+use Rattle.ub_index.specs.Spans.{first_keys}
 use Rattle.ub_index.proofs.Numbers.{within_store}
 use Rattle.ub_index.proofs.PlaceFacts.{begins, each_entry, up}
 use Rattle.ub_index.specs.Index.{EachTo, IsUnder, pages_under, top, under}

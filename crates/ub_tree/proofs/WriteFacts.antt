@@ -1,7 +1,7 @@
 -- What a call that only writes leaves of a tree.
 use Rattle.std.proofs.Common.{◌≡◌, ◌≢◌, ◌∙◌, ◌⊎◌, inl, inr, ℕ, Bool, true, List, [], ◌∷◌, Err, IsTrue, Result, sym, ap, subst, refl}
 use Rattle.std.specs.List.{AllByRecursion}
-use Rattle.ub_directory.specs.Writing.{IsOther, KeepsBut, SameBut, put_store}
+use Rattle.ub_store.specs.Writing.{IsOther, KeepsBut, SameBut, put_store}
 use Rattle.ub_index.specs.Changing.{IsOutside}
 use Rattle.ub_index.specs.View.{IndexView}
 use Rattle.ub_page.specs.Header.{header_page}

@@ -2,7 +2,7 @@
 use Rattle.std.specs.Prelude.{◌+◌, ◌≡◌, ◌<◌, ◌≤◌, ◌⊎◌, ℕ, true, IsTrue, Result, Ok, Err, IfErr, OnOk, List, Some, None}
 use Rattle.std.specs.List.{Contains}
 use Rattle.ub_check.specs.Standing.{IsHeldBy, IsRegionRefused}
-use Rattle.ub_directory.specs.Writing.{Grows}
+use Rattle.ub_store.specs.Writing.{Grows}
 use Rattle.ub_index.specs.Lowering.{IsDropFault}
 use Rattle.ub_index.specs.Preparing.{HasFullWay, NeedsPages}
 use Rattle.ub_index.specs.View.{Stops}

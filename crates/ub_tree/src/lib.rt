@@ -34,4 +34,4 @@ pub use fault::TreeFault;
 pub use read_fault::ReadFault;
 pub use sink::RegionSink;
 pub use tree::Tree;
-pub use ub_directory::Region;
+pub use ub_region::Region;

@@ -5,7 +5,7 @@ ghost use Rattle.ub_tree.specs.Spans.{Meets, Region as RegionView};
 
 use std::alloc::AllocError;
 use ub_bigmin::ZBox;
-use ub_directory::Region;
+use ub_region::Region;
 
 /// What is handed the regions of a tree that meet some boxes, one after the other, and makes something of them.
 ///

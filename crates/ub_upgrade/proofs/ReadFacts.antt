@@ -18,9 +18,9 @@ use Rattle.ub_upgrade.specs.declared.fault.UpgradeFault.TheVariants.{Old}
 use Rattle.ub_store.specs.declared.fault.StoreFault.{StoreFault}
 use Rattle.ub_store.specs.declared.fault.StoreFault.TheVariants as store
 use Rattle.std.specs.Result.{IsErrOf}
-use Rattle.ub_directory.specs.Spans.{ArePlaces, first_keys}
+use Rattle.ub_index.specs.Spans.{ArePlaces, first_keys}
 use Rattle.ub_upgrade.specs.Chain.{IsChain}
-use Rattle.ub_directory.proofs.Laws.{same_key}
+use Rattle.ub_index.proofs.Laws.{same_key}
 use Rattle.ub_table.specs.declared.row.Key.{Key}
 
 -- a directory that was read whole

@@ -21,7 +21,7 @@ use Rattle.ub_upgrade.specs.Chain.{IsChain}
 use Rattle.ub_upgrade.specs.Reading.{HeadingView, IsDirectory, Spells, AreBelow, AreFull, AreBegun, HasPart, IsMisfit, IsPartFault, IsReadUpTo}
 use Rattle.ub_upgrade.specs.Building.{HasBuilt, IsBuildFault, IsBuilt, IsPassing}
 use Rattle.ub_upgrade.specs.declared.building.Root.{Root}
-use Rattle.ub_directory.specs.Spans.{ArePlaces, first_keys}
+use Rattle.ub_index.specs.Spans.{ArePlaces, first_keys}
 use Rattle.ub_upgrade.specs.declared.fault.UpgradeFault.{UpgradeFault}
 use Rattle.ub_upgrade.specs.declared.fault.UpgradeFault.TheVariants.{Page, Old, New}
 use Rattle.ub_store.specs.declared.fault.StoreFault.TheVariants as store

@@ -1,6 +1,6 @@
 -- What is left of the two stores where pages are brought over from the old one to the new one.
 use Rattle.std.specs.Prelude.{◌≡◌, ◌⊎◌, ℕ, None, Result, Err}
-use Rattle.ub_directory.specs.Writing.{Grows}
+use Rattle.ub_store.specs.Writing.{Grows}
 use Rattle.ub_store.specs.Cache.{page_at}
 use Rattle.ub_store.specs.Facts.{StoreFacts, raised}
 use Rattle.ub_store.specs.View.{PagerView}

@@ -10,7 +10,7 @@ use Rattle.ub_store.specs.Facts.{StoreFacts, IsHonest, IsPage}
 use Rattle.ub_table.specs.Keys.{origin, are_ascending}
 use Rattle.ub_table.specs.declared.fault.PageFault.TheVariants.{BadCount, BadOrder}
 use Rattle.ub_table.specs.declared.fault.PageFault.{PageFault}
-use Rattle.ub_directory.specs.Spans.{ArePlaces, first_keys}
+use Rattle.ub_index.specs.Spans.{ArePlaces, first_keys}
 use Rattle.ub_table.specs.declared.row.Key.{Key}
 use Rattle.ub_upgrade.specs.Chain.{IsChain}
 use Rattle.ub_upgrade.specs.declared.chain.Place.{Place}

@@ -8,9 +8,9 @@ ghost use Rattle.ub_store.specs.Facts.{Appends, IsHonest, page_count};
 ghost use Rattle.ub_upgrade.specs.Effects.{AddsPages, Counts};
 ghost use Rattle.ub_upgrade.specs.Levels.{name_of, names_of};
 
-use ub_directory::ORIGIN;
 use ub_index_page::{Draft, Entry, MAX_ENTRIES, Page, write_index};
 use ub_page::entries::read_key;
+use ub_region::ORIGIN;
 use ub_store::{PageStore, Pager, StoreFault};
 
 // Adds a page.

@@ -11,10 +11,9 @@ ghost use Rattle.ub_upgrade.specs.Reading.{AreBegun, AreBelow, HasPart, IsMet, I
 
 use crate::fault::UpgradeFault;
 use std::marker::Model;
-use ub_directory::ORIGIN;
 use ub_page::entries::MAX_ENTRIES;
 use ub_page::{Directory, Entry, Page, read_directory};
-use ub_region::is_equal;
+use ub_region::{ORIGIN, is_equal};
 use ub_store::{PageStore, StoreFault};
 use ub_table::{Key, PageFault, Schema};
 

@@ -1,7 +1,7 @@
 -- Pages put one after the other, and the mark of the table before the first.
 use Rattle.std.proofs.Common.{arith, ◌≡◌, ◌≢◌, ◌≤◌, ◌++◌, ◌⊎◌, inl, inr, ℕ, true, List, [], ◌∷◌, Option, Some, None, Result, Ok, Err, OnErr, OnOk, ◌∙◌, ap, sym, subst, refl, length, slice_get, slice_set}
 use Rattle.std.specs.List.{AllByRecursion}
-use Rattle.ub_directory.specs.Writing.{SameBut}
+use Rattle.ub_store.specs.Writing.{SameBut}
 use Rattle.ub_page.specs.Header.{header_page}
 use Rattle.ub_page.specs.declared.header.Header.{Header}
 use Rattle.ub_store.specs.Facts.{StoreFacts, Appends, Extends, IsHonest, WritesAt, page_count, zero_page}

@@ -1,6 +1,6 @@
 -- What stands in a store once a table is closed, and where that is refused.
 use Rattle.std.specs.Prelude.{◌≡◌, ◌≢◌, ◌⊎◌, ℕ, [], ◌∷◌, Some, false, IsTrue, slice_get}
-use Rattle.ub_directory.specs.Writing.{KeepsFirst, SameBut}
+use Rattle.ub_store.specs.Writing.{KeepsFirst, SameBut}
 use Rattle.ub_page.specs.Header.{IsHeader, header_page}
 use Rattle.ub_page.specs.declared.header.Header.{Header}
 use Rattle.ub_store.specs.Facts.{StoreFacts, page_count}

@@ -1,7 +1,7 @@
 -- The mark of a table that is being changed, and when it is put.
 use Rattle.std.specs.Prelude.{◌≡◌, ◌≢◌, ◌<◌, ◌⊎◌, ℕ, Bool, true, false, List, ◌∷◌, Option, Some, None, MatchOption, slice_get}
 use Rattle.std.specs.List.{AllByRecursion}
-use Rattle.ub_directory.specs.Writing.{KeepsBut}
+use Rattle.ub_store.specs.Writing.{KeepsBut}
 use Rattle.ub_page.specs.Header.{IsHeader, header_page}
 use Rattle.ub_page.specs.declared.header.Header.{Header}
 use Rattle.ub_store.specs.Facts.{StoreFacts, IsHonest, page_count}

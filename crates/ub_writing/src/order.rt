@@ -14,7 +14,7 @@ ghost use Rattle.ub_page.specs.Region.{region_on, region_page};
 ghost use Rattle.ub_store.specs.Cache.{Renews};
 ghost use Rattle.ub_store.specs.Facts.{page_count, IsHonest, WritesAt};
 ghost use Rattle.ub_store.specs.View.{SameTrace};
-ghost use Rattle.ub_directory.specs.Writing.{WritesStore, put_store};
+ghost use Rattle.ub_store.specs.Writing.{WritesStore, put_store};
 ghost use Rattle.ub_writing.specs.Closing.{IsClosed, IsSaveFault, IsSaved, IsUnclosed};
 ghost use Rattle.ub_writing.specs.Creation.{IsLaidOut, IsLayoutFault, IsUncreated, empty_region};
 ghost use Rattle.ub_table.specs.declared.schema.Schema.{Schema};
@@ -24,8 +24,8 @@ ghost use Rattle.ub_writing.specs.declared.mark.Mark.TheVariants.{Written};
 
 use crate::header::first_header;
 use crate::mark::Mark;
-use ub_directory::ORIGIN;
 use ub_page::{Draft, Header, Page, write_header, write_region};
+use ub_region::ORIGIN;
 use ub_store::{PageStore, Pager, StoreFault};
 use ub_table::Schema;
 

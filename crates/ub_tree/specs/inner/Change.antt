@@ -2,7 +2,7 @@
 use Rattle.std.specs.Prelude.{IfSome, ◌≡◌, ◌≢◌, ◌+◌, ◌<◌, ◌≤◌, ◌++◌, ◌⊎◌, ℕ, suc, true, false, List, [], ◌∷◌, Option, IsTrue, Result, Err, IfErr, OnOk, length, map, take, drop}
 use Rattle.std.specs.List.{AllByRecursion}
 use Rattle.ub_check.specs.Standing.{IsHeldBy}
-use Rattle.ub_directory.specs.Writing.{Grows}
+use Rattle.ub_store.specs.Writing.{Grows}
 use Rattle.ub_index.specs.Changed.{Replaces}
 use Rattle.ub_index.specs.Changing.{AreIndexPages, IsOutside}
 use Rattle.ub_index.specs.Filling.{KeepsFilled}

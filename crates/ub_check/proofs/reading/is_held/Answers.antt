@@ -1,5 +1,5 @@
 use Rattle.std.proofs.Common.{◌∙◌, sym, refl}
-use Rattle.ub_directory.proofs.Laws.{same_key}
+use Rattle.ub_index.proofs.Laws.{same_key}
 use Rattle.ub_check.proofs.StandingFacts.{held_before}
 use Rattle.ub_check.proofs.reading.is_held.Goals as goal
 

@@ -1,5 +1,5 @@
 use Rattle.std.proofs.Common.{◌-◌, ◌∙◌, IfSome, ap, subst, sym}
-use Rattle.ub_directory.proofs.Laws.{same_key}
+use Rattle.ub_index.proofs.Laws.{same_key}
 use Rattle.ub_index_page.specs.Slots.{first_in}
 use Rattle.ub_index_page.specs.declared.index.Head.{Head}
 use Rattle.ub_table.specs.Keys.{IsBefore}

@@ -1,6 +1,6 @@
 use Rattle.std.proofs.Common.{◌∙◌, ℕ, Option, ap, subst, sym}
 use Rattle.std.specs.Option.{option_copied}
-use Rattle.ub_directory.specs.declared.region.Region.{Region}
+use Rattle.ub_region.specs.declared.region.Region.{Region}
 use Rattle.ub_table.proofs.Laws.{before_of}
 use Rattle.ub_table.specs.declared.row.Key.{Key}
 use Rattle.ub_index.specs.Descending.{FindsAfter}

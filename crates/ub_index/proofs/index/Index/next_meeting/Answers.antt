@@ -1,5 +1,5 @@
 use Rattle.std.specs.Option.{option_copied}
-use Rattle.ub_directory.specs.Spans.{First, IsLater, Meets, regions_of}
+use Rattle.ub_index.specs.Spans.{First, IsLater, Meets, regions_of}
 use Rattle.ub_index.specs.Searching.{Aims, GivesAfter}
 use Rattle.ub_index.specs.View.{entries_in}
 use Rattle.ub_index.specs.declared.goal.Goal.TheVariants.{Boxes}

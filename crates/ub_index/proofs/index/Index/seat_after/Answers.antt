@@ -1,6 +1,6 @@
 use Rattle.std.proofs.Common.{Bor, IfOk, Option, subst, sym}
 use Rattle.std.specs.Option.{option_copied}
-use Rattle.ub_directory.specs.declared.region.Region.{Region}
+use Rattle.ub_region.specs.declared.region.Region.{Region}
 use Rattle.ub_index.specs.Descending.{FindsAfter}
 use Rattle.ub_index.specs.Searching.{Aims, GoesDown, IsSought}
 use Rattle.ub_index.proofs.index.Index.seat_after.Goals as goal

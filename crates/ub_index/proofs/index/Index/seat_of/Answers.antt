@@ -1,6 +1,6 @@
 use Rattle.std.proofs.Common.{Result, Ok, Err, IfOk, subst, sym}
 use Rattle.ub_index.specs.Held.{AreChecked}
-use Rattle.ub_directory.specs.Spans.{first_keys}
+use Rattle.ub_index.specs.Spans.{first_keys}
 use Rattle.ub_region.specs.Regions.{index_holding}
 use Rattle.ub_store.specs.Facts.{StoreFacts}
 use Rattle.ub_table.specs.declared.row.Key.{Key}

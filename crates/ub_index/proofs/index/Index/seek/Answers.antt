@@ -1,6 +1,6 @@
 use Rattle.std.proofs.Common.{◌≤◌}
 use Rattle.std.specs.Option.{option_copied}
-use Rattle.ub_directory.specs.Spans.{First, IsLater, regions_of}
+use Rattle.ub_index.specs.Spans.{First, IsLater, regions_of}
 use Rattle.ub_index.specs.Searching.{Aims, GivesAfter}
 use Rattle.ub_index.specs.View.{entries_in}
 use Rattle.ub_index.specs.declared.goal.Goal.TheVariants.{Address}

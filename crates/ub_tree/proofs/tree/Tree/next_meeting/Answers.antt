@@ -1,7 +1,7 @@
 use Rattle.std.proofs.Common.{◌<◌, ◌^◌, ◌∙◌, List, Option, option_copied, ap, subst, sym}
 use Rattle.ub_bigmin.specs.Box.{HoldsAny}
 use Rattle.ub_bigmin.specs.Extremes.{LeastFrom}
-use Rattle.ub_directory.specs.Spans.{regions_of}
+use Rattle.ub_index.specs.Spans.{regions_of}
 use Rattle.ub_index.specs.Searching.{GivesAfter}
 use Rattle.ub_index.specs.View.{IsIndexOn, entries_in}
 use Rattle.ub_tree.proofs.CallFacts.{gives_next, last_small}

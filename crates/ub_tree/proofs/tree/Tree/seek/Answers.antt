@@ -1,5 +1,5 @@
 use Rattle.std.proofs.Common.{◌≡◌, ◌<◌, ◌≤◌, ◌^◌, ◌∙◌, List, Option, Some, option_copied, ap, subst, sym}
-use Rattle.ub_directory.specs.Spans.{regions_of}
+use Rattle.ub_index.specs.Spans.{regions_of}
 use Rattle.ub_index.specs.Searching.{GivesAfter}
 use Rattle.ub_index.specs.View.{IsIndexOn, entries_in}
 use Rattle.ub_tree.proofs.CallFacts.{last_small, seek_told}

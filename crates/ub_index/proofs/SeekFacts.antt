@@ -11,10 +11,10 @@ use Rattle.ub_region.specs.Spans.{address_before, span_end}
 use Rattle.ub_table.proofs.Laws.{before_from, before_parts, before_of, precedes_trans, not_before_self, not_both_before, ascending_get}
 use Rattle.ub_table.specs.Keys.{IsBefore, origin, precedes, are_ascending}
 use Rattle.ub_table.specs.declared.row.Key.{Key}
-use Rattle.ub_directory.specs.Spans.{first_keys, regions_of, Meets, IsLater, First}
-use Rattle.ub_directory.specs.declared.region.Region.{Region}
-use Rattle.ub_directory.proofs.IndexFacts.{first_at}
-use Rattle.ub_directory.proofs.SpanFacts.{region_with}
+use Rattle.ub_index.specs.Spans.{first_keys, regions_of, Meets, IsLater, First}
+use Rattle.ub_region.specs.declared.region.Region.{Region}
+use Rattle.ub_index.proofs.IndexFacts.{first_at}
+use Rattle.ub_index.proofs.SpanFacts.{region_with}
 
 -- what a region's index in the list tells of its entry
 region_entry : (last : ℕ) (entries : List Entry) (i : ℕ) (r : Region) → slice_get (regions_of last entries) i ≡ Some r

@@ -3,8 +3,8 @@ use Rattle.std.proofs.Common.{◌≡◌, ℕ, zero, suc, List, [], ◌∷◌, Op
 use Rattle.ub_page.specs.declared.entries.Entry.{Entry}
 use Rattle.ub_region.specs.Spans.{span_end}
 use Rattle.ub_table.specs.declared.row.Key.{Key}
-use Rattle.ub_directory.specs.Spans.{first_keys, regions_of}
-use Rattle.ub_directory.specs.declared.region.Region.{Region}
+use Rattle.ub_index.specs.Spans.{first_keys, regions_of}
+use Rattle.ub_region.specs.declared.region.Region.{Region}
 
 -- the region of an entry, with where the next one begins
 abbrev pub region_with : ℕ → Option Key → Entry → Region

@@ -1,4 +1,0 @@
-pub mod Laws
-pub mod IndexFacts
-pub mod SeekFacts
-pub mod SpanFacts
