@@ -10,13 +10,12 @@ use Rattle.ub_table.specs.declared.row.Key.{Key}
 use Rattle.ub_index.specs.Descending.{FindsAfter, HoldsLeaf, LeadsDown, LooksAt, StepsTo}
 use Rattle.ub_index.specs.Fitting.{FallsTo, FitsAtEnds}
 use Rattle.ub_index.specs.Index.{entries_of, first_or, page_in, top, NamesFitting}
-use Rattle.ub_index.specs.Searching.{Gives, IsAim, IsFrom, IsSought}
+use Rattle.ub_index.specs.Searching.{Gives, IsAim, IsFrom, IsSought, region_of}
 use Rattle.ub_index.specs.View.{IndexView, Leads}
 use Rattle.ub_index.specs.Way.{HoldsKey}
 use Rattle.ub_index.specs.declared.descent.Found.TheVariants.{Nothing, Here, Beyond}
 use Rattle.ub_index.specs.declared.descent.Leaf.{Leaf}
 use Rattle.ub_index.specs.declared.descent.Place.{Place}
-use Rattle.ub_index.specs.declared.seat.Seat.{Seat}
 use Rattle.ub_index.proofs.FitFacts.{after_first}
 use Rattle.ub_index.proofs.KeyFacts.{le_trans}
 use Rattle.ub_index.proofs.WayFacts.{falls_from, holds_below, leads_on, stops_on}
@@ -99,15 +98,17 @@ step_before last old mid stores key level entry end below next =
 pub way_to : (index : IndexView) (store : StoreFacts) (key k : Key) (leaf : Leaf) (below : Entry) (next : Option Key) → LeadsDown index store key 1 leaf → ¬ (IsBefore k key)
     → IfSome leaf.until (IsBefore k) → NamesFitting index.last store.pages 1 leaf.place.entry leaf.place.next
     → FallsTo k (entries_of store.pages leaf.place.entry.page) leaf.place.next below next
-    → Leads index store k (record { first = below.first; page = below.page; next = next })
+    → Leads index store k (region_of index.last below next)
 way_to index store key k leaf below next down later to named falls = down.leads k later to below next (named, below, next, falls, (refl, refl))
 
--- the seat to which a step from the leaf comes is the one that is given
+-- the region to which a step from the leaf comes is the one that is given
 pub step_given : (index : IndexView) (store : StoreFacts) (key : Key) (leaf : Leaf) (place : Place) → HoldsLeaf key leaf → (IsHonest store → LeadsDown index store key 1 leaf)
     → HoldsKey key place.entry.first place.next → (IsHonest store → StepsTo index.last store key 1 leaf.place.entry leaf.place.next place.entry place.next)
-    → Gives index store key (record { first = place.entry.first; page = place.entry.page; next = place.next })
+    → Gives index store key (region_of index.last place.entry place.next)
 step_given index store key leaf place holds down here step = record {
   holds = here;
+  from = refl;
+  to = refl;
   way = λ honest.
       let made = step honest in
       way_to index store key key leaf place.entry place.next (down honest) (not_before_self key) holds.until made.named made.falls;
@@ -116,15 +117,14 @@ step_given index store key leaf place holds down here step = record {
 -- what is found on a leaf
 module _ (index : IndexView) (store : StoreFacts) (To : Key → Option ℕ → Type 0)
     (region : Region) (leaf : Leaf) (holds : HoldsLeaf region.first leaf) (down : IsHonest store → LeadsDown index store region.first 1 leaf) where
-  abbrev seat_of : Entry → Option Key → Seat
-  seat_of below next = record { first = below.first; page = below.page; next = next }
-
   gives : (page : List ℕ) → FitsAtEnds page 1 leaf.place.entry leaf.place.next → (IsHonest store → NamesFitting index.last store.pages 1 leaf.place.entry leaf.place.next)
       → (IsHonest store → page ≡ page_in store.pages leaf.place.entry.page) → (k : Key) → ¬ (IsBefore k region.first) → IfSome leaf.until (IsBefore k)
-      → (below : Entry) (next : Option Key) → FallsTo k (node_on page).entries leaf.place.next below next → Gives index store k (seat_of below next)
+      → (below : Entry) (next : Option Key) → FallsTo k (node_on page).entries leaf.place.next below next → Gives index store k (region_of index.last below next)
   gives page ends named there k later to below next falls = record {
     holds = below_holds page 1 k leaf.place.entry leaf.place.next below next ends
         (record { from = le_trans leaf.place.entry.first region.first k holds.place.from later; to = holds.within k to }) falls;
+    from = refl;
+    to = refl;
     way = λ honest.
         way_to index store region.first k leaf below next (down honest) later to (named honest)
         (subst (λ (p : List ℕ). FallsTo k (node_on p).entries leaf.place.next below next) (there honest) falls);
@@ -138,40 +138,40 @@ module _ (index : IndexView) (store : StoreFacts) (To : Key → Option ℕ → T
   pub nothing_found : LooksAt index.last store To region.first leaf Nothing → FindsAfter index store To (Some region) None
   nothing_found h =
       let (below, next, falls, none) = h.looks in
-      (next, (seat_of below next, gives h.page h.ends h.named h.there region.first (not_before_self region.first) holds.until below next falls, refl), none)
+      (next, (region_of index.last below next, gives h.page h.ends h.named h.there region.first (not_before_self region.first) holds.until below next falls, refl), none)
 
   pub here_found : (from : Key) (place : Place) → LooksAt index.last store To region.first leaf (Here from place)
-      → FindsAfter index store To (Some region) (Some (from, record { first = place.entry.first; page = place.entry.page; next = place.next }))
+      → FindsAfter index store To (Some region) (Some (from, region_of index.last place.entry place.next))
   here_found from place h =
       let (below, falls, aim, is_aim, to, falls_aim) = h.looks in
       let given = gives h.page h.ends h.named h.there region.first (not_before_self region.first) holds.until below (Some from) falls in (
         Some from,
-        (seat_of below (Some from), given, refl),
+        (region_of index.last below (Some from), given, refl),
         (refl, aim, is_aim, gives h.page h.ends h.named h.there aim (aim_later from aim given.holds.to is_aim) to place.entry place.next falls_aim),
       )
 
-  pub beyond_found : (from aim : Key) (seat : Seat) → LooksAt index.last store To region.first leaf (Beyond from aim) → Gives index store aim seat
-      → FindsAfter index store To (Some region) (Some (from, seat))
-  beyond_found from aim seat h given_aim =
+  pub beyond_found : (from aim : Key) (found : Region) → LooksAt index.last store To region.first leaf (Beyond from aim) → Gives index store aim found
+      → FindsAfter index store To (Some region) (Some (from, found))
+  beyond_found from aim found h given_aim =
       let (below, falls, is_aim, past) = h.looks in
       let given = gives h.page h.ends h.named h.there region.first (not_before_self region.first) holds.until below (Some from) falls in
-      (Some from, (seat_of below (Some from), given, refl), (refl, aim, is_aim, given_aim))
+      (Some from, (region_of index.last below (Some from), given, refl), (refl, aim, is_aim, given_aim))
 
   pub beyond_sought : (from aim : Key) → LooksAt index.last store To region.first leaf (Beyond from aim) → IsSought index store To (Some region) aim
   beyond_sought from aim h =
       let (below, falls, is_aim, past) = h.looks in
       let given = gives h.page h.ends h.named h.there region.first (not_before_self region.first) holds.until below (Some from) falls in
-      inr (from, (seat_of below (Some from), given, refl), is_aim)
+      inr (from, (region_of index.last below (Some from), given, refl), is_aim)
 
--- over an honest store no seat is found that begins before where the search went on
-pub not_crossed : (index : IndexView) (store : StoreFacts) (To : Key → Option ℕ → Type 0) (after : Option Region) (from : Key) (seat : Seat)
-    → FindsAfter index store To after (Some (from, seat)) → IsHonest store → ¬ (IsBefore seat.first from)
-not_crossed index store To after from seat (start, is_from, (is, aim, is_aim, given)) honest sooner = by_after after is_from
+-- over an honest store no region is found that begins before where the search went on
+pub not_crossed : (index : IndexView) (store : StoreFacts) (To : Key → Option ℕ → Type 0) (after : Option Region) (from : Key) (found : Region)
+    → FindsAfter index store To after (Some (from, found)) → IsHonest store → ¬ (IsBefore found.first from)
+not_crossed index store To after from found (start, is_from, (is, aim, is_aim, given)) honest sooner = by_after after is_from
   where
     by_after : (o : Option Region) → IsFrom index store o start → ⊥
     by_after None same =
         let at : from ≡ origin = (let e : Some from ≡ Some origin = sym is ∙ same in cc) in
-        not_before_origin seat.first (subst (λ (k : Key). IsBefore seat.first k) at sooner)
+        not_before_origin found.first (subst (λ (k : Key). IsBefore found.first k) at sooner)
     by_after (Some region) (first, first_given, next) =
-        never_cross index store region.first aim from first seat (first_given.way honest) (given.way honest) first_given.holds (sym next ∙ is)
+        never_cross index store region.first aim from first found (first_given.way honest) (given.way honest) first_given.holds (sym next ∙ is)
         (subst (λ (k : Key). ¬ (IsBefore k from)) (sym is_aim.3) (not_before_from from is_aim.0)) sooner

@@ -16,12 +16,12 @@ use Rattle.ub_index.specs.Changed.{Replaces}
 use Rattle.ub_index.specs.Changing.{AreOnce, IsAtMostOne, IsFine, IsNoGrowth, IsNoNew, IsOutside, IsUnspelled, Mends, Spelled, Spreads, Stand, StayBut, Turns, named_as, so_far}
 use Rattle.ub_index.specs.Index.{entries_of, first_or, page_in, pages_under, EachTo, IsUnder, under, top}
 use Rattle.ub_index.specs.Lowering.{IsLowerFault, IsLowest, IsRootRefused, Lowers, LowersTo, MakesLow, PreparesDrop, ReadsRoots, entries_then, page_then, sole_page, spelled_page, spelled_or, unless_first}
-use Rattle.ub_index.specs.Preparing.{ChangeView, IsIndexThen, IsPrepared, IsReachedOnce, MakesIndex, Settles, change_view, entry_at, pages_of_index}
-use Rattle.ub_index.specs.View.{IndexView, IsIndexOn, IsSeatAt, entries_in}
+use Rattle.ub_index.specs.Preparing.{ChangeView, IsIndexThen, IsPrepared, IsReachedOnce, MakesIndex, Settles, change_view, pages_of_index}
+use Rattle.ub_index.specs.View.{IndexView, IsIndexOn, IsRegionAt, entries_in, entry_at}
 use Rattle.ub_index.specs.declared.fault.IndexFault.{IndexFault}
 use Rattle.ub_index.specs.declared.fault.IndexFault.TheVariants.{Full, Page, Store}
 use Rattle.ub_store.specs.declared.fault.StoreFault.TheVariants as store
-use Rattle.ub_index.specs.declared.seat.Seat.{Seat}
+use Rattle.ub_region.specs.declared.region.Region.{Region}
 use Rattle.ub_index.specs.declared.sheet.Sheet.{Sheet}
 use Rattle.ub_index.specs.declared.told.Told.{Told}
 use Rattle.ub_index.specs.declared.told.Told.TheVariants.{Same, Gone, One, Two}
@@ -30,7 +30,7 @@ use Rattle.ub_index.proofs.FitFacts.{page_is}
 use Rattle.ub_index.proofs.FullFacts.{mended_few}
 use Rattle.ub_index.proofs.Numbers.{differs, distinct_cons, distinct_first, distinct_rest, within_store}
 use Rattle.ub_index.proofs.OrderFacts.{under_first}
-use Rattle.ub_index.proofs.ReadyFacts.{entry_is, made_one, root_entry, seat_found}
+use Rattle.ub_index.proofs.ReadyFacts.{entry_is, made_one, root_entry, region_found}
 use Rattle.ub_index.proofs.RefusedFacts.{far_outside, root_not_refused, unspelled_of, with_other, with_sheets, with_stand, with_stay}
 use Rattle.ub_index.specs.Held.{KeepsChecked}
 use Rattle.ub_index.proofs.HeldFacts.{keeps_on}
@@ -164,10 +164,10 @@ begin_other : (before : List Entry) (f : Entry) (after : List Entry) → IsBefor
 begin_other [] f after later h = let same : f.first ≡ origin = cc in absurd (not_before_self origin (subst (λ (k : Key). IsBefore origin k) same later))
 begin_other (b ∷ before) f after later h = h
 
-module _ (index : IndexView) (store : StoreFacts) (i : ℕ) (seat : Seat) (small : index.last < 2 ^ 128) (high : index.levels ≤ 16) (few : page_count store < 4294967296)
-    (is : IsIndexOn index store) (own : IsReachedOnce index store) (at : IsSeatAt (entries_in index store) i seat) (later_one : IsBefore origin seat.first)
+module _ (index : IndexView) (store : StoreFacts) (i : ℕ) (region : Region) (small : index.last < 2 ^ 128) (high : index.levels ≤ 16) (few : page_count store < 4294967296)
+    (is : IsIndexOn index store) (own : IsReachedOnce index store) (at : IsRegionAt (entries_in index store) i region) (later_one : IsBefore origin region.first)
     (first : ChangeView) (middle : Spelled) (told : Told)
-    (turns : Turns index.last store.pages seat.first None index.levels (top index.root) None (so_far [] (page_count store)) middle told)
+    (turns : Turns index.last store.pages region.first None index.levels (top index.root) None (so_far [] (page_count store)) middle told)
     (settles : Settles index.root index.levels told (page_count store) middle first) where
   some_room : (level : ℕ) → 1 ≤ level → IsUnder index.last store.pages level (top index.root) None → 0 < page_count store
   some_room zero l u = absurd (omega arith)
@@ -177,13 +177,13 @@ module _ (index : IndexView) (store : StoreFacts) (i : ℕ) (seat : Seat) (small
       some_length [] n h = cc
       some_length (p ∷ pages) n h = omega arith
 
-  r : Risen index.last store.pages seat.first None index.levels (top index.root) None (so_far [] (page_count store)) middle told
-  r = rises index.last small store.pages seat.first None index.levels (top index.root) None (so_far [] (page_count store)) middle told (omega arith) is.under_it
+  r : Risen index.last store.pages region.first None index.levels (top index.root) None (so_far [] (page_count store)) middle told
+  r = rises index.last small store.pages region.first None index.levels (top index.root) None (so_far [] (page_count store)) middle told (omega arith) is.under_it
       (root_entry index.last store.pages index.root index.levels is.some few own is.under_it)
       (distinct_rest 0 (pages_of_index index store) own) (λ found next leads. gone_fine index.last found next) turns
 
   same_next : middle.next ≡ page_count store
-  same_next = (narrow index.last store.pages seat.first index.levels (top index.root) None (so_far [] (page_count store)) middle told turns).1
+  same_next = (narrow index.last store.pages region.first index.levels (top index.root) None (so_far [] (page_count store)) middle told turns).1
 
   none_new : (n : ℕ) → IsNoNew (page_count store) middle.next n
   none_new n = elim (cases_lt n (page_count store)) [
@@ -191,8 +191,8 @@ module _ (index : IndexView) (store : StoreFacts) (i : ℕ) (seat : Seat) (small
     | inr more ↦ inr (let e = same_next in omega arith)
   ]
 
-  found_is : r.found ≡ entry_at seat
-  found_is = (seat_found index store i seat is at r.found r.next r.leads).0
+  found_is : r.found ≡ entry_at region
+  found_is = (region_found index store i region is at r.found r.next r.leads).0
 
   begins : (before after : List Entry) → entries_in index store ≡ before ++ (r.found ∷ after) → first_or (before ++ ([] ++ after)) None ≡ Some origin
   begins before after parts =
@@ -201,7 +201,7 @@ module _ (index : IndexView) (store : StoreFacts) (i : ℕ) (seat : Seat) (small
 
   -- one entry is told, and the root stays at first
   one_told : ((other : Entry) × (named_as told (top index.root) ≡ other ∷ [])) × (first ≡ change_view middle (page_count store) index.root index.levels)
-  one_told = by_told told refl settles (narrow index.last store.pages seat.first index.levels (top index.root) None (so_far [] (page_count store)) middle told turns).0
+  one_told = by_told told refl settles (narrow index.last store.pages region.first index.levels (top index.root) None (so_far [] (page_count store)) middle told turns).0
     where
       by_told : (t : Told) → told ≡ t → Settles index.root index.levels t (page_count store) middle first → IsAtMostOne told
           → ((other : Entry) × (named_as told (top index.root) ≡ other ∷ [])) × (first ≡ change_view middle (page_count store) index.root index.levels)
@@ -224,12 +224,12 @@ module _ (index : IndexView) (store : StoreFacts) (i : ℕ) (seat : Seat) (small
   module _ (later : List (List ℕ)) (stand : Stand later r.sheets) (stay : StayBut store.pages later r.sheets (pages_of_index index store)) where
     made_first : IsIndexThen index.last later index.root index.levels (Replaces r.found [] (entries_in index store))
     made_first =
-        (made_one index small is.some high store seat.first None (so_far [] (page_count store)) middle told (omega arith) refl is own few r
+        (made_one index small is.some high store region.first None (so_far [] (page_count store)) middle told (omega arith) refl is own few r
         (gone_fine index.last r.found r.next) begins later stand stay one_told.0.0 one_told.0.1).0
 
     among_first : (n : ℕ) → IsOutside n (pages_of_index index store) → IsOutside n (pages_under later index.levels (top index.root))
     among_first n out =
-        (made_one index small is.some high store seat.first None (so_far [] (page_count store)) middle told (omega arith) refl is own few r
+        (made_one index small is.some high store region.first None (so_far [] (page_count store)) middle told (omega arith) refl is own few r
         (gone_fine index.last r.found r.next) begins later stand stay one_told.0.0 one_told.0.1).1 n (none_new n) out
 
     lowered_all : (to at : ℕ) → Lowers first.sheets store.pages first.root first.levels to at → IsIndexThen index.last later to at (Replaces r.found [] (entries_in index store))
@@ -262,7 +262,7 @@ module _ (index : IndexView) (store : StoreFacts) (i : ℕ) (seat : Seat) (small
           lowest_then index.last store.pages later r.sheets (pages_of_index index store) stand stay change.root change.levels lowered_there.0.low lowered_there.0.under_it lowered_there.1
           (subst (λ (xs : List Sheet). IsLowest xs store.pages change.root change.levels) first_sheets lowers.lowest)
 
-    pub dropped_makes : MakesIndex index store (page_count store) change (Replaces (entry_at seat) [] (entries_in index store))
+    pub dropped_makes : MakesIndex index store (page_count store) change (Replaces (entry_at region) [] (entries_in index store))
     dropped_makes = record {
       start = ap (λ (c : ChangeView). c.start) lowers.same ∙ ap (λ (c : ChangeView). c.start) one_told.1;
       once = subst (λ (xs : List Sheet). AreOnce xs) (sym sheets_are) r.once;
@@ -283,11 +283,11 @@ module _ (index : IndexView) (store : StoreFacts) (i : ℕ) (seat : Seat) (small
           low_then later (subst (λ (xs : List Sheet). Stand later xs) sheets_are stand) (subst (λ (xs : List Sheet). StayBut store.pages later xs (pages_of_index index store)) sheets_are stay),
     )
 
-pub roots_taken : (index : IndexView) (store : StoreFacts) (i : ℕ) (seat : Seat) (change : ChangeView) (n : ℕ) (fault : Option PageFault) → index.last < 2 ^ 128 → index.levels ≤ 16
-    → page_count store < 2 ^ 32 → IsIndexOn index store → IsReachedOnce index store → IsSeatAt (entries_in index store) i seat → IsBefore origin seat.first
-    → IsPrepared index store seat.first None (page_count store) (so_far [] (page_count store)) change → ¬ (IsRootRefused index.last store.pages change n fault)
-roots_taken index store i seat change n fault small high few is own at later (middle, told, turns, settles) =
-    root_taken index store i seat small high few is own at later change middle told turns settles n fault
+pub roots_taken : (index : IndexView) (store : StoreFacts) (i : ℕ) (region : Region) (change : ChangeView) (n : ℕ) (fault : Option PageFault) → index.last < 2 ^ 128 → index.levels ≤ 16
+    → page_count store < 2 ^ 32 → IsIndexOn index store → IsReachedOnce index store → IsRegionAt (entries_in index store) i region → IsBefore origin region.first
+    → IsPrepared index store region.first None (page_count store) (so_far [] (page_count store)) change → ¬ (IsRootRefused index.last store.pages change n fault)
+roots_taken index store i region change n fault small high few is own at later (middle, told, turns, settles) =
+    root_taken index store i region small high few is own at later change middle told turns settles n fault
 
 -- a root doesn't give way for other reasons
 no_growth : (last : ℕ) (old : StoreFacts) (change : ChangeView) (e : IndexFault) → IsLowerFault last old change e → IsNoGrowth e

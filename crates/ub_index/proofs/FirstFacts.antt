@@ -9,10 +9,9 @@ use Rattle.ub_table.specs.declared.fault.PageFault.{PageFault}
 use Rattle.ub_table.specs.declared.row.Key.{Key}
 use Rattle.ub_index.specs.Fitting.{FallsTo, IsNotTaken, IsUnfit}
 use Rattle.ub_index.specs.Index.{NamesFitting, entries_of, top}
-use Rattle.ub_index.specs.Preparing.{entry_at}
-use Rattle.ub_index.specs.View.{IndexView, Leads, Stops}
+use Rattle.ub_index.specs.View.{IndexView, Leads, Stops, entry_at}
 use Rattle.ub_index.specs.Way.{LeadsTo, StopsAt}
-use Rattle.ub_index.specs.declared.seat.Seat.{Seat}
+use Rattle.ub_region.specs.declared.region.Region.{Region}
 use Rattle.ub_index.proofs.Changes.{same_page}
 use Rattle.ub_index.proofs.LeadFacts.{kept_fitting, moved}
 
@@ -74,18 +73,18 @@ module _ (last : ℕ) (old new : List (List ℕ)) (keeps : (n : ℕ) → 1 ≤ n
       inr (kept_fitting last old new (suc level) entry end same named, below, beyond, moved key old new entry below end beyond same falls, stops_past level below beyond n fault (below_some last old key (suc level) entry end below beyond named falls) stops)
 
 pub ways_miss : (index : IndexView) (old new : StoreFacts) (key : Key) → 1 ≤ index.root
-    → ((seat : Seat) → Leads index old key seat → 1 ≤ seat.page)
+    → ((region : Region) → Leads index old key region → 1 ≤ region.page)
     × ((n : ℕ) (fault : Option PageFault) → Stops index old key n fault → 1 ≤ n)
     × (((n : ℕ) → 1 ≤ n → slice_get new.pages n ≡ slice_get old.pages n)
-    → ((seat : Seat) → Leads index old key seat ↔ Leads index new key seat)
+    → ((region : Region) → Leads index old key region ↔ Leads index new key region)
     × ((n : ℕ) (fault : Option PageFault) → Stops index old key n fault ↔ Stops index new key n fault))
 ways_miss index old new key some = (
-  λ seat leads. found_some index.last old.pages key index.levels (top index.root) None (entry_at seat) seat.next some leads,
+  λ region leads. found_some index.last old.pages key index.levels (top index.root) None (entry_at region) region.next some leads,
   λ n fault stops. stops_some index.last old.pages key index.levels (top index.root) None n fault some stops,
   λ keeps. (
-    λ seat. (
-      λ leads. leads_past index.last old.pages new.pages keeps key index.levels (top index.root) None (entry_at seat) seat.next some leads,
-      λ leads. leads_past index.last new.pages old.pages (λ n h. sym (keeps n h)) key index.levels (top index.root) None (entry_at seat) seat.next some leads,
+    λ region. (
+      λ leads. leads_past index.last old.pages new.pages keeps key index.levels (top index.root) None (entry_at region) region.next some leads,
+      λ leads. leads_past index.last new.pages old.pages (λ n h. sym (keeps n h)) key index.levels (top index.root) None (entry_at region) region.next some leads,
     ),
     λ n fault. (
       λ stops. stops_past index.last old.pages new.pages keeps key index.levels (top index.root) None n fault some stops,

@@ -4,7 +4,7 @@ use Rattle.std.proofs.lemmas.Bool.{cases_Bool, le-leb, lt-leb}
 use Rattle.std.proofs.lemmas.Option.{slice_get_within, slice_get_cases}
 use Rattle.ub_bigmin.specs.Box.{Corners, HoldsAny}
 use Rattle.ub_bigmin.specs.Extremes.{LeastFrom}
-use Rattle.ub_index.proofs.Laws.{next_meets, no_address, none_of, region_first, region_is, region_with, seek_first}
+use Rattle.ub_index.proofs.Laws.{next_meets, no_address, none_of, region_first, region_is, region_with, seek_first, with_span}
 use Rattle.ub_index.specs.Spans.{first_keys, regions_of, First, IsLater, Meets}
 use Rattle.ub_region.specs.declared.region.Region.{Region}
 use Rattle.ub_page.specs.declared.entries.Entry.{Entry}
@@ -14,13 +14,12 @@ use Rattle.ub_store.specs.Facts.{StoreFacts}
 use Rattle.ub_table.proofs.Laws.{ascending_get, before_of, not_before_origin, precedes_of, precedes_trans}
 use Rattle.ub_table.specs.Keys.{IsBefore, precedes, origin, are_ascending}
 use Rattle.ub_table.specs.declared.row.Key.{Key}
-use Rattle.ub_index.specs.Searching.{Aims, Gives, GivesAfter, IsFrom, at_least, end_before, region_of}
-use Rattle.ub_index.specs.View.{IndexView, IsIndexOn, IsSeatAt, entries_in}
+use Rattle.ub_index.specs.Searching.{Aims, Gives, GivesAfter, IsFrom, at_least, end_before}
+use Rattle.ub_index.specs.View.{IndexView, IsIndexOn, IsRegionAt, entries_in, entry_at}
 use Rattle.ub_index.specs.declared.fault.IndexFault.{IndexFault}
 use Rattle.ub_index.specs.declared.goal.Goal.TheVariants.{Address, Boxes}
-use Rattle.ub_index.specs.declared.seat.Seat.{Seat}
 use Rattle.ub_index.proofs.PlaceFacts.{begins, index_below, index_ge, index_of_first, up, within}
-use Rattle.ub_index.proofs.WayFacts.{seat_is}
+use Rattle.ub_index.proofs.WayFacts.{way_ends_at}
 
 -- a first key is later than another key exactly from the region behind the one that holds that key
 later_than : (key : Key) (firsts : List Key) (i : ℕ) (first : Key) → are_ascending firsts ≡ true → slice_get firsts 0 ≡ Some origin → slice_get firsts i ≡ Some first
@@ -55,12 +54,14 @@ holding_max firsts start from z ascends at = elim (cases_Bool (precedes (record 
   | inr f ↦ let ge = index_ge (record { z = z; number = 0 }) firsts start from ascends at f in rw f (omega arith)
 ]
 
--- the region of a seat among the regions
-seat_region : (last : ℕ) (entries : List Entry) (i : ℕ) (seat : Seat) → IsSeatAt entries i seat → slice_get (regions_of last entries) i ≡ Some (region_of last seat)
-seat_region last entries i seat at =
-    region_is last entries i (record { first = seat.first; page = seat.page }) at.entry
-    ∙ (ap (λ (to : ℕ). Some (region_with to (slice_get (first_keys entries) (suc i)) (record { first = seat.first; page = seat.page }))) (end_is entries (suc i) ∙ ap (end_before last) (sym at.next))
-    ∙ ap (λ (next : Option Key). Some (region_with (end_before last seat.next) next (record { first = seat.first; page = seat.page }))) (sym at.next))
+-- a region that has its span, among the regions
+pub region_there : (last : ℕ) (entries : List Entry) (i : ℕ) (region : Region) → IsRegionAt entries i region → region.from ≡ region.first.z → region.to ≡ end_before last region.next
+    → slice_get (regions_of last entries) i ≡ Some region
+region_there last entries i region at from to =
+    region_is last entries i (entry_at region) at.entry
+    ∙ (ap (λ (to : ℕ). Some (region_with to (slice_get (first_keys entries) (suc i)) (entry_at region))) (end_is entries (suc i) ∙ ap (end_before last) (sym at.next))
+    ∙ (ap (λ (next : Option Key). Some (region_with (end_before last region.next) next (entry_at region))) (sym at.next)
+    ∙ ap (λ (r : Region). Some r) (sym (with_span last region from to))))
   where
     end_is : (es : List Entry) (j : ℕ) → span_end last (first_keys (drop j es)) ≡ end_before last (slice_get (first_keys es) j)
     end_is [] zero = refl
@@ -83,7 +84,7 @@ entry_of (e ∷ entries) (suc i) key at = entry_of entries i key at
 abbrev Reaches : IndexView → StoreFacts → ℕ → Key → Option Region → Type 0
 Reaches index store z from None = index.last < z
 Reaches index store z from (Some region) =
-    (z ≤ index.last) × (seat : Seat) × Gives index store (at_least from z) seat × (region ≡ region_of index.last seat)
+    (z ≤ index.last) × Gives index store (at_least from z) region
 
 module _ (index : IndexView) (store : StoreFacts) (is : IsIndexOn index store) (after : Option Region) where
   starts : (from : Option Key) → IsFrom index store after from → IsStarted index.last (entries_in index store) after from
@@ -91,8 +92,8 @@ module _ (index : IndexView) (store : StoreFacts) (is : IsIndexOn index store) (
     where
       by_after : (o : Option Region) → IsFrom index store o from → IsStarted index.last (entries_in index store) o from
       by_after None here = record { start = 0; at = here ∙ sym (begins index store is); later = λ i r there. (λ x. omega arith, λ x. tt) }
-      by_after (Some region) (seat, given, next) =
-          let there = seat_is index store region.first seat is (given.way is.honest) in
+      by_after (Some region) (found, given, next) =
+          let there = way_ends_at index store region.first found is (given.way is.honest) in
           record {
             start = suc (index_holding region.first (first_keys (entries_in index store)));
             at = next ∙ there.next;
@@ -105,13 +106,12 @@ module _ (index : IndexView) (store : StoreFacts) (is : IsIndexOn index store) (
       → found ≡ (if nat_le z index.last then slice_get (regions_of index.last (entries_in index store))
       (max start (index_holding (record { z = z; number = 0 }) (first_keys (entries_in index store)))) else None)
   reached z start from None at past = rw (lt-leb z index.last past) refl
-  reached z start from (Some region) at (le, seat, given, region_is) =
-      let there = seat_is index store (at_least from z) seat is (given.way is.honest) in
+  reached z start from (Some region) at (le, given) =
+      let there = way_ends_at index store (at_least from z) region is (given.way is.honest) in
       let place = holding_max (first_keys (entries_in index store)) start from z (up index store is) at in
       rw (le-leb z index.last le)
-      (ap (λ (r : Region). Some r) region_is
-      ∙ (sym (seat_region index.last (entries_in index store) (index_holding (at_least from z) (first_keys (entries_in index store))) seat there)
-      ∙ ap (λ (n : ℕ). slice_get (regions_of index.last (entries_in index store)) n) place))
+      (sym (region_there index.last (entries_in index store) (index_holding (at_least from z) (first_keys (entries_in index store))) region there given.from given.to)
+      ∙ ap (λ (n : ℕ). slice_get (regions_of index.last (entries_in index store)) n) place)
 
   none_found : (P : Region → Type 0) → IsFrom index store after None → First (λ r. IsLater after r × P r) (regions_of index.last (entries_in index store)) None
   none_found P from =
@@ -157,11 +157,11 @@ module _ (index : IndexView) (store : StoreFacts) (is : IsIndexOn index store) (
       let same : y ≡ z = (let e : Some y ≡ Some z = to in cc) in
       seek_found z key None from (subst (λ (n : ℕ). index.last < n) same past)
   seek_given z (Some region) (None, from, none) = absurd none
-  seek_given z (Some region) (Some key, from, (aim, (y, to, le, is_aim), seat, given, region_is)) =
+  seek_given z (Some region) (Some key, from, (aim, (y, to, le, is_aim), given)) =
       let same : y ≡ z = (let e : Some y ≡ Some z = to in cc) in
-      let given' : Gives index store (at_least key z) seat =
-      subst (λ (n : ℕ). Gives index store (at_least key n) seat) same (subst (λ (k : Key). Gives index store k seat) is_aim given) in
-      seek_found z key (Some region) from (subst (λ (n : ℕ). n ≤ index.last) same le, seat, given', region_is)
+      let given' : Gives index store (at_least key z) region =
+      subst (λ (n : ℕ). Gives index store (at_least key n) region) same (subst (λ (k : Key). Gives index store k region) is_aim given) in
+      seek_found z key (Some region) from (subst (λ (n : ℕ). n ≤ index.last) same le, given')
 
   pub meeting_given : (boxes : Bor (List Corners)) (found : Option Region) → GivesAfter index store (Aims (Boxes boxes)) after found
       → First (λ r. IsLater after r × Meets boxes.now r) (regions_of index.last (entries_in index store)) found
@@ -169,8 +169,8 @@ module _ (index : IndexView) (store : StoreFacts) (is : IsIndexOn index store) (
   meeting_given boxes None (Some key, from, inl none) = meets_none boxes.now key from none
   meeting_given boxes None (Some key, from, inr (z, to, past)) = meets_found boxes.now key from z None to past
   meeting_given boxes (Some region) (None, from, none) = absurd none
-  meeting_given boxes (Some region) (Some key, from, (aim, (z, to, le, is_aim), seat, given, region_is)) =
-      meets_found boxes.now key from z (Some region) to (le, seat, subst (λ (k : Key). Gives index store k seat) is_aim given, region_is)
+  meeting_given boxes (Some region) (Some key, from, (aim, (z, to, le, is_aim), given)) =
+      meets_found boxes.now key from z (Some region) to (le, subst (λ (k : Key). Gives index store k region) is_aim given)
 
 -- what holds of each answer holds of the one that there is
 pub if_ok : {T : Type 0} (r : Result T IndexFault) (P Q : T → Type 0) → ((x : T) → P x → Q x) → IfOk r P → IfOk r Q

@@ -9,22 +9,23 @@ use Rattle.std.specs.List.{AllByRecursion}
 use Rattle.ub_page.specs.Entries.{IsEntry}
 use Rattle.ub_page.specs.declared.entries.Entry.{Entry}
 use Rattle.ub_region.specs.Regions.{index_holding}
-use Rattle.ub_store.specs.Facts.{StoreFacts, zero_page}
+use Rattle.ub_store.specs.Facts.{StoreFacts, IsHonest, zero_page}
 use Rattle.ub_table.proofs.Laws.{before_of, not_before_origin, not_before_self, precedes_of}
 use Rattle.ub_table.specs.Keys.{IsBefore, precedes}
 use Rattle.ub_table.specs.declared.row.Key.{Key}
 use Rattle.ub_index.specs.Fitting.{FallsTo}
 use Rattle.ub_index.specs.Index.{AscendTo, EachTo, Fits, IsIndexPage, IsUnder, NamesFitting, entries_of, first_or, page_in, top}
-use Rattle.ub_index.specs.Preparing.{entry_at}
+use Rattle.ub_index.specs.Searching.{Gives, region_of}
 use Rattle.ub_index.specs.Standing.{AddsNoIndexPage, OldStayOutside}
-use Rattle.ub_index.specs.View.{IndexView, IsIndexOn, IsSeatAt, Leads, Stops, entries_in}
+use Rattle.ub_index.specs.View.{IndexView, IsIndexOn, IsRegionAt, Leads, Stops, entries_in, entry_at}
 use Rattle.ub_index.specs.Way.{HoldsKey, LeadsTo, StopsAt}
-use Rattle.ub_index.specs.declared.seat.Seat.{Seat}
+use Rattle.ub_region.specs.declared.region.Region.{Region}
 use Rattle.ub_index.proofs.Changes.{same_entries, same_page}
 use Rattle.ub_index.proofs.KeyFacts.{before_le, le_trans}
 use Rattle.ub_index.proofs.Lists.{ascend_right, each_right}
-use Rattle.ub_index.proofs.ReadyFacts.{seat_found}
-use Rattle.ub_index.proofs.WayFacts.{falls_from, holds_below, seat_is}
+use Rattle.ub_index.proofs.ReadyFacts.{region_found}
+use Rattle.ub_index.proofs.SpanFacts.{with_span}
+use Rattle.ub_index.proofs.WayFacts.{falls_from, holds_below, way_ends_at}
 use Rattle.ub_index.proofs.WaysFacts.{compare, ends_from, ends_to, first_up_to}
 
 some_first : (after : List Entry) (end : Option Key) (limit : Key) → end ≡ Some limit → (first : Key) × (first_or after end ≡ Some first)
@@ -169,19 +170,19 @@ module _ (last : ℕ) (pages : List (List ℕ)) (key : Key) where
           let below = go r.0 r.1 (subst (λ (o : Option Key). IsUnder last pages level r.0 o) (sym falls.next_is) each.0) r.3 in
           (below.0, below.1, (is.0, r.0, r.1, falls, below.2))
 
--- and so each seat is led to
-pub led_to : (index : IndexView) (store : StoreFacts) (i : ℕ) (seat : Seat) → IsIndexOn index store → IsSeatAt (entries_in index store) i seat
-    → Leads index store seat.first seat
-led_to index store i seat is at =
-    let way = way_there index.last store.pages seat.first index.levels (top index.root) None is.under_it (not_before_origin seat.first) in
-    let same = seat_found index store i seat is at way.0 way.1 way.2 in
-    subst (λ (o : Option Key). LeadsTo index.last store.pages seat.first index.levels (top index.root) None (entry_at seat) o) same.1
-    (subst (λ (e : Entry). LeadsTo index.last store.pages seat.first index.levels (top index.root) None e way.1) same.0 way.2)
+-- and so each region is led to
+pub led_to : (index : IndexView) (store : StoreFacts) (i : ℕ) (region : Region) → IsIndexOn index store → IsRegionAt (entries_in index store) i region
+    → Leads index store region.first region
+led_to index store i region is at =
+    let way = way_there index.last store.pages region.first index.levels (top index.root) None is.under_it (not_before_origin region.first) in
+    let same = region_found index store i region is at way.0 way.1 way.2 in
+    subst (λ (o : Option Key). LeadsTo index.last store.pages region.first index.levels (top index.root) None (entry_at region) o) same.1
+    (subst (λ (e : Entry). LeadsTo index.last store.pages region.first index.levels (top index.root) None e way.1) same.0 way.2)
 
-pub seats_led_to : (index : IndexView) (store : StoreFacts) → IsIndexOn index store
-    → ((key : Key) (seat : Seat) → Leads index store key seat → IsSeatAt (entries_in index store) (index_holding key (first_keys (entries_in index store))) seat)
-    × ((i : ℕ) (seat : Seat) → IsSeatAt (entries_in index store) i seat → Leads index store seat.first seat)
-seats_led_to index store is = (λ key seat leads. seat_is index store key seat is leads, λ i seat at. led_to index store i seat is at)
+pub regions_led_to : (index : IndexView) (store : StoreFacts) → IsIndexOn index store
+    → ((key : Key) (region : Region) → Leads index store key region → IsRegionAt (entries_in index store) (index_holding key (first_keys (entries_in index store))) region)
+    × ((i : ℕ) (region : Region) → IsRegionAt (entries_in index store) i region → Leads index store region.first region)
+regions_led_to index store is = (λ key region leads. way_ends_at index store key region is leads, λ i region at. led_to index store i region is at)
 
 -- a page that fits does, where it stays
 pub kept_fitting : (last : ℕ) (old new : List (List ℕ)) (level : ℕ) (entry : Entry) (end : Option Key) → slice_get new entry.page ≡ slice_get old entry.page
@@ -250,43 +251,42 @@ blank_is_none last h =
     let bad : 1 ≤ 0 = subst (λ (n : ℕ). 1 ≤ n) none low in
     omega arith
 
-abbrev seat_with : Key → ℕ → Option Key → Seat
-seat_with first page next = record { first = first; page = page; next = next }
-
-same_seat : (a b : Seat) → entry_at a ≡ entry_at b → a.next ≡ b.next → a ≡ b
-same_seat a b entries nexts =
-    ap (λ (k : Key). seat_with k a.page a.next) (ap (λ (e : Entry). e.first) entries)
-    ∙ (ap (λ (n : ℕ). seat_with b.first n a.next) (ap (λ (e : Entry). e.page) entries) ∙ ap (λ (o : Option Key). seat_with b.first b.page o) nexts)
-
--- the same of the seats of an index
-pub ways_hold : (index : IndexView) (store : StoreFacts) (key : Key) (seat : Seat) → Leads index store key seat
-    → HoldsKey key seat.first seat.next × HoldsKey seat.first seat.first seat.next
-    × ((other : Key) → HoldsKey other seat.first seat.next → Leads index store other seat)
-ways_hold index store key seat leads = (
-  holds_found index.last store.pages key index.levels (top index.root) None (entry_at seat) seat.next (record { from = not_before_origin key; to = tt }) leads,
+-- the same of the regions of an index
+pub ways_hold : (index : IndexView) (store : StoreFacts) (key : Key) (region : Region) → Leads index store key region
+    → HoldsKey key region.first region.next × HoldsKey region.first region.first region.next
+    × ((other : Key) → HoldsKey other region.first region.next → Leads index store other region)
+ways_hold index store key region leads = (
+  holds_found index.last store.pages key index.levels (top index.root) None (entry_at region) region.next (record { from = not_before_origin key; to = tt }) leads,
   record {
-    from = not_before_self seat.first;
-    to = before_next index.last store.pages key index.levels (top index.root) None (entry_at seat) seat.next tt leads;
+    from = not_before_self region.first;
+    to = before_next index.last store.pages key index.levels (top index.root) None (entry_at region) region.next tt leads;
   },
-  λ other h. held_way index.last store.pages key other index.levels (top index.root) None (entry_at seat) seat.next leads h,
+  λ other h. held_way index.last store.pages key other index.levels (top index.root) None (entry_at region) region.next leads h,
 )
 
-pub ways_are_one : (index : IndexView) (store : StoreFacts) (key : Key) (a b : Seat) → Leads index store key a → Leads index store key b → a ≡ b
-ways_are_one index store key a b to_a to_b =
-    let same = one_way index.last store.pages key index.levels (top index.root) None (entry_at a) a.next (entry_at b) b.next to_a to_b in
-    same_seat a b same.0 same.1
+pub ways_are_one : (index : IndexView) (store : StoreFacts) (key : Key) (a b : Region) → Leads index store key a → Leads index store key b
+    → (entry_at a ≡ entry_at b) × (a.next ≡ b.next)
+ways_are_one index store key a b to_a to_b = one_way index.last store.pages key index.levels (top index.root) None (entry_at a) a.next (entry_at b) b.next to_a to_b
 
-pub ways_stay : (index : IndexView) (old new : StoreFacts) (key : Key) (seat : Seat) → OldStayOutside [] old.pages new.pages
-    → (Leads index old key seat → Leads index new key seat)
-    × (Leads index new key seat → Leads index old key seat ⊎ ((n : ℕ) × Stops index old key n None))
-ways_stay index old new key seat keeps = (
-  λ leads. still_leads index.last old.pages new.pages keeps key index.levels (top index.root) None (entry_at seat) seat.next leads,
-  λ leads. led_or_stopped index.last old.pages new.pages keeps key index.levels (top index.root) None (entry_at seat) seat.next leads,
+-- so over an honest store one region is given for a key
+pub one_given : (index : IndexView) (store : StoreFacts) (key : Key) (a b : Region) → IsHonest store → Gives index store key a → Gives index store key b → a ≡ b
+one_given index store key a b honest given_a given_b =
+    let same = ways_are_one index store key a b (given_a.way honest) (given_b.way honest) in
+    with_span index.last a given_a.from given_a.to
+    ∙ (ap (λ (e : Entry). region_of index.last e a.next) same.0 ∙ ap (λ (o : Option Key). region_of index.last (entry_at b) o) same.1)
+    ∙ sym (with_span index.last b given_b.from given_b.to)
+
+pub ways_stay : (index : IndexView) (old new : StoreFacts) (key : Key) (region : Region) → OldStayOutside [] old.pages new.pages
+    → (Leads index old key region → Leads index new key region)
+    × (Leads index new key region → Leads index old key region ⊎ ((n : ℕ) × Stops index old key n None))
+ways_stay index old new key region keeps = (
+  λ leads. still_leads index.last old.pages new.pages keeps key index.levels (top index.root) None (entry_at region) region.next leads,
+  λ leads. led_or_stopped index.last old.pages new.pages keeps key index.levels (top index.root) None (entry_at region) region.next leads,
 )
 
-pub ways_are_the_same : (index : IndexView) (old new : StoreFacts) (key : Key) (seat : Seat) → OldStayOutside [] old.pages new.pages → AddsNoIndexPage index.last old.pages new.pages
-    → Leads index old key seat ↔ Leads index new key seat
-ways_are_the_same index old new key seat keeps none = (
-  λ leads. still_leads index.last old.pages new.pages keeps key index.levels (top index.root) None (entry_at seat) seat.next leads,
-  λ leads. led index.last old.pages new.pages keeps none key index.levels (top index.root) None (entry_at seat) seat.next leads,
+pub ways_are_the_same : (index : IndexView) (old new : StoreFacts) (key : Key) (region : Region) → OldStayOutside [] old.pages new.pages → AddsNoIndexPage index.last old.pages new.pages
+    → Leads index old key region ↔ Leads index new key region
+ways_are_the_same index old new key region keeps none = (
+  λ leads. still_leads index.last old.pages new.pages keeps key index.levels (top index.root) None (entry_at region) region.next leads,
+  λ leads. led index.last old.pages new.pages keeps none key index.levels (top index.root) None (entry_at region) region.next leads,
 )

@@ -13,10 +13,10 @@ use Rattle.ub_index.specs.Changed.{Replaces}
 use Rattle.ub_index.specs.Changing.{IsOutside}
 use Rattle.ub_index.specs.Index.{IsUnder, page_in, top}
 use Rattle.ub_index.specs.Making.{IsCommitted, changed}
-use Rattle.ub_index.specs.Preparing.{ChangeView, IsForeign, IsReachedOnce, added_at, entry_at, pages_of_index}
+use Rattle.ub_index.specs.Preparing.{ChangeView, IsForeign, IsReachedOnce, added_at, pages_of_index}
 use Rattle.ub_index.specs.Standing.{AreOwnPages, AreRegionsThere, region_pages}
-use Rattle.ub_index.specs.View.{IndexView, IsIndexOn, IsSeatAt, entries_in}
-use Rattle.ub_index.specs.declared.seat.Seat.{Seat}
+use Rattle.ub_index.specs.View.{IndexView, IsIndexOn, IsRegionAt, entries_in, entry_at}
+use Rattle.ub_region.specs.declared.region.Region.{Region}
 use Rattle.ub_index.proofs.Numbers.{StandApart, apart_swap, distinct_apart, distinct_first, distinct_join, distinct_left, distinct_right, outside_less, within_store}
 use Rattle.ub_index.proofs.PlaceFacts.{index_of_first}
 
@@ -159,16 +159,16 @@ put_there : (before fs : List Entry) (f : Entry) (after : List Entry)
 put_there [] fs f after = refl
 put_there (x ∷ before) fs f after = ap (λ (xs : List Entry). x ∷ xs) (put_there before fs f after)
 
--- what stands in the place of the entry of a seat stands at its index
-pub replaced_at : (last : ℕ) (entries new : List Entry) (i : ℕ) (seat : Seat) (fs : List Entry) → ArePlaces last entries → IsSeatAt entries i seat
-    → Replaces (entry_at seat) fs entries new → new ≡ take i entries ++ (fs ++ drop (suc i) entries)
-replaced_at last entries new i seat fs places at r =
-    let here : slice_get (first_keys entries) (length r.before) ≡ Some seat.first =
-    subst (λ (xs : List Entry). slice_get (first_keys xs) (length r.before) ≡ Some seat.first) (sym r.was) (key_in r.before (entry_at seat) r.after) in
+-- what stands in the place of the entry of a region stands at its index
+pub replaced_at : (last : ℕ) (entries new : List Entry) (i : ℕ) (region : Region) (fs : List Entry) → ArePlaces last entries → IsRegionAt entries i region
+    → Replaces (entry_at region) fs entries new → new ≡ take i entries ++ (fs ++ drop (suc i) entries)
+replaced_at last entries new i region fs places at r =
+    let here : slice_get (first_keys entries) (length r.before) ≡ Some region.first =
+    subst (λ (xs : List Entry). slice_get (first_keys xs) (length r.before) ≡ Some region.first) (sym r.was) (key_in r.before (entry_at region) r.after) in
     let same : length r.before ≡ i =
-    sym (index_of_first (first_keys entries) (length r.before) seat.first places.2 here)
-    ∙ index_of_first (first_keys entries) i seat.first places.2 (key_at entries i (entry_at seat) at.entry) in
+    sym (index_of_first (first_keys entries) (length r.before) region.first places.2 here)
+    ∙ index_of_first (first_keys entries) i region.first places.2 (key_at entries i (entry_at region) at.entry) in
     let parts : r.before ++ (fs ++ r.after) ≡ take (length r.before) entries ++ (fs ++ drop (suc (length r.before)) entries) =
     subst (λ (xs : List Entry). r.before ++ (fs ++ r.after) ≡ take (length r.before) xs ++ (fs ++ drop (suc (length r.before)) xs)) (sym r.was)
-    (put_there r.before fs (entry_at seat) r.after) in
+    (put_there r.before fs (entry_at region) r.after) in
     r.is ∙ (parts ∙ ap (λ (n : ℕ). take n entries ++ (fs ++ drop (suc n) entries)) same)

@@ -14,11 +14,11 @@ use Rattle.ub_table.specs.Keys.{IsBefore, precedes, origin, are_ascending}
 use Rattle.ub_table.specs.declared.row.Key.{Key}
 use Rattle.ub_index.specs.Index.{entries_of, first_or, AscendTo, EachTo, IsUnder, under, top}
 use Rattle.ub_index.specs.Searching.{Gives, key_before}
-use Rattle.ub_index.specs.View.{IndexView, IsIndexOn, IsSeatAt, IsPreviousSeat, entries_in}
-use Rattle.ub_index.specs.declared.seat.Seat.{Seat}
+use Rattle.ub_index.specs.View.{IndexView, IsIndexOn, IsRegionAt, IsPreviousRegion, entries_in, entry_at}
+use Rattle.ub_region.specs.declared.region.Region.{Region}
 use Rattle.ub_index.proofs.Lists.{all_join}
 use Rattle.ub_index.proofs.OrderFacts.{under_first}
-use Rattle.ub_index.proofs.WayFacts.{in_order, not_true, seat_is}
+use Rattle.ub_index.proofs.WayFacts.{in_order, not_true, way_ends_at}
 
 length-first_keys : (entries : List Entry) → length (first_keys entries) ≡ length entries
 length-first_keys [] = refl
@@ -128,9 +128,9 @@ not_self key = elim (cases_Bool (precedes key key)) [
 pub index_of_first : (firsts : List Key) (j : ℕ) (first : Key) → are_ascending firsts ≡ true → slice_get firsts j ≡ Some first → index_holding first firsts ≡ j
 index_of_first firsts j first up at = index_is first firsts j first up at (not_self first) (λ next there. ascending_get firsts up j (suc j) (omega arith) first next at there)
 
--- the seats beside one
-module _ (index : IndexView) (store : StoreFacts) (is : IsIndexOn index store) (i : ℕ) (seat : Seat) (at : IsSeatAt (entries_in index store) i seat) where
-  pub after_none : seat.next ≡ None → length (entries_in index store) ≡ i + 1
+-- the regions beside one
+module _ (index : IndexView) (store : StoreFacts) (is : IsIndexOn index store) (i : ℕ) (region : Region) (at : IsRegionAt (entries_in index store) i region) where
+  pub after_none : region.next ≡ None → length (entries_in index store) ≡ i + 1
   after_none none =
       let past : slice_get (first_keys (entries_in index store)) (suc i) ≡ None = sym at.next ∙ none in
       let near = at.within in
@@ -139,12 +139,12 @@ module _ (index : IndexView) (store : StoreFacts) (is : IsIndexOn index store) (
         | inr far ↦ let le = far.0 in omega (arith, length-first_keys (entries_in index store))
       ]
 
-  pub after_some : (key : Key) (next : Seat) → seat.next ≡ Some key → Gives index store key next → IsSeatAt (entries_in index store) (i + 1) next
+  pub after_some : (key : Key) (next : Region) → region.next ≡ Some key → Gives index store key next → IsRegionAt (entries_in index store) (i + 1) next
   after_some key next is_next given =
       let there : slice_get (first_keys (entries_in index store)) (suc i) ≡ Some key = sym at.next ∙ is_next in
       let holds = index_of_first (first_keys (entries_in index store)) (suc i) key (up index store is) there in
       let one : suc i ≡ i + 1 = omega arith in
-      subst (λ (n : ℕ). IsSeatAt (entries_in index store) n next) (holds ∙ one) (seat_is index store key next is (given.way is.honest))
+      subst (λ (n : ℕ). IsRegionAt (entries_in index store) n next) (holds ∙ one) (way_ends_at index store key next is (given.way is.honest))
 
 -- the greatest key before one: no key of an entry lies between
 none_before : (z n : ℕ) → key_before z n ≡ None → (z ≡ 0) × (n ≡ 0)
@@ -186,41 +186,41 @@ greatest_before z (suc n) key h =
       ]
     ]
 
-pub seat_first : (entries : List Entry) (i : ℕ) (seat : Seat) → IsSeatAt entries i seat → slice_get (first_keys entries) i ≡ Some seat.first
-seat_first entries i seat at = first_at entries i (record { first = seat.first; page = seat.page }) at.entry
+pub first_there : (entries : List Entry) (i : ℕ) (region : Region) → IsRegionAt entries i region → slice_get (first_keys entries) i ≡ Some region.first
+first_there entries i region at = first_at entries i (entry_at region) at.entry
 
 module _ (index : IndexView) (store : StoreFacts) (is : IsIndexOn index store) where
-  pub none_is_before : (i : ℕ) (seat : Seat) → IsSeatAt (entries_in index store) i seat → key_before seat.first.z seat.first.number ≡ None → i ≡ 0
-  none_is_before zero seat at none = refl
-  none_is_before (suc j) seat at none =
-      let least = none_before seat.first.z seat.first.number none in
-      let later = ascending_get (first_keys (entries_in index store)) (up index store is) 0 (suc j) (omega arith) origin seat.first (begins index store is)
-      (seat_first (entries_in index store) (suc j) seat at) in
-      elim (before_parts origin seat.first (before_of origin seat.first later)) [
+  pub none_is_before : (i : ℕ) (region : Region) → IsRegionAt (entries_in index store) i region → key_before region.first.z region.first.number ≡ None → i ≡ 0
+  none_is_before zero region at none = refl
+  none_is_before (suc j) region at none =
+      let least = none_before region.first.z region.first.number none in
+      let later = ascending_get (first_keys (entries_in index store)) (up index store is) 0 (suc j) (omega arith) origin region.first (begins index store is)
+      (first_there (entries_in index store) (suc j) region at) in
+      elim (before_parts origin region.first (before_of origin region.first later)) [
         | inl lt ↦ let e = least.0 in absurd (omega arith)
         | inr both ↦ let e = least.1 in let f = both.1 in absurd (omega arith)
       ]
 
-  pub some_is_before : (i : ℕ) (seat : Seat) → IsSeatAt (entries_in index store) i seat → (key : Key) (before : Seat) → key_before seat.first.z seat.first.number ≡ Some key
-      → Gives index store key before → IsPreviousSeat (entries_in index store) i (Some before)
-  some_is_before zero seat at key before is_before given =
-      let same : seat.first ≡ origin = (let a = seat_first (entries_in index store) zero seat at in let b = begins index store is in cc) in
-      let none : key_before seat.first.z seat.first.number ≡ None = ap (λ (k : Key). key_before k.z k.number) same in
+  pub some_is_before : (i : ℕ) (region : Region) → IsRegionAt (entries_in index store) i region → (key : Key) (before : Region) → key_before region.first.z region.first.number ≡ Some key
+      → Gives index store key before → IsPreviousRegion (entries_in index store) i (Some before)
+  some_is_before zero region at key before is_before given =
+      let same : region.first ≡ origin = (let a = first_there (entries_in index store) zero region at in let b = begins index store is in cc) in
+      let none : key_before region.first.z region.first.number ≡ None = ap (λ (k : Key). key_before k.z k.number) same in
       cc
-  some_is_before (suc j) seat at key before is_before given =
+  some_is_before (suc j) region at key before is_before given =
       let firsts = first_keys (entries_in index store) in
-      let here : slice_get (first_keys (entries_in index store)) (suc j) ≡ Some seat.first = seat_first (entries_in index store) (suc j) seat at in
-      let greatest = greatest_before seat.first.z seat.first.number key is_before in
+      let here : slice_get (first_keys (entries_in index store)) (suc j) ≡ Some region.first = first_there (entries_in index store) (suc j) region at in
+      let greatest = greatest_before region.first.z region.first.number key is_before in
       let near = at.within in
       elim ((slice_get_cases (first_keys (entries_in index store)) j).1) [
         | inl some ↦
             let f = some.0 in
             let there : slice_get (first_keys (entries_in index store)) j ≡ Some some.0 = some.2 in
-            let lower = ascending_get (first_keys (entries_in index store)) (up index store is) j (suc j) (omega arith) some.0 seat.first there here in
-            let no_more = greatest.1 some.0 (small_number index store is j some.0 there) (before_of some.0 seat.first lower) in
+            let lower = ascending_get (first_keys (entries_in index store)) (up index store is) j (suc j) (omega arith) some.0 region.first there here in
+            let no_more = greatest.1 some.0 (small_number index store is j some.0 there) (before_of some.0 region.first lower) in
             let at_j : index_holding key (first_keys (entries_in index store)) ≡ j =
             index_is key (first_keys (entries_in index store)) j some.0 (up index store is) there (not_true key some.0 no_more)
-            (λ next there'. let same : seat.first ≡ next = cc in ap (precedes key) (sym same) ∙ precedes_of key seat.first greatest.0) in
-            (j, omega arith, subst (λ (n : ℕ). IsSeatAt (entries_in index store) n before) at_j (seat_is index store key before is (given.way is.honest)))
+            (λ next there'. let same : region.first ≡ next = cc in ap (precedes key) (sym same) ∙ precedes_of key region.first greatest.0) in
+            (j, omega arith, subst (λ (n : ℕ). IsRegionAt (entries_in index store) n before) at_j (way_ends_at index store key before is (given.way is.honest)))
         | inr past ↦ let far = past.0 in absurd (omega (arith, length-first_keys (entries_in index store)))
       ]

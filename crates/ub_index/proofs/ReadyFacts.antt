@@ -18,12 +18,13 @@ use Rattle.ub_index.specs.Changed.{Becomes, IsTold, Replaces, Stays}
 use Rattle.ub_index.specs.Changing.{AreOnce, IsFine, IsNoNew, IsOutside, IsTurnFault, IsUnspelled, NamesPage, Spelled, Stand, StayBut, named_as, sheet_of, so_far, with_added, Prepares}
 use Rattle.ub_index.specs.Filling.{IsFilled, IsFilledRoot, KeepsFilled}
 use Rattle.ub_index.specs.Index.{entries_of, first_or, page_in, pages_under, AscendTo, EachTo, IsUnder, under, top}
-use Rattle.ub_index.specs.Preparing.{ChangeView, IsChangeFault, IsIndexThen, IsPrepared, IsReachedOnce, MakesIndex, IsSettleFault, IsWithinSeat, PreparesAll, Settles, TurnsRoot, added_at, change_view, entry_at, pages_of_index, HasFullWay}
-use Rattle.ub_index.specs.View.{IndexView, IsIndexOn, IsSeatAt, entries_in, index_view}
+use Rattle.ub_index.specs.Preparing.{ChangeView, IsChangeFault, IsIndexThen, IsPrepared, IsReachedOnce, MakesIndex, IsSettleFault, IsWithinRegion, PreparesAll, Settles, TurnsRoot, added_at, change_view, pages_of_index, HasFullWay}
+use Rattle.ub_index.specs.Searching.{region_of}
+use Rattle.ub_index.specs.View.{IndexView, IsIndexOn, IsRegionAt, entries_in, index_view, entry_at}
 use Rattle.ub_index.specs.Way.{LeadsTo}
 use Rattle.ub_index.specs.declared.fault.IndexFault.{IndexFault}
 use Rattle.ub_index.specs.declared.fault.IndexFault.TheVariants.{Full, Page, Store}
-use Rattle.ub_index.specs.declared.seat.Seat.{Seat}
+use Rattle.ub_region.specs.declared.region.Region.{Region}
 use Rattle.ub_index.specs.declared.sheet.Sheet.{Sheet}
 use Rattle.ub_index.specs.declared.told.Told.{Told}
 use Rattle.ub_index.specs.declared.told.Told.TheVariants.{Same, Gone, One, Two}
@@ -32,12 +33,12 @@ use Rattle.ub_index.proofs.FillFacts.{AreFilled, filled_becomes, filled_over}
 use Rattle.ub_index.proofs.FullFacts.{all_end, full_next, full_way}
 use Rattle.ub_index.proofs.Numbers.{distinct_cons, distinct_first, distinct_rest, no_new_left, once_join, outside_less, within_store}
 use Rattle.ub_index.proofs.OrderFacts.{first_through, under_first}
-use Rattle.ub_index.proofs.PlaceFacts.{index_of_first, seat_first, up}
+use Rattle.ub_index.proofs.PlaceFacts.{index_of_first, first_there, up}
 use Rattle.ub_index.specs.Held.{KeepsChecked}
 use Rattle.ub_index.proofs.SearchFacts.{err_is, pager_with, same_store}
 use Rattle.ub_index.proofs.SpreadFacts.{node_so, told_on}
 use Rattle.ub_index.proofs.TurnFacts.{Risen, rises, unspelled_left}
-use Rattle.ub_index.proofs.WayFacts.{seat_is}
+use Rattle.ub_index.proofs.WayFacts.{way_ends_at}
 
 -- where the root becomes two, each page on the way is full, and one is taken for each
 settled_two : (index : IndexView) (old : StoreFacts) (key : Key) (added : Option Entry) (from to : Spelled) (told : Told) (left right : Entry) → told ≡ Two left right
@@ -420,23 +421,22 @@ module _ (index : IndexView) (small : index.last < 2 ^ 128) (low : 1 ≤ index.l
           (all_right (λ (s : Sheet). slice_get later s.number ≡ Some s.page) r.sheets (sheet_of middle.next (index.levels + 1) (left ∷ right ∷ []) ∷ []) stand_all) in
           subst (λ (c : ChangeView). IsFilledRoot later c.levels (top c.root)) (sym h.2) so
 
--- the way to the first key of a seat ends at its region
-pub seat_found : (index : IndexView) (store : StoreFacts) (i : ℕ) (seat : Seat) → IsIndexOn index store → IsSeatAt (entries_in index store) i seat → (found : Entry) (next : Option Key)
-    → LeadsTo index.last store.pages seat.first index.levels (top index.root) None found next → (found ≡ entry_at seat) × (next ≡ seat.next)
-seat_found index store i seat is at found next leads =
-    let other : Seat = record { first = found.first; page = found.page; next = next } in
-    let there = seat_is index store seat.first (record { first = found.first; page = found.page; next = next }) is leads in
-    let same = index_of_first (first_keys (entries_in index store)) i seat.first (up index store is) (seat_first (entries_in index store) i seat at) in
-    let here = subst (λ (n : ℕ). IsSeatAt (entries_in index store) n (record { first = found.first; page = found.page; next = next })) same there in
-    let entries : Some found ≡ Some (entry_at seat) = sym here.entry ∙ at.entry in
+-- the way to the first key of a region ends at its region
+pub region_found : (index : IndexView) (store : StoreFacts) (i : ℕ) (region : Region) → IsIndexOn index store → IsRegionAt (entries_in index store) i region → (found : Entry) (next : Option Key)
+    → LeadsTo index.last store.pages region.first index.levels (top index.root) None found next → (found ≡ entry_at region) × (next ≡ region.next)
+region_found index store i region is at found next leads =
+    let there = way_ends_at index store region.first (region_of index.last found next) is leads in
+    let same = index_of_first (first_keys (entries_in index store)) i region.first (up index store is) (first_there (entries_in index store) i region at) in
+    let here = subst (λ (n : ℕ). IsRegionAt (entries_in index store) n (region_of index.last found next)) same there in
+    let entries : Some found ≡ Some (entry_at region) = sym here.entry ∙ at.entry in
     (cc, here.next ∙ sym at.next)
 
 -- a region that comes between two others is fine
-pub added_fine : (index : IndexView) (store : StoreFacts) (seat : Seat) (first : Key) → IsEntry index.last (entry_at seat) → 1 ≤ page_count store → page_count store < 4294967296
-    → IsWithinSeat index.last seat.first seat.next first → IsFine index.last (Some (added_at first store)) (entry_at seat) seat.next
-added_fine index store seat first whole some few within = record {
+pub added_fine : (index : IndexView) (store : StoreFacts) (region : Region) (first : Key) → IsEntry index.last (entry_at region) → 1 ≤ page_count store → page_count store < 4294967296
+    → IsWithinRegion index.last region.first region.next first → IsFine index.last (Some (added_at first store)) (entry_at region) region.next
+added_fine index store region first whole some few within = record {
   up = (within.from, (within.to, tt));
-  later = not_before_self seat.first;
+  later = not_before_self region.first;
   entries = (whole, (record { z = within.z; number = within.number; some_page = some; page = omega arith }, tt));
 }
 
@@ -445,29 +445,29 @@ begin_same : (before : List Entry) (f x : Entry) (after : List Entry) (key : Key
 begin_same [] f x after key h = h
 begin_same (b ∷ before) f x after key h = h
 
-added_both : (index : IndexView) (store : StoreFacts) (i : ℕ) (seat : Seat) (first : Key) (change : ChangeView) → index.last < 2 ^ 128 → index.levels ≤ 16 → page_count store < 4294967296
-    → IsIndexOn index store → IsReachedOnce index store → IsSeatAt (entries_in index store) i seat → IsWithinSeat index.last seat.first seat.next first
-    → IsPrepared index store seat.first (Some (added_at first store)) (page_count store) (so_far [] (page_count store + 1)) change
-    → MakesIndex index store (page_count store + 1) change (Replaces (entry_at seat) (entry_at seat ∷ added_at first store ∷ []) (entries_in index store)) × KeepsFilled index store change
-added_both index store i seat first change small high few is own at within (middle, told, turns, settles) =
+added_both : (index : IndexView) (store : StoreFacts) (i : ℕ) (region : Region) (first : Key) (change : ChangeView) → index.last < 2 ^ 128 → index.levels ≤ 16 → page_count store < 4294967296
+    → IsIndexOn index store → IsReachedOnce index store → IsRegionAt (entries_in index store) i region → IsWithinRegion index.last region.first region.next first
+    → IsPrepared index store region.first (Some (added_at first store)) (page_count store) (so_far [] (page_count store + 1)) change
+    → MakesIndex index store (page_count store + 1) change (Replaces (entry_at region) (entry_at region ∷ added_at first store ∷ []) (entries_in index store)) × KeepsFilled index store change
+added_both index store i region first change small high few is own at within (middle, told, turns, settles) =
     let added : Option Entry = Some (added_at first store) in
     let whole = root_entry index.last store.pages index.root index.levels is.some few own is.under_it in
     let some : 1 ≤ page_count store = some_page index.levels is.some is.under_it in
-    let fine_at : (found : Entry) (next : Option Key) → LeadsTo index.last store.pages seat.first index.levels (top index.root) None found next → IsFine index.last (Some (added_at first store)) found next = λ found next leads.
-    let same = seat_found index store i seat is at found next leads in
-    let whole_seat = subst (λ (e : Entry). IsEntry index.last e) same.0 (leads_entry index.last store.pages seat.first index.levels (top index.root) None found next whole leads) in
+    let fine_at : (found : Entry) (next : Option Key) → LeadsTo index.last store.pages region.first index.levels (top index.root) None found next → IsFine index.last (Some (added_at first store)) found next = λ found next leads.
+    let same = region_found index store i region is at found next leads in
+    let whole_region = subst (λ (e : Entry). IsEntry index.last e) same.0 (leads_entry index.last store.pages region.first index.levels (top index.root) None found next whole leads) in
     subst (λ (e : Entry). IsFine index.last (Some (added_at first store)) e next) (sym same.0)
-    (subst (λ (o : Option Key). IsFine index.last (Some (added_at first store)) (entry_at seat) o) (sym same.1) (added_fine index store seat first whole_seat some few within)) in
-    let r = rises index.last small store.pages seat.first (Some (added_at first store)) index.levels (top index.root) None (so_far [] (page_count store + 1)) middle told (omega arith) is.under_it whole
+    (subst (λ (o : Option Key). IsFine index.last (Some (added_at first store)) (entry_at region) o) (sym same.1) (added_fine index store region first whole_region some few within)) in
+    let r = rises index.last small store.pages region.first (Some (added_at first store)) index.levels (top index.root) None (so_far [] (page_count store + 1)) middle told (omega arith) is.under_it whole
     (distinct_rest 0 (pages_of_index index store) own) fine_at turns in
-    let found = seat_found index store i seat is at r.found r.next r.leads in
+    let found = region_found index store i region is at r.found r.next r.leads in
     let begins : (before after : List Entry) → entries_in index store ≡ before ++ (r.found ∷ after) → first_or (before ++ ((r.found ∷ added_at first store ∷ []) ++ after)) None ≡ Some origin = λ before after parts.
     begin_same before r.found (added_at first store) after origin
     (subst (λ (xs : List Entry). first_or xs None ≡ Some origin) parts (under_first index.last store.pages index.levels (top index.root) None is.under_it)) in
-    let made = ready index small is.some high store seat.first (Some (added_at first store)) (so_far [] (page_count store + 1)) middle told (omega arith) refl is own few r (fine_at r.found r.next r.leads) begins
+    let made = ready index small is.some high store region.first (Some (added_at first store)) (so_far [] (page_count store + 1)) middle told (omega arith) refl is own few r (fine_at r.found r.next r.leads) begins
     change settles in
     let two : 1 ≤ length (r.found ∷ added_at first store ∷ []) = omega arith in
-    let filled = fills index small is.some high store seat.first (Some (added_at first store)) (so_far [] (page_count store + 1)) middle told (omega arith) refl is own few r (fine_at r.found r.next r.leads) begins
+    let filled = fills index small is.some high store region.first (Some (added_at first store)) (so_far [] (page_count store + 1)) middle told (omega arith) refl is own few r (fine_at r.found r.next r.leads) begins
     change settles two in
     (subst (λ (e : Entry). MakesIndex index store (page_count store + 1) change (Replaces e (e ∷ added_at first store ∷ []) (entries_in index store))) found.0 made, filled)
   where
@@ -475,14 +475,14 @@ added_both index store i seat first change small high few is own at within (midd
     some_page zero l u = absurd (omega arith)
     some_page (suc level) l u = let near = slice_get_within store.pages index.root (page_in store.pages index.root) u.0.there in omega arith
 
-pub ready_added : (index : IndexView) (store : StoreFacts) (i : ℕ) (seat : Seat) (first : Key) (change : ChangeView) → index.last < 2 ^ 128 → index.levels ≤ 16 → page_count store < 4294967296
-    → IsIndexOn index store → IsReachedOnce index store → IsSeatAt (entries_in index store) i seat → IsWithinSeat index.last seat.first seat.next first
-    → IsPrepared index store seat.first (Some (added_at first store)) (page_count store) (so_far [] (page_count store + 1)) change
-    → MakesIndex index store (page_count store + 1) change (Replaces (entry_at seat) (entry_at seat ∷ added_at first store ∷ []) (entries_in index store))
-ready_added index store i seat first change small high few is own at within made = (added_both index store i seat first change small high few is own at within made).0
+pub ready_added : (index : IndexView) (store : StoreFacts) (i : ℕ) (region : Region) (first : Key) (change : ChangeView) → index.last < 2 ^ 128 → index.levels ≤ 16 → page_count store < 4294967296
+    → IsIndexOn index store → IsReachedOnce index store → IsRegionAt (entries_in index store) i region → IsWithinRegion index.last region.first region.next first
+    → IsPrepared index store region.first (Some (added_at first store)) (page_count store) (so_far [] (page_count store + 1)) change
+    → MakesIndex index store (page_count store + 1) change (Replaces (entry_at region) (entry_at region ∷ added_at first store ∷ []) (entries_in index store))
+ready_added index store i region first change small high few is own at within made = (added_both index store i region first change small high few is own at within made).0
 
 -- and it keeps the index filled
-pub fills_added : (index : IndexView) (store : StoreFacts) (i : ℕ) (seat : Seat) (first : Key) (change : ChangeView) → index.last < 2 ^ 128 → index.levels ≤ 16 → page_count store < 4294967296
-    → IsIndexOn index store → IsReachedOnce index store → IsSeatAt (entries_in index store) i seat → IsWithinSeat index.last seat.first seat.next first
-    → IsPrepared index store seat.first (Some (added_at first store)) (page_count store) (so_far [] (page_count store + 1)) change → KeepsFilled index store change
-fills_added index store i seat first change small high few is own at within made = (added_both index store i seat first change small high few is own at within made).1
+pub fills_added : (index : IndexView) (store : StoreFacts) (i : ℕ) (region : Region) (first : Key) (change : ChangeView) → index.last < 2 ^ 128 → index.levels ≤ 16 → page_count store < 4294967296
+    → IsIndexOn index store → IsReachedOnce index store → IsRegionAt (entries_in index store) i region → IsWithinRegion index.last region.first region.next first
+    → IsPrepared index store region.first (Some (added_at first store)) (page_count store) (so_far [] (page_count store + 1)) change → KeepsFilled index store change
+fills_added index store i region first change small high few is own at within made = (added_both index store i region first change small high few is own at within made).1

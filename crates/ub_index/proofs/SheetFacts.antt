@@ -17,10 +17,10 @@ use Rattle.ub_index.specs.Changing.{AreIndexPages, IsFine, Mends, NamesPage, Spe
 use Rattle.ub_index.specs.Fitting.{FallsTo}
 use Rattle.ub_index.specs.Index.{AscendTo, IsIndexPage, NamesFitting, entries_of, first_or, page_in, top}
 use Rattle.ub_index.specs.Opening.{root_page}
-use Rattle.ub_index.specs.Preparing.{ChangeView, IsPrepared, IsWithinSeat, Settles, added_at, entry_at}
-use Rattle.ub_index.specs.View.{IndexView, Leads}
+use Rattle.ub_index.specs.Preparing.{ChangeView, IsPrepared, IsWithinRegion, Settles, added_at}
+use Rattle.ub_index.specs.View.{IndexView, Leads, entry_at}
 use Rattle.ub_index.specs.Way.{LeadsTo}
-use Rattle.ub_index.specs.declared.seat.Seat.{Seat}
+use Rattle.ub_region.specs.declared.region.Region.{Region}
 use Rattle.ub_index.specs.declared.sheet.Sheet.{Sheet}
 use Rattle.ub_index.specs.declared.told.Told.{Told}
 use Rattle.ub_index.specs.declared.told.Told.TheVariants.{Same, Gone, One, Two}
@@ -232,22 +232,22 @@ module _ (index : IndexView) (store : StoreFacts) (small : index.last < 2 ^ 128)
             tt,
           ))
 
--- where a region comes within that of a seat
-pub added_pages : (index : IndexView) (store : StoreFacts) (seat : Seat) (first : Key) (change : ChangeView) → index.last < 2 ^ 128 → 1 ≤ index.levels → 1 ≤ index.root
-    → page_count store < 4294967296 → Leads index store seat.first seat → IsWithinSeat index.last seat.first seat.next first
-    → IsPrepared index store seat.first (Some (added_at first store)) (page_count store) (so_far [] (page_count store + 1)) change → AreIndexPages index.last change.sheets
-added_pages index store seat first change small low some few leads within made =
-    prepared_pages index store small low some few seat.first (Some (added_at first store)) (page_count store) (page_count store + 1) change (omega arith) fine made
+-- where a region comes within that of a region
+pub added_pages : (index : IndexView) (store : StoreFacts) (region : Region) (first : Key) (change : ChangeView) → index.last < 2 ^ 128 → 1 ≤ index.levels → 1 ≤ index.root
+    → page_count store < 4294967296 → Leads index store region.first region → IsWithinRegion index.last region.first region.next first
+    → IsPrepared index store region.first (Some (added_at first store)) (page_count store) (so_far [] (page_count store + 1)) change → AreIndexPages index.last change.sheets
+added_pages index store region first change small low some few leads within made =
+    prepared_pages index store small low some few region.first (Some (added_at first store)) (page_count store) (page_count store + 1) change (omega arith) fine made
   where
-    fine : (found : Entry) (after : Option Key) → index.root < page_count store → LeadsTo index.last store.pages seat.first index.levels (top index.root) None found after
+    fine : (found : Entry) (after : Option Key) → index.root < page_count store → LeadsTo index.last store.pages region.first index.levels (top index.root) None found after
         → IsFine index.last (Some (added_at first store)) found after
     fine found after there way =
         let root_is : IsEntry index.last (top index.root) = record { z = omega arith; number = omega arith; some_page = some; page = omega arith } in
-        let whole = leads_entry index.last store.pages seat.first index.levels (top index.root) None (entry_at seat) seat.next root_is leads in
-        let same = one_way index.last store.pages seat.first index.levels (top index.root) None found after (entry_at seat) seat.next way leads in
+        let whole = leads_entry index.last store.pages region.first index.levels (top index.root) None (entry_at region) region.next root_is leads in
+        let same = one_way index.last store.pages region.first index.levels (top index.root) None found after (entry_at region) region.next way leads in
         subst (λ (e : Entry). IsFine index.last (Some (added_at first store)) e after) (sym same.0)
-        (subst (λ (o : Option Key). IsFine index.last (Some (added_at first store)) (entry_at seat) o) (sym same.1)
-        (added_fine index store seat first whole (omega arith) few within))
+        (subst (λ (o : Option Key). IsFine index.last (Some (added_at first store)) (entry_at region) o) (sym same.1)
+        (added_fine index store region first whole (omega arith) few within))
 
 -- and where one goes
 pub dropped_pages : (index : IndexView) (store : StoreFacts) (key : Key) (change : ChangeView) → index.last < 2 ^ 128 → 1 ≤ index.levels → 1 ≤ index.root

@@ -1,9 +1,11 @@
 -- The regions of a list of entries, by their places.
-use Rattle.std.proofs.Common.{◌≡◌, ℕ, zero, suc, List, [], ◌∷◌, Option, Some, drop, refl, slice_get}
+use Rattle.std.proofs.Common.{◌≡◌, ℕ, zero, suc, List, [], ◌∷◌, Option, Some, drop, refl, slice_get, ◌∙◌, ap}
 use Rattle.ub_page.specs.declared.entries.Entry.{Entry}
 use Rattle.ub_region.specs.Spans.{span_end}
 use Rattle.ub_table.specs.declared.row.Key.{Key}
+use Rattle.ub_index.specs.Searching.{end_before, region_of}
 use Rattle.ub_index.specs.Spans.{first_keys, regions_of}
+use Rattle.ub_index.specs.View.{entry_at}
 use Rattle.ub_region.specs.declared.region.Region.{Region}
 
 -- the region of an entry, with where the next one begins
@@ -15,3 +17,10 @@ pub region_is : (last : ℕ) (entries : List Entry) (i : ℕ) (entry : Entry) �
 region_is last [] i entry at = cc
 region_is last (e ∷ entries) zero entry at = let same : e ≡ entry = cc in rw same refl
 region_is last (e ∷ entries) (suc i) entry at = region_is last entries i entry at
+
+abbrev spanned : Region → ℕ → ℕ → Region
+spanned region from to = record { first = region.first; next = region.next; from = from; to = to; page = region.page }
+
+-- a region that has its span is that of its entry
+pub with_span : (last : ℕ) (region : Region) → region.from ≡ region.first.z → region.to ≡ end_before last region.next → region ≡ region_of last (entry_at region) region.next
+with_span last region from to = ap (λ (n : ℕ). spanned region n region.to) from ∙ ap (λ (n : ℕ). spanned region region.first.z n) to

@@ -6,7 +6,7 @@ use Rattle.std.proofs.lemmas.Option.{slice_get_within}
 use Rattle.ub_index_page.proofs.Laws.{node_not_refused}
 use Rattle.ub_index_page.specs.Index.{IsIndexFault, node_on}
 use Rattle.std.specs.List.{flat_map}
-use Rattle.ub_index.specs.Spans.{first_keys, IsSeat}
+use Rattle.ub_index.specs.Spans.{first_keys}
 use Rattle.ub_page.specs.declared.entries.Entry.{Entry}
 use Rattle.ub_region.specs.Regions.{index_holding}
 use Rattle.ub_store.specs.Facts.{StoreFacts}
@@ -18,9 +18,9 @@ use Rattle.ub_table.specs.declared.row.Key.{Key}
 use Rattle.ub_index.specs.Descending.{StepsTo}
 use Rattle.ub_index.specs.Fitting.{FallsTo, IsUnfit, IsNotTaken}
 use Rattle.ub_index.specs.Index.{entries_of, page_in, first_or, AscendTo, EachTo, Fits, NamesFitting, IsUnder, under, top}
-use Rattle.ub_index.specs.View.{IndexView, IsIndexOn, IsSeatAt, Leads, entries_in}
+use Rattle.ub_index.specs.View.{IndexView, IsIndexOn, IsRegionAt, Leads, entries_in, entry_at}
 use Rattle.ub_index.specs.Way.{LeadsTo, StopsAt}
-use Rattle.ub_index.specs.declared.seat.Seat.{Seat}
+use Rattle.ub_region.specs.declared.region.Region.{Region}
 use Rattle.ub_index.proofs.Lists.{each_right, first_append}
 use Rattle.ub_index.proofs.OrderFacts.{first_more, under_ascends, under_first}
 
@@ -145,15 +145,15 @@ holding key (b ∷ x ∷ before) found after up from to =
     let later : ¬ (IsBefore key x.first) = λ yes. from (before_trans key x.first found.first yes (before_found x before found after up.1)) in
     rw (not_true key x.first later) (ap (λ (n : ℕ). suc n) (holding key (x ∷ before) found after up.1 from to))
 
-seat_in : (before : List Entry) (found : Entry) (after : List Entry) (next : Option Key) → next ≡ first_or after None
-    → IsSeat (before ++ (found ∷ after)) (record { index = length before; first = found.first; page = found.page; next = next })
-seat_in before found after next is = record { within = within before; entry = entry before; next = is ∙ beyond before }
+region_in : (before : List Entry) (region : Region) (after : List Entry) → region.next ≡ first_or after None
+    → IsRegionAt (before ++ (entry_at region ∷ after)) (length before) region
+region_in before region after is = record { within = within before; entry = entry before; next = is ∙ beyond before }
   where
-    within : (b : List Entry) → length b < length (b ++ (found ∷ after))
+    within : (b : List Entry) → length b < length (b ++ (entry_at region ∷ after))
     within [] = omega arith
     within (x ∷ b) = let more = within b in omega arith
 
-    entry : (b : List Entry) → slice_get (b ++ (found ∷ after)) (length b) ≡ Some found
+    entry : (b : List Entry) → slice_get (b ++ (entry_at region ∷ after)) (length b) ≡ Some (entry_at region)
     entry [] = refl
     entry (x ∷ b) = entry b
 
@@ -161,7 +161,7 @@ seat_in before found after next is = record { within = within before; entry = en
     last_one [] = refl
     last_one (x ∷ xs) = refl
 
-    beyond : (b : List Entry) → first_or after None ≡ slice_get (first_keys (b ++ (found ∷ after))) (suc (length b))
+    beyond : (b : List Entry) → first_or after None ≡ slice_get (first_keys (b ++ (entry_at region ∷ after))) (suc (length b))
     beyond [] = last_one after
     beyond (x ∷ b) = beyond b
 
@@ -170,20 +170,19 @@ pub in_order : (index : IndexView) (store : StoreFacts) → IsIndexOn index stor
 in_order index store is = under_ascends index.last store.pages index.levels (top index.root) None tt is.under_it
 
 -- on an index the way to a key ends at the region that holds it
-pub seat_is : (index : IndexView) (store : StoreFacts) (key : Key) (seat : Seat) → IsIndexOn index store → Leads index store key seat
-    → IsSeatAt (entries_in index store) (index_holding key (first_keys (entries_in index store))) seat
-seat_is index store key seat is leads =
-    let found : Entry = record { first = seat.first; page = seat.page } in
-    let there = place index.last store.pages key index.levels (top index.root) None (record { first = seat.first; page = seat.page }) seat.next (not_before_origin key) tt is.under_it leads in
-    let up : AscendTo (there.before ++ (record { first = seat.first; page = seat.page } ∷ there.after)) None =
+pub way_ends_at : (index : IndexView) (store : StoreFacts) (key : Key) (region : Region) → IsIndexOn index store → Leads index store key region
+    → IsRegionAt (entries_in index store) (index_holding key (first_keys (entries_in index store))) region
+way_ends_at index store key region is leads =
+    let there = place index.last store.pages key index.levels (top index.root) None (entry_at region) region.next (not_before_origin key) tt is.under_it leads in
+    let up : AscendTo (there.before ++ (entry_at region ∷ there.after)) None =
     subst (λ (xs : List Entry). AscendTo xs None) there.parts (in_order index store is) in
     let to : IfSome (first_or there.after None) (IsBefore key) = subst (λ (o : Option Key). IfSome o (IsBefore key)) there.next_is there.to in
     let index_is : index_holding key (first_keys (entries_in index store)) ≡ length there.before =
     ap (λ (xs : List Entry). index_holding key (first_keys xs)) there.parts
-    ∙ holding key there.before (record { first = seat.first; page = seat.page }) there.after up there.from to in
-    subst (λ (n : ℕ). IsSeatAt (entries_in index store) n seat) (sym index_is)
-    (subst (λ (xs : List Entry). IsSeatAt xs (length there.before) seat) (sym there.parts)
-    (seat_in there.before (record { first = seat.first; page = seat.page }) there.after seat.next there.next_is))
+    ∙ holding key there.before (entry_at region) there.after up there.from to in
+    subst (λ (n : ℕ). IsRegionAt (entries_in index store) n region) (sym index_is)
+    (subst (λ (xs : List Entry). IsRegionAt xs (length there.before) region) (sym there.parts)
+    (region_in there.before region there.after there.next_is))
 
 -- and it never stops
 misfit_or_fault : (last : ℕ) (page : List ℕ) (level : ℕ) (entry : Entry) (end : Option Key) (fault : PageFault) → Fits last page level entry end

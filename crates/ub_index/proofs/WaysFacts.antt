@@ -10,7 +10,7 @@ use Rattle.ub_index.specs.Index.{first_or, top, AscendTo}
 use Rattle.ub_index.specs.Searching.{at_least}
 use Rattle.ub_index.specs.View.{IndexView, Leads}
 use Rattle.ub_index.specs.Way.{HoldsKey, LeadsTo}
-use Rattle.ub_index.specs.declared.seat.Seat.{Seat}
+use Rattle.ub_region.specs.declared.region.Region.{Region}
 use Rattle.ub_index.proofs.KeyFacts.{before_le, le_before, le_trans}
 use Rattle.ub_index.proofs.Lists.{ascend_first, ascend_right}
 use Rattle.ub_index.proofs.WayFacts.{falls_to}
@@ -128,13 +128,13 @@ module _ (last : ℕ) (pages : List (List ℕ)) where
           let to_found = ends_from k1 level x1 o1 f1 n1 leads1 in
           before_trans k2 f1.first from (before_le k2 first.0 f1.first k2_before (le_trans first.0 x1.first f1.first to_entry to_found)) before
 
--- the seat to which the way to a later key leads begins not before that which follows another one
-pub never_cross : (index : IndexView) (store : StoreFacts) (key other from : Key) (seat found : Seat) → Leads index store key seat → Leads index store other found
-    → HoldsKey key seat.first seat.next → seat.next ≡ Some from → ¬ (IsBefore other from) → ¬ (IsBefore found.first from)
-never_cross index store key other from seat found first second holds is later =
-    let in_seat : IfSome (Some from) (IsBefore key) = subst (λ (o : Option Key). IfSome o (IsBefore key)) is holds.to in
-    two_ways index.last store.pages key other index.levels (top index.root) None (record { first = seat.first; page = seat.page }) seat.next
-    (record { first = found.first; page = found.page }) found.next first second tt from is (le_before seat.first key from holds.from in_seat) later
+-- the region to which the way to a later key leads begins not before that which follows another one
+pub never_cross : (index : IndexView) (store : StoreFacts) (key other from : Key) (region found : Region) → Leads index store key region → Leads index store other found
+    → HoldsKey key region.first region.next → region.next ≡ Some from → ¬ (IsBefore other from) → ¬ (IsBefore found.first from)
+never_cross index store key other from region found first second holds is later =
+    let inside : IfSome (Some from) (IsBefore key) = subst (λ (o : Option Key). IfSome o (IsBefore key)) is holds.to in
+    two_ways index.last store.pages key other index.levels (top index.root) None (record { first = region.first; page = region.page }) region.next
+    (record { first = found.first; page = found.page }) found.next first second tt from is (le_before region.first key from holds.from inside) later
 
 -- the later of two keys isn't before either of them
 pub not_before_from : (from : Key) (z : ℕ) → ¬ (IsBefore (at_least from z) from)

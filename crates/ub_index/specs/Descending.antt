@@ -12,7 +12,6 @@ use Rattle.ub_index.specs.declared.descent.Found.{Found}
 use Rattle.ub_index.specs.declared.descent.Found.TheVariants.{Nothing, Here, Beyond}
 use Rattle.ub_index.specs.declared.fault.IndexFault.{IndexFault}
 use Rattle.ub_index.specs.declared.fault.IndexFault.TheVariants.{Full, Page, Store}
-use Rattle.ub_index.specs.declared.seat.Seat.{Seat}
 use Rattle.ub_index_page.specs.Index.{node_on}
 use Rattle.ub_page.specs.declared.entries.Entry.{Entry}
 use Rattle.ub_store.specs.Cache.{page_at}
@@ -94,12 +93,12 @@ pub record LooksAt (last : ℕ) (store : StoreFacts) (To : Key → Option ℕ �
   pub named : IsHonest store → NamesFitting last store.pages 1 leaf.place.entry leaf.place.next
   pub there : IsHonest store → page ≡ page_in store.pages leaf.place.entry.page
 
--- the seat that is found where a search goes on from a key, with that key: it is given for the key to which the search goes
+-- the region that is found where a search goes on from a key, with that key: it is given for the key to which the search goes
 -- down; none where there is no address that it is after
-abbrev pub FindsFrom : IndexView → StoreFacts → (Key → Option ℕ → Type 0) → Option Key → Option (Key × Seat) → Type 0
+abbrev pub FindsFrom : IndexView → StoreFacts → (Key → Option ℕ → Type 0) → Option Key → Option (Key × Region) → Type 0
 FindsFrom index store To from None = IsAimless index.last To from
 FindsFrom index store To from (Some found) = (from ≡ Some found.0) × (aim : Key) × IsAim index.last To found.0 aim × Gives index store aim found.1
 
 -- the same after a region, if one is given
-abbrev pub FindsAfter : IndexView → StoreFacts → (Key → Option ℕ → Type 0) → Option Region → Option (Key × Seat) → Type 0
+abbrev pub FindsAfter : IndexView → StoreFacts → (Key → Option ℕ → Type 0) → Option Region → Option (Key × Region) → Type 0
 FindsAfter index store To after found = (from : Option Key) × IsFrom index store after from × FindsFrom index store To from found

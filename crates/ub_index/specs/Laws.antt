@@ -10,11 +10,11 @@ use Rattle.ub_index.specs.Changing.{IsFine, IsOutside, Spelled, Stand, StayBut, 
 use Rattle.ub_index.specs.Filling.{IsFilled, KeepsFilled}
 use Rattle.ub_index.specs.Lowering.{IsRootRefused}
 use Rattle.ub_index.specs.Making.{IsCommitted, IsPutFault, PutsSheets, StayOutside, changed}
-use Rattle.ub_index.specs.Preparing.{ChangeView, IsForeign, IsPrepared, IsReachedOnce, MakesIndex, added_at, entry_at, pages_of_index}
+use Rattle.ub_index.specs.Preparing.{ChangeView, IsForeign, IsPrepared, IsReachedOnce, MakesIndex, added_at, pages_of_index}
 use Rattle.ub_index.specs.Standing.{AddsNoIndexPage, AreOwnPages, AreRegionsThere, OldStayOutside, StandsAsOn, region_pages}
-use Rattle.ub_index.specs.View.{IndexView, IsIndexOn, IsSeatAt, Leads, Stops, entries_in}
+use Rattle.ub_index.specs.View.{IndexView, IsIndexOn, IsRegionAt, Leads, Stops, entries_in, entry_at}
 use Rattle.ub_index.specs.Way.{HoldsKey, IsFullWay, LeadsTo, StopsAt}
-use Rattle.ub_index.specs.declared.seat.Seat.{Seat}
+use Rattle.ub_region.specs.declared.region.Region.{Region}
 use Rattle.ub_index.specs.declared.sheet.Sheet.{Sheet}
 use Rattle.ub_index.specs.declared.told.Told.{Told}
 use Rattle.ub_index.specs.declared.told.Told.TheVariants.{Two}
@@ -110,51 +110,50 @@ RegionsMayChange = (index : IndexView) (old new : StoreFacts) (numbers : List �
     → AllByRecursion (λ n. IsOutside n (pages_of_index index old)) numbers → StandsAsOn index old new
 
 -- over any pages: where those that there were stay, and others may stand after them, a way that
--- led to a seat leads there still; and one that leads to a seat led there before, or stopped where no page was
+-- led to a region leads there still; and one that leads to a region led there before, or stopped where no page was
 abbrev pub WaysStay : Type 0
-WaysStay = (index : IndexView) (old new : StoreFacts) (key : Key) (seat : Seat)
+WaysStay = (index : IndexView) (old new : StoreFacts) (key : Key) (region : Region)
     → OldStayOutside [] old.pages new.pages
-    → (Leads index old key seat → Leads index new key seat)
-    × (Leads index new key seat → Leads index old key seat ⊎ ((n : ℕ) × Stops index old key n None))
+    → (Leads index old key region → Leads index new key region)
+    × (Leads index new key region → Leads index old key region ⊎ ((n : ℕ) × Stops index old key n None))
 
 -- and where none of those that came is a page of an index, the ways are the same
 abbrev pub WaysAreTheSame : Type 0
-WaysAreTheSame = (index : IndexView) (old new : StoreFacts) (key : Key) (seat : Seat) → OldStayOutside [] old.pages new.pages
-    → AddsNoIndexPage index.last old.pages new.pages → Leads index old key seat ↔ Leads index new key seat
+WaysAreTheSame = (index : IndexView) (old new : StoreFacts) (key : Key) (region : Region) → OldStayOutside [] old.pages new.pages
+    → AddsNoIndexPage index.last old.pages new.pages → Leads index old key region ↔ Leads index new key region
 
 -- over any pages: no way from a root that isn't page 0 goes over page 0; it neither leads to it nor
 -- stops there, and where all other pages stay, ways lead where they led, and stop where they stopped
 abbrev pub WaysMissFirst : Type 0
 WaysMissFirst = (index : IndexView) (old new : StoreFacts) (key : Key) → 1 ≤ index.root
-    → ((seat : Seat) → Leads index old key seat → 1 ≤ seat.page)
+    → ((region : Region) → Leads index old key region → 1 ≤ region.page)
     × ((n : ℕ) (fault : Option PageFault) → Stops index old key n fault → 1 ≤ n)
     × (((n : ℕ) → 1 ≤ n → slice_get new.pages n ≡ slice_get old.pages n)
-    → ((seat : Seat) → Leads index old key seat ↔ Leads index new key seat)
+    → ((region : Region) → Leads index old key region ↔ Leads index new key region)
     × ((n : ℕ) (fault : Option PageFault) → Stops index old key n fault ↔ Stops index new key n fault))
 
 -- a page of zeros, as a store adds it, is none of an index
 abbrev pub ZerosAreNoIndexPage : Type 0
 ZerosAreNoIndexPage = (last : ℕ) → ¬ (IsIndexPage last zero_page)
 
--- over any pages: the seat to which the way to a key leads holds that key, and its own first key; and
+-- over any pages: the region to which the way to a key leads holds that key, and its own first key; and
 -- the way to each key that it holds leads to it
 abbrev pub WaysHold : Type 0
-WaysHold = (index : IndexView) (store : StoreFacts) (key : Key) (seat : Seat) → Leads index store key seat
-    → HoldsKey key seat.first seat.next × HoldsKey seat.first seat.first seat.next
-    × ((other : Key) → HoldsKey other seat.first seat.next → Leads index store other seat)
+WaysHold = (index : IndexView) (store : StoreFacts) (key : Key) (region : Region) → Leads index store key region
+    → HoldsKey key region.first region.next × HoldsKey region.first region.first region.next
+    × ((other : Key) → HoldsKey other region.first region.next → Leads index store other region)
 
--- over any pages: the way to a key leads to one seat
+-- over any pages: the way to a key leads to one region
 abbrev pub WaysAreOne : Type 0
-WaysAreOne = (index : IndexView) (store : StoreFacts) (key : Key) (a b : Seat)
-    → Leads index store key a → Leads index store key b → a ≡ b
+WaysAreOne = (index : IndexView) (store : StoreFacts) (key : Key) (a b : Region)
+    → Leads index store key a → Leads index store key b → (entry_at a ≡ entry_at b) × (a.next ≡ b.next)
 
--- on an index the seats to which ways lead are those of its regions: the way to a key leads to that
--- of the region which holds it, and to each there is one
-abbrev pub SeatsAreLedTo : Type 0
-SeatsAreLedTo = (index : IndexView) (store : StoreFacts) → IsIndexOn index store
-    → ((key : Key) (seat : Seat) → Leads index store key seat
-    → IsSeatAt (entries_in index store) (index_holding key (first_keys (entries_in index store))) seat)
-    × ((i : ℕ) (seat : Seat) → IsSeatAt (entries_in index store) i seat → Leads index store seat.first seat)
+-- on an index ways lead to its regions: the way to a key leads to the region which holds it, and to each there is one
+abbrev pub RegionsAreLedTo : Type 0
+RegionsAreLedTo = (index : IndexView) (store : StoreFacts) → IsIndexOn index store
+    → ((key : Key) (region : Region) → Leads index store key region
+    → IsRegionAt (entries_in index store) (index_holding key (first_keys (entries_in index store))) region)
+    × ((i : ℕ) (region : Region) → IsRegionAt (entries_in index store) i region → Leads index store region.first region)
 
 -- where no page serves twice, the first and those of the regions are none of the index
 abbrev pub OwnPagesStandApart : Type 0
@@ -181,23 +180,23 @@ DroppedPagesAreOwn = (index : IndexView) (old filled new : StoreFacts) (change :
     → IsIndexOn index old → AreOwnPages index old → AreRegionsThere index old
     → IsCommitted index old (page_count old) change f [] filled new → AreOwnPages (changed index change) new
 
--- on an index each page of which is reached once, once the entry of a seat that isn't the first has gone: no root is refused to
+-- on an index each page of which is reached once, once the entry of a region that isn't the first has gone: no root is refused to
 -- which its root gives way
 abbrev pub RootsAreTaken : Type 0
-RootsAreTaken = (index : IndexView) (store : StoreFacts) (i : ℕ) (seat : Seat) (change : ChangeView) (n : ℕ) (fault : Option PageFault)
+RootsAreTaken = (index : IndexView) (store : StoreFacts) (i : ℕ) (region : Region) (change : ChangeView) (n : ℕ) (fault : Option PageFault)
     → index.last < 2 ^ 128 → index.levels ≤ 16 → page_count store < 2 ^ 32 → IsIndexOn index store → IsReachedOnce index store
-    → IsSeatAt (entries_in index store) i seat → IsBefore origin seat.first
-    → IsPrepared index store seat.first None (page_count store) (so_far [] (page_count store)) change
+    → IsRegionAt (entries_in index store) i region → IsBefore origin region.first
+    → IsPrepared index store region.first None (page_count store) (so_far [] (page_count store)) change
     → ¬ (IsRootRefused index.last store.pages change n fault)
 
 -- where entries stand in the place of one, there are so many: with two one more, with none one less
 abbrev pub EntriesCount : Type 0
 EntriesCount = (f : Entry) (fs old new : List Entry) → Replaces f fs old new → length new + 1 ≡ length old + length fs
 
--- and where that one was the entry of a seat, they stand at its index
-abbrev pub ReplacesAtSeat : Type 0
-ReplacesAtSeat = (last : ℕ) (entries new : List Entry) (i : ℕ) (seat : Seat) (fs : List Entry) → ArePlaces last entries
-    → IsSeatAt entries i seat → Replaces (entry_at seat) fs entries new → new ≡ take i entries ++ (fs ++ drop (suc i) entries)
+-- and where that one was the entry of a region, they stand at its index
+abbrev pub ReplacesAtRegion : Type 0
+ReplacesAtRegion = (last : ℕ) (entries new : List Entry) (i : ℕ) (region : Region) (fs : List Entry) → ArePlaces last entries
+    → IsRegionAt entries i region → Replaces (entry_at region) fs entries new → new ≡ take i entries ++ (fs ++ drop (suc i) entries)
 
 -- an index of one level is filled, whatever its root names
 abbrev pub NewIndexIsFilled : Type 0

@@ -1,4 +1,3 @@
-pub mod Seats
 pub mod Spans
 pub mod Index
 pub mod Changed

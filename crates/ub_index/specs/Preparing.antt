@@ -9,7 +9,6 @@ use Rattle.ub_index.specs.Searching.{store_after}
 use Rattle.ub_index.specs.View.{IndexView, Stops}
 use Rattle.ub_index.specs.declared.fault.IndexFault.{IndexFault}
 use Rattle.ub_index.specs.declared.fault.IndexFault.TheVariants.{Full, Page, Store}
-use Rattle.ub_index.specs.declared.seat.Seat.{Seat}
 use Rattle.ub_index.specs.declared.sheet.Sheet.{Sheet}
 use Rattle.ub_index.specs.declared.told.Told.{Told}
 use Rattle.ub_index.specs.declared.told.Told.TheVariants.{Same, Gone, One, Two}
@@ -98,17 +97,13 @@ pub record MakesIndex (index : IndexView) (old : StoreFacts) (from : ℕ) (chang
   pub no_other : (later : List (List ℕ)) → Stand later change.sheets → StayBut old.pages later change.sheets (pages_of_index index old)
       → (n : ℕ) → IsForeign index old from change n → IsOutside n (pages_under later change.levels (top change.root))
 
--- the entry of the region of a seat
-abbrev pub entry_at : Seat → Entry
-entry_at seat = record { first = seat.first; page = seat.page }
-
 -- the entry of a region that comes with this first key, on the next page that the store gets
 abbrev pub added_at : Key → StoreFacts → Entry
 added_at first store = record { first = first; page = page_count store }
 
 -- a key between the first key of a region and that of the next one, in range
-pub record IsWithinSeat (last : ℕ) (seat_first : Key) (next : Option Key) (first : Key) : Type 0 where
-  pub from : IsBefore seat_first first
+pub record IsWithinRegion (last : ℕ) (start : Key) (next : Option Key) (first : Key) : Type 0 where
+  pub from : IsBefore start first
   pub to : IfSome next (IsBefore first)
   pub z : first.z ≤ last
   pub number : first.number ≤ MAX_ROW_NUMBER

@@ -10,7 +10,7 @@ use Rattle.ub_index.specs.declared.fault.IndexFault.{IndexFault}
 use Rattle.ub_index.specs.declared.fault.IndexFault.TheVariants.{Full, Page, Store}
 use Rattle.ub_index.specs.declared.goal.Goal.{Goal}
 use Rattle.ub_index.specs.declared.goal.Goal.TheVariants.{Address, Boxes}
-use Rattle.ub_index.specs.declared.seat.Seat.{Seat}
+use Rattle.ub_page.specs.declared.entries.Entry.{Entry}
 use Rattle.ub_region.specs.Spans.{address_before}
 use Rattle.ub_store.specs.Facts.{StoreFacts, IsHonest, page_count, raised}
 use Rattle.ub_store.specs.View.{PagerView}
@@ -20,16 +20,34 @@ use Rattle.ub_table.specs.declared.fault.PageFault.{PageFault}
 use Rattle.ub_table.specs.declared.fault.PageFault.TheVariants.{OutOfRegion}
 use Rattle.ub_table.specs.declared.row.Key.{Key}
 
--- the seat that is given for a key: it holds the key, and over an honest store the way leads to it
-pub record Gives (index : IndexView) (store : StoreFacts) (key : Key) (seat : Seat) : Type 0 where
-  pub holds : HoldsKey key seat.first seat.next
-  pub way : IsHonest store → Leads index store key seat
+-- the greatest address that a key before this one can have, or else the last of all
+abbrev pub end_before : ℕ → Option Key → ℕ
+end_before last None = last
+end_before last (Some next) = address_before next.z next.number
+
+-- the region of an entry, up to where the next one begins, with its span
+abbrev pub region_of : ℕ → Entry → Option Key → Region
+region_of last entry next = record {
+  first = entry.first;
+  next = next;
+  from = entry.first.z;
+  to = end_before last next;
+  page = entry.page;
+}
+
+-- the region that is given for a key: it holds the key, its span is that from its first key to the next one's, and over an
+-- honest store the way leads to it
+pub record Gives (index : IndexView) (store : StoreFacts) (key : Key) (region : Region) : Type 0 where
+  pub holds : HoldsKey key region.first region.next
+  pub from : region.from ≡ region.first.z
+  pub to : region.to ≡ end_before index.last region.next
+  pub way : IsHonest store → Leads index store key region
 
 -- the same for a key that there may be; none for none
-abbrev pub GivesAny : IndexView → StoreFacts → Option Key → Option Seat → Type 0
+abbrev pub GivesAny : IndexView → StoreFacts → Option Key → Option Region → Type 0
 GivesAny index store None given = given ≡ None
 GivesAny index store (Some key) None = ⊥
-GivesAny index store (Some key) (Some seat) = Gives index store key seat
+GivesAny index store (Some key) (Some region) = Gives index store key region
 
 -- the greatest key before this one, if there is any
 abbrev pub key_before : ℕ → ℕ → Option Key
@@ -40,26 +58,11 @@ key_before zero zero = None
 -- where the first region later than another one begins, if there is one; the first of all where none is given
 abbrev pub IsFrom : IndexView → StoreFacts → Option Region → Option Key → Type 0
 IsFrom index store None from = from ≡ Some origin
-IsFrom index store (Some region) from = (seat : Seat) × Gives index store region.first seat × (from ≡ seat.next)
+IsFrom index store (Some region) from = (found : Region) × Gives index store region.first found × (from ≡ found.next)
 
 -- the least key of an address, or this one if it is later
 abbrev pub at_least : Key → ℕ → Key
 at_least from z = if precedes (record { z = z; number = 0 }) from then from else record { z = z; number = 0 }
-
--- the greatest address that a key before this one can have, or else the last of all
-abbrev pub end_before : ℕ → Option Key → ℕ
-end_before last None = last
-end_before last (Some next) = address_before next.z next.number
-
--- the region of a seat
-abbrev pub region_of : ℕ → Seat → Region
-region_of last seat = record {
-  first = seat.first;
-  next = seat.next;
-  from = seat.first.z;
-  to = end_before last seat.next;
-  page = seat.page;
-}
 
 -- the address that a search is after which goes on from a key, if there is one: the one given, or the least one in the boxes
 -- from the key's address on
@@ -83,7 +86,7 @@ abbrev pub GivesFrom : IndexView → StoreFacts → (Key → Option ℕ → Type
 GivesFrom index store To from None = IsAimless index.last To from
 GivesFrom index store To None (Some region) = ⊥
 GivesFrom index store To (Some from) (Some region) =
-    (key : Key) × IsAim index.last To from key × (seat : Seat) × Gives index store key seat × (region ≡ region_of index.last seat)
+    (key : Key) × IsAim index.last To from key × Gives index store key region
 
 -- the first key of a region, if one is given
 abbrev pub IsFirstKeyOf : Option Region → Key → Type 0

@@ -1,7 +1,6 @@
 -- Where the regions of a table stand: entries in the order of their first keys; and the span of each.
 use Rattle.std.specs.Prelude.{◌≡◌, ◌≤◌, ◌<◌, ℕ, suc, List, [], ◌∷◌, map, Option, Some, IfSome, All, IsTrue, length, slice_get}
 use Rattle.ub_bigmin.specs.Box.{Corners, HoldsAny}
-use Rattle.ub_index.specs.Seats.{SeatView}
 use Rattle.ub_region.specs.declared.region.Region.{Region}
 use Rattle.ub_page.specs.declared.entries.Entry.{Entry}
 use Rattle.ub_region.specs.Spans.{span_end}
@@ -16,12 +15,6 @@ first_keys entries = map (λ entry. entry.first) entries
 abbrev pub ArePlaces : ℕ → List Entry → Type 0
 ArePlaces last entries =
     (slice_get (first_keys entries) 0 ≡ Some origin) × All (λ entry. entry.first.z ≤ last) entries × IsTrue (are_ascending (first_keys entries))
-
--- the seat of one of these entries
-pub record IsSeat (entries : List Entry) (seat : SeatView) : Type 0 where
-  pub within : seat.index < length entries
-  pub entry : slice_get entries seat.index ≡ Some (record { first = seat.first; page = seat.page })
-  pub next : seat.next ≡ slice_get (first_keys entries) (suc seat.index)
 
 -- the regions of these entries, each with its span, in a space that ends with this address
 abbrev pub regions_of : ℕ → List Entry → List Region

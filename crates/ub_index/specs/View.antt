@@ -1,9 +1,9 @@
 -- What contracts see of an index.
-use Rattle.std.specs.Prelude.{◌≡◌, ◌≤◌, ◌+◌, ℕ, List, Option, Some, None, length}
-use Rattle.ub_index.specs.Spans.{IsSeat}
+use Rattle.std.specs.Prelude.{◌≡◌, ◌≤◌, ◌<◌, ◌+◌, ℕ, suc, List, Option, Some, None, length, slice_get}
+use Rattle.ub_index.specs.Spans.{first_keys}
 use Rattle.ub_index.specs.Index.{IsUnder, top, under}
 use Rattle.ub_index.specs.Way.{LeadsTo, StopsAt}
-use Rattle.ub_index.specs.declared.seat.Seat.{Seat}
+use Rattle.ub_region.specs.declared.region.Region.{Region}
 use Rattle.ub_page.specs.declared.entries.Entry.{Entry}
 use Rattle.ub_store.specs.Facts.{StoreFacts, IsHonest}
 use Rattle.ub_table.specs.declared.fault.PageFault.{PageFault}
@@ -28,24 +28,30 @@ pub record IsIndexOn (index : IndexView) (store : StoreFacts) : Type 0 where
   pub some : 1 ≤ index.levels
   pub under_it : IsUnder index.last store.pages index.levels (top index.root) None
 
--- the seat of the region of this index among the entries
-abbrev pub IsSeatAt : List Entry → ℕ → Seat → Type 0
-IsSeatAt entries i seat = IsSeat entries (record { index = i; first = seat.first; page = seat.page; next = seat.next })
+-- the entry of a region
+abbrev pub entry_at : Region → Entry
+entry_at region = record { first = region.first; page = region.page }
 
--- the seat of the region after that of this index, or none where it is the last
-abbrev pub IsNextSeat : List Entry → ℕ → Option Seat → Type 0
-IsNextSeat entries i None = length entries ≡ i + 1
-IsNextSeat entries i (Some next) = IsSeatAt entries (i + 1) next
+-- the region is that of the entry of this index, whatever its span is
+pub record IsRegionAt (entries : List Entry) (i : ℕ) (region : Region) : Type 0 where
+  pub within : i < length entries
+  pub entry : slice_get entries i ≡ Some (entry_at region)
+  pub next : region.next ≡ slice_get (first_keys entries) (suc i)
 
--- the seat of the region before that of this index, or none where it is the first
-abbrev pub IsPreviousSeat : List Entry → ℕ → Option Seat → Type 0
-IsPreviousSeat entries i None = i ≡ 0
-IsPreviousSeat entries i (Some before) = (j : ℕ) × (i ≡ j + 1) × IsSeatAt entries j before
+-- the region after that of this index, or none where it is the last
+abbrev pub IsNextRegion : List Entry → ℕ → Option Region → Type 0
+IsNextRegion entries i None = length entries ≡ i + 1
+IsNextRegion entries i (Some next) = IsRegionAt entries (i + 1) next
 
--- from the root the way to the key ends at this seat
-abbrev pub Leads : IndexView → StoreFacts → Key → Seat → Type 0
-Leads index store key seat =
-    LeadsTo index.last store.pages key index.levels (top index.root) None (record { first = seat.first; page = seat.page }) seat.next
+-- the region before that of this index, or none where it is the first
+abbrev pub IsPreviousRegion : List Entry → ℕ → Option Region → Type 0
+IsPreviousRegion entries i None = i ≡ 0
+IsPreviousRegion entries i (Some before) = (j : ℕ) × (i ≡ j + 1) × IsRegionAt entries j before
+
+-- from the root the way to the key ends at this region, whatever its span is
+abbrev pub Leads : IndexView → StoreFacts → Key → Region → Type 0
+Leads index store key region =
+    LeadsTo index.last store.pages key index.levels (top index.root) None (entry_at region) region.next
 
 -- from the root the way to the key stops at the page n
 abbrev pub Stops : IndexView → StoreFacts → Key → ℕ → Option PageFault → Type 0

@@ -10,11 +10,11 @@ ghost use Rattle.ub_store.specs.View.{SameTrace};
 ghost use Rattle.ub_index.specs.Filling.{KeepsFilled};
 ghost use Rattle.ub_index.specs.Index.{top};
 ghost use Rattle.ub_index.specs.Lowering.{IsDropped, MakesLow, PreparesDrop};
-ghost use Rattle.ub_index.specs.Preparing.{IsPrepared, IsReachedOnce, MakesIndex, IsWithinSeat, PreparesAll, TakesFew, TakesNeeded, added_at, entry_at};
+ghost use Rattle.ub_index.specs.Preparing.{IsPrepared, IsReachedOnce, MakesIndex, IsWithinRegion, PreparesAll, TakesFew, TakesNeeded, added_at};
 ghost use Rattle.ub_index.specs.Descending.{FindsAfter, HoldsLeaf, IsForgotten, LeadsDown};
 ghost use Rattle.ub_index.specs.Held.{AreChecked, KeepsChecked};
 ghost use Rattle.ub_index.specs.Searching.{Aims, Gives, GivesAny, GivesAfter, IsSought, GoesDown, end_before, key_before, region_of};
-ghost use Rattle.ub_index.specs.View.{IsIndexOn, IsSeatAt, Leads, IsNextSeat, IsPreviousSeat, entries_in, index_view};
+ghost use Rattle.ub_index.specs.View.{IsIndexOn, IsRegionAt, Leads, IsNextRegion, IsPreviousRegion, entries_in, index_view, entry_at};
 ghost use Rattle.ub_index_page.specs.declared.index.TheConstants.{MAX_LEVEL};
 ghost use Rattle.ub_region.specs.Regions.{index_holding};
 ghost use Rattle.ub_store.specs.Facts.{IsHonest, page_count};
@@ -25,7 +25,6 @@ use crate::descent::{Found, Leaf, Place, aim, earlier, look, root_place, step_do
 use crate::fault::IndexFault;
 use crate::goal::Goal;
 use crate::making::put_all;
-use crate::seat::Seat;
 use crate::sheets::Sheets;
 use crate::turning::{Aim, turn};
 use std::alloc::Global;
@@ -79,7 +78,7 @@ impl Index {
         (self.root, self.levels)
     }
 
-    /// The seat of the region that holds a key: the last one that does not begin after it.
+    /// The region that holds a key: the last one that does not begin after it.
     ///
     /// Page comes where a page on the way down is refused: by its reader; as BadCount where it isn't of the level due; as
     /// OutOfRegion where it doesn't begin with the key by which the page above names it, or doesn't end before that of the next
@@ -87,69 +86,75 @@ impl Index {
     /// where it was checked before. Store with NoPage comes where a page is named that the store doesn't have, with Device where
     /// the store failed in this call, with Memory where memory was refused. The first refusal on the way is told. Index and
     /// store are then as they were, and the pager has forgotten the page that is refused.
-    pub fn seat_of<S: PageStore>(&self, pager: &mut Pager<S>, key: &Key) -> Result<Seat, IndexFault>
+    pub fn region_holding<S: PageStore>(
+        &self,
+        pager: &mut Pager<S>,
+        key: &Key,
+    ) -> Result<Region, IndexFault>
         ensures given { AreChecked self.now.last pager.old
             → IfOk result (Gives self.now pager.old.store key.now) }
-        ensures seat { AreChecked self.now.last pager.old
+        ensures region { AreChecked self.now.last pager.old
             → IsIndexOn self.now pager.old.store → IfOk result
-            (IsSeatAt (entries_in self.now pager.old.store)
+            (IsRegionAt (entries_in self.now pager.old.store)
             (index_holding key.now (first_keys (entries_in self.now pager.old.store)))) }
+        ensures small { IfOk result (λ region. region.first.number < 2 ^ 32) }
         ensures forgotten { IfErr result (IsForgotten pager.new) }
         ensures effect { GoesDown (λ k. k ≡ key.now) self.now pager.old pager.new result }
     {
         descend(pager, self.root, self.levels, self.last, key)
     }
 
-    /// The seat of the region after that of a seat, if there is one. Refused as `seat_of` is, on the way to that region's first
+    /// The region after another one, if there is one. Refused as `region_holding` is, on the way to that region's first
     /// key.
     pub fn after<S: PageStore>(
         &self,
         pager: &mut Pager<S>,
-        seat: &Seat,
-    ) -> Result<Option<Seat>, IndexFault>
+        region: &Region,
+    ) -> Result<Option<Region>, IndexFault>
         ensures given { AreChecked self.now.last pager.old
-            → IfOk result (GivesAny self.now pager.old.store seat.now.next) }
+            → IfOk result (GivesAny self.now pager.old.store region.now.next) }
         ensures after { AreChecked self.now.last pager.old → (i : ℕ)
             → IsIndexOn self.now pager.old.store
-            → IsSeatAt (entries_in self.now pager.old.store) i seat.now
-            → IfOk result (IsNextSeat (entries_in self.now pager.old.store) i) }
+            → IsRegionAt (entries_in self.now pager.old.store) i region.now
+            → IfOk result (IsNextRegion (entries_in self.now pager.old.store) i) }
         ensures forgotten { IfErr result (IsForgotten pager.new) }
-        ensures effect { GoesDown (λ k. seat.now.next ≡ Some k) self.now pager.old pager.new
+        ensures effect { GoesDown (λ k. region.now.next ≡ Some k) self.now pager.old pager.new
             result }
     {
-        match &seat.next {
-            Some(next) => Ok(Some(self.seat_of(pager, next)?)),
+        match &region.next {
+            Some(next) => Ok(Some(self.region_holding(pager, next)?)),
             None => Ok(None),
         }
     }
 
-    /// The seat of the region before that of a seat, if there is one. Refused as `seat_of` is, on the way to the greatest key
-    /// before the seat's first one.
+    /// The region before another one, if there is one. Refused as `region_holding` is, on the way to the greatest key
+    /// before that one's first.
     pub fn before<S: PageStore>(
         &self,
         pager: &mut Pager<S>,
-        seat: &Seat,
-    ) -> Result<Option<Seat>, IndexFault>
+        region: &Region,
+    ) -> Result<Option<Region>, IndexFault>
         ensures given { AreChecked self.now.last pager.old
             → IfOk result (GivesAny self.now pager.old.store
-            (key_before seat.now.first.z seat.now.first.number)) }
+            (key_before region.now.first.z region.now.first.number)) }
         ensures before { AreChecked self.now.last pager.old → (i : ℕ)
             → IsIndexOn self.now pager.old.store
-            → IsSeatAt (entries_in self.now pager.old.store) i seat.now
-            → IfOk result (IsPreviousSeat (entries_in self.now pager.old.store) i) }
+            → IsRegionAt (entries_in self.now pager.old.store) i region.now
+            → IfOk result (IsPreviousRegion (entries_in self.now pager.old.store) i) }
         ensures forgotten { IfErr result (IsForgotten pager.new) }
-        ensures effect { GoesDown (λ k. key_before seat.now.first.z seat.now.first.number ≡ Some k)
+        ensures effect { GoesDown
+            (λ k. key_before region.now.first.z region.now.first.number ≡ Some k)
             self.now pager.old pager.new result }
     {
-        match before_key(&seat.first) {
-            Some(key) => Ok(Some(self.seat_of(pager, &key)?)),
+        match before_key(&region.first) {
+            Some(key) => Ok(Some(self.region_holding(pager, &key)?)),
             None => Ok(None),
         }
     }
 
     /// The first region later than `after`, if one is given, whose span ends at z or later. `None` exactly where there is none.
     ///
-    /// Refused as `seat_of` is, on the way to the first key of `after`, or then on the way to the place from which the search
+    /// Refused as `region_holding` is, on the way to the first key of `after`, or then on the way to the place from which the search
     /// goes on. Page comes with the root and OutOfRegion where what is found would not begin later than `after`: only a store
     /// that isn't honest, or a pager whose pages weren't checked, gives one page in two ways.
     pub fn seek<S: PageStore>(
@@ -199,10 +204,10 @@ impl Index {
         self.later_region(pager, &Goal::Boxes(boxes), after)
     }
 
-    /// Prepares that a region comes behind that of a seat, with this first key, on a page that the store gets first. Nothing is
+    /// Prepares that a region comes behind another one, with this first key, on a page that the store gets first. Nothing is
     /// written.
     ///
-    /// Refused as `seat_of` is, each page on the way looked at in full, on the way to the seat's first key. With BadSize of the
+    /// Refused as `region_holding` is, each page on the way looked at in full, on the way to that one's first key. With BadSize of the
     /// store exactly where it would have more than 4294967295 pages: the region takes one, each page of 170 entries on that way
     /// one, from the lowest up to the first that has fewer, and a new root one, where all are full. With Full exactly where that
     /// is room enough, and all 16 levels are full on that way. Where there is no page for the region, that is told before any is
@@ -211,34 +216,34 @@ impl Index {
         &self,
         alloc: Global,
         pager: &mut Pager<S>,
-        seat: &Seat,
+        region: &Region,
         first: &Key,
     ) -> Result<Change, IndexFault>
         ensures made { IsHonest pager.old.store → IfOk result (IsPrepared self.now pager.old.store
-            seat.now.first (Some (added_at first.now pager.old.store)) (page_count pager.old.store)
-            (so_far [] (page_count pager.old.store + 1))) }
+            region.now.first (Some (added_at first.now pager.old.store))
+            (page_count pager.old.store) (so_far [] (page_count pager.old.store + 1))) }
         ensures few { IfOk result (TakesFew (page_count pager.old.store)
             (page_count pager.old.store + 1) (self.now.levels + 1)) }
         ensures takes { IsHonest pager.old.store → IfOk result
-            (TakesNeeded self.now pager.old.store seat.now.first) }
+            (TakesNeeded self.now pager.old.store region.now.first) }
         ensures pages { IsHonest pager.old.store
-            → Leads self.now pager.old.store seat.now.first seat.now
-            → IsWithinSeat self.now.last seat.now.first seat.now.next first.now
+            → Leads self.now pager.old.store region.now.first region.now
+            → IsWithinRegion self.now.last region.now.first region.now.next first.now
             → IfOk result (λ c. AreIndexPages self.now.last c.sheets) }
         ensures ready { (i : ℕ) → IsIndexOn self.now pager.old.store
             → IsReachedOnce self.now pager.old.store
-            → IsSeatAt (entries_in self.now pager.old.store) i seat.now
-            → IsWithinSeat self.now.last seat.now.first seat.now.next first.now
+            → IsRegionAt (entries_in self.now pager.old.store) i region.now
+            → IsWithinRegion self.now.last region.now.first region.now.next first.now
             → IfOk result (λ c. MakesIndex self.now pager.old.store
-            (page_count pager.old.store + 1) c (Replaces (entry_at seat.now)
-            (entry_at seat.now ∷ added_at first.now pager.old.store ∷ [])
+            (page_count pager.old.store + 1) c (Replaces (entry_at region.now)
+            (entry_at region.now ∷ added_at first.now pager.old.store ∷ [])
             (entries_in self.now pager.old.store))) }
         ensures fills { (i : ℕ) → IsIndexOn self.now pager.old.store
             → IsReachedOnce self.now pager.old.store
-            → IsSeatAt (entries_in self.now pager.old.store) i seat.now
-            → IsWithinSeat self.now.last seat.now.first seat.now.next first.now
+            → IsRegionAt (entries_in self.now pager.old.store) i region.now
+            → IsWithinRegion self.now.last region.now.first region.now.next first.now
             → IfOk result (KeepsFilled self.now pager.old.store) }
-        ensures effect { PreparesAll self.now seat.now.first
+        ensures effect { PreparesAll self.now region.now.first
             (Some (added_at first.now pager.old.store)) (so_far [] (page_count pager.old.store + 1))
             pager.old pager.new result }
     {
@@ -246,7 +251,7 @@ impl Index {
         let mut sheets = Sheets::new(alloc, start);
         let page = sheets.take_number()?;
         let aim = Aim {
-            key: seat.first,
+            key: region.first,
             added: Some(Entry {
                 first: *first,
                 page,
@@ -255,37 +260,37 @@ impl Index {
         self.prepare(alloc, pager, &aim, start, sheets)
     }
 
-    /// Prepares that the region of a seat goes, which isn't the first. Nothing is written, and no page is added.
+    /// Prepares that a region goes, which isn't the first. Nothing is written, and no page is added.
     ///
-    /// Refused as `seat_of` is, each page on the way looked at in full, on the way to the seat's first key, and where a page that
+    /// Refused as `region_holding` is, each page on the way looked at in full, on the way to its first key, and where a page that
     /// would be the root can't be taken; with BadCount of the root where no region would be left. Index and store are then as
     /// they were.
     pub fn prepare_drop<S: PageStore>(
         &self,
         alloc: Global,
         pager: &mut Pager<S>,
-        seat: &Seat,
+        region: &Region,
     ) -> Result<Change, IndexFault>
         ensures made { IsHonest pager.old.store → IfOk result
-            (IsDropped self.now pager.old.store seat.now.first) }
+            (IsDropped self.now pager.old.store region.now.first) }
         ensures pages { IsHonest pager.old.store
             → IfOk result (λ c. AreIndexPages self.now.last c.sheets) }
         ensures ready { (i : ℕ) → IsIndexOn self.now pager.old.store
             → IsReachedOnce self.now pager.old.store
-            → IsSeatAt (entries_in self.now pager.old.store) i seat.now
-            → IsBefore origin seat.now.first
+            → IsRegionAt (entries_in self.now pager.old.store) i region.now
+            → IsBefore origin region.now.first
             → IfOk result (λ c. MakesIndex self.now pager.old.store (page_count pager.old.store) c
-            (Replaces (entry_at seat.now) [] (entries_in self.now pager.old.store))) }
+            (Replaces (entry_at region.now) [] (entries_in self.now pager.old.store))) }
         ensures low { (i : ℕ) → IsIndexOn self.now pager.old.store
             → IsReachedOnce self.now pager.old.store
-            → IsSeatAt (entries_in self.now pager.old.store) i seat.now
-            → IsBefore origin seat.now.first
+            → IsRegionAt (entries_in self.now pager.old.store) i region.now
+            → IsBefore origin region.now.first
             → IfOk result (λ c. (c.next ≡ c.start) × MakesLow self.now pager.old.store c) }
-        ensures effect { PreparesDrop self.now seat.now.first pager.old pager.new result }
+        ensures effect { PreparesDrop self.now region.now.first pager.old pager.new result }
     {
         let start = pager.pages();
         let aim = Aim {
-            key: seat.first,
+            key: region.first,
             added: None,
         };
         let change = self.prepare(alloc, pager, &aim, start, Sheets::new(alloc, start))?;
@@ -355,7 +360,7 @@ impl Index {
         Change::settled(self.root, self.levels, told, start, sheets)
     }
 
-    // The region of the seat that is found after another region, if one is given. It is refused where it would not begin later.
+    // The region that is found after another one, if one is given. It is refused where it would not begin later.
     fn later_region<S: PageStore>(
         &self,
         pager: &mut Pager<S>,
@@ -371,70 +376,70 @@ impl Index {
         ensures effect { GoesDown (IsSought self.now pager.old.store (Aims goal.now)
             (option_copied after.entry)) self.now pager.old pager.new result }
     {
-        match self.seat_after(pager, goal, after)? {
-            Some((from, seat)) if seat.first.is_before(&from) => Err(IndexFault::Page {
+        match self.region_after(pager, goal, after)? {
+            Some((from, region)) if region.first.is_before(&from) => Err(IndexFault::Page {
                 page: self.root,
                 fault: PageFault::OutOfRegion,
             }),
-            Some((_, seat)) => Ok(Some(region_at(
-                self.last,
-                seat.first.z,
-                seat.first.number,
-                seat.page,
-                &seat.next,
-            ))),
+            Some((_, region)) => Ok(Some(region)),
             None => Ok(None),
         }
     }
 
-    // The seat that a search with this goal finds after a region, if one is given, and where the search goes on from: where the
-    // next region begins, or the first of all.
-    fn seat_after<S: PageStore>(
+    // The region that a search with this goal finds after another one, if one is given, and where the search goes on from: where
+    // the next region begins, or the first of all.
+    fn region_after<S: PageStore>(
         &self,
         pager: &mut Pager<S>,
         goal: &Goal,
         after: Option<&Region>,
-    ) -> Result<Option<(Key, Seat)>, IndexFault>
+    ) -> Result<Option<(Key, Region)>, IndexFault>
         ensures found { AreChecked self.now.last pager.old → IfOk result
             (FindsAfter self.now pager.old.store (Aims goal.now) (option_copied after.entry)) }
+        ensures small { IfOk result
+            (λ found. IfSome found (λ found. found.1.first.number < 2 ^ 32)) }
         ensures forgotten { IfErr result (IsForgotten pager.new) }
         ensures effect { GoesDown (IsSought self.now pager.old.store (Aims goal.now)
             (option_copied after.entry)) self.now pager.old pager.new result }
     {
         match after {
-            Some(region) => self.seat_behind(pager, goal, region),
-            None => self.first_seat(pager, goal),
+            Some(region) => self.region_behind(pager, goal, region),
+            None => self.first_region(pager, goal),
         }
     }
 
-    // The seat that a search with this goal finds from the first key of all on, with that key.
-    fn first_seat<S: PageStore>(
+    // The region that a search with this goal finds from the first key of all on, with that key.
+    fn first_region<S: PageStore>(
         &self,
         pager: &mut Pager<S>,
         goal: &Goal,
-    ) -> Result<Option<(Key, Seat)>, IndexFault>
+    ) -> Result<Option<(Key, Region)>, IndexFault>
         ensures found { AreChecked self.now.last pager.old → IfOk result
             (FindsAfter self.now pager.old.store (Aims goal.now) None) }
+        ensures small { IfOk result
+            (λ found. IfSome found (λ found. found.1.first.number < 2 ^ 32)) }
         ensures forgotten { IfErr result (IsForgotten pager.new) }
         ensures effect { GoesDown (IsSought self.now pager.old.store (Aims goal.now) None) self.now
             pager.old pager.new result }
     {
         match aim(goal, self.last, &ORIGIN) {
-            Some(aim) => Ok(Some((ORIGIN, self.seat_of(pager, &aim)?))),
+            Some(aim) => Ok(Some((ORIGIN, self.region_holding(pager, &aim)?))),
             None => Ok(None),
         }
     }
 
-    // The seat that a search with this goal finds behind a region, and where the next region begins. It is looked for on the
-    // region's own leaf first; only where it can't be there the search goes down anew.
-    fn seat_behind<S: PageStore>(
+    // The region that a search with this goal finds behind another one, and where the next region begins. It is looked for on the
+    // own leaf of that one first; only where it can't be there the search goes down anew.
+    fn region_behind<S: PageStore>(
         &self,
         pager: &mut Pager<S>,
         goal: &Goal,
         region: &Region,
-    ) -> Result<Option<(Key, Seat)>, IndexFault>
+    ) -> Result<Option<(Key, Region)>, IndexFault>
         ensures found { AreChecked self.now.last pager.old → IfOk result
             (FindsAfter self.now pager.old.store (Aims goal.now) (Some region.now)) }
+        ensures small { IfOk result
+            (λ found. IfSome found (λ found. found.1.first.number < 2 ^ 32)) }
         ensures forgotten { IfErr result (IsForgotten pager.new) }
         ensures effect { GoesDown (IsSought self.now pager.old.store (Aims goal.now)
             (Some region.now)) self.now pager.old pager.new result }
@@ -442,30 +447,31 @@ impl Index {
         let leaf = leaf_of(pager, self.root, self.levels, self.last, &region.first)?;
         match look(pager, self.last, &leaf, &region.first, goal)? {
             Found::Nothing => Ok(None),
-            Found::Here(from, place) => Ok(Some((from, seat_at(&place)))),
-            Found::Beyond(from, aim) => Ok(Some((from, self.seat_of(pager, &aim)?))),
+            Found::Here(from, place) => Ok(Some((from, region_at(self.last, &place)))),
+            Found::Beyond(from, aim) => Ok(Some((from, self.region_holding(pager, &aim)?))),
         }
     }
 }
 
-// The seat to which the way down from a root of this level leads.
+// The region to which the way down from a root of this level leads.
 fn descend<S: PageStore>(
     pager: &mut Pager<S>,
     root: u32,
     levels: u32,
     last: u128,
     key: &Key,
-) -> Result<Seat, IndexFault>
+) -> Result<Region, IndexFault>
     requires { 1 ≤ levels }
     ensures given { AreChecked last pager.old
         → IfOk result (Gives (index_view root levels last) pager.old.store key.now) }
+    ensures small { IfOk result (λ region. region.first.number < 2 ^ 32) }
     ensures forgotten { IfErr result (IsForgotten pager.new) }
     ensures effect { GoesDown (λ k. k ≡ key.now) (index_view root levels last) pager.old pager.new
         result }
 {
     let leaf = leaf_of(pager, root, levels, last, key)?;
     let place = step_down(pager, last, 1, &leaf.place, key)?;
-    Ok(seat_at(&place))
+    Ok(region_at(last, &place))
 }
 
 // The leaf to which the way down from a root of this level leads.
@@ -498,21 +504,6 @@ fn leaf_of<S: PageStore>(
     Ok(leaf)
 }
 
-// The seat of a region's place.
-fn seat_at(place: &Place) -> Seat
-    ensures { result ≡ record {
-      first = place.now.entry.first;
-      page = place.now.entry.page;
-      next = place.now.next;
-    } }
-{
-    Seat {
-        first: place.entry.first,
-        page: place.entry.page,
-        next: place.next,
-    }
-}
-
 // The greatest key before this one, if there is any.
 fn before_key(key: &Key) -> Option<Key>
     ensures { result ≡ key_before key.now.z key.now.number }
@@ -532,21 +523,18 @@ fn before_key(key: &Key) -> Option<Key>
     }
 }
 
-// The region of a seat with this first key, this page and this next key, in a space with this last address.
-fn region_at(last: u128, z: u128, number: u32, page: u32, next: &Option<Key>) -> Region
-    ensures region { result ≡ region_of last (record {
-      first = record { z = z; number = number };
-      page = page;
-      next = next.now;
-    }) }
+// The region of a place, in a space with this last address.
+fn region_at(last: u128, place: &Place) -> Region
+    ensures region { result ≡ region_of last place.now.entry place.now.next }
     ensures small { result.first.number < 2 ^ 32 }
 {
+    let first = place.entry.first;
     Region {
-        first: Key { z, number },
-        next: *next,
-        from: z,
-        to: end_at(last, next),
-        page,
+        first,
+        next: place.next,
+        from: first.z,
+        to: end_at(last, &place.next),
+        page: place.entry.page,
     }
 }
 

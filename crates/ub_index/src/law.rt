@@ -1,4 +1,4 @@
-ghost use Rattle.ub_index.specs.Laws.{AddedPagesAreOwn, ChangeFills, ChangeHasPages, ChangeIsMade, ChangeKeepsOrder, ChangeReplaces, DroppedPagesAreOwn, EntriesArePlaces, EntriesCount, FilledIndexIsLow, FullWaysPart, NewIndexIsFilled, OthersStay, OwnPagesStandApart, PagesAreThere, RegionsAreForeign, RegionsKeepFilled, RegionsMayChange, ReplacesAtSeat, RootsAreTaken, SeatsAreLedTo, TurnsBecome, WaysAreOne, WaysAreTheSame, WaysHold, WaysMissFirst, WaysNeverStop, WaysStay, WholeAscends, ZerosAreNoIndexPage};
+ghost use Rattle.ub_index.specs.Laws.{AddedPagesAreOwn, ChangeFills, ChangeHasPages, ChangeIsMade, ChangeKeepsOrder, ChangeReplaces, DroppedPagesAreOwn, EntriesArePlaces, EntriesCount, FilledIndexIsLow, FullWaysPart, NewIndexIsFilled, OthersStay, OwnPagesStandApart, PagesAreThere, RegionsAreForeign, RegionsKeepFilled, RegionsMayChange, ReplacesAtRegion, RootsAreTaken, RegionsAreLedTo, TurnsBecome, WaysAreOne, WaysAreTheSame, WaysHold, WaysMissFirst, WaysNeverStop, WaysStay, WholeAscends, ZerosAreNoIndexPage};
 
 /// What an entry leads to is in order.
 pub fn whole_ascends()
@@ -110,14 +110,14 @@ pub fn entries_count()
     ensures { EntriesCount }
 {}
 
-/// A change stands at the index of the seat.
-pub fn replaces_at_seat()
-    ensures { ReplacesAtSeat }
+/// A change stands at the index of the region.
+pub fn replaces_at_region()
+    ensures { ReplacesAtRegion }
 {}
 
-/// On an index ways lead to the seats of its regions, and to each of them.
-pub fn seats_are_led_to()
-    ensures { SeatsAreLedTo }
+/// On an index ways lead to its regions, and to each of them.
+pub fn regions_are_led_to()
+    ensures { RegionsAreLedTo }
 {}
 
 /// The regions' pages are none of the index.

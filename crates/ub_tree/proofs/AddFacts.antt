@@ -8,10 +8,10 @@ use Rattle.ub_index.specs.Changed.{Replaces}
 use Rattle.ub_index.specs.Changing.{IsOutside, Stand}
 use Rattle.ub_index.specs.Filling.{IsFilled, KeepsFilled}
 use Rattle.ub_index.specs.Making.{IsCommitted, PutsSheets, StayOutside, changed}
-use Rattle.ub_index.specs.Preparing.{ChangeView, IsForeign, MakesIndex, added_at, entry_at}
+use Rattle.ub_index.specs.Preparing.{ChangeView, IsForeign, MakesIndex, added_at}
 use Rattle.ub_index.specs.Standing.{AreOwnPages, region_pages}
-use Rattle.ub_index.specs.View.{IndexView, entries_in}
-use Rattle.ub_index.specs.declared.seat.Seat.{Seat}
+use Rattle.ub_index.specs.View.{IndexView, entries_in, entry_at}
+use Rattle.ub_region.specs.declared.region.Region.{Region as Span}
 use Rattle.ub_page.proofs.PageLaws.{region_parts}
 use Rattle.ub_page.specs.Region.{region_page}
 use Rattle.ub_page.specs.declared.entries.Entry.{Entry}
@@ -20,14 +20,14 @@ use Rattle.ub_table.specs.Region.{IsRegion}
 use Rattle.ub_table.specs.declared.row.Key.{Key}
 use Rattle.ub_table.specs.declared.row.Row.{Row}
 use Rattle.ub_table.specs.declared.schema.Schema.{Schema}
-use Rattle.ub_tree.proofs.SplitFacts.{after_regions, before_regions, committed, is, new_are, new_indexed, new_placed, own, seat_foreign, there as there_regions}
+use Rattle.ub_tree.proofs.SplitFacts.{after_regions, before_regions, committed, is, new_are, new_indexed, new_placed, own, page_foreign, there as there_regions}
 use Rattle.ub_tree.proofs.StoredFacts.{IsTold}
 use Rattle.ub_tree.proofs.TreeFacts.{length-placed}
 use Rattle.ub_tree.specs.Indexed.{HasIndex, entries_on, reserved}
 use Rattle.ub_tree.specs.Placed.{Placed, ArePlaced, placed_of, entry_of}
 use Rattle.ub_tree.specs.Tree.{known_pages, placed_in}
 use Rattle.ub_tree.specs.View.{TreeView}
-use Rattle.ub_tree.specs.inner.Change.{IsSeatIn, IsStored, KeepsGrown, placed_with}
+use Rattle.ub_tree.specs.inner.Change.{IsRegionIn, IsStored, KeepsGrown, placed_with}
 use Rattle.ub_writing.specs.Puts.{PutsTwo}
 
 known_is : (store : StoreFacts) → IsHonest store → known_pages store ≡ store.pages
@@ -37,13 +37,13 @@ view_placed : (schema : Schema) (index : IndexView) (store : StoreFacts) → IsH
 view_placed schema index store honest = ap (λ (known : List (List ℕ)). placed_of schema known (entries_on index known)) (known_is store honest)
 
 -- a region of a stored tree is parted: its first half stands on its page, the other one on the page that the store got first
-module _ (t : TreeView) (seen : t.placed ≡ placed_in t.schema t.inner.index t.store) (stored : IsStored t) (i : ℕ) (seat : Seat) (at : IsSeatIn t i seat) (here : seat.page < page_count t.store)
+module _ (t : TreeView) (seen : t.placed ≡ placed_in t.schema t.inner.index t.store) (stored : IsStored t) (i : ℕ) (span : Span) (at : IsRegionIn t i span) (here : span.page < page_count t.store)
     (first : Key) (left right : List Row) (page other : List ℕ) (change : ChangeView) (number : ℕ) (grown filled new : StoreFacts)
-    (makes : MakesIndex t.inner.index t.store (page_count t.store + 1) change (Replaces (entry_at seat) (entry_at seat ∷ added_at first t.store ∷ []) (entries_in t.inner.index t.store)))
+    (makes : MakesIndex t.inner.index t.store (page_count t.store + 1) change (Replaces (entry_at span) (entry_at span ∷ added_at first t.store ∷ []) (entries_in t.inner.index t.store)))
     (grows : Grows t.store grown) (honest_grown : IsHonest grown) (honest_filled : IsHonest filled) (honest_new : IsHonest new)
-    (number_is : number ≡ page_count t.store) (put : PutsTwo number other seat.page page grown filled)
+    (number_is : number ≡ page_count t.store) (put : PutsTwo number other span.page page grown filled)
     (puts : PutsSheets change.sheets filled new) (stand : Stand new.pages change.sheets)
-    (good_left : IsRegion t.schema (record { first = seat.first; rows = left })) (page_is : page ≡ region_page t.schema (record { first = seat.first; rows = left }))
+    (good_left : IsRegion t.schema (record { first = span.first; rows = left })) (page_is : page ≡ region_page t.schema (record { first = span.first; rows = left }))
     (good_right : IsRegion t.schema (record { first = first; rows = right })) (other_is : other ≡ region_page t.schema (record { first = first; rows = right })) where
   abbrev schema : Schema
   schema = t.schema
@@ -55,13 +55,13 @@ module _ (t : TreeView) (seen : t.placed ≡ placed_in t.schema t.inner.index t.
   a = t.store
 
   abbrev numbers : List ℕ
-  numbers = 0 ∷ page_count a ∷ seat.page ∷ []
+  numbers = 0 ∷ page_count a ∷ span.page ∷ []
 
   abbrev fs : List Entry
-  fs = entry_at seat ∷ added_at first a ∷ []
+  fs = entry_at span ∷ added_at first a ∷ []
 
   abbrev news : List Placed
-  news = record { page = seat.page; region = record { first = seat.first; rows = left } } ∷ record { page = page_count a; region = record { first = first; rows = right } } ∷ []
+  news = record { page = span.page; region = record { first = span.first; rows = left } } ∷ record { page = page_count a; region = record { first = first; rows = right } } ∷ []
 
   viewed : t.placed ≡ placed_of schema a.pages (entries_on index a.pages)
   viewed = seen ∙ view_placed schema index a stored.honest
@@ -74,20 +74,20 @@ module _ (t : TreeView) (seen : t.placed ≡ placed_in t.schema t.inner.index t.
       foreign_regions index a (is schema index a t.placed stored.honest viewed stored.indexed stored.placed_are) (own schema index a t.placed stored.honest viewed stored.indexed stored.placed_are)
       (there_regions schema index a t.placed stored.honest viewed stored.indexed stored.placed_are) (page_count a + 1) change (omega arith)
 
-  foreign_seat : IsForeign index a (page_count a + 1) change seat.page
-  foreign_seat = seat_foreign schema index a t.placed stored.honest viewed stored.indexed stored.placed_are (page_count a + 1) (omega arith) change i seat at
+  foreign_page : IsForeign index a (page_count a + 1) change span.page
+  foreign_page = page_foreign schema index a t.placed stored.honest viewed stored.indexed stored.placed_are (page_count a + 1) (omega arith) change i span at
 
   foreign : AllByRecursion (IsForeign index a (page_count a + 1) change) numbers
-  foreign = (all_foreign.0.0, (all_foreign.1 (omega arith), (foreign_seat, tt)))
+  foreign = (all_foreign.0.0, (all_foreign.1 (omega arith), (foreign_page, tt)))
 
-  made : IsCommitted index a (page_count a + 1) change (entry_at seat) fs filled new
-  made = committed schema index a t.placed stored.honest viewed stored.indexed stored.placed_are (page_count a + 1) (omega arith) change i seat at fs makes grown filled new grows honest_filled honest_new
+  made : IsCommitted index a (page_count a + 1) change (entry_at span) fs filled new
+  made = committed schema index a t.placed stored.honest viewed stored.indexed stored.placed_are (page_count a + 1) (omega arith) change i span at fs makes grown filled new grows honest_filled honest_new
       numbers others foreign puts stand
 
-  told_left : IsTold schema new.pages (record { page = seat.page; region = record { first = seat.first; rows = left } })
+  told_left : IsTold schema new.pages (record { page = span.page; region = record { first = span.first; rows = left } })
   told_left = (
-    made.kept seat.page foreign_seat ∙ (put.written_other honest_grown ∙ ap (λ (q : List ℕ). Some q) page_is),
-    (region_parts schema (record { first = seat.first; rows = left }) (region_page schema (record { first = seat.first; rows = left })) good_left refl).on,
+    made.kept span.page foreign_page ∙ (put.written_other honest_grown ∙ ap (λ (q : List ℕ). Some q) page_is),
+    (region_parts schema (record { first = span.first; rows = left }) (region_page schema (record { first = span.first; rows = left })) good_left refl).on,
   )
 
   told_right : IsTold schema new.pages (record { page = page_count a; region = record { first = first; rows = right } })
@@ -99,23 +99,23 @@ module _ (t : TreeView) (seen : t.placed ≡ placed_in t.schema t.inner.index t.
   )
 
   before_apart : AllByRecursion (λ n. IsOutside n numbers) (region_pages (take i (entries_in index a)))
-  before_apart = before_regions schema index a t.placed stored.honest viewed stored.indexed stored.placed_are (page_count a + 1) (omega arith) change i seat at
+  before_apart = before_regions schema index a t.placed stored.honest viewed stored.indexed stored.placed_are (page_count a + 1) (omega arith) change i span at
 
   after_apart : AllByRecursion (λ n. IsOutside n numbers) (region_pages (drop (suc i) (entries_in index a)))
-  after_apart = after_regions schema index a t.placed stored.honest viewed stored.indexed stored.placed_are (page_count a + 1) (omega arith) change i seat at
+  after_apart = after_regions schema index a t.placed stored.honest viewed stored.indexed stored.placed_are (page_count a + 1) (omega arith) change i span at
 
   own_then : AreOwnPages (changed index change) new
   own_then = own_added index a (is schema index a t.placed stored.honest viewed stored.indexed stored.placed_are) (own schema index a t.placed stored.honest viewed stored.indexed stored.placed_are)
-      (there_regions schema index a t.placed stored.honest viewed stored.indexed stored.placed_are) change (entry_at seat) first filled new made
+      (there_regions schema index a t.placed stored.honest viewed stored.indexed stored.placed_are) change (entry_at span) first filled new made
 
   new_is : placed_in schema (changed index change) new ≡ placed_with i news t.placed
   new_is = view_placed schema (changed index change) new honest_new
-      ∙ new_placed schema index a t.placed stored.honest viewed stored.indexed stored.placed_are (page_count a + 1) (omega arith) change i seat at fs makes grown filled new grows honest_filled honest_new
+      ∙ new_placed schema index a t.placed stored.honest viewed stored.indexed stored.placed_are (page_count a + 1) (omega arith) change i span at fs makes grown filled new grows honest_filled honest_new
       numbers others foreign puts stand before_apart after_apart news (told_left, (told_right, tt)) refl own_then
 
   long : t.inner.count + 1 ≡ length (placed_with i news t.placed)
   long =
-      let more = count_replaced (entry_at seat) fs (entries_in index a) (entries_in (changed index change) new) made.entries_are in
+      let more = count_replaced (entry_at span) fs (entries_in index a) (entries_in (changed index change) new) made.entries_are in
       let before : t.inner.count ≡ length t.placed = stored.count_is in
       let was : length t.placed ≡ length (entries_in index a) = ap length viewed ∙ length-placed schema a.pages (entries_in index a) in
       let is_now : length (placed_with i news t.placed) ≡ length (entries_in (changed index change) new) =
@@ -137,18 +137,18 @@ module _ (t : TreeView) (seen : t.placed ≡ placed_in t.schema t.inner.index t.
           indexed = subst (λ (ps : List Placed). HasIndex d.inner.index d.store.pages (map entry_of ps)) (sym placed_is)
               (subst (λ (x : IndexView). HasIndex x d.store.pages (map entry_of (placed_with i news t.placed))) (sym index_is)
               (subst (λ (s : StoreFacts). HasIndex (changed t.inner.index change) s.pages (map entry_of (placed_with i news t.placed))) (sym store_is)
-              (new_indexed schema index a t.placed stored.honest viewed stored.indexed stored.placed_are (page_count a + 1) (omega arith) change i seat at fs makes grown filled new grows honest_filled honest_new
+              (new_indexed schema index a t.placed stored.honest viewed stored.indexed stored.placed_are (page_count a + 1) (omega arith) change i span at fs makes grown filled new grows honest_filled honest_new
               numbers others foreign puts stand before_apart after_apart news (told_left, (told_right, tt)) refl own_then)));
           placed_are = subst (λ (ps : List Placed). ArePlaced d.schema ps (reserved d.inner.index d.store.pages) d.store.pages) (sym placed_is)
               (subst (λ (s : Schema). ArePlaced s (placed_with i news t.placed) (reserved d.inner.index d.store.pages) d.store.pages) (sym schema_is)
               (subst (λ (x : IndexView). ArePlaced t.schema (placed_with i news t.placed) (reserved x d.store.pages) d.store.pages) (sym index_is)
               (subst (λ (s : StoreFacts). ArePlaced t.schema (placed_with i news t.placed) (reserved (changed t.inner.index change) s.pages) s.pages) (sym store_is)
-              (new_are schema index a t.placed stored.honest viewed stored.indexed stored.placed_are (page_count a + 1) (omega arith) change i seat at fs makes grown filled new grows honest_filled honest_new
+              (new_are schema index a t.placed stored.honest viewed stored.indexed stored.placed_are (page_count a + 1) (omega arith) change i span at fs makes grown filled new grows honest_filled honest_new
               numbers others foreign puts stand before_apart after_apart news (told_left, (told_right, tt)) refl own_then))));
           count_is = count_is ∙ (long ∙ ap length (sym placed_is));
         },
         placed_is,
         λ was. subst (λ (x : IndexView). IsFilled x d.store.pages) (sym index_is) (subst (λ (s : StoreFacts). IsFilled (changed index change) s.pages) (sym store_is)
-            (made_filled index a grown filled new (page_count a + 1) change (entry_at seat) fs numbers (is schema index a t.placed stored.honest viewed stored.indexed stored.placed_are)
+            (made_filled index a grown filled new (page_count a + 1) change (entry_at span) fs numbers (is schema index a t.placed stored.honest viewed stored.indexed stored.placed_are)
             makes grows others foreign honest_filled honest_new puts stand fills was)),
       )

@@ -86,16 +86,16 @@ begins_up_to key first later = elim (cases_lt key.z first.z) [
 given_met : (boxes : List Corners) (t : TreeView) (from : Option Key) (span : Span)
     → GivesFrom t.inner.index t.store (λ from. LeastFrom (HoldsAny boxes) from.z) from (Some span) → IsRegionOf t span × Meets boxes span
 given_met boxes t None span h = absurd h
-given_met boxes t (Some from) span (key, (z, least, le, aim), seat, given, is) =
+given_met boxes t (Some from) span (key, (z, least, le, aim), given) =
     let key_z : key.z ≡ z = ap (λ (k : Key). k.z) aim ∙ at_least_z from z least.1 in
-    let first = begins_up_to key seat.first given.holds.from in
-    let begins : seat.first.z ≤ z = omega arith in
+    let first = begins_up_to key span.first given.holds.from in
+    let begins : span.first.z ≤ z = omega arith in
     let within : key.z ≤ t.inner.index.last = omega arith in
-    let last = ends_from t.inner.index.last key seat.next given.holds.to within in
-    let ends : z ≤ end_before t.inner.index.last seat.next = omega arith in (
-      record { key = key; seat = seat; falls = given; region_is = is },
-      subst (λ (r : Span). Meets boxes r) (sym is) (z, least.0, begins, ends),
-    )
+    let last = ends_from t.inner.index.last key span.next given.holds.to within in
+    let ends : z ≤ end_before t.inner.index.last span.next = omega arith in
+    let from_is = given.from in
+    let to_is = given.to in
+    (record { key = key; falls = given }, (z, least.0, omega arith, omega arith))
 
 -- these are the first answers, and the last of them
 pub record HasAnswers (boxes : List Corners) (t : TreeView) (found : List Span) (after : Option Span) : Type 0 where

@@ -5,14 +5,12 @@ use Rattle.std.proofs.Math.Pow.{pow-lt}
 use Rattle.std.proofs.lemmas.Bool.{cases_Bool, cases_lt}
 use Rattle.ub_bigmin.specs.Box.{Corners, HoldsAny}
 use Rattle.ub_bigmin.specs.Extremes.{LeastFrom}
-use Rattle.ub_index.proofs.LeadFacts.{ways_are_one}
+use Rattle.ub_index.proofs.LeadFacts.{one_given}
 use Rattle.ub_index.specs.Index.{top}
-use Rattle.ub_index.specs.Preparing.{entry_at}
 use Rattle.ub_index.specs.Searching.{Gives, GivesAfter, IsWayFault, at_least, end_before}
-use Rattle.ub_index.specs.View.{IndexView, IsIndexOn, Stops}
+use Rattle.ub_index.specs.View.{IndexView, IsIndexOn, Stops, entry_at}
 use Rattle.ub_index.specs.declared.fault.IndexFault.{IndexFault}
 use Rattle.ub_index.specs.declared.fault.IndexFault.TheVariants as index
-use Rattle.ub_index.specs.declared.seat.Seat.{Seat}
 use Rattle.ub_store.specs.Facts.{StoreFacts, IsHonest}
 use Rattle.ub_store.specs.declared.fault.StoreFault.TheVariants as store
 use Rattle.ub_table.proofs.Laws.{before_parts}
@@ -62,13 +60,13 @@ pub seek_told : (t : TreeView) (z : ℕ) (after found : Option Span) → GivesAf
     → IfSome found (IsLater after) → IfSome found (λ r. IsRegionOf t r × IsLater after r × (z ≤ r.to))
 seek_told t z after None given later = tt
 seek_told t z after (Some r) (None, from, h) later = absurd h
-seek_told t z after (Some r) (Some key, from, (aim, (to, is, le, aim_is), seat, given, same)) later =
+seek_told t z after (Some r) (Some key, from, (aim, (to, is, le, aim_is), given)) later =
     let same_z : to ≡ z = cc in
     let up = at_least_up key to in
     let aim_z : aim.z ≡ (at_least key to).z = ap (λ (k : Key). k.z) aim_is in
-    let ends = ends_after t.inner.index.last to aim seat.next given.holds.to (let more : to ≤ aim.z = omega arith in more) le in
-    let to_is : r.to ≡ end_before t.inner.index.last seat.next = ap (λ (s : Span). s.to) same in
-    (record { key = aim; seat = seat; falls = given; region_is = same }, later, omega arith)
+    let ends = ends_after t.inner.index.last to aim r.next given.holds.to (let more : to ≤ aim.z = omega arith in more) le in
+    let to_is = given.to in
+    (record { key = aim; falls = given }, later, omega arith)
 
 -- what is given after a region, as the tree tells it
 pub gives_next : (boxes : List Corners) (t : TreeView) (after found : Option Span)
@@ -82,49 +80,46 @@ gives_next boxes t after (Some r) given later number = record {
   where
     within : GivesAfter t.inner.index t.store (λ from. LeastFrom (HoldsAny boxes) from.z) after (Some r) → r.first.z ≤ t.inner.index.last
     within (None, from, h) = absurd h
-    within (Some key, from, (aim, (z, least, le, aim_is), seat, given, same)) =
+    within (Some key, from, (aim, (z, least, le, aim_is), given)) =
         let aim_z : aim.z ≡ z = ap (λ (k : Key). k.z) aim_is ∙ at_least_z key z least.1 in
-        let first = begins_up_to aim seat.first given.holds.from in
-        let first_is : r.first ≡ seat.first = ap (λ (s : Span). s.first) same in
-        let z_is : r.first.z ≡ seat.first.z = ap (λ (k : Key). k.z) first_is in
+        let first = begins_up_to aim r.first given.holds.from in
         omega arith
 
--- where a way leads to a seat, it stops nowhere
-not_stopped : (i : IndexView) (facts : StoreFacts) (key sought : Key) (seat : Seat) (n : ℕ) (fault : Option PageFault) → i.last < 2 ^ 128 → IsHonest facts
-    → Gives i facts key seat → sought ≡ key → ¬ (Stops i facts sought n fault)
-not_stopped i facts key sought seat n fault small honest given same stops =
-    led_not_stopped i.last facts.pages key small i.levels (top i.root) None (record { first = seat.first; page = seat.page }) seat.next n fault (given.way honest)
+-- where a way leads to a span, it stops nowhere
+not_stopped : (i : IndexView) (facts : StoreFacts) (key sought : Key) (span : Span) (n : ℕ) (fault : Option PageFault) → i.last < 2 ^ 128 → IsHonest facts
+    → Gives i facts key span → sought ≡ key → ¬ (Stops i facts sought n fault)
+not_stopped i facts key sought span n fault small honest given same stops =
+    led_not_stopped i.last facts.pages key small i.levels (top i.root) None (entry_at span) span.next n fault (given.way honest)
     (subst (λ (k : Key). Stops i facts k n fault) same stops)
 
 -- and a search to that key fails in passing alone
-pub way_passing : (i : IndexView) (facts : StoreFacts) (key : Key) (seat : Seat) → i.last < 2 ^ 128 → IsHonest facts → Gives i facts key seat
+pub way_passing : (i : IndexView) (facts : StoreFacts) (key : Key) (span : Span) → i.last < 2 ^ 128 → IsHonest facts → Gives i facts key span
     → (e : IndexFault) → IsWayFault i facts (λ k. k ≡ key) e → IsPassing (index_fault e)
-way_passing i facts key seat small honest given (index.Page n fault) h = let w = h honest in absurd (not_stopped i facts key w.0 seat n (Some fault) small honest given w.1 w.2)
-way_passing i facts key seat small honest given index.Full h = absurd h
-way_passing i facts key seat small honest given (index.Store store.Memory) h = inl refl
-way_passing i facts key seat small honest given (index.Store store.Device) h = inr refl
-way_passing i facts key seat small honest given (index.Store store.BadSize) h = absurd h
-way_passing i facts key seat small honest given (index.Store store.NoPage) h = let w = h.2 honest in absurd (not_stopped i facts key w.0 seat h.0 None small honest given w.1 w.2)
+way_passing i facts key span small honest given (index.Page n fault) h = let w = h honest in absurd (not_stopped i facts key w.0 span n (Some fault) small honest given w.1 w.2)
+way_passing i facts key span small honest given index.Full h = absurd h
+way_passing i facts key span small honest given (index.Store store.Memory) h = inl refl
+way_passing i facts key span small honest given (index.Store store.Device) h = inr refl
+way_passing i facts key span small honest given (index.Store store.BadSize) h = absurd h
+way_passing i facts key span small honest given (index.Store store.NoPage) h = let w = h.2 honest in absurd (not_stopped i facts key w.0 span h.0 None small honest given w.1 w.2)
 
--- what it gives is the seat to which that way leads
-pub one_seat : (i : IndexView) (facts : StoreFacts) (key : Key) (found seat : Seat) → IsHonest facts → Gives i facts key found → Gives i facts key seat → found ≡ seat
-one_seat i facts key found seat honest a b = ways_are_one i facts key found seat (a.way honest) (b.way honest)
+-- what it gives is the region to which that way leads
+pub one_falls : (t : TreeView) (key : Key) (found span : Span) → IsHonest t.store → FallsTo t key found → FallsTo t key span → found ≡ span
+one_falls t key found span honest a b = one_given t.inner.index t.store key found span honest a b
 
-pub one_falls : (t : TreeView) (key : Key) (found seat : Seat) → IsHonest t.store → FallsTo t key found → FallsTo t key seat → found ≡ seat
-one_falls t key found seat honest a b = one_seat t.inner.index t.store key found seat honest a b
-
--- where the index stays, and each page but the first that is of an index by its first byte, a key falls to the seat to which it fell
-pub kept_falls : (old new : TreeView) (key : Key) (seat : Seat) → new.inner.index ≡ old.inner.index → (IsHonest new.store → IsHonest old.store) → 1 ≤ old.inner.index.root
-    → old.inner.index.last < 2 ^ 128 → (IsHonest old.store → KeepsIndexKinds old.store.pages new.store.pages) → FallsTo old key seat → FallsTo new key seat
-kept_falls old new key seat indexes honesty some small keeps falls =
-    subst (λ (i : IndexView). Gives i new.store key seat) (sym indexes) (record {
+-- where the index stays, and each page but the first that is of an index by its first byte, a key falls to the span to which it fell
+pub kept_falls : (old new : TreeView) (key : Key) (span : Span) → new.inner.index ≡ old.inner.index → (IsHonest new.store → IsHonest old.store) → 1 ≤ old.inner.index.root
+    → old.inner.index.last < 2 ^ 128 → (IsHonest old.store → KeepsIndexKinds old.store.pages new.store.pages) → FallsTo old key span → FallsTo new key span
+kept_falls old new key span indexes honesty some small keeps falls =
+    subst (λ (i : IndexView). Gives i new.store key span) (sym indexes) (record {
       holds = falls.holds;
+      from = falls.from;
+      to = falls.to;
       way = λ honest. let was = honesty honest in still_led old.inner.index.last small old.store.pages new.store.pages (keeps was) key old.inner.index.levels
-          (top old.inner.index.root) None (entry_at seat) seat.next some (falls.way was);
+          (top old.inner.index.root) None (entry_at span) span.next some (falls.way was);
     })
 
--- a search to a key that leads to a seat, which is refused
-pub seat_refused : (i : IndexView) (facts : StoreFacts) (key : Key) (seat : Seat) (r : Result Seat TreeFault) (e : IndexFault) → i.last < 2 ^ 128 → IsHonest facts
-    → Gives i facts key seat → IsErrAnd r (λ x. x ≡ index_fault e) → IsWayFault i facts (λ k. k ≡ key) e → MatchResult r (λ found. found ≡ seat) IsPassing
-seat_refused i facts key seat (Ok x) e small honest given is h = absurd is
-seat_refused i facts key seat (Err f) e small honest given is h = rw is (way_passing i facts key seat small honest given e h)
+-- a search to a key that leads to a span, which is refused
+pub holding_refused : (i : IndexView) (facts : StoreFacts) (key : Key) (span : Span) (r : Result Span TreeFault) (e : IndexFault) → i.last < 2 ^ 128 → IsHonest facts
+    → Gives i facts key span → IsErrAnd r (λ x. x ≡ index_fault e) → IsWayFault i facts (λ k. k ≡ key) e → MatchResult r (λ found. found ≡ span) IsPassing
+holding_refused i facts key span (Ok x) e small honest given is h = absurd is
+holding_refused i facts key span (Err f) e small honest given is h = rw is (way_passing i facts key span small honest given e h)

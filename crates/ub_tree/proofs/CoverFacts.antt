@@ -5,10 +5,9 @@ use Rattle.std.specs.Prelude.{Contains}
 use Rattle.ub_bigmin.specs.Box.{Corners, HoldsAny}
 use Rattle.ub_bigmin.specs.Extremes.{LeastFrom}
 use Rattle.ub_index.proofs.KeyFacts.{le_trans}
-use Rattle.ub_index.proofs.LeadFacts.{ways_are_one, ways_hold}
-use Rattle.ub_index.specs.Searching.{Gives, GivesAfter, IsAim, IsAimless, IsFrom, region_of}
+use Rattle.ub_index.proofs.LeadFacts.{one_given, ways_hold}
+use Rattle.ub_index.specs.Searching.{Gives, GivesAfter, IsAim, IsAimless, IsFrom}
 use Rattle.ub_index.specs.Way.{HoldsKey}
-use Rattle.ub_index.specs.declared.seat.Seat.{Seat}
 use Rattle.ub_store.specs.Facts.{IsHonest}
 use Rattle.ub_table.proofs.Laws.{before_from, before_of, before_parts, not_before_origin, precedes_of}
 use Rattle.ub_table.specs.Keys.{IsBefore, origin, precedes}
@@ -51,33 +50,32 @@ module _ (boxes : List Corners) (tree : TreeView) (honest : IsHonest tree.store)
         | inr f ↦ rw f behind
       ])
 
-  -- a seat that doesn't begin behind the key holds it, or ends before it
-  holds_or_ends : (seat : Seat) → ¬ (IsBefore key seat.first) → (next : Option Key) → seat.next ≡ next
-      → HoldsKey key seat.first seat.next ⊎ ((n : Key) × (seat.next ≡ Some n) × (¬ (IsBefore key n)))
-  holds_or_ends seat from None e = inl (record { from = from; to = subst (λ (o : Option Key). IfSome o (IsBefore key)) (sym e) tt })
-  holds_or_ends seat from (Some n) e = elim (cases_Bool (precedes key n)) [
+  -- a span that doesn't begin behind the key holds it, or ends before it
+  holds_or_ends : (span : Span) → ¬ (IsBefore key span.first) → (next : Option Key) → span.next ≡ next
+      → HoldsKey key span.first span.next ⊎ ((n : Key) × (span.next ≡ Some n) × (¬ (IsBefore key n)))
+  holds_or_ends span from None e = inl (record { from = from; to = subst (λ (o : Option Key). IfSome o (IsBefore key)) (sym e) tt })
+  holds_or_ends span from (Some n) e = elim (cases_Bool (precedes key n)) [
     | inl t ↦ inl (record { from = from; to = subst (λ (o : Option Key). IfSome o (IsBefore key)) (sym e) (before_of key n t) })
     | inr f ↦ inr (n, e, λ before. let t = precedes_of key n before in cc)
   ]
 
-  -- the way to the first key of the seat that is given leads to it alone
-  one_next : (aim : Key) (seat other : Seat) → Gives tree.inner.index tree.store aim seat → Gives tree.inner.index tree.store seat.first other → other ≡ seat
-  one_next aim seat other given again =
-      let ways = ways_hold tree.inner.index tree.store aim seat (given.way honest) in
-      ways_are_one tree.inner.index tree.store seat.first other seat (again.way honest) (ways.2 seat.first ways.1)
+  -- the way to the first key of the span that is given leads to it alone
+  one_next : (aim : Key) (span other : Span) → Gives tree.inner.index tree.store aim span → Gives tree.inner.index tree.store span.first other → other ≡ span
+  one_next aim span other given again =
+      let ways = ways_hold tree.inner.index tree.store aim span (given.way honest) in
+      one_given tree.inner.index tree.store span.first other span honest again (record { holds = ways.1; from = given.from; to = given.to; way = λ _. ways.2 span.first ways.1 })
 
   -- so what is given holds the key, or the search after it goes on from no later one
   step : (after : Option Span) (found : Span) → IsAhead after → GivesAfter tree.inner.index tree.store To after (Some found) → HoldsKey key found.first found.next ⊎ IsAhead (Some found)
   step after found ahead (None, is_from, gone) = absurd gone
-  step after found ahead (Some f, is_from, (aim, is_aim, seat, given, region_is)) =
+  step after found ahead (Some f, is_from, (aim, is_aim, given)) =
       let there = ahead (Some f) is_from in
       let same : there.0 ≡ f = let e = there.1 in cc in
       let up = not_before_aim f aim (subst (λ (k : Key). ¬ (IsBefore key k)) same there.2) is_aim in
-      subst (λ (r : Span). HoldsKey key r.first r.next ⊎ IsAhead (Some r)) (sym region_is)
-      (elim (holds_or_ends seat (le_trans seat.first aim key given.holds.from up) seat.next refl) [
+      elim (holds_or_ends found (le_trans found.first aim key given.holds.from up) found.next refl) [
         | inl holds ↦ inl holds
-        | inr ends ↦ inr (λ from is. (ends.0, is.2 ∙ (ap (λ (s : Seat). s.next) (one_next aim seat is.0 given is.1) ∙ ends.1), ends.2))
-      ])
+        | inr ends ↦ inr (λ from is. (ends.0, is.2 ∙ (ap (λ (s : Span). s.next) (one_next aim found is.0 given is.1) ∙ ends.1), ends.2))
+      ]
 
   none_left : (after : Option Span) → IsAhead after → GivesAfter tree.inner.index tree.store To after None → ⊥
   none_left after ahead (None, is_from, none) = let there = ahead None is_from in let e = there.1 in cc

@@ -14,10 +14,10 @@ use Rattle.ub_index.specs.Changed.{Replaces}
 use Rattle.ub_index.specs.Changing.{IsOutside, Stand, StayBut}
 use Rattle.ub_index.specs.Index.{top}
 use Rattle.ub_index.specs.Making.{IsCommitted, PutsSheets, changed}
-use Rattle.ub_index.specs.Preparing.{ChangeView, IsForeign, IsReachedOnce, MakesIndex, entry_at, pages_of_index}
+use Rattle.ub_index.specs.Preparing.{ChangeView, IsForeign, IsReachedOnce, MakesIndex, pages_of_index}
 use Rattle.ub_index.specs.Standing.{AreOwnPages, AreRegionsThere, StandsAsOn, region_pages}
-use Rattle.ub_index.specs.View.{IndexView, IsIndexOn, IsSeatAt, entries_in}
-use Rattle.ub_index.specs.declared.seat.Seat.{Seat}
+use Rattle.ub_index.specs.View.{IndexView, IsIndexOn, IsRegionAt, entries_in, entry_at}
+use Rattle.ub_region.specs.declared.region.Region.{Region as Span}
 use Rattle.ub_index.specs.declared.sheet.Sheet.{Sheet}
 use Rattle.ub_page.proofs.PageLaws.{region_parts}
 use Rattle.ub_page.specs.Region.{region_page}
@@ -33,7 +33,7 @@ use Rattle.ub_tree.proofs.PutFacts.{put_placed}
 use Rattle.ub_tree.proofs.ShrinkFacts.{map_removed, placed_without, put_joined, regions_put}
 use Rattle.ub_tree.proofs.SplitFacts.{committed, new_are, new_indexed, new_placed, pages_by}
 use Rattle.ub_tree.proofs.StoredFacts.{IsSpelled, IsTold}
-use Rattle.ub_tree.proofs.TreeFacts.{all_get, region_get, seat_placed, seat_within}
+use Rattle.ub_tree.proofs.TreeFacts.{all_get, region_get, placed_there, within_placed}
 use Rattle.ub_tree.specs.Indexed.{HasIndex, entries_on, reserved}
 use Rattle.ub_tree.specs.Others.{AreOthersKept}
 use Rattle.ub_tree.specs.Placed.{Placed, ArePlaced, entry_of, placed_of, regions_in}
@@ -91,11 +91,11 @@ pages_there schema pages (p ∷ ps) h = (slice_get_within pages p.page _ h.0, pa
 module _ (schema : Schema) (index : IndexView) (a mid new : StoreFacts) (placed placed_mid : List Placed)
     (honest : IsHonest a) (viewed : placed ≡ placed_of schema a.pages (entries_on index a.pages))
     (indexed : HasIndex index a.pages (map entry_of placed)) (placed_are : ArePlaced schema placed (reserved index a.pages) a.pages)
-    (i : ℕ) (seat next : Seat) (at : IsSeatAt (map entry_of placed) i seat) (at_next : IsSeatAt (map entry_of placed) (i + 1) next)
-    (rows : List Row) (good : IsRegion schema (record { first = seat.first; rows = rows }))
-    (honest_mid : IsHonest mid) (others : AreOthersKept (0 ∷ seat.page ∷ []) a.pages mid.pages) (count : page_count mid ≡ page_count a)
+    (i : ℕ) (span next : Span) (at : IsRegionAt (map entry_of placed) i span) (at_next : IsRegionAt (map entry_of placed) (i + 1) next)
+    (rows : List Row) (good : IsRegion schema (record { first = span.first; rows = rows }))
+    (honest_mid : IsHonest mid) (others : AreOthersKept (0 ∷ span.page ∷ []) a.pages mid.pages) (count : page_count mid ≡ page_count a)
     (indexed_mid : HasIndex index mid.pages (map entry_of placed_mid)) (placed_are_mid : ArePlaced schema placed_mid (reserved index mid.pages) mid.pages)
-    (is_mid : placed_mid ≡ placed_with i (record { page = seat.page; region = record { first = seat.first; rows = rows } } ∷ []) placed)
+    (is_mid : placed_mid ≡ placed_with i (record { page = span.page; region = record { first = span.first; rows = rows } } ∷ []) placed)
     (change : ChangeView) (makes : MakesIndex index a (page_count a) change (Replaces (entry_at next) [] (entries_in index a)))
     (honest_new : IsHonest new) (puts : PutsSheets change.sheets mid new) (stand : Stand new.pages change.sheets) where
   on_a : IsIndexOn index a
@@ -117,38 +117,38 @@ module _ (schema : Schema) (index : IndexView) (a mid new : StoreFacts) (placed 
   there_mid = subst (AllByRecursion (λ n. n < page_count mid)) (sym (ap region_pages indexed_mid.entries_are ∙ pages_by placed_mid))
       (pages_there schema mid.pages placed_mid (recursion_from_All (IsSpelled schema mid.pages) placed_mid placed_are_mid.spelled))
 
-  outside : AllByRecursion (λ n. IsOutside n (pages_of_index index a)) (0 ∷ seat.page ∷ [])
+  outside : AllByRecursion (λ n. IsOutside n (pages_of_index index a)) (0 ∷ span.page ∷ [])
   outside =
       let apart = own_apart index a own_a in
-      let entry : slice_get (entries_in index a) i ≡ Some (entry_at seat) = ap (λ (es : List Entry). slice_get es i) indexed.entries_are ∙ at.entry in
-      (apart.0, (each_get (λ n. IsOutside n (pages_of_index index a)) (region_pages (entries_in index a)) i seat.page apart.1 (page_of (entries_in index a) i (entry_at seat) entry), tt))
+      let entry : slice_get (entries_in index a) i ≡ Some (entry_at span) = ap (λ (es : List Entry). slice_get es i) indexed.entries_are ∙ at.entry in
+      (apart.0, (each_get (λ n. IsOutside n (pages_of_index index a)) (region_pages (entries_in index a)) i span.page apart.1 (page_of (entries_in index a) i (entry_at span) entry), tt))
 
   stood : StandsAsOn index a mid
-  stood = stands index a mid (0 ∷ seat.page ∷ []) on_a reached honest_mid others count outside
+  stood = stands index a mid (0 ∷ span.page ∷ []) on_a reached honest_mid others count outside
 
   makes_mid : MakesIndex index mid (page_count mid) change (Replaces (entry_at next) [] (entries_in index mid))
   makes_mid = subst (λ (es : List Entry). MakesIndex index mid (page_count mid) change (Replaces (entry_at next) [] es)) (sym stood.entries_are)
-      (makes_after index a mid (0 ∷ seat.page ∷ []) on_a reached honest_mid others count outside change (Replaces (entry_at next) [] (entries_in index a)) makes)
+      (makes_after index a mid (0 ∷ span.page ∷ []) on_a reached honest_mid others count outside change (Replaces (entry_at next) [] (entries_in index a)) makes)
 
   abbrev put : Placed
-  put = record { page = seat.page; region = record { first = seat.first; rows = rows } }
+  put = record { page = span.page; region = record { first = span.first; rows = rows } }
 
   told_mid : IsTold schema mid.pages put
   told_mid =
-      let there : slice_get placed_mid i ≡ Some put = ap (λ (ps : List Placed). slice_get ps i) is_mid ∙ placed_there i put placed (seat_within placed i seat at) in
+      let there : slice_get placed_mid i ≡ Some put = ap (λ (ps : List Placed). slice_get ps i) is_mid ∙ placed_there i put placed (within_placed placed i span at) in
       (all_get (IsSpelled schema mid.pages) placed_mid i put placed_are_mid.spelled there, (region_parts schema put.region (region_page schema put.region) good refl).on)
 
-  all_others : (m : ℕ) → m ≢ 0 → m ≢ seat.page → slice_get mid.pages m ≡ slice_get a.pages m
+  all_others : (m : ℕ) → m ≢ 0 → m ≢ span.page → slice_get mid.pages m ≡ slice_get a.pages m
   all_others m first apart = elim (cases_lt m (length a.pages)) [
     | inl lt ↦ others m (first, (apart, tt)) lt
     | inr ge ↦ slice_get_past mid.pages m (omega arith) ∙ sym (slice_get_past a.pages m ge)
   ]
 
   viewed_mid : placed_mid ≡ placed_of schema mid.pages (entries_on index mid.pages)
-  viewed_mid = is_mid ∙ sym (put_placed schema index a.pages mid.pages placed viewed indexed placed_are i seat at rows all_others count told_mid)
+  viewed_mid = is_mid ∙ sym (put_placed schema index a.pages mid.pages placed viewed indexed placed_are i span at rows all_others count told_mid)
 
-  at_mid : IsSeatAt (map entry_of placed_mid) (i + 1) next
-  at_mid = subst (λ (es : List Entry). IsSeatAt es (i + 1) next) (sym (sym indexed_mid.entries_are ∙ stood.entries_are ∙ indexed.entries_are)) at_next
+  at_mid : IsRegionAt (map entry_of placed_mid) (i + 1) next
+  at_mid = subst (λ (es : List Entry). IsRegionAt es (i + 1) next) (sym (sym indexed_mid.entries_are ∙ stood.entries_are ∙ indexed.entries_are)) at_next
 
   same_grown : Grows mid mid
   same_grown = record { more = omega arith; kept = λ h m lt. refl; lasting = λ h. inl refl }
@@ -188,9 +188,9 @@ module _ (schema : Schema) (index : IndexView) (a mid new : StoreFacts) (placed 
 
   pub dropped_regions : regions_in (placed_with (i + 1) [] placed_mid) ≡ put_rows i true rows (regions_in placed)
   dropped_regions =
-      let p = seat_placed placed i seat at in
+      let p = placed_there placed i span at in
       let region = region_get placed i p.0 p.1 in
-      let alone : List Region = record { first = seat.first; rows = rows } ∷ [] in
+      let alone : List Region = record { first = span.first; rows = rows } ∷ [] in
       let first : slice_get (regions_in placed) i ≡ Some p.0.region = region in
       let joined : remove_at_index (regions_with i alone (regions_in placed)) (suc i) ≡ put_rows i true rows (regions_in placed) =
       subst (λ (k : Key). remove_at_index (regions_with i (record { first = k; rows = rows } ∷ []) (regions_in placed)) (suc i) ≡ put_rows i true rows (regions_in placed)) p.3

@@ -4,9 +4,8 @@ use Rattle.std.specs.Result.{IsErrAnd}
 use Rattle.ub_index.specs.Changing.{IsOutside, IsUnspelled}
 use Rattle.ub_index.specs.Index.{pages_under, top}
 use Rattle.ub_index.specs.Making.{PutsSheets, SameButSheets}
-use Rattle.ub_index.specs.Searching.{region_of}
 use Rattle.ub_index.specs.declared.sheet.Sheet.{Sheet}
-use Rattle.ub_index.specs.declared.seat.Seat.{Seat}
+use Rattle.ub_region.specs.declared.region.Region.{Region as Span}
 use Rattle.ub_region.proofs.Laws.{all_left, all_right}
 use Rattle.ub_store.specs.Facts.{StoreFacts, IsHonest, page_count}
 use Rattle.ub_store.specs.declared.fault.StoreFault.TheVariants as store
@@ -18,7 +17,8 @@ use Rattle.ub_tree.specs.declared.fault.TreeFault.TheVariants.{Full, Page, Store
 use Rattle.ub_writing.specs.Marks.{is_written}
 use Rattle.ub_writing.specs.declared.mark.Mark.{Mark}
 use Rattle.ub_writing.specs.declared.mark.Mark.TheVariants.{Written}
-use Rattle.ub_tree.specs.inner.Change.{HasStopped, IsSeatOf, IsStored, IsWriteFault, MakesReady, Writes}
+use Rattle.ub_tree.specs.inner.Change.{HasStopped, IsStored, IsWriteFault, MakesReady, Writes}
+use Rattle.ub_tree.specs.Told.{IsRegionOf}
 
 -- a sound tree is stored
 pub sound_stored : (t : TreeView) → IsSound t → IsStored t
@@ -138,22 +138,22 @@ writes_both chain page sheets a mid new h puts honest_mid free = record {
     by_puts honest (inr put) = inr (λ m out lt. put.others m (free honest m lt (all_left (λ n. m ≢ n) (0 ∷ chain) (page ∷ []) out)) ∙ wide.kept honest m out lt)
 
 -- the page is that of a region of which the tree tells
-pub writes_told : (a c : TreeView) (seat : Seat) → IsSeatOf a seat → WritesIndex seat.page a c → WritesOneRegion a c
-writes_told a c seat of h = (
-  seat.page,
-  inr (region_of a.inner.index.last seat, record { key = of.0; seat = seat; falls = of.1; region_is = refl }, refl),
+pub writes_told : (a c : TreeView) (span : Span) → IsRegionOf a span → WritesIndex span.page a c → WritesOneRegion a c
+writes_told a c span of h = (
+  span.page,
+  inr (span, of, refl),
   h,
 )
 
 -- a call that only writes is a change
-module _ (a c : TreeView) (seat : Seat) (of : IsSeatOf a seat) where
-  ended : (fault : TreeFault) → HasStopped fault a c → WritesPage seat.page a c → HasEnded fault a c
+module _ (a c : TreeView) (span : Span) (of : IsRegionOf a span) where
+  ended : (fault : TreeFault) → HasStopped fault a c → WritesPage span.page a c → HasEnded fault a c
   ended fault h kept = record {
     same = h.same;
-    others = writes_told a c seat of (writes_wider (pages_under a.store.pages a.inner.index.levels (top a.inner.index.root)) seat.page a.store c.store kept);
+    others = writes_told a c span of (writes_wider (pages_under a.store.pages a.inner.index.levels (top a.inner.index.root)) span.page a.store c.store kept);
   }
 
-  wrote_left : (fault : TreeFault) → IsWriteFault a c fault → WritesPage seat.page a c → IsLeft a c fault
+  wrote_left : (fault : TreeFault) → IsWriteFault a c fault → WritesPage span.page a c → IsLeft a c fault
   wrote_left Full h kept = absurd h
   wrote_left HasFailed h kept = absurd h
   wrote_left Memory h kept = absurd h
@@ -163,7 +163,7 @@ module _ (a c : TreeView) (seat : Seat) (of : IsSeatOf a seat) where
   wrote_left (Store store.BadSize) h kept = absurd h
   wrote_left (Store store.Memory) h kept = absurd h
 
-  all_left_by : {T : Type 0} (r : Result T TreeFault) → IfErr r (IsWriteFault a c) → WritesPage seat.page a c → IfErr r (IsLeft a c)
+  all_left_by : {T : Type 0} (r : Result T TreeFault) → IfErr r (IsWriteFault a c) → WritesPage span.page a c → IfErr r (IsLeft a c)
   all_left_by (Ok x) faults kept = tt
   all_left_by (Err e) faults kept = wrote_left e faults kept
 
@@ -171,7 +171,7 @@ module _ (a c : TreeView) (seat : Seat) (of : IsSeatOf a seat) where
   all_done (Ok x) done same = (done, same)
   all_done (Err e) done same = tt
 
-  pub changed_by : {T : Type 0} (r : Result T TreeFault) → Writes seat a c r → Changes a c r
+  pub changed_by : {T : Type 0} (r : Result T TreeFault) → Writes span a c r → Changes a c r
   changed_by r w = record {
     frame = w.frame ∙ ap (λ (v : TreeView). record a { placed = c.placed; rows = v.rows; next = v.next; is_changed = c.is_changed; is_failed = c.is_failed; store = v.store; inner = v.inner }) (sym w.frame);
     marked = w.marked;
@@ -179,7 +179,7 @@ module _ (a c : TreeView) (seat : Seat) (of : IsSeatOf a seat) where
     left = all_left_by r w.faults w.kept;
   }
 
-  pub changes_by : {T U : Type 0} (r : Result T TreeFault) (e : TreeFault) → IsErrAnd r (λ x. x ≡ e) → Writes {A = U} seat a c (Err e) → Changes a c r
+  pub changes_by : {T U : Type 0} (r : Result T TreeFault) (e : TreeFault) → IsErrAnd r (λ x. x ≡ e) → Writes {A = U} span a c (Err e) → Changes a c r
   changes_by r e is w = left_by r e a c is (changed_by {T = TreeFault} (Err e) (record { frame = w.frame; marked = w.marked; done = tt; faults = w.faults; kept = w.kept; count = w.count }))
 
 -- a mark that was written stays so

@@ -6,10 +6,9 @@ use Rattle.std.specs.Result.{IsErrAnd}
 use Rattle.ub_index.proofs.KeyFacts.{before_le, le_trans}
 use Rattle.ub_index.proofs.LeadFacts.{ways_hold}
 use Rattle.ub_index.proofs.WaysFacts.{ends_from, ends_to}
+use Rattle.ub_index.specs.View.{entry_at}
 use Rattle.ub_index.specs.Index.{entries_of, first_or, top}
-use Rattle.ub_index.specs.Searching.{region_of}
 use Rattle.ub_index.specs.Way.{HoldsKey, IsFullWay, LeadsTo}
-use Rattle.ub_index.specs.declared.seat.Seat.{Seat}
 use Rattle.ub_page.specs.declared.entries.Entry.{Entry}
 use Rattle.ub_region.proofs.Laws.{all_left, all_right, insert_keeps, insert_table}
 use Rattle.ub_region.specs.Regions.{firsts_of, index_holding, insert, rows_of, split_region}
@@ -24,15 +23,15 @@ use Rattle.ub_table.specs.declared.row.Key.{Key}
 use Rattle.ub_table.specs.declared.row.Row.{Row}
 use Rattle.ub_tree.proofs.CallFacts.{one_falls}
 use Rattle.ub_tree.proofs.EffectFacts.{sound_stored}
-use Rattle.ub_tree.proofs.HoldingFacts.{on_seat}
-use Rattle.ub_tree.proofs.RemovalFacts.{IsHolder, seat_at}
+use Rattle.ub_tree.proofs.HoldingFacts.{on_region}
+use Rattle.ub_tree.proofs.RemovalFacts.{IsHolder, region_stands}
 use Rattle.ub_tree.proofs.RoomFacts.{found_row, number_free, rows_each}
 use Rattle.ub_tree.proofs.ShrinkFacts.{regions_put}
-use Rattle.ub_tree.proofs.TreeFacts.{contained_at, firsts_placed, region_get, seat_placed}
+use Rattle.ub_tree.proofs.TreeFacts.{contained_at, firsts_placed, region_get, placed_there}
 use Rattle.ub_tree.proofs.WayFacts.{falls_once}
 use Rattle.ub_tree.specs.Change.{IsInserted}
-use Rattle.ub_tree.specs.Effects.{IsNumberTaken}
-use Rattle.ub_tree.specs.Holding.{Answers, AnswersKey, AnswersSeat, GrowsAt}
+use Rattle.ub_tree.specs.Effects.{IsNumberTaken, IsTakenIn}
+use Rattle.ub_tree.specs.Holding.{Answers, AnswersKey, AnswersAt, GrowsAt}
 use Rattle.ub_tree.specs.Opened.{IsPassing}
 use Rattle.ub_tree.specs.Others.{AddsEntry, KeepsEntries, WritesIndex, WritesPage}
 use Rattle.ub_tree.specs.Placed.{entry_of, regions_in}
@@ -41,32 +40,32 @@ use Rattle.ub_tree.specs.Told.{FallsTo, IsRegionOf, KeepsTold}
 use Rattle.ub_tree.specs.View.{TreeView, IsSound, region_count, regions}
 use Rattle.ub_tree.specs.declared.fault.TreeFault.{TreeFault}
 use Rattle.ub_tree.specs.declared.fault.TreeFault.TheVariants.{Page, Store}
-use Rattle.ub_tree.specs.inner.Change.{IsElsewhereSame, IsOnSeat, IsPut, IsSeatIn, IsSplitAt, IsStored, KeepsGrown, StoresAt, Writes, placed_with, regions_with, split_of}
+use Rattle.ub_tree.specs.inner.Change.{IsElsewhereSame, IsPut, IsRegionIn, IsSplitAt, IsStored, KeepsGrown, StoresAt, Writes, placed_with, regions_with, split_of}
 use Rattle.ub_writing.specs.Marks.{HasMark}
 use Rattle.ub_zaddr.specs.Address.{last_address}
 
 -- rows that stand in place of a region's are one region, or two
-module _ (old new : TreeView) (i : ℕ) (seat : Seat) (rows : List Row) where
+module _ (old new : TreeView) (i : ℕ) (span : Span) (rows : List Row) where
   pub one_stored : (r : Result (Unit {0}) TreeFault) → nat_le (length rows) old.schema.page_rows ≡ true
-      → OnOk r (IsStored new × (new.placed ≡ placed_with i (record { page = seat.page; region = record { first = seat.first; rows = rows } } ∷ []) old.placed)) → KeepsGrown old new
-      → OnOk r (IsStored new × (regions new ≡ regions_with i (split_of old.schema seat.first rows) (regions old)) × KeepsGrown old new)
+      → OnOk r (IsStored new × (new.placed ≡ placed_with i (record { page = span.page; region = record { first = span.first; rows = rows } } ∷ []) old.placed)) → KeepsGrown old new
+      → OnOk r (IsStored new × (regions new ≡ regions_with i (split_of old.schema span.first rows) (regions old)) × KeepsGrown old new)
   one_stored (Err e) fits h keeps = tt
   one_stored (Ok x) fits h keeps = (
     h.0,
-    ap regions_in h.1 ∙ regions_put i (record { page = seat.page; region = record { first = seat.first; rows = rows } } ∷ []) old.placed ∙ rw fits refl,
+    ap regions_in h.1 ∙ regions_put i (record { page = span.page; region = record { first = span.first; rows = rows } } ∷ []) old.placed ∙ rw fits refl,
     keeps,
   )
 
   abbrev halves : Halves
   halves = split old.schema.dims old.schema.page_rows rows
 
-  pub two_stored : (r : Result (Unit {0}) TreeFault) → nat_le (length rows) old.schema.page_rows ≡ false → OnOk r (IsStored new × IsSplitAt i seat halves old new × KeepsGrown old new)
-      → OnOk r (IsStored new × (regions new ≡ regions_with i (split_of old.schema seat.first rows) (regions old)) × KeepsGrown old new)
+  pub two_stored : (r : Result (Unit {0}) TreeFault) → nat_le (length rows) old.schema.page_rows ≡ false → OnOk r (IsStored new × IsSplitAt i span halves old new × KeepsGrown old new)
+      → OnOk r (IsStored new × (regions new ≡ regions_with i (split_of old.schema span.first rows) (regions old)) × KeepsGrown old new)
   two_stored (Err e) over h = tt
   two_stored (Ok x) over h = (
     h.0,
     ap regions_in h.1.1
-        ∙ regions_put i (record { page = seat.page; region = record { first = seat.first; rows = halves.left } } ∷ record { page = h.1.0; region = record { first = halves.first; rows = halves.right } } ∷ []) old.placed
+        ∙ regions_put i (record { page = span.page; region = record { first = span.first; rows = halves.left } } ∷ record { page = h.1.0; region = record { first = halves.first; rows = halves.right } } ∷ []) old.placed
         ∙ rw over refl,
     h.2,
   )
@@ -83,31 +82,31 @@ insert_at_index dims c row rs index r at is =
     rw (← is) (rw (drop_at rs index r at) (sym (append_assoc (take index rs) (split_region dims c (record { first = r.first; rows = insert_row dims row r.rows })) (drop (suc index) rs))))
 
 -- a row was put into a sound tree
-pub grown : (a b after d : TreeView) (row : Row) (seat : Seat) (read : List Row) → IsHolder a (key_of a.schema.dims row) seat read → b ≡ a → IsRow a.schema.dims (measures_of a.schema) row
+pub grown : (a b after d : TreeView) (row : Row) (span : Span) (read : List Row) → IsHolder a (key_of a.schema.dims row) span read → b ≡ a → IsRow a.schema.dims (measures_of a.schema) row
     → row.number ≡ a.next → a.next ≢ 16777216 → IsElsewhereSame b after → (IsSound b → after.is_changed ≡ true → HasMark b.schema after.store.pages) → after.inner.index.last ≡ last_address after.schema.dims
     → region_count after < 2 ^ 32 → d ≡ record after { next = after.next + 1; rows = after.rows + 1 }
-    → ((i : ℕ) → IsStored b → IsSeatIn b i seat → AllByRecursion (IsRegion b.schema) (split_of b.schema seat.first (insert_row b.schema.dims row read))
-    → IsStored after × (regions after ≡ regions_with i (split_of b.schema seat.first (insert_row b.schema.dims row read)) (regions b)) × KeepsGrown b after)
+    → ((i : ℕ) → IsStored b → IsRegionIn b i span → AllByRecursion (IsRegion b.schema) (split_of b.schema span.first (insert_row b.schema.dims row read))
+    → IsStored after × (regions after ≡ regions_with i (split_of b.schema span.first (insert_row b.schema.dims row read)) (regions b)) × KeepsGrown b after)
     → IsSound a → IsInserted row a d
-grown a b after d row seat read h same good number not_last changed marks last few counted written sound =
+grown a b after d row span read h same good number not_last changed marks last few counted written sound =
     let dims = a.schema.dims in
     let key = key_of dims row in
     let whole : after ≡ record a { placed = after.placed; store = after.store; is_changed = true; inner = after.inner } =
     changed ∙ ap (λ (v : TreeView). record v { placed = after.placed; store = after.store; is_changed = true; inner = after.inner }) same in
     let i = index_holding key (first_keys (map entry_of a.placed)) in
-    let at = seat_at a key seat read h sound in
-    let there = seat_placed a.placed i seat at in
+    let at = region_stands a key span read h sound in
+    let there = placed_there a.placed i span at in
     let read_is : read ≡ there.0.region.rows = h.rows_are i there.0 sound.honest at there.1 in
-    let news = split_of a.schema seat.first (insert_row dims row read) in
+    let news = split_of a.schema span.first (insert_row dims row read) in
     let is : insert dims a.schema.page_rows row (regions a) ≡ regions_with i news (regions a) =
     insert_at_index dims a.schema.page_rows row (regions a) i there.0.region (region_get a.placed i there.0 there.1) (ap (index_holding key) (firsts_placed a.placed))
     ∙ ap (λ (k : Key). regions_with i (split_of a.schema k (insert_row dims row there.0.region.rows)) (regions a)) there.3
-    ∙ ap (λ (rs : List Row). regions_with i (split_of a.schema seat.first (insert_row dims row rs)) (regions a)) (sym read_is) in
+    ∙ ap (λ (rs : List Row). regions_with i (split_of a.schema span.first (insert_row dims row rs)) (regions a)) (sym read_is) in
     let kept = insert_keeps a.schema a.next row (regions a) sound.regions_are good number in
     let each : AllByRecursion (IsRegion a.schema) (take i (regions a) ++ news ++ drop (suc i) (regions a)) = subst (AllByRecursion (IsRegion a.schema)) is kept.0.each in
     let news_are = all_right (IsRegion a.schema) (take i (regions a)) news (all_left (IsRegion a.schema) (take i (regions a) ++ news) (drop (suc i) (regions a)) each) in
-    let at_a = subst (λ (v : TreeView). (j : ℕ) → IsStored v → IsSeatIn v j seat → AllByRecursion (IsRegion v.schema) (split_of v.schema seat.first (insert_row v.schema.dims row read))
-    → IsStored after × (regions after ≡ regions_with j (split_of v.schema seat.first (insert_row v.schema.dims row read)) (regions v)) × KeepsGrown v after) same written in
+    let at_a = subst (λ (v : TreeView). (j : ℕ) → IsStored v → IsRegionIn v j span → AllByRecursion (IsRegion v.schema) (split_of v.schema span.first (insert_row v.schema.dims row read))
+    → IsStored after × (regions after ≡ regions_with j (split_of v.schema span.first (insert_row v.schema.dims row read)) (regions v)) × KeepsGrown v after) same written in
     let both = at_a i (sound_stored a sound) at news_are in
     let stored : IsStored (record a { placed = after.placed; store = after.store; is_changed = true; inner = after.inner }) = subst IsStored whole both.0 in
     let are : regions_in after.placed ≡ insert dims a.schema.page_rows row (regions a) = both.1 ∙ sym is in
@@ -146,21 +145,21 @@ grown a b after d row seat read h same good number not_last changed marks last f
 
 -- the counts of a tree say nothing of its regions and pages
 told_more : (t : TreeView) (next rows : ℕ) (region : Span) → IsRegionOf t region → IsRegionOf (record t { next = next; rows = rows }) region
-told_more t next rows region h = record { key = h.key; seat = h.seat; falls = h.falls; region_is = h.region_is }
+told_more t next rows region h = record { key = h.key; falls = h.falls }
 
 told_less : (t : TreeView) (next rows : ℕ) (region : Span) → IsRegionOf (record t { next = next; rows = rows }) region → IsRegionOf t region
-told_less t next rows region h = record { key = h.key; seat = h.seat; falls = h.falls; region_is = h.region_is }
+told_less t next rows region h = record { key = h.key; falls = h.falls }
 
 -- the tree with one row more counted
 abbrev counted_more : TreeView → TreeView
 counted_more t = record t { next = t.next + 1; rows = t.rows + 1 }
 
 -- where a row was put, which then is counted
-pub grows_by : (a b mid d : TreeView) (key : Key) (seat : Seat) (read : Region) → b ≡ a → d ≡ record mid { next = mid.next + 1; rows = mid.rows + 1 } → FallsTo a key seat
-    → (IsHonest b.store → (r : Region) → IsOnSeat b seat r → read ≡ r) → length read.rows ≤ b.schema.page_rows → StoresAt seat (length read.rows) b mid → GrowsAt key a d
-grows_by a b mid d key seat read same counted falls taken few h =
+pub grows_by : (a b mid d : TreeView) (key : Key) (span : Span) (read : Region) → b ≡ a → d ≡ record mid { next = mid.next + 1; rows = mid.rows + 1 } → FallsTo a key span
+    → (IsHonest b.store → (r : Region) → IsTakenIn b span r → read ≡ r) → length read.rows ≤ b.schema.page_rows → StoresAt span (length read.rows) b mid → GrowsAt key a d
+grows_by a b mid d key span read same counted falls taken few h =
     subst (λ (v : TreeView). GrowsAt key a v) (sym counted)
-    (subst (λ (v : TreeView). FallsTo v key seat → GrowsAt key v (counted_more mid)) same by_b falls)
+    (subst (λ (v : TreeView). FallsTo v key span → GrowsAt key v (counted_more mid)) same by_b falls)
   where
     kept : KeepsEntries b mid → KeepsEntries b (counted_more mid)
     kept k = (
@@ -171,41 +170,41 @@ grows_by a b mid d key seat read same counted falls taken few h =
       k.1,
     )
 
-    added : AddsEntry seat.first b mid → AddsEntry seat.first b (counted_more mid)
+    added : AddsEntry span.first b mid → AddsEntry span.first b (counted_more mid)
     added k = k
 
-    others : (WritesPage seat.page b mid × KeepsEntries b mid) ⊎ (WritesIndex seat.page b mid × AddsEntry seat.first b mid)
-        → (WritesPage seat.page b (counted_more mid) × KeepsEntries b (counted_more mid)) ⊎ (WritesIndex seat.page b (counted_more mid) × AddsEntry seat.first b (counted_more mid))
+    others : (WritesPage span.page b mid × KeepsEntries b mid) ⊎ (WritesIndex span.page b mid × AddsEntry span.first b mid)
+        → (WritesPage span.page b (counted_more mid) × KeepsEntries b (counted_more mid)) ⊎ (WritesIndex span.page b (counted_more mid) × AddsEntry span.first b (counted_more mid))
     others (inl k) = inl (k.0, kept k.1)
     others (inr k) = inr (k.0, added k.1)
 
-    by_b : FallsTo b key seat → GrowsAt key b (counted_more mid)
+    by_b : FallsTo b key span → GrowsAt key b (counted_more mid)
     by_b here = record {
-      seat = seat;
+      span = span;
       falls = here;
       others = others h.others;
-      full = λ page region honest into full. added (h.full (ap (λ (r : Region). length r.rows) (taken honest region (on_seat b key page region seat honest into here).0) ∙ full));
-      spare = λ page region honest into spare. kept (h.spare (subst (λ (r : Region). length r.rows < b.schema.page_rows) (sym (taken honest region (on_seat b key page region seat honest into here).0)) spare));
+      full = λ page region honest into full. added (h.full (ap (λ (r : Region). length r.rows) (taken honest region (on_region b key page region span honest into here).0) ∙ full));
+      spare = λ page region honest into spare. kept (h.spare (subst (λ (r : Region). length r.rows < b.schema.page_rows) (sym (taken honest region (on_region b key page region span honest into here).0)) spare));
     }
 
--- the key of a new row stands in the region on a seat already
-pub key_there : (t : TreeView) (key : Key) (seat : Seat) (region : Region) → FallsTo t key seat → IsOnSeat t seat region
-    → key.number ≡ t.next → has_key t.schema.dims key region.rows ≡ true → IsHolder t key seat region.rows → (¬ (IsSound t)) × IsNumberTaken t seat.page
-key_there t key seat region falls on number has h = (
+-- the key of a new row stands in the region on a span already
+pub key_there : (t : TreeView) (key : Key) (span : Span) (region : Region) → FallsTo t key span → IsTakenIn t span region
+    → key.number ≡ t.next → has_key t.schema.dims key region.rows ≡ true → IsHolder t key span region.rows → (¬ (IsSound t)) × IsNumberTaken t span.page
+key_there t key span region falls on number has h = (
   λ sound.
       let i = index_holding key (first_keys (map entry_of t.placed)) in
-      let at = seat_at t key seat region.rows h sound in
-      let there = seat_placed t.placed i seat at in
+      let at = region_stands t key span region.rows h sound in
+      let there = placed_there t.placed i span at in
       let read_is : region.rows ≡ there.0.region.rows = h.rows_are i there.0 sound.honest at there.1 in
       let less = rows_each (λ row. row.number < t.next) (regions t) i there.0.region (region_get t.placed i there.0 there.1) sound.regions_are.numbered in
       number_free t.schema.dims key there.0.region.rows (subst (λ (n : ℕ). AllByRecursion (λ row. row.number < n) there.0.region.rows) (sym number) less)
       (subst (λ (rs : List Row). has_key t.schema.dims key rs ≡ true) read_is has),
   (let found = found_row t.schema.dims key region.rows has in (
-    region_of t.inner.index.last seat,
-    record { key = key; seat = seat; falls = falls; region_is = refl },
+    span,
+    record { key = key; falls = falls },
     refl,
     region,
-    (on.is, on.held, on.page),
+    on,
     found.0,
     contained_at (λ (_ : Row). Unit {0}) region.rows found.1 found.0 found.2,
     found.3 ∙ number,
@@ -272,59 +271,59 @@ full_way_to last pages key other (suc level) entry end found next (named, below,
         before_le other first.0 x.first sooner (ends_to last pages key level below beyond found next leads first.0 x.first first.1 e)
 
 -- the same answer of another call
-pub seat_answers_err : {U A : Type 0} (IsFull : Type 0) (t : TreeView) (seat : Seat) (r : Result A TreeFault) (e : TreeFault) → IsErrAnd r (λ x. x ≡ e) → AnswersSeat {A = U} IsFull t seat (Err e) → AnswersSeat IsFull t seat r
-seat_answers_err {U} {A} IsFull t seat (Ok x) e is h = absurd is
-seat_answers_err {U} {A} IsFull t seat (Err f) e is h = subst (λ (x : TreeFault). AnswersSeat {A = A} IsFull t seat (Err x)) (sym is) (
+pub answers_err_at : {U A : Type 0} (IsFull : Type 0) (t : TreeView) (span : Span) (r : Result A TreeFault) (e : TreeFault) → IsErrAnd r (λ x. x ≡ e) → AnswersAt {A = U} IsFull t span (Err e) → AnswersAt IsFull t span r
+answers_err_at {U} {A} IsFull t span (Ok x) e is h = absurd is
+answers_err_at {U} {A} IsFull t span (Err f) e is h = subst (λ (x : TreeFault). AnswersAt {A = A} IsFull t span (Err x)) (sym is) (
   λ full many. (let told = h.0 full many in let same : e ≡ Page 0 BadCount = cc in ap (λ (x : TreeFault). Err x) same),
   λ honest falls page fault told. (let same : e ≡ Page page fault = cc in h.1 honest falls page fault (ap (λ (x : TreeFault). Err x) same)),
   h.2,
 )
 
-pub seat_answers_ok : {U A : Type 0} (IsFull : Type 0) (t : TreeView) (seat : Seat) (x : U) (y : A) → AnswersSeat {A = U} IsFull t seat (Ok x) → AnswersSeat {A = A} IsFull t seat (Ok y)
-seat_answers_ok IsFull t seat x y h = (
+pub answers_ok_at : {U A : Type 0} (IsFull : Type 0) (t : TreeView) (span : Span) (x : U) (y : A) → AnswersAt {A = U} IsFull t span (Ok x) → AnswersAt {A = A} IsFull t span (Ok y)
+answers_ok_at IsFull t span x y h = (
   λ full many. (let told = h.0 full many in cc),
   λ honest falls page fault told. cc,
   λ honest falls full few levels way. h.2 honest falls full few levels way,
 )
 
 -- the region that the key falls into was read, and hasn't the key
-pub added_answers : {A : Type 0} (a b : TreeView) (key : Key) (seat : Seat) (read : Region) (r : Result A TreeFault) → b ≡ a → FallsTo a key seat
-    → (IsHonest b.store → (q : Region) → IsOnSeat b seat q → read ≡ q) → has_key a.schema.dims key read.rows ≡ false → AnswersSeat (length read.rows ≡ b.schema.page_rows) b seat r
+pub added_answers : {A : Type 0} (a b : TreeView) (key : Key) (span : Span) (read : Region) (r : Result A TreeFault) → b ≡ a → FallsTo a key span
+    → (IsHonest b.store → (q : Region) → IsTakenIn b span q → read ≡ q) → has_key a.schema.dims key read.rows ≡ false → AnswersAt (length read.rows ≡ b.schema.page_rows) b span r
     → IsHonest a.store → AnswersKey a key r
-added_answers {A} a b key seat read r same to taken none answers honest number region into =
-    let on = on_seat a key number region seat honest into to in
-    let taken_a = subst (λ (v : TreeView). IsHonest v.store → (q : Region) → IsOnSeat v seat q → read ≡ q) same taken in
+added_answers {A} a b key span read r same to taken none answers honest number region into =
+    let on = on_region a key number region span honest into to in
+    let taken_a = subst (λ (v : TreeView). IsHonest v.store → (q : Region) → IsTakenIn v span q → read ≡ q) same taken in
     let read_is : read ≡ region = taken_a honest region on.0 in
-    let h = subst (λ (v : TreeView). AnswersSeat (length read.rows ≡ v.schema.page_rows) v seat r) same answers in
-    let one : seat ≡ into.seat = one_falls a key seat into.seat honest to into.falls in
-    let sure_key : FallsTo a key seat = subst (λ (s : Seat). FallsTo a key s) (sym one) into.falls in
+    let h = subst (λ (v : TreeView). AnswersAt (length read.rows ≡ v.schema.page_rows) v span r) same answers in
+    let one : span ≡ into.span = one_falls a key span into.span honest to into.falls in
+    let sure_key : FallsTo a key span = subst (λ (s : Span). FallsTo a key s) (sym one) into.falls in
     let leads = sure_key.way honest in
-    let holds = ways_hold a.inner.index a.store key seat leads in
-    let sure : FallsTo a seat.first seat = record { holds = holds.1; way = λ _. holds.2 seat.first holds.1 } in
+    let holds = ways_hold a.inner.index a.store key span leads in
+    let sure : FallsTo a span.first span = record { holds = holds.1; from = sure_key.from; to = sure_key.to; way = λ _. holds.2 span.first holds.1 } in
     let here : has_key a.schema.dims key region.rows ≡ false = subst (λ (q : Region). has_key a.schema.dims key q.rows ≡ false) read_is none in
     let long : length read.rows ≡ length region.rows = ap (λ (q : Region). length q.rows) read_is in (
       λ has. absurd (let bad : true ≡ false = sym has ∙ here in cc),
       λ free full many. subst (λ (q : Result A TreeFault). Answers q (Page 0 BadCount)) (sym (h.0 (long ∙ full) many)) (inl refl),
       λ free page fault told. (let only = h.1 honest sure page fault told in (sym long ∙ only.0, only.1)),
       λ free full few levels way. h.2 honest sure (long ∙ full) few levels
-          (full_way_to a.inner.index.last a.store.pages key seat.first a.inner.index.levels (top a.inner.index.root) None (record { first = seat.first; page = seat.page }) seat.next leads holds.1 way),
+          (full_way_to a.inner.index.last a.store.pages key span.first a.inner.index.levels (top a.inner.index.root) None (entry_at span) span.next leads holds.1 way),
     )
 
--- the region of a seat whose page had room was put on it
-pub put_at : {T : Type 0} (r : Result T TreeFault) (old new : TreeView) (seat : Seat) (count : ℕ) → count ≢ old.schema.page_rows → OnOk r (IsPut old new) → OnOk r (KeepsTold old new) → Writes seat old new r
-    → OnOk r (StoresAt seat count old new)
-put_at (Err e) old new seat count room put told writes = tt
-put_at (Ok x) old new seat count room put told writes = record {
+-- the region of a span whose page had room was put on it
+pub put_at : {T : Type 0} (r : Result T TreeFault) (old new : TreeView) (span : Span) (count : ℕ) → count ≢ old.schema.page_rows → OnOk r (IsPut old new) → OnOk r (KeepsTold old new) → Writes span old new r
+    → OnOk r (StoresAt span count old new)
+put_at (Err e) old new span count room put told writes = tt
+put_at (Ok x) old new span count room put told writes = record {
   same = put ∙ ap (λ (v : TreeView). record old { placed = new.placed; store = new.store; is_changed = true; inner = v.inner }) (sym put);
   others = inl (writes.kept, (told, writes.count));
   full = λ full. absurd (room full);
   spare = λ less. (told, writes.count);
 }
 
--- what a seat answers where its region isn't full, and only the device can fail
-pub spared_answers : {A : Type 0} (F : Type 0) (t : TreeView) (seat : Seat) (r : Result A TreeFault) → (F → ⊥) → IfErr r (λ fault. fault ≡ Store store.Device) → AnswersSeat F t seat r
-spared_answers F t seat (Ok x) room device = (λ full many. absurd (room full), λ honest falls page fault told. cc, λ honest falls full few levels way. absurd (room full))
-spared_answers F t seat (Err e) room device = (
+-- what a span answers where its region isn't full, and only the device can fail
+pub spared_answers : {A : Type 0} (F : Type 0) (t : TreeView) (span : Span) (r : Result A TreeFault) → (F → ⊥) → IfErr r (λ fault. fault ≡ Store store.Device) → AnswersAt F t span r
+spared_answers F t span (Ok x) room device = (λ full many. absurd (room full), λ honest falls page fault told. cc, λ honest falls full few levels way. absurd (room full))
+spared_answers F t span (Err e) room device = (
   λ full many. absurd (room full),
   λ honest falls page fault told.
       let same : e ≡ Page page fault = cc in
@@ -334,8 +333,8 @@ spared_answers F t seat (Err e) room device = (
 )
 
 -- and where it is full
-pub filled_answers : {A : Type 0} (F : Type 0) (t : TreeView) (seat : Seat) (r : Result A TreeFault) → F → AnswersSeat (Unit {0}) t seat r → AnswersSeat F t seat r
-filled_answers F t seat r full h = (
+pub filled_answers : {A : Type 0} (F : Type 0) (t : TreeView) (span : Span) (r : Result A TreeFault) → F → AnswersAt (Unit {0}) t span r → AnswersAt F t span r
+filled_answers F t span r full h = (
   λ is many. h.0 tt many,
   λ honest falls page fault told. (full, (h.1 honest falls page fault told).1),
   λ honest falls is. h.2 honest falls tt,

@@ -133,12 +133,12 @@ module _ (schema : Schema) (index : IndexView) (count next rows : ℕ) (changed 
     count = refl;
     told = λ region is. record {
       key = is.key;
-      seat = is.seat;
       falls = record {
         holds = is.falls.holds;
-        way = λ honest. (let was = sym honesty ∙ honest in (ways_stay index old.store new.store is.key is.seat (λ m lt out. grows.kept was m lt)).0 (is.falls.way was));
+        from = is.falls.from;
+        to = is.falls.to;
+        way = λ honest. (let was = sym honesty ∙ honest in (ways_stay index old.store new.store is.key region (λ m lt out. grows.kept was m lt)).0 (is.falls.way was));
       };
-      region_is = is.region_is;
     };
   }
 

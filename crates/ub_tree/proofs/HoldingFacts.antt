@@ -8,7 +8,7 @@ use Rattle.std.proofs.lemmas.Option.{slice_get_within}
 use Rattle.std.specs.List.{AllByRecursion, list_any}
 use Rattle.std.specs.Result.{IsErrAnd, IsErrOf}
 use Rattle.ub_index.specs.Preparing.{HasFullWay}
-use Rattle.ub_index.specs.declared.seat.Seat.{Seat}
+use Rattle.ub_region.specs.declared.region.Region.{Region as Span}
 use Rattle.ub_index_page.specs.declared.index.TheConstants.{MAX_LEVEL}
 use Rattle.ub_region.proofs.Laws.{all_append}
 use Rattle.ub_region.specs.Rows.{has_key}
@@ -33,7 +33,7 @@ use Rattle.ub_tree.specs.Told.{FallsTo}
 use Rattle.ub_tree.specs.View.{TreeView, IsSound, region_count}
 use Rattle.ub_tree.specs.declared.fault.TreeFault.{TreeFault}
 use Rattle.ub_tree.specs.declared.fault.TreeFault.TheVariants.{Page}
-use Rattle.ub_tree.specs.inner.Change.{IsOnSeat}
+use Rattle.ub_tree.specs.Effects.{IsTakenIn}
 
 each_below : (n q : ℕ) (xs : List ℕ) → AllByRecursion (λ m. m < n) xs → list_any (nat_eq q) xs ≡ true → q < n
 each_below n q [] all t = cc
@@ -61,11 +61,11 @@ never_full t small many sound =
     let count = sound.count_is in
     absurd (omega arith)
 
--- the region that a key falls into is that of the seat to which it falls
-pub on_seat : (t : TreeView) (key : Key) (page : ℕ) (region : Region) (seat : Seat) → IsHonest t.store → FallsInto t key page region → FallsTo t key seat → IsOnSeat t seat region × (seat.page ≡ page)
-on_seat t key page region seat honest h falls =
-    subst (λ (s : Seat). IsOnSeat t s region × (s.page ≡ page)) (sym (one_falls t key seat h.seat honest falls h.falls))
-    (record { is = h.taken.0; held = h.taken.1; page = h.taken.2 }, h.page_is)
+-- the region that a key falls into is that of the span to which it falls
+pub on_region : (t : TreeView) (key : Key) (page : ℕ) (region : Region) (span : Span) → IsHonest t.store → FallsInto t key page region → FallsTo t key span → IsTakenIn t span region × (span.page ≡ page)
+on_region t key page region span honest h falls =
+    subst (λ (s : Span). IsTakenIn t s region × (s.page ≡ page)) (sym (one_falls t key span h.span honest falls h.falls))
+    (h.taken, h.page_is)
 
 -- a read that failed, of a page that is there
 pub passing_read : (U : Type 0) (fault : StoreFault) → (IsErrOf {T = U} (Err fault) store.NoPage → ⊥) → (¬ (IsErrOf {T = U} (Err fault) store.BadSize)) → IsPassing (tree_fault fault)
@@ -115,15 +115,15 @@ pub no_answer : {A : Type 0} (r : Result A TreeFault) (e : TreeFault) (P : A →
 no_answer (Ok x) e P is = absurd is
 no_answer (Err f) e P is = tt
 
--- a seat was found, the tree is as it was, and the rows of its region are read where its page spells it
-module _ (a b : TreeView) (key : Key) (seat : Seat) (same : b ≡ a) (to : FallsTo a key seat) where
-  falls_on : IsHonest a.store → (page : ℕ) (region : Region) → FallsInto a key page region → IsHonest b.store × IsOnSeat b seat region × (seat.page ≡ page)
+-- a span was found, the tree is as it was, and the rows of its region are read where its page spells it
+module _ (a b : TreeView) (key : Key) (span : Span) (same : b ≡ a) (to : FallsTo a key span) where
+  falls_on : IsHonest a.store → (page : ℕ) (region : Region) → FallsInto a key page region → IsHonest b.store × IsTakenIn b span region × (span.page ≡ page)
   falls_on honest page region falls =
-      let on = on_seat a key page region seat honest falls to in
-      (subst (λ (v : TreeView). IsHonest v.store) (sym same) honest, subst (λ (v : TreeView). IsOnSeat v seat region) (sym same) on.0, on.1)
+      let on = on_region a key page region span honest falls to in
+      (subst (λ (v : TreeView). IsHonest v.store) (sym same) honest, subst (λ (v : TreeView). IsTakenIn v span region) (sym same) on.0, on.1)
 
   -- where it can't be read
-  pub unread_key : {A : Type 0} (r : Result A TreeFault) (e : TreeFault) → IsErrAnd r (λ x. x ≡ e) → (IsHonest b.store → (q : Region) → IsOnSeat b seat q → IsPassing e)
+  pub unread_key : {A : Type 0} (r : Result A TreeFault) (e : TreeFault) → IsErrAnd r (λ x. x ≡ e) → (IsHonest b.store → (q : Region) → IsTakenIn b span q → IsPassing e)
       → IsHonest a.store → AnswersKey a key r
   unread_key r e told taken honest page region falls =
       let on = falls_on honest page region falls in
@@ -134,15 +134,15 @@ module _ (a b : TreeView) (key : Key) (seat : Seat) (same : b ≡ a) (to : Falls
         λ none full few levels way. passing_no_room r e told passing,
       )
 
-  pub unread_removal : (r : Result Bool TreeFault) (e : TreeFault) → IsErrAnd r (λ x. x ≡ e) → (IsHonest b.store → (q : Region) → IsOnSeat b seat q → IsPassing e)
+  pub unread_removal : (r : Result Bool TreeFault) (e : TreeFault) → IsErrAnd r (λ x. x ≡ e) → (IsHonest b.store → (q : Region) → IsTakenIn b span q → IsPassing e)
       → IsHonest a.store → AnswersRemoval a key r
   unread_removal r e told taken honest page region falls =
       let on = falls_on honest page region falls in
       let passing = taken on.0 region on.1 in
       (λ has none. passing_answers r e _ told passing, λ none. passing_fault r e told passing, no_answer r e _ told)
 
-  module _ (rows : List Row) (taken : IsHonest b.store → (q : Region) → IsOnSeat b seat q → rows ≡ q.rows) where
-    pub key_is_there : (A : Type 0) (number : ℕ) → number ≡ seat.page → has_key a.schema.dims key rows ≡ true → IsHonest a.store → AnswersKey {A = A} a key (Err (Page number BadOrder))
+  module _ (rows : List Row) (taken : IsHonest b.store → (q : Region) → IsTakenIn b span q → rows ≡ q.rows) where
+    pub key_is_there : (A : Type 0) (number : ℕ) → number ≡ span.page → has_key a.schema.dims key rows ≡ true → IsHonest a.store → AnswersKey {A = A} a key (Err (Page number BadOrder))
     key_is_there A number at there honest there_page region falls =
         let on = falls_on honest there_page region falls in
         let read = taken on.0 region on.1 in

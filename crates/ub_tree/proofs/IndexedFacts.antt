@@ -4,19 +4,16 @@ use Rattle.std.proofs.lemmas.Option.{slice_get_within}
 use Rattle.std.specs.List.{Contains, IsDistinct}
 use Rattle.ub_bigmin.specs.Box.{Corners, HoldsAny}
 use Rattle.ub_bigmin.specs.Extremes.{LeastFrom}
-use Rattle.ub_index.proofs.Laws.{region_is, region_with}
 use Rattle.ub_index.specs.Spans.{First, IsLater, Meets, first_keys, regions_of}
 use Rattle.ub_region.specs.declared.region.Region.{Region as Span}
-use Rattle.ub_index.proofs.FoundFacts.{meeting_given}
+use Rattle.ub_index.proofs.FoundFacts.{meeting_given, region_there}
 use Rattle.ub_index.proofs.LeadFacts.{led_to, ways_hold}
-use Rattle.ub_index.proofs.WayFacts.{seat_is}
+use Rattle.ub_index.proofs.WayFacts.{way_ends_at}
 use Rattle.ub_index.specs.Preparing.{IsReachedOnce}
 use Rattle.ub_index.specs.Searching.{GivesAfter, end_before, region_of}
-use Rattle.ub_index.specs.View.{IndexView, IsIndexOn, IsSeatAt, entries_in}
-use Rattle.ub_index.specs.declared.seat.Seat.{Seat}
+use Rattle.ub_index.specs.View.{IndexView, IsIndexOn, IsRegionAt, entries_in}
 use Rattle.ub_page.specs.declared.entries.Entry.{Entry}
 use Rattle.ub_region.specs.Regions.{index_holding}
-use Rattle.ub_region.specs.Spans.{span_end}
 use Rattle.ub_store.specs.Facts.{StoreFacts, IsHonest}
 use Rattle.ub_table.specs.declared.row.Key.{Key}
 use Rattle.ub_index.proofs.Numbers.{distinct_left}
@@ -26,7 +23,7 @@ use Rattle.ub_tree.specs.Indexed.{HasIndex, reserved}
 use Rattle.ub_tree.specs.Placed.{entry_of}
 use Rattle.ub_tree.specs.Told.{FallsTo, IsRegionOf}
 use Rattle.ub_tree.specs.View.{TreeView, IsSound, spans_of}
-use Rattle.ub_tree.specs.inner.Change.{IsSeatIn}
+use Rattle.ub_tree.specs.inner.Change.{IsRegionIn}
 use Rattle.ub_zaddr.specs.Address.{last_address}
 
 -- the index of a tree stands on its store
@@ -36,19 +33,6 @@ index_on index store entries honest h = record { honest = honest; some = h.some;
 -- each of its pages is reached once
 pub reached_once : (index : IndexView) (store : StoreFacts) (numbers : List ℕ) → IsDistinct nat_eq (reserved index store.pages ++ numbers) → IsReachedOnce index store
 reached_once index store numbers own = distinct_left (reserved index store.pages) numbers own
-
--- the region of a seat among the regions
-pub seat_region : (last : ℕ) (entries : List Entry) (i : ℕ) (seat : Seat) → IsSeatAt entries i seat → slice_get (regions_of last entries) i ≡ Some (region_of last seat)
-seat_region last entries i seat at =
-    region_is last entries i (record { first = seat.first; page = seat.page }) at.entry
-    ∙ (ap (λ (to : ℕ). Some (region_with to (slice_get (first_keys entries) (suc i)) (record { first = seat.first; page = seat.page }))) (end_is entries (suc i) ∙ ap (end_before last) (sym at.next))
-    ∙ ap (λ (next : Option Key). Some (region_with (end_before last seat.next) next (record { first = seat.first; page = seat.page }))) (sym at.next))
-  where
-    end_is : (es : List Entry) (j : ℕ) → span_end last (first_keys (drop j es)) ≡ end_before last (slice_get (first_keys es) j)
-    end_is [] zero = refl
-    end_is [] (suc j) = refl
-    end_is (e ∷ es) zero = refl
-    end_is (e ∷ es) (suc j) = end_is es j
 
 -- what is given after a region is the first later one of the index that meets the boxes
 pub first_given : (index : IndexView) (store : StoreFacts) → IsIndexOn index store → (boxes : List Corners) (after found : Option Span)
@@ -63,24 +47,23 @@ module _ (t : TreeView) (sound : IsSound t) where
   pub spans_told : regions_of t.inner.index.last (entries_in t.inner.index t.store) ≡ spans_of t
   spans_told = ap (λ (last : ℕ). regions_of last (entries_in t.inner.index t.store)) sound.last_is ∙ ap (regions_of (last_address t.schema.dims)) sound.indexed.entries_are
 
-  -- the seat to which a key falls is that of the region which holds it
-  pub seat_of_key : (key : Key) (seat : Seat) → FallsTo t key seat → IsSeatIn t (index_holding key (first_keys (map entry_of t.placed))) seat
-  seat_of_key key seat falls =
-      subst (λ (es : List Entry). IsSeatAt es (index_holding key (first_keys es)) seat) sound.indexed.entries_are (seat_is t.inner.index t.store key seat sound_index (falls.way sound.honest))
+  -- the region to which a key falls is that which holds it
+  pub at_of_key : (key : Key) (span : Span) → FallsTo t key span → IsRegionIn t (index_holding key (first_keys (map entry_of t.placed))) span
+  at_of_key key span falls =
+      subst (λ (es : List Entry). IsRegionAt es (index_holding key (first_keys es)) span) sound.indexed.entries_are (way_ends_at t.inner.index t.store key span sound_index (falls.way sound.honest))
 
-  -- and to each seat its own first key falls, on a way on which each page fits
-  pub first_falls : (i : ℕ) (seat : Seat) → IsSeatIn t i seat → FallsTo t seat.first seat
-  first_falls i seat at =
-      let leads = led_to t.inner.index t.store i seat sound_index (subst (λ (es : List Entry). IsSeatAt es i seat) (sym sound.indexed.entries_are) at) in
-      let holds = ways_hold t.inner.index t.store seat.first seat leads in
-      record { holds = holds.1; way = λ honest. leads }
+  -- and to each region its own first key falls, on a way on which each page fits
+  pub first_falls : (i : ℕ) (span : Span) → IsRegionIn t i span → span.from ≡ span.first.z → span.to ≡ end_before t.inner.index.last span.next → FallsTo t span.first span
+  first_falls i span at from to =
+      let leads = led_to t.inner.index t.store i span sound_index (subst (λ (es : List Entry). IsRegionAt es i span) (sym sound.indexed.entries_are) at) in
+      let holds = ways_hold t.inner.index t.store span.first span leads in
+      record { holds = holds.1; from = from; to = to; way = λ honest. leads }
 
   pub told_contained : (span : Span) → IsRegionOf t span → Contains (spans_of t) span
   told_contained span told =
       let i = index_holding told.key (first_keys (map entry_of t.placed)) in
-      let at = seat_region t.inner.index.last (map entry_of t.placed) i told.seat (seat_of_key told.key told.seat told.falls) in
-      let here : slice_get (spans_of t) i ≡ Some span =
-      ap (λ (last : ℕ). slice_get (regions_of last (map entry_of t.placed)) i) (sym sound.last_is) ∙ (at ∙ ap (λ (r : Span). Some r) (sym told.region_is)) in
+      let at = region_there t.inner.index.last (map entry_of t.placed) i span (at_of_key told.key span told.falls) told.falls.from told.falls.to in
+      let here : slice_get (spans_of t) i ≡ Some span = ap (λ (last : ℕ). slice_get (regions_of last (map entry_of t.placed)) i) (sym sound.last_is) ∙ at in
       contains_at (spans_of t) i span here
 
   pub contained_told : (span : Span) → Contains (spans_of t) span → IsRegionOf t span
@@ -88,12 +71,13 @@ module _ (t : TreeView) (sound : IsSound t) where
       let i = there.0 in
       let at : slice_get (spans_of t) i ≡ Some span = contained (spans_of t) span there in
       let (e, entry_at, first, page, next) = span_entry (last_address t.schema.dims) (map entry_of t.placed) i span at in
-      let seat : Seat = record { first = e.first; page = e.page; next = slice_get (first_keys (map entry_of t.placed)) (suc i) } in
-      let seated : IsSeatIn t i seat = seat_there (map entry_of t.placed) i e entry_at in
-      let own = seat_region t.inner.index.last (map entry_of t.placed) i seat seated in
+      let told : Span = region_of t.inner.index.last e (slice_get (first_keys (map entry_of t.placed)) (suc i)) in
+      let placed : IsRegionIn t i told = there_at (map entry_of t.placed) i e entry_at in
+      let own = region_there t.inner.index.last (map entry_of t.placed) i told placed refl refl in
       let whole : slice_get (regions_of t.inner.index.last (map entry_of t.placed)) i ≡ Some span = ap (λ (last : ℕ). slice_get (regions_of last (map entry_of t.placed)) i) sound.last_is ∙ at in
-      record { key = seat.first; seat = seat; falls = first_falls i seat seated; region_is = (let both = sym whole ∙ own in cc) }
+      let same : told ≡ span = (let both = sym own ∙ whole in cc) in
+      subst (λ (s : Span). IsRegionOf t s) same (record { key = told.first; falls = first_falls i told placed refl refl })
     where
-      seat_there : (entries : List Entry) (i : ℕ) (e : Entry) → slice_get entries i ≡ Some e
-          → IsSeatAt entries i (record { first = e.first; page = e.page; next = slice_get (first_keys entries) (suc i) })
-      seat_there entries i e at = record { within = slice_get_within entries i e at; entry = at; next = refl }
+      there_at : (entries : List Entry) (i : ℕ) (e : Entry) → slice_get entries i ≡ Some e
+          → IsRegionAt entries i (region_of t.inner.index.last e (slice_get (first_keys entries) (suc i)))
+      there_at entries i e at = record { within = slice_get_within entries i e at; entry = at; next = refl }

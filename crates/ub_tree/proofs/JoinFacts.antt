@@ -12,11 +12,11 @@ use Rattle.ub_index.specs.Changing.{AreOnce, IsOutside, IsUnspelled, Stand}
 use Rattle.ub_index.specs.Index.{pages_under, top}
 use Rattle.ub_index.specs.Lowering.{IsDropFault}
 use Rattle.ub_index.specs.Making.{IsPutFault, PutsSheets, changed}
-use Rattle.ub_index.specs.Preparing.{ChangeView, MakesIndex, entry_at}
-use Rattle.ub_index.specs.View.{IndexView, entries_in}
+use Rattle.ub_index.specs.Preparing.{ChangeView, MakesIndex}
+use Rattle.ub_index.specs.View.{IndexView, entries_in, entry_at}
 use Rattle.ub_index.specs.declared.fault.IndexFault.{IndexFault}
 use Rattle.ub_index.specs.declared.fault.IndexFault.TheVariants as index
-use Rattle.ub_index.specs.declared.seat.Seat.{Seat}
+use Rattle.ub_region.specs.declared.region.Region.{Region as Span}
 use Rattle.ub_index.specs.declared.sheet.Sheet.{Sheet}
 use Rattle.ub_page.specs.declared.entries.Entry.{Entry}
 use Rattle.ub_region.proofs.Laws.{all_more}
@@ -32,7 +32,7 @@ use Rattle.ub_table.specs.declared.row.Row.{Row}
 use Rattle.ub_table.specs.declared.schema.Schema.{Schema}
 use Rattle.ub_tree.proofs.DropFacts.{dropped_are, dropped_indexed, dropped_long, dropped_placed, dropped_regions}
 use Rattle.ub_tree.proofs.EffectFacts.{left_by, sound_stored, writes_both, writes_told}
-use Rattle.ub_tree.proofs.IndexedFacts.{seat_of_key}
+use Rattle.ub_tree.proofs.IndexedFacts.{at_of_key}
 use Rattle.ub_tree.proofs.PutFacts.{view_placed}
 use Rattle.ub_tree.proofs.RoomFacts.{begins_before}
 use Rattle.ub_tree.specs.Effects.{Changes, HasEnded, IsLeft, written_store}
@@ -46,7 +46,8 @@ use Rattle.ub_tree.specs.Tree.{placed_in}
 use Rattle.ub_tree.specs.View.{TreeView, IsSound, region_count, regions}
 use Rattle.ub_tree.specs.declared.fault.TreeFault.{TreeFault}
 use Rattle.ub_tree.specs.declared.fault.TreeFault.TheVariants.{Full, Page, Store, Failed as HasFailed, Memory}
-use Rattle.ub_tree.specs.inner.Change.{HasStopped, IsDropReady, IsElsewhereSame, IsIndexFault, IsPut, IsSeatIn, IsSeatOf, IsSeatThere, IsSpelledAt, IsStored, JoinsAt, Writes, placed_with}
+use Rattle.ub_tree.specs.inner.Change.{HasStopped, IsDropReady, IsElsewhereSame, IsIndexFault, IsPut, IsRegionIn, IsRegionThere, IsSpelledAt, IsStored, JoinsAt, Writes, placed_with}
+use Rattle.ub_tree.specs.Told.{IsRegionOf}
 use Rattle.ub_writing.specs.Marks.{HasMark}
 
 -- a key after another one is after the least of all
@@ -61,14 +62,14 @@ after_origin key later before = by_parts (before_parts key later before)
     ]
 
 -- a region that comes after another one isn't the first
-pub behind_first : (t : TreeView) (seat next : Seat) → IsSeatOf t seat → seat.next ≡ Some next.first → IsBefore origin next.first
-behind_first t seat next of begins = after_origin seat.first next.first (begins_before t of.0 seat next.first of.1 begins)
+pub behind_first : (t : TreeView) (span next : Span) → IsRegionOf t span → span.next ≡ Some next.first → IsBefore origin next.first
+behind_first t span next of begins = after_origin span.first next.first (begins_before t of.key span next.first of.falls begins)
 
 -- a sound tree of which two neighbours are known has more than one region
-pub alone_not_sound : (t : TreeView) (seat next : Seat) → region_count t ≡ 1 → IsSeatOf t seat → seat.next ≡ Some next.first → ¬ (IsSound t)
-alone_not_sound t seat next one of begins sound =
-    let i = index_holding of.0 (first_keys (map entry_of t.placed)) in
-    let at = seat_of_key t sound of.0 seat of.1 in
+pub alone_not_sound : (t : TreeView) (span next : Span) → region_count t ≡ 1 → IsRegionOf t span → span.next ≡ Some next.first → ¬ (IsSound t)
+alone_not_sound t span next one of begins sound =
+    let i = index_holding of.key (first_keys (map entry_of t.placed)) in
+    let at = at_of_key t sound of.key span of.falls in
     let within = at.within in
     let long = length-map t.placed entry_of in
     let keys = length-map (map entry_of t.placed) (λ (e : Entry). e.first) in
@@ -77,8 +78,8 @@ alone_not_sound t seat next one of begins sound =
     let bad : None ≡ Some next.first = sym none ∙ sym at.next ∙ begins in
     cc
 
-module _ (b mid n : TreeView) (seat next : Seat) (change : ChangeView) (there : IsSeatThere b seat) (of_next : IsSeatOf b next) (begins : seat.next ≡ Some next.first)
-    (ready : IsDropReady b next change) (put : IsPut b mid) (wrote : Writes {A = Unit {0}} seat b mid (Ok tt)) (puts : PutsSheets change.sheets mid.store n.store) where
+module _ (b mid n : TreeView) (span next : Span) (change : ChangeView) (there : IsRegionThere b span) (of_next : IsRegionOf b next) (begins : span.next ≡ Some next.first)
+    (ready : IsDropReady b next change) (put : IsPut b mid) (wrote : Writes {A = Unit {0}} span b mid (Ok tt)) (puts : PutsSheets change.sheets mid.store n.store) where
   abbrev chain : List ℕ
   chain = pages_under b.store.pages b.inner.index.levels (top b.inner.index.root)
 
@@ -89,17 +90,17 @@ module _ (b mid n : TreeView) (seat next : Seat) (change : ChangeView) (there : 
   honest_mid honest = ap (λ (v : TreeView). v.store.honest) wrote.frame ∙ honest
 
   later : IsBefore origin next.first
-  later = behind_first b seat next there.seat_is begins
+  later = behind_first b span next there.told begins
 
   -- the first page is none of those that are spelled
   zero_free : IsSound b → IsUnspelled 0 change.sheets
   zero_free sound =
-      let makes = ready.makes (index_holding of_next.0 (first_keys (map entry_of b.placed))) (sound_stored b sound) (seat_of_key b sound of_next.0 next of_next.1) later in
+      let makes = ready.makes (index_holding of_next.key (first_keys (map entry_of b.placed))) (sound_stored b sound) (at_of_key b sound of_next.key next of_next.falls) later in
       let far = there.there in
       makes.own 0 (inl (omega arith), distinct_first 0 chain (distinct_left (0 ∷ chain) (map (λ (p : Placed). p.page) b.placed) sound.placed_are.own))
 
-  written_others : WritesIndex seat.page b n
-  written_others = writes_both chain seat.page change.sheets b.store mid.store n.store wrote.kept puts honest_mid free
+  written_others : WritesIndex span.page b n
+  written_others = writes_both chain span.page change.sheets b.store mid.store n.store wrote.kept puts honest_mid free
 
   -- the mark stands
   mark_then : IsSound b → HasMark b.schema n.store.pages
@@ -112,7 +113,7 @@ module _ (b mid n : TreeView) (seat next : Seat) (change : ChangeView) (there : 
   ended fault h = record {
     same = h.same
         ∙ ap (λ (v : TreeView). record v { placed = n.placed; is_changed = n.is_changed; is_failed = true; store = written_store {A = TreeFault} (Err fault) v.store n.store }) wrote.frame;
-    others = writes_told b n seat there.seat_is written_others;
+    others = writes_told b n span there.told written_others;
   }
 
   no_page_missing : IsPutFault change.sheets mid.store store.NoPage → ¬ (IsHonest b.store)
@@ -164,10 +165,10 @@ module _ (b mid n : TreeView) (seat next : Seat) (change : ChangeView) (there : 
     elsewhere : IsElsewhereSame b d
     elsewhere = whole ∙ ap (λ (v : TreeView). record b { placed = v.placed; store = v.store; is_changed = true; inner = v.inner }) (sym whole)
 
-    pub joined_at : 1 ≤ region_count b → JoinsAt seat b d
+    pub joined_at : 1 ≤ region_count b → JoinsAt span b d
     joined_at some = record {
       same = elsewhere;
-      others = subst (λ (s : StoreFacts). KeepsOthers (reserved b.inner.index b.store.pages ++ seat.page ∷ []) b.store s) (sym store_is) written_others;
+      others = subst (λ (s : StoreFacts). KeepsOthers (reserved b.inner.index b.store.pages ++ span.page ∷ []) b.store s) (sym store_is) written_others;
       dropped = (
         (let count = ap (λ (v : TreeView). v.inner.count) whole in omega arith),
         ap page_count store_is ∙ puts.count ∙ wrote.count,
@@ -191,29 +192,29 @@ module _ (b mid n : TreeView) (seat next : Seat) (change : ChangeView) (there : 
 
     pub joined_written : (i : ℕ) (rows : List Row) → b.placed ≡ placed_in b.schema b.inner.index b.store → d.placed ≡ placed_in d.schema d.inner.index d.store
         → n.store ≡ record mid.store { pages = n.store.pages; synced = n.store.synced }
-        → IsStored b → IsSeatIn b i seat → IsSeatIn b (i + 1) next → IsRegion b.schema (record { first = seat.first; rows = rows })
-        → IsStored mid × (mid.placed ≡ placed_with i (record { page = seat.page; region = record { first = seat.first; rows = rows } } ∷ []) b.placed)
+        → IsStored b → IsRegionIn b i span → IsRegionIn b (i + 1) next → IsRegion b.schema (record { first = span.first; rows = rows })
+        → IsStored mid × (mid.placed ≡ placed_with i (record { page = span.page; region = record { first = span.first; rows = rows } } ∷ []) b.placed)
         → (AreOnce change.sheets → IsHonest mid.store → Stand n.store.pages change.sheets)
         → IsStored d × (regions d ≡ put_rows i true rows (regions b))
     joined_written i rows viewed viewed_then works stored at at_next good rewritten stand = (
       subst IsStored (sym as_told) (record {
         working = stored.working;
         honest = honest_n;
-        indexed = dropped_indexed b.schema b.inner.index b.store mid.store n.store b.placed mid.placed stored.honest viewed_pages stored.indexed stored.placed_are i seat next at at_next rows good
+        indexed = dropped_indexed b.schema b.inner.index b.store mid.store n.store b.placed mid.placed stored.honest viewed_pages stored.indexed stored.placed_are i span next at at_next rows good
             rewritten.0.honest others_mid wrote.count indexed_mid are_mid rewritten.1 change makes honest_n puts stands_then;
-        placed_are = dropped_are b.schema b.inner.index b.store mid.store n.store b.placed mid.placed stored.honest viewed_pages stored.indexed stored.placed_are i seat next at at_next rows good
+        placed_are = dropped_are b.schema b.inner.index b.store mid.store n.store b.placed mid.placed stored.honest viewed_pages stored.indexed stored.placed_are i span next at at_next rows good
             rewritten.0.honest others_mid wrote.count indexed_mid are_mid rewritten.1 change makes honest_n puts stands_then;
         count_is = (let less = long in let count = rewritten.0.count_is in let same = ap (λ (v : TreeView). v.inner.count) put in omega arith);
       }),
       ap regions_in placed_then
-          ∙ dropped_regions b.schema b.inner.index b.store mid.store n.store b.placed mid.placed stored.honest viewed_pages stored.indexed stored.placed_are i seat next at at_next rows good
+          ∙ dropped_regions b.schema b.inner.index b.store mid.store n.store b.placed mid.placed stored.honest viewed_pages stored.indexed stored.placed_are i span next at at_next rows good
           rewritten.0.honest others_mid wrote.count indexed_mid are_mid rewritten.1 change makes honest_n puts stands_then,
     )
       where
         viewed_pages : b.placed ≡ placed_of b.schema b.store.pages (entries_on b.inner.index b.store.pages)
         viewed_pages = viewed ∙ view_placed b.schema b.inner.index b.store stored.honest
 
-        others_mid : AreOthersKept (0 ∷ seat.page ∷ []) b.store.pages mid.store.pages
+        others_mid : AreOthersKept (0 ∷ span.page ∷ []) b.store.pages mid.store.pages
         others_mid = wrote.kept.kept stored.honest
 
         index_is : mid.inner.index ≡ b.inner.index
@@ -238,11 +239,11 @@ module _ (b mid n : TreeView) (seat next : Seat) (change : ChangeView) (there : 
         placed_then : d.placed ≡ placed_with (i + 1) [] mid.placed
         placed_then =
             viewed_then ∙ ap (λ (v : TreeView). placed_in v.schema v.inner.index v.store) whole ∙ view_placed b.schema (changed b.inner.index change) n.store honest_n
-            ∙ dropped_placed b.schema b.inner.index b.store mid.store n.store b.placed mid.placed stored.honest viewed_pages stored.indexed stored.placed_are i seat next at at_next rows good
+            ∙ dropped_placed b.schema b.inner.index b.store mid.store n.store b.placed mid.placed stored.honest viewed_pages stored.indexed stored.placed_are i span next at at_next rows good
             rewritten.0.honest others_mid wrote.count indexed_mid are_mid rewritten.1 change makes honest_n puts stands_then
 
         long : length (placed_with (i + 1) [] mid.placed) + 1 ≡ length mid.placed
-        long = dropped_long b.schema b.inner.index b.store mid.store n.store b.placed mid.placed stored.honest viewed_pages stored.indexed stored.placed_are i seat next at at_next rows good
+        long = dropped_long b.schema b.inner.index b.store mid.store n.store b.placed mid.placed stored.honest viewed_pages stored.indexed stored.placed_are i span next at at_next rows good
             rewritten.0.honest others_mid wrote.count indexed_mid are_mid rewritten.1 change makes honest_n puts stands_then
 
         as_told : d ≡ record b { placed = placed_with (i + 1) [] mid.placed; store = n.store; is_changed = true; inner = inner_then }

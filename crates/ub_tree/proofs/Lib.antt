@@ -28,7 +28,7 @@ pub mod JoinFacts
 pub mod RemovalFacts
 pub mod GrowFacts
 pub mod GrownFacts
-pub mod SeatFacts
+pub mod ThereFacts
 pub mod ReadyFacts
 pub mod OpenedFacts
 pub mod OpeningFacts

@@ -1,10 +1,10 @@
--- The seats beside a seat, over any pages: where what is found isn't its neighbour, two seats overlap.
+-- The regions beside one, over any pages: where what is found isn't its neighbour, two regions overlap.
 use Rattle.std.proofs.Common.{◌≡◌, ◌<◌, ◌^◌, ◌∙◌, ◌⊎◌, inl, inr, ℕ, zero, suc, List, Bool, Option, Some, None, IfSome, Ok, Err, ap, sym, subst, refl, arith}
 use Rattle.std.proofs.lemmas.Bool.{cases_lt}
 use Rattle.ub_index.proofs.KeyFacts.{le_before}
 use Rattle.ub_index.specs.Searching.{GivesAny, GoesDown, key_before}
 use Rattle.ub_index.specs.View.{IndexView}
-use Rattle.ub_index.specs.declared.seat.Seat.{Seat}
+use Rattle.ub_region.specs.declared.region.Region.{Region as Span}
 use Rattle.ub_store.specs.Facts.{IsHonest}
 use Rattle.ub_store.specs.View.{PagerView}
 use Rattle.ub_table.proofs.Laws.{before_from, before_parts, before_trans, not_before_self}
@@ -44,22 +44,22 @@ same_or_later a b h = elim (cases_lt a.z b.z) [
   ]
 ]
 
--- what follows the first key of a seat, which another seat holds, is where that seat begins, over an honest store
-pub next_begins : (t : TreeView) (key next_key : Key) (seat next : Seat) → FallsTo t key seat → seat.next ≡ Some next_key → FallsTo t next_key next → (seat.next ≡ Some next.first) ⊎ (¬ (IsHonest t.store))
-next_begins t key next_key seat next falls next_is next_falls = elim (same_or_later next_key next.first next_falls.holds.from) [
+-- what follows the first key of a span, which another span holds, is where that span begins, over an honest store
+pub next_begins : (t : TreeView) (key next_key : Key) (span next : Span) → FallsTo t key span → span.next ≡ Some next_key → FallsTo t next_key next → (span.next ≡ Some next.first) ⊎ (¬ (IsHonest t.store))
+next_begins t key next_key span next falls next_is next_falls = elim (same_or_later next_key next.first next_falls.holds.from) [
   | inl same ↦ inl (next_is ∙ ap (λ (k : Key). Some k) same)
   | inr later ↦
-      let within = not_empty key seat.first seat.next falls.holds in
-      let sooner : IsBefore seat.first next_key = subst (λ (o : Option Key). IfSome o (IsBefore seat.first)) next_is within in
-      inr (overlaps t key next_key seat next falls next_falls
-      (λ one. not_before_self next_key (subst (λ (o : Option Key). IfSome o (IsBefore next_key)) (sym (ap (λ (s : Seat). s.next) one) ∙ next_is) next_falls.holds.to))
+      let within = not_empty key span.first span.next falls.holds in
+      let sooner : IsBefore span.first next_key = subst (λ (o : Option Key). IfSome o (IsBefore span.first)) next_is within in
+      inr (overlaps t key next_key span next falls next_falls
+      (λ one. not_before_self next_key (subst (λ (o : Option Key). IfSome o (IsBefore next_key)) (sym (ap (λ (s : Span). s.next) one) ∙ next_is) next_falls.holds.to))
       within (subst (λ (o : Option Key). IfSome o (IsBefore next.first)) (sym next_is) later) (before_end next.next next_falls.holds.to sooner)
       (not_empty next_key next.first next.next next_falls.holds))
 ]
   where
-    before_end : (o : Option Key) → IfSome o (IsBefore next_key) → IsBefore seat.first next_key → IfSome o (IsBefore seat.first)
+    before_end : (o : Option Key) → IfSome o (IsBefore next_key) → IsBefore span.first next_key → IfSome o (IsBefore span.first)
     before_end None h k = tt
-    before_end (Some end) h k = before_trans seat.first next_key end k h
+    before_end (Some end) h k = before_trans span.first next_key end k h
 
 -- the greatest key before one of 32 bits: no key of 32 bits lies between
 greatest_before : (z n : ℕ) (key : Key) → key_before z n ≡ Some key
@@ -95,35 +95,35 @@ greatest_before z (suc n) key h =
       ]
     ]
 
--- the seat that holds the greatest key before that with which another seat begins ends there, over an honest store
-pub before_ends : (t : TreeView) (key before_key : Key) (seat before : Seat) → FallsTo t key seat → key_before seat.first.z seat.first.number ≡ Some before_key → FallsTo t before_key before
-    → IfSome before.next (λ k. k.number < 2 ^ 32) → (before.next ≡ Some seat.first) ⊎ (¬ (IsHonest t.store))
-before_ends t key before_key seat before falls before_is before_falls small = by_next before.next refl small before_falls.holds.to
+-- the span that holds the greatest key before that with which another span begins ends there, over an honest store
+pub before_ends : (t : TreeView) (key before_key : Key) (span before : Span) → FallsTo t key span → key_before span.first.z span.first.number ≡ Some before_key → FallsTo t before_key before
+    → IfSome before.next (λ k. k.number < 2 ^ 32) → (before.next ≡ Some span.first) ⊎ (¬ (IsHonest t.store))
+before_ends t key before_key span before falls before_is before_falls small = by_next before.next refl small before_falls.holds.to
   where
-    greatest : IsBefore before_key seat.first × ((end : Key) → end.number < 2 ^ 32 → IsBefore end seat.first → ¬ (IsBefore before_key end))
-    greatest = greatest_before seat.first.z seat.first.number before_key before_is
+    greatest : IsBefore before_key span.first × ((end : Key) → end.number < 2 ^ 32 → IsBefore end span.first → ¬ (IsBefore before_key end))
+    greatest = greatest_before span.first.z span.first.number before_key before_is
 
-    sooner : IsBefore before.first seat.first
-    sooner = le_before before.first before_key seat.first before_falls.holds.from greatest.0
+    sooner : IsBefore before.first span.first
+    sooner = le_before before.first before_key span.first before_falls.holds.from greatest.0
 
-    within : IfSome seat.next (IsBefore seat.first)
-    within = not_empty key seat.first seat.next falls.holds
+    within : IfSome span.next (IsBefore span.first)
+    within = not_empty key span.first span.next falls.holds
 
-    before_end : (o : Option Key) → IfSome o (IsBefore seat.first) → IfSome o (IsBefore before.first)
+    before_end : (o : Option Key) → IfSome o (IsBefore span.first) → IfSome o (IsBefore before.first)
     before_end None h = tt
-    before_end (Some end) h = before_trans before.first seat.first end sooner h
+    before_end (Some end) h = before_trans before.first span.first end sooner h
 
-    over : IfSome before.next (IsBefore seat.first) → ¬ (IsHonest t.store)
+    over : IfSome before.next (IsBefore span.first) → ¬ (IsHonest t.store)
     over later =
-        overlaps t before_key key before seat before_falls falls
-        (λ one. not_before_self seat.first (subst (λ (k : Key). IsBefore k seat.first) (ap (λ (s : Seat). s.first) one) sooner))
-        (not_empty before_key before.first before.next before_falls.holds) later (before_end seat.next within) within
+        overlaps t before_key key before span before_falls falls
+        (λ one. not_before_self span.first (subst (λ (k : Key). IsBefore k span.first) (ap (λ (s : Span). s.first) one) sooner))
+        (not_empty before_key before.first before.next before_falls.holds) later (before_end span.next within) within
 
-    by_next : (o : Option Key) → before.next ≡ o → IfSome o (λ k. k.number < 2 ^ 32) → IfSome o (IsBefore before_key) → (before.next ≡ Some seat.first) ⊎ (¬ (IsHonest t.store))
-    by_next None is few to = inr (over (subst (λ (o : Option Key). IfSome o (IsBefore seat.first)) (sym is) tt))
-    by_next (Some end) is few to = elim (same_or_later end seat.first (λ down. greatest.1 end few down to)) [
+    by_next : (o : Option Key) → before.next ≡ o → IfSome o (λ k. k.number < 2 ^ 32) → IfSome o (IsBefore before_key) → (before.next ≡ Some span.first) ⊎ (¬ (IsHonest t.store))
+    by_next None is few to = inr (over (subst (λ (o : Option Key). IfSome o (IsBefore span.first)) (sym is) tt))
+    by_next (Some end) is few to = elim (same_or_later end span.first (λ down. greatest.1 end few down to)) [
       | inl same ↦ inl (is ∙ ap (λ (k : Key). Some k) same)
-      | inr later ↦ inr (over (subst (λ (o : Option Key). IfSome o (IsBefore seat.first)) (sym is) later))
+      | inr later ↦ inr (over (subst (λ (o : Option Key). IfSome o (IsBefore span.first)) (sym is) later))
     ]
 
 -- the root's page is refused over another store alone
@@ -131,9 +131,9 @@ pub apart_fault : (t : TreeView) → ¬ (IsHonest t.store) → IsReadFault t (Pa
 apart_fault t over = ((λ sound. over sound.honest), inl (λ honest. absurd (over honest)))
 
 -- what is given for a key that there may be
-pub given_next : (t : TreeView) (sought : Option Key) (seat : Seat) → GivesAny t.inner.index t.store sought (Some seat) → (key : Key) × (sought ≡ Some key) × FallsTo t key seat
-given_next t None seat h = cc
-given_next t (Some key) seat h = (key, refl, h)
+pub given_next : (t : TreeView) (sought : Option Key) (span : Span) → GivesAny t.inner.index t.store sought (Some span) → (key : Key) × (sought ≡ Some key) × FallsTo t key span
+given_next t None span h = cc
+given_next t (Some key) span h = (key, refl, h)
 
 -- a refusal that follows a search
 module _ (schema : Schema) (i : IndexView) (count next rows : ℕ) (changed failed : Bool) (old new : PagerView) (Sought : Key → Type 0) where

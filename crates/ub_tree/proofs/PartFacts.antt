@@ -8,8 +8,9 @@ use Rattle.ub_index.proofs.Numbers.{distinct_first, distinct_left}
 use Rattle.ub_index.specs.Changing.{IsOutside, IsUnspelled}
 use Rattle.ub_index.specs.Index.{pages_under, top}
 use Rattle.ub_index.specs.Making.{IsPutFault, PutsSheets}
-use Rattle.ub_index.specs.Preparing.{ChangeView, HasFullWay, IsWithinSeat, NeedsPages, entry_at}
-use Rattle.ub_index.specs.declared.seat.Seat.{Seat}
+use Rattle.ub_index.specs.Preparing.{ChangeView, HasFullWay, IsWithinRegion, NeedsPages}
+use Rattle.ub_index.specs.View.{entry_at}
+use Rattle.ub_region.specs.declared.region.Region.{Region as Span}
 use Rattle.ub_index.specs.declared.sheet.Sheet.{Sheet}
 use Rattle.ub_index_page.specs.declared.index.TheConstants.{MAX_LEVEL}
 use Rattle.ub_region.proofs.Laws.{all_more, all_right}
@@ -22,18 +23,18 @@ use Rattle.ub_table.specs.declared.fault.PageFault.{PageFault}
 use Rattle.ub_table.specs.declared.row.Key.{Key}
 use Rattle.ub_table.specs.declared.schema.Schema.{Schema}
 use Rattle.ub_tree.proofs.EffectFacts.{left_by, sound_stored, writes_both, writes_told, writes_wider}
-use Rattle.ub_tree.proofs.IndexedFacts.{seat_of_key}
+use Rattle.ub_tree.proofs.IndexedFacts.{at_of_key}
 use Rattle.ub_tree.specs.Effects.{Changes, HasEnded, IsFull, IsLeft, IsMarkedFirst, written_store}
-use Rattle.ub_tree.specs.Holding.{AnswersSeat, HasNoRoom}
+use Rattle.ub_tree.specs.Holding.{AnswersAt, HasNoRoom}
 use Rattle.ub_tree.specs.Indexed.{Inner}
 use Rattle.ub_tree.specs.Others.{AddsEntry, AreOthersKept, KeepsOthers, WritesIndex}
 use Rattle.ub_tree.specs.Placed.{Placed, entry_of}
 use Rattle.ub_tree.specs.Spans.{first_keys}
-use Rattle.ub_tree.specs.Told.{FallsTo}
+use Rattle.ub_tree.specs.Told.{FallsTo, IsRegionOf}
 use Rattle.ub_tree.specs.View.{TreeView, IsSound, region_count}
 use Rattle.ub_tree.specs.declared.fault.TreeFault.{TreeFault}
 use Rattle.ub_tree.specs.declared.fault.TreeFault.TheVariants.{Full, Page, Store, Failed as HasFailed, Memory}
-use Rattle.ub_tree.specs.inner.Change.{GrowsTo, HasStopped, IsAddReady, IsGrowthLeft, IsIndexFault, IsPut, IsSeatOf, IsSpelledAt, IsWriteFault, StoresAt, WritesBoth}
+use Rattle.ub_tree.specs.inner.Change.{GrowsTo, HasStopped, IsAddReady, IsGrowthLeft, IsIndexFault, IsPut, IsSpelledAt, IsWriteFault, StoresAt, WritesBoth}
 use Rattle.ub_writing.specs.Marks.{HasMark, IsMarkOf, Marks, PutsMark, first_page, is_written}
 use Rattle.ub_writing.specs.declared.mark.Mark.{Mark}
 use Rattle.ub_writing.specs.declared.mark.Mark.TheVariants.{Due, Written}
@@ -55,10 +56,10 @@ no_page_told e page fault (inr (inr (inl memory))) same = cc
 no_page_told e page fault (inr (inr (inr device))) same = cc
 
 -- what a parting answers for which the index can't be made ready
-pub unready_answers : {A : Type 0} (t : TreeView) (seat : Seat) (r : Result A TreeFault) (e : TreeFault) → IsErrAnd r (λ x. x ≡ e) → region_count t ≢ 4294967295
-    → (IsHonest t.store → FallsTo t seat.first seat → HasNoRoom e) → AnswersSeat (Unit {0}) t seat r
-unready_answers t seat (Ok x) e is few led = absurd is
-unready_answers t seat (Err f) e is few led = (
+pub unready_answers : {A : Type 0} (t : TreeView) (span : Span) (r : Result A TreeFault) (e : TreeFault) → IsErrAnd r (λ x. x ≡ e) → region_count t ≢ 4294967295
+    → (IsHonest t.store → FallsTo t span.first span → HasNoRoom e) → AnswersAt (Unit {0}) t span r
+unready_answers t span (Ok x) e is few led = absurd is
+unready_answers t span (Err f) e is few led = (
   λ full many. absurd (few many),
   λ honest falls page fault told.
       let same : f ≡ Page page fault = cc in
@@ -66,22 +67,22 @@ unready_answers t seat (Err f) e is few led = (
   λ honest falls full fewer levels way. rw is (led honest falls),
 )
 
--- over an honest store the index has fewer levels than one can have, or a page on the way to the region of a seat isn't full
-abbrev pub HasRoom : TreeView → Seat → Type 0
-HasRoom t seat = IsHonest t.store → t.inner.index.levels ≡ MAX_LEVEL → HasFullWay t.inner.index t.store seat.first → ⊥
+-- over an honest store the index has fewer levels than one can have, or a page on the way to the region of a span isn't full
+abbrev pub HasRoom : TreeView → Span → Type 0
+HasRoom t span = IsHonest t.store → t.inner.index.levels ≡ MAX_LEVEL → HasFullWay t.inner.index t.store span.first → ⊥
 
 -- what a parting answers, once the index was made ready: nothing is refused, or something that is no fault of a page
-pub parted_answers : {A : Type 0} (t : TreeView) (seat : Seat) (x : A) → region_count t ≢ 4294967295 → HasRoom t seat → AnswersSeat (Unit {0}) t seat (Ok x)
-parted_answers t seat x few room = (
+pub parted_answers : {A : Type 0} (t : TreeView) (span : Span) (x : A) → region_count t ≢ 4294967295 → HasRoom t span → AnswersAt (Unit {0}) t span (Ok x)
+parted_answers t span x few room = (
   λ full many. absurd (few many),
   λ honest falls page fault told. cc,
   λ honest falls full fewer levels way. absurd (room honest levels way),
 )
 
-pub unparted_answers : {A : Type 0} (t : TreeView) (seat : Seat) (r : Result A TreeFault) (e : TreeFault) → IsErrAnd r (λ x. x ≡ e) → region_count t ≢ 4294967295
-    → ((page : ℕ) (fault : PageFault) → e ≡ Page page fault → ⊥) → HasRoom t seat → AnswersSeat (Unit {0}) t seat r
-unparted_answers t seat (Ok x) e is few apart room = absurd is
-unparted_answers t seat (Err f) e is few apart room = (
+pub unparted_answers : {A : Type 0} (t : TreeView) (span : Span) (r : Result A TreeFault) (e : TreeFault) → IsErrAnd r (λ x. x ≡ e) → region_count t ≢ 4294967295
+    → ((page : ℕ) (fault : PageFault) → e ≡ Page page fault → ⊥) → HasRoom t span → AnswersAt (Unit {0}) t span r
+unparted_answers t span (Ok x) e is few apart room = absurd is
+unparted_answers t span (Err f) e is few apart room = (
   λ full many. absurd (few many),
   λ honest falls page fault told.
       let same : f ≡ Page page fault = cc in
@@ -90,7 +91,7 @@ unparted_answers t seat (Err f) e is few apart room = (
 )
 
 -- the store wasn't given the pages
-module _ (a g : TreeView) (seat : Seat) (first : Key) (change : ChangeView) (there : seat.page < page_count a.store) (ready : IsAddReady a seat first change) (high : a.inner.index.levels ≤ MAX_LEVEL) where
+module _ (a g : TreeView) (span : Span) (first : Key) (change : ChangeView) (there : span.page < page_count a.store) (ready : IsAddReady a span first change) (high : a.inner.index.levels ≤ MAX_LEVEL) where
   full_then : 4294967295 < page_count a.store + (change.next - change.start) → IsFull a
   full_then over =
       let start = ready.start in
@@ -101,7 +102,7 @@ module _ (a g : TreeView) (seat : Seat) (first : Key) (change : ChangeView) (the
         λ honest.
             let only = (ready.needed honest).only in
             let same : only.0 ≡ change.next - (page_count a.store + 1) = (let is = only.2 in omega arith) in
-            inr (seat.first, change.next - (page_count a.store + 1), subst (NeedsPages a.inner.index a.store seat.first) same only.1, omega arith),
+            inr (span.first, change.next - (page_count a.store + 1), subst (NeedsPages a.inner.index a.store span.first) same only.1, omega arith),
       )
 
   growth_left : (e : TreeFault) → IsGrowthLeft (page_count a.store + (change.next - change.start)) a g e → IsLeft a g e
@@ -133,8 +134,8 @@ page_at [] i e at = cc
 page_at (p ∷ placed) zero e at = let same : entry_of p ≡ e = cc in ap (λ (x : Entry). Some x.page) same
 page_at (p ∷ placed) (suc i) e at = page_at placed i e at
 
-module _ (a g h : TreeView) (seat : Seat) (of : IsSeatOf a seat) (first : Key) (change : ChangeView) (number : ℕ) (there : seat.page < page_count a.store)
-    (within : IsWithinSeat a.inner.index.last seat.first seat.next first) (ready : IsAddReady a seat first change) (number_is : number ≡ change.start)
+module _ (a g h : TreeView) (span : Span) (of : IsRegionOf a span) (first : Key) (change : ChangeView) (number : ℕ) (there : span.page < page_count a.store)
+    (within : IsWithinRegion a.inner.index.last span.first span.next first) (ready : IsAddReady a span first change) (number_is : number ≡ change.start)
     (grew : GrowsTo {A = Unit {0}} (page_count a.store + (change.next - change.start)) a g (Ok tt)) where
   abbrev chain : List ℕ
   chain = pages_under a.store.pages a.inner.index.levels (top a.inner.index.root)
@@ -154,16 +155,16 @@ module _ (a g h : TreeView) (seat : Seat) (of : IsSeatOf a seat) (first : Key) (
   -- the first page is none of those that are spelled
   zero_free : IsSound a → IsUnspelled 0 change.sheets
   zero_free sound =
-      let makes = ready.makes (index_holding of.0 (first_keys (map entry_of a.placed))) (sound_stored a sound) (seat_of_key a sound of.0 seat of.1) within in
+      let makes = ready.makes (index_holding of.key (first_keys (map entry_of a.placed))) (sound_stored a sound) (at_of_key a sound of.key span of.falls) within in
       makes.own 0 (inl (omega arith), distinct_first 0 chain (distinct_left (0 ∷ chain) (map (λ (p : Placed). p.page) a.placed) sound.placed_are.own))
 
   -- of a sound tree no region stands on the first page
-  some_page : IsSound a → seat.page ≢ 0
+  some_page : IsSound a → span.page ≢ 0
   some_page sound e =
-      let at = seat_of_key a sound of.0 seat of.1 in
-      each_get (λ n. 0 ≢ n) (map (λ (p : Placed). p.page) a.placed) (index_holding of.0 (first_keys (map entry_of a.placed))) seat.page
+      let at = at_of_key a sound of.key span of.falls in
+      each_get (λ n. 0 ≢ n) (map (λ (p : Placed). p.page) a.placed) (index_holding of.key (first_keys (map entry_of a.placed))) span.page
       (all_right (λ n. 0 ≢ n) chain (map (λ (p : Placed). p.page) a.placed) (distinct_first 0 (chain ++ map (λ (p : Placed). p.page) a.placed) sound.placed_are.own))
-      (page_at a.placed (index_holding of.0 (first_keys (map entry_of a.placed))) (entry_at seat) at.entry) (sym e)
+      (page_at a.placed (index_holding of.key (first_keys (map entry_of a.placed))) (entry_at span) at.entry) (sym e)
 
   -- a table that was marked as changed is so still, once the store has grown
   marked_grown : IsSound a → g.is_changed ≡ true → HasMark g.schema g.store.pages
@@ -172,8 +173,8 @@ module _ (a g h : TreeView) (seat : Seat) (of : IsSeatOf a seat) (first : Key) (
       subst (λ (s : Schema). HasMark s g.store.pages) (sym (ap (λ (v : TreeView). v.schema) grown_is))
       (had.0, had.1, grew.grows.kept sound.honest 0 (omega arith) ∙ had.2)
 
-  module _ {A : Type 0} (r : Result A TreeFault) (wrote : WritesBoth number seat g h r) where
-    halves_kept : KeepsOthers (0 ∷ seat.page ∷ []) a.store h.store
+  module _ {A : Type 0} (r : Result A TreeFault) (wrote : WritesBoth number span g h r) where
+    halves_kept : KeepsOthers (0 ∷ span.page ∷ []) a.store h.store
     halves_kept = record {
       kept = λ honest m out lt.
           let more = grew.grows.more in
@@ -182,12 +183,12 @@ module _ (a g h : TreeView) (seat : Seat) (of : IsSeatOf a seat) (first : Key) (
     }
       where
         by_grown : h.store.synced ≡ g.store.synced → (g.store.synced ≡ a.store.synced) ⊎ ((m : ℕ) → m < page_count a.store → slice_get g.store.synced m ≡ slice_get a.store.pages m)
-            → (h.store.synced ≡ a.store.synced) ⊎ AreOthersKept (0 ∷ seat.page ∷ []) a.store.pages h.store.synced
+            → (h.store.synced ≡ a.store.synced) ⊎ AreOthersKept (0 ∷ span.page ∷ []) a.store.pages h.store.synced
         by_grown same (inl was) = inl (same ∙ was)
         by_grown same (inr kept) = inr (λ m out lt. ap (λ (ps : List (List ℕ)). slice_get ps m) same ∙ kept m lt)
 
-        by_case : IsHonest a.store → (h.store.synced ≡ g.store.synced) ⊎ AreOthersKept (0 ∷ number ∷ seat.page ∷ []) g.store.pages h.store.synced
-            → (h.store.synced ≡ a.store.synced) ⊎ AreOthersKept (0 ∷ seat.page ∷ []) a.store.pages h.store.synced
+        by_case : IsHonest a.store → (h.store.synced ≡ g.store.synced) ⊎ AreOthersKept (0 ∷ number ∷ span.page ∷ []) g.store.pages h.store.synced
+            → (h.store.synced ≡ a.store.synced) ⊎ AreOthersKept (0 ∷ span.page ∷ []) a.store.pages h.store.synced
         by_case honest (inl same) = by_grown same (grew.grows.lasting honest)
         by_case honest (inr kept) =
             inr (λ m out lt. (let more = grew.grows.more in kept m (out.0, ((λ e. absurd (let at = number_at in omega arith)), out.1)) (omega arith) ∙ grew.grows.kept honest m lt))
@@ -206,7 +207,7 @@ module _ (a g h : TreeView) (seat : Seat) (of : IsSeatOf a seat) (first : Key) (
     }
 
   -- the pages of the halves weren't put
-  halves_left : (e : TreeFault) → WritesBoth {A = TreeFault} number seat g h (Err e) → IsWriteFault g h e → IsLeft a h e
+  halves_left : (e : TreeFault) → WritesBoth {A = TreeFault} number span g h (Err e) → IsWriteFault g h e → IsLeft a h e
   halves_left Full wrote x = absurd x
   halves_left HasFailed wrote x = absurd x
   halves_left Memory wrote x = absurd x
@@ -216,16 +217,16 @@ module _ (a g h : TreeView) (seat : Seat) (of : IsSeatOf a seat) (first : Key) (
     inr (record {
       same = x.1.same
           ∙ ap (λ (v : TreeView). record v { placed = h.placed; is_changed = h.is_changed; is_failed = true; store = written_store {A = TreeFault} (Err (Store store.Device)) v.store h.store }) grown_is;
-      others = writes_told a h seat of (writes_wider chain seat.page a.store h.store (halves_kept {A = TreeFault} (Err (Store store.Device)) wrote));
+      others = writes_told a h span of (writes_wider chain span.page a.store h.store (halves_kept {A = TreeFault} (Err (Store store.Device)) wrote));
     }),
   )
   halves_left (Store store.NoPage) wrote x = absurd x
   halves_left (Store store.BadSize) wrote x = absurd x
   halves_left (Store store.Memory) wrote x = absurd x
 
-  pub halves_refused : {T U : Type 0} (r : Result T TreeFault) (e : TreeFault) → IsErrAnd r (λ x. x ≡ e) → WritesBoth {A = U} number seat g h (Err e) → Changes a h r
+  pub halves_refused : {T U : Type 0} (r : Result T TreeFault) (e : TreeFault) → IsErrAnd r (λ x. x ≡ e) → WritesBoth {A = U} number span g h (Err e) → Changes a h r
   halves_refused {T} {U} r e is w =
-      let wrote : WritesBoth {A = TreeFault} number seat g h (Err e) = record { frame = w.frame; kept = w.kept; marked = w.marked; done = tt; faults = w.faults; others = w.others } in
+      let wrote : WritesBoth {A = TreeFault} number span g h (Err e) = record { frame = w.frame; kept = w.kept; marked = w.marked; done = tt; faults = w.faults; others = w.others } in
       let whole = w.frame ∙ ap (λ (v : TreeView). record v { placed = h.placed; is_changed = h.is_changed; is_failed = h.is_failed; store = written_store {A = U} (Err e) v.store h.store }) grown_is in
       left_by {U = TreeFault} r e a h is (record {
         frame = whole ∙ ap (λ (v : TreeView). record a { placed = v.placed; rows = v.rows; next = v.next; is_changed = v.is_changed; is_failed = v.is_failed; store = v.store; inner = v.inner }) (sym whole);
@@ -235,7 +236,7 @@ module _ (a g h : TreeView) (seat : Seat) (of : IsSeatOf a seat) (first : Key) (
       })
 
   -- the halves were put, and then the pages of the index
-  module _ (n : TreeView) (wrote : WritesBoth {A = Unit {0}} number seat g h (Ok tt)) (put : IsPut g h) (halves_count : page_count h.store ≡ page_count g.store) (puts : PutsSheets change.sheets h.store n.store) where
+  module _ (n : TreeView) (wrote : WritesBoth {A = Unit {0}} number span g h (Ok tt)) (put : IsPut g h) (halves_count : page_count h.store ≡ page_count g.store) (puts : PutsSheets change.sheets h.store n.store) where
     halves_is : h ≡ record a { placed = h.placed; is_changed = true; store = written_store {A = Unit {0}} (Ok tt) a.store h.store }
     halves_is =
         put
@@ -245,8 +246,8 @@ module _ (a g h : TreeView) (seat : Seat) (of : IsSeatOf a seat) (first : Key) (
     honest_put : IsHonest a.store → IsHonest h.store
     honest_put honest = ap (λ (v : TreeView). v.store.honest) halves_is ∙ honest
 
-    put_others : WritesIndex seat.page a n
-    put_others = writes_both chain seat.page change.sheets a.store h.store n.store (halves_kept {A = Unit {0}} (Ok tt) wrote) puts honest_put free
+    put_others : WritesIndex span.page a n
+    put_others = writes_both chain span.page change.sheets a.store h.store n.store (halves_kept {A = Unit {0}} (Ok tt) wrote) puts honest_put free
 
     -- the mark stands
     mark_then : IsSound a → HasMark a.schema n.store.pages
@@ -264,7 +265,7 @@ module _ (a g h : TreeView) (seat : Seat) (of : IsSeatOf a seat) (first : Key) (
     put_ended fault x = record {
       same = x.same
           ∙ ap (λ (v : TreeView). record v { placed = n.placed; is_changed = n.is_changed; is_failed = true; store = written_store {A = TreeFault} (Err fault) v.store n.store }) halves_is;
-      others = writes_told a n seat of put_others;
+      others = writes_told a n span of put_others;
     }
 
     no_page_missing : IsPutFault change.sheets h.store store.NoPage → ¬ (IsHonest a.store)
@@ -314,13 +315,13 @@ module _ (a g h : TreeView) (seat : Seat) (of : IsSeatOf a seat) (first : Key) (
       stores : n.store ≡ written_store {A = Unit {0}} (Ok tt) a.store n.store
       stores = works ∙ ap (λ (v : TreeView). written_store {A = Unit {0}} (Ok tt) v.store n.store) halves_is
 
-      needs : IsHonest a.store → NeedsPages a.inner.index a.store seat.first (change.next - (page_count a.store + 1))
+      needs : IsHonest a.store → NeedsPages a.inner.index a.store span.first (change.next - (page_count a.store + 1))
       needs honest =
           let only = (ready.needed honest).only in
           let same : only.0 ≡ change.next - (page_count a.store + 1) = (let is = only.2 in omega arith) in
-          subst (NeedsPages a.inner.index a.store seat.first) same only.1
+          subst (NeedsPages a.inner.index a.store span.first) same only.1
 
-      adds : AddsEntry seat.first a d
+      adds : AddsEntry span.first a d
       adds = (
         ap (λ (v : TreeView). region_count v) then_is ∙ ap (λ (k : ℕ). k + 1) count_is,
         change.next - (page_count a.store + 1),
@@ -335,10 +336,10 @@ module _ (a g h : TreeView) (seat : Seat) (of : IsSeatOf a seat) (first : Key) (
         needs,
       )
 
-      pub parts_at : StoresAt seat a.schema.page_rows a d
+      pub parts_at : StoresAt span a.schema.page_rows a d
       parts_at = record {
         same = then_is ∙ ap (λ (v : TreeView). record a { placed = v.placed; store = v.store; is_changed = true; inner = v.inner }) (sym then_is);
-        others = inr (subst (λ (v : TreeView). WritesIndex seat.page a v) (sym d_is) (record { kept = put_others.kept; lasting = put_others.lasting }), adds);
+        others = inr (subst (λ (v : TreeView). WritesIndex span.page a v) (sym d_is) (record { kept = put_others.kept; lasting = put_others.lasting }), adds);
         full = λ full. adds;
         spare = λ less. absurd (omega arith);
       }

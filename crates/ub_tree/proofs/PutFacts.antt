@@ -14,11 +14,9 @@ use Rattle.ub_index.specs.Changed.{PagesStay}
 use Rattle.ub_index.specs.Changing.{IsOutside}
 use Rattle.ub_index.specs.Fitting.{FallsTo}
 use Rattle.ub_index.specs.Index.{NamesFitting, Fits, page_in, pages_under, top}
-use Rattle.ub_index.specs.Preparing.{entry_at}
 use Rattle.ub_index.specs.Standing.{region_pages}
-use Rattle.ub_index.specs.View.{IndexView, IsSeatAt}
+use Rattle.ub_index.specs.View.{IndexView, IsRegionAt, entry_at}
 use Rattle.ub_index.specs.Way.{LeadsTo}
-use Rattle.ub_index.specs.declared.seat.Seat.{Seat}
 use Rattle.ub_index_page.specs.Index.{IsIndexKind}
 use Rattle.ub_page.proofs.PageLaws.{region_parts}
 use Rattle.ub_page.specs.Region.{region_page}
@@ -30,7 +28,7 @@ use Rattle.ub_table.specs.Region.{Region, IsRegion}
 use Rattle.ub_table.specs.declared.row.Key.{Key}
 use Rattle.ub_table.specs.declared.row.Row.{Row}
 use Rattle.ub_table.specs.declared.schema.Schema.{Schema}
-use Rattle.ub_tree.proofs.IndexedFacts.{seat_of_key}
+use Rattle.ub_tree.proofs.IndexedFacts.{at_of_key}
 use Rattle.ub_tree.proofs.SearchFacts.{known_is}
 use Rattle.ub_tree.proofs.SplitFacts.{apart_after_two, apart_before_two, pages_by}
 use Rattle.ub_tree.proofs.StoredFacts.{IsKept, IsSpelled, IsTold, parted, placed_changed, spelled_changed}
@@ -41,7 +39,7 @@ use Rattle.ub_tree.specs.Spans.{Region as Span}
 use Rattle.ub_tree.specs.Told.{IsRegionOf, KeepsTold}
 use Rattle.ub_tree.specs.Tree.{placed_in, tree_view}
 use Rattle.ub_tree.specs.View.{TreeView, IsSound}
-use Rattle.ub_tree.specs.inner.Change.{IsSeatIn, IsSeatOf, IsSeatThere, IsStored, placed_with}
+use Rattle.ub_tree.specs.inner.Change.{IsRegionIn, IsRegionThere, IsStored, placed_with}
 use Rattle.ub_writing.specs.Puts.{Puts}
 
 -- on an honest store the regions are those that its pages tell
@@ -62,9 +60,9 @@ outside_at n q (m ∷ ns) (suc i) at h = outside_at n q ns i at h.1
 -- a page of a region was put, and perhaps the first: the others are as they were
 module _ (schema : Schema) (index : IndexView) (pages new : List (List ℕ)) (placed : List Placed) (viewed : placed ≡ placed_of schema pages (entries_on index pages))
     (indexed : HasIndex index pages (map entry_of placed)) (placed_are : ArePlaced schema placed (reserved index pages) pages)
-    (i : ℕ) (seat : Seat) (at : IsSeatAt (map entry_of placed) i seat) (rows : List Row)
-    (others : (m : ℕ) → m ≢ 0 → m ≢ seat.page → slice_get new m ≡ slice_get pages m) (count : length new ≡ length pages)
-    (told : IsTold schema new (record { page = seat.page; region = record { first = seat.first; rows = rows } })) where
+    (i : ℕ) (span : Span) (at : IsRegionAt (map entry_of placed) i span) (rows : List Row)
+    (others : (m : ℕ) → m ≢ 0 → m ≢ span.page → slice_get new m ≡ slice_get pages m) (count : length new ≡ length pages)
+    (told : IsTold schema new (record { page = span.page; region = record { first = span.first; rows = rows } })) where
   abbrev chain : List ℕ
   chain = pages_under pages index.levels (top index.root)
 
@@ -72,7 +70,7 @@ module _ (schema : Schema) (index : IndexView) (pages new : List (List ℕ)) (pl
   entries = entries_on index pages
 
   abbrev news : List Placed
-  news = record { page = seat.page; region = record { first = seat.first; rows = rows } } ∷ []
+  news = record { page = span.page; region = record { first = span.first; rows = rows } } ∷ []
 
   abbrev before : List Entry
   before = take i entries
@@ -87,8 +85,8 @@ module _ (schema : Schema) (index : IndexView) (pages new : List (List ℕ)) (pl
   each_stays : (ns : List ℕ) → AllByRecursion (λ n. 0 ≢ n) ns → AllByRecursion (λ n. IsOutside n (map (λ p. p.page) placed)) ns → PagesStay pages new ns
   each_stays [] first apart = tt
   each_stays (n ∷ ns) first apart =
-      let page = page_at placed i (entry_at seat) at.entry in
-      (others n (λ e. first.0 (sym e)) (outside_at n seat.page (map (λ p. p.page) placed) i page apart.0), each_stays ns first.1 apart.1)
+      let page = page_at placed i (entry_at span) at.entry in
+      (others n (λ e. first.0 (sym e)) (outside_at n span.page (map (λ p. p.page) placed) i page apart.0), each_stays ns first.1 apart.1)
 
   stay : PagesStay pages new chain
   stay = each_stays chain (all_left (λ n. 0 ≢ n) chain (map (λ p. p.page) placed) (distinct_first 0 (chain ++ map (λ p. p.page) placed) placed_are.own))
@@ -100,42 +98,42 @@ module _ (schema : Schema) (index : IndexView) (pages new : List (List ℕ)) (pl
   same_reserved : reserved index new ≡ reserved index pages
   same_reserved = ap (λ (ns : List ℕ). 0 ∷ ns) (kept_pages pages new index.levels (top index.root) stay)
 
-  at_entries : IsSeatAt entries i seat
-  at_entries = subst (λ (es : List Entry). IsSeatAt es i seat) (sym indexed.entries_are) at
+  at_entries : IsRegionAt entries i span
+  at_entries = subst (λ (es : List Entry). IsRegionAt es i span) (sym indexed.entries_are) at
 
-  whole : before ++ entry_at seat ∷ after ≡ entries
-  whole = parted entries i (entry_at seat) at_entries.entry
+  whole : before ++ entry_at span ∷ after ≡ entries
+  whole = parted entries i (entry_at span) at_entries.entry
 
-  pages_parts : region_pages entries ≡ region_pages before ++ seat.page ∷ region_pages after
-  pages_parts = ap region_pages (sym whole) ∙ map-append (λ (e : Entry). e.page) before (entry_at seat ∷ after)
+  pages_parts : region_pages entries ≡ region_pages before ++ span.page ∷ region_pages after
+  pages_parts = ap region_pages (sym whole) ∙ map-append (λ (e : Entry). e.page) before (entry_at span ∷ after)
 
   spelled : AllByRecursion (IsSpelled schema pages) placed
   spelled = recursion_from_All (IsSpelled schema pages) placed placed_are.spelled
 
-  own_parts : IsDistinct nat_eq ((0 ∷ chain) ++ (region_pages before ++ seat.page ∷ region_pages after))
+  own_parts : IsDistinct nat_eq ((0 ∷ chain) ++ (region_pages before ++ span.page ∷ region_pages after))
   own_parts = subst (λ (ns : List ℕ). IsDistinct nat_eq ((0 ∷ chain) ++ ns)) (sym numbers_are ∙ pages_parts) placed_are.own
 
   pages_there : (ps : List Placed) → AllByRecursion (IsSpelled schema pages) ps → AllByRecursion (λ n. n < length pages) (map (λ p. p.page) ps)
   pages_there [] h = tt
   pages_there (p ∷ ps) h = (slice_get_within pages p.page _ h.0, pages_there ps h.1)
 
-  less : AllByRecursion (λ n. n < length pages) (region_pages before ++ seat.page ∷ region_pages after)
+  less : AllByRecursion (λ n. n < length pages) (region_pages before ++ span.page ∷ region_pages after)
   less = subst (AllByRecursion (λ n. n < length pages)) (sym numbers_are ∙ pages_parts) (pages_there placed spelled)
 
-  kept_each : (es : List Entry) → AllByRecursion (λ n. IsOutside n (0 ∷ seat.page ∷ [])) (region_pages es) → AllByRecursion (IsKept pages new) es
+  kept_each : (es : List Entry) → AllByRecursion (λ n. IsOutside n (0 ∷ span.page ∷ [])) (region_pages es) → AllByRecursion (IsKept pages new) es
   kept_each [] apart = tt
   kept_each (e ∷ es) apart = (others e.page apart.0.0 apart.0.1.0, kept_each es apart.1)
 
   kept_before : AllByRecursion (IsKept pages new) before
-  kept_before = kept_each before (apart_before_two chain (region_pages before) (region_pages after) seat.page (length pages) own_parts less)
+  kept_before = kept_each before (apart_before_two chain (region_pages before) (region_pages after) span.page (length pages) own_parts less)
 
   kept_after : AllByRecursion (IsKept pages new) after
-  kept_after = kept_each after (apart_after_two chain (region_pages before) (region_pages after) seat.page (length pages) own_parts less)
+  kept_after = kept_each after (apart_after_two chain (region_pages before) (region_pages after) span.page (length pages) own_parts less)
 
-  parts : placed_of schema pages before ++ placed_at schema pages (entry_at seat) ∷ placed_of schema pages after ≡ placed
-  parts = sym (map-append (placed_at schema pages) before (entry_at seat ∷ after)) ∙ ap (placed_of schema pages) whole ∙ sym viewed
+  parts : placed_of schema pages before ++ placed_at schema pages (entry_at span) ∷ placed_of schema pages after ≡ placed
+  parts = sym (map-append (placed_at schema pages) before (entry_at span ∷ after)) ∙ ap (placed_of schema pages) whole ∙ sym viewed
 
-  spelled_parts : AllByRecursion (IsSpelled schema pages) (placed_of schema pages before ++ placed_at schema pages (entry_at seat) ∷ placed_of schema pages after)
+  spelled_parts : AllByRecursion (IsSpelled schema pages) (placed_of schema pages before ++ placed_at schema pages (entry_at span) ∷ placed_of schema pages after)
   spelled_parts = subst (AllByRecursion (IsSpelled schema pages)) (sym parts) spelled
 
   parts_new : placed_of schema pages before ++ news ++ placed_of schema pages after ≡ placed_with i news placed
@@ -162,8 +160,8 @@ module _ (schema : Schema) (index : IndexView) (pages new : List (List ℕ)) (pl
   put_are = record {
     spelled = subst (All (IsSpelled schema new)) parts_new
         (spelled_changed schema pages new before after news kept_before kept_after (told, tt)
-        (all_left (IsSpelled schema pages) (placed_of schema pages before) (placed_at schema pages (entry_at seat) ∷ placed_of schema pages after) spelled_parts)
-        (all_right (IsSpelled schema pages) (placed_of schema pages before) (placed_at schema pages (entry_at seat) ∷ placed_of schema pages after) spelled_parts).1);
+        (all_left (IsSpelled schema pages) (placed_of schema pages before) (placed_at schema pages (entry_at span) ∷ placed_of schema pages after) spelled_parts)
+        (all_right (IsSpelled schema pages) (placed_of schema pages before) (placed_at schema pages (entry_at span) ∷ placed_of schema pages after) spelled_parts).1);
     own = subst (λ (ns : List ℕ). IsDistinct nat_eq (reserved index new ++ ns)) (sym numbers_are ∙ ap region_pages (sym same_entries) ∙ ap region_pages put_indexed.entries_are ∙ pages_by (placed_with i news placed))
         (subst (λ (ns : List ℕ). IsDistinct nat_eq (ns ++ map (λ p. p.page) placed)) (sym same_reserved) placed_are.own);
     within = subst (All (λ n. n < length new)) (sym same_reserved) (subst (λ (long : ℕ). All (λ n. n < long) (reserved index pages)) (sym count) placed_are.within);
@@ -176,28 +174,28 @@ module _ (schema : Schema) (index : IndexView) (pages new : List (List ℕ)) (pl
       ∙ ap length (sym put_indexed.entries_are ∙ same_entries ∙ indexed.entries_are)
       ∙ length-map placed entry_of
 
--- the same of a tree, where the page spells rows of the region of the seat
-pub put_rows : (schema : Schema) (index : IndexView) (count next rows : ℕ) (changed now failed : Bool) (old new : PagerView) (i : ℕ) (seat : Seat) (page : List ℕ) (own : List Row)
-    → Puts seat.page page old.store new.store → IsHonest new.store → IsStored (tree_view schema index count next rows changed failed old) → IsSeatIn (tree_view schema index count next rows changed failed old) i seat
-    → IsRegion schema (record { first = seat.first; rows = own }) → page ≡ region_page schema (record { first = seat.first; rows = own })
+-- the same of a tree, where the page spells rows of the region of the span
+pub put_rows : (schema : Schema) (index : IndexView) (count next rows : ℕ) (changed now failed : Bool) (old new : PagerView) (i : ℕ) (span : Span) (page : List ℕ) (own : List Row)
+    → Puts span.page page old.store new.store → IsHonest new.store → IsStored (tree_view schema index count next rows changed failed old) → IsRegionIn (tree_view schema index count next rows changed failed old) i span
+    → IsRegion schema (record { first = span.first; rows = own }) → page ≡ region_page schema (record { first = span.first; rows = own })
     → IsStored (tree_view schema index count next rows now failed new)
-    × (placed_in schema index new.store ≡ placed_with i (record { page = seat.page; region = record { first = seat.first; rows = own } } ∷ []) (placed_in schema index old.store))
-put_rows schema index count next rows changed now failed old new i seat page own puts honest stored at good spells =
-    let region : Region = record { first = seat.first; rows = own } in
-    let told : IsTold schema new.store.pages (record { page = seat.page; region = region }) =
+    × (placed_in schema index new.store ≡ placed_with i (record { page = span.page; region = record { first = span.first; rows = own } } ∷ []) (placed_in schema index old.store))
+put_rows schema index count next rows changed now failed old new i span page own puts honest stored at good spells =
+    let region : Region = record { first = span.first; rows = own } in
+    let told : IsTold schema new.store.pages (record { page = span.page; region = region }) =
     (puts.written stored.honest ∙ ap (λ (q : List ℕ). Some q) spells, (region_parts schema region (region_page schema region) good refl).on) in
     let viewed = view_placed schema index old.store stored.honest in
     let others = puts.others stored.honest in
     let placed = placed_in schema index old.store in
-    let is = view_placed schema index new.store honest ∙ put_placed schema index old.store.pages new.store.pages placed viewed stored.indexed stored.placed_are i seat at own others puts.count told in (
+    let is = view_placed schema index new.store honest ∙ put_placed schema index old.store.pages new.store.pages placed viewed stored.indexed stored.placed_are i span at own others puts.count told in (
       record {
         working = stored.working;
         honest = honest;
         indexed = subst (λ (ps : List Placed). HasIndex index new.store.pages (map entry_of ps)) (sym is)
-            (put_indexed schema index old.store.pages new.store.pages placed viewed stored.indexed stored.placed_are i seat at own others puts.count told);
+            (put_indexed schema index old.store.pages new.store.pages placed viewed stored.indexed stored.placed_are i span at own others puts.count told);
         placed_are = subst (λ (ps : List Placed). ArePlaced schema ps (reserved index new.store.pages) new.store.pages) (sym is)
-            (put_are schema index old.store.pages new.store.pages placed viewed stored.indexed stored.placed_are i seat at own others puts.count told);
-        count_is = stored.count_is ∙ sym (put_long schema index old.store.pages new.store.pages placed viewed stored.indexed stored.placed_are i seat at own others puts.count told) ∙ ap length (sym is);
+            (put_are schema index old.store.pages new.store.pages placed viewed stored.indexed stored.placed_are i span at own others puts.count told);
+        count_is = stored.count_is ∙ sym (put_long schema index old.store.pages new.store.pages placed viewed stored.indexed stored.placed_are i span at own others puts.count told) ∙ ap length (sym is);
       },
       is,
     )
@@ -231,14 +229,14 @@ module _ (schema : Schema) (index : IndexView) (count next rows : ℕ) (was now 
       let room : index.last < 256 ^ 16 = (let less : index.last < 2 ^ 128 = small in omega arith) in
       record {
         key = is.key;
-        seat = is.seat;
         falls = record {
           holds = is.falls.holds;
+          from = is.falls.from;
+          to = is.falls.to;
           way = λ honest_new.
               let honest_old = honest honest_new in
-              still_taken index.last room old.store.pages new.store.pages (keeps honest_old) is.key index.levels (top index.root) None (entry_at is.seat) is.seat.next some (is.falls.way honest_old);
+              still_taken index.last room old.store.pages new.store.pages (keeps honest_old) is.key index.levels (top index.root) None (entry_at region) region.next some (is.falls.way honest_old);
         };
-        region_is = is.region_is;
       }
 
 -- a page that is put where one stood that spells a region takes none of an index away
@@ -267,18 +265,18 @@ told_put schema index count next rows was now failed old new n region after some
 }
 
 -- no region of a sound tree stands on the first page
-pub own_seat : (t : TreeView) (seat : Seat) → IsSound t → IsSeatOf t seat → seat.page ≢ 0
-own_seat t seat sound told =
+pub own_page : (t : TreeView) (span : Span) → IsSound t → IsRegionOf t span → span.page ≢ 0
+own_page t span sound told =
     let numbers = map (λ (p : Placed). p.page) t.placed in
     let chain = pages_under t.store.pages t.inner.index.levels (top t.inner.index.root) in
-    let at = seat_of_key t sound told.0 seat told.1 in
+    let at = at_of_key t sound told.key span told.falls in
     let apart = all_right (λ n. 0 ≢ n) chain numbers (distinct_first 0 (chain ++ numbers) sound.placed_are.own) in
-    λ e. outside_at 0 seat.page numbers _ (page_at t.placed _ (entry_at seat) at.entry) apart (sym e)
+    λ e. outside_at 0 span.page numbers _ (page_at t.placed _ (entry_at span) at.entry) apart (sym e)
 
--- a page that spells a region is put on the page of a seat where one stands
-pub told_there : (schema : Schema) (index : IndexView) (count next rows : ℕ) (was now failed : Bool) (old new : PagerView) (seat : Seat) (page : List ℕ) → 1 ≤ index.root → index.last < 2 ^ 128
-    → IsSeatThere (tree_view schema index count next rows was failed old) seat → (r : Region) → IsRegion schema r → page ≡ region_page schema r → new.store.honest ≡ old.store.honest
-    → Puts seat.page page old.store new.store → KeepsTold (tree_view schema index count next rows was failed old) (tree_view schema index count next rows now failed new)
-told_there schema index count next rows was now failed old new seat page some small there r is spells same puts =
-    told_put schema index count next rows was now failed old new seat.page there.region r some small there.on.is is there.on.page same
-    (subst (λ (q : List ℕ). Puts seat.page q old.store new.store) spells puts)
+-- a page that spells a region is put on the page of a span where one stands
+pub told_there : (schema : Schema) (index : IndexView) (count next rows : ℕ) (was now failed : Bool) (old new : PagerView) (span : Span) (page : List ℕ) → 1 ≤ index.root → index.last < 2 ^ 128
+    → IsRegionThere (tree_view schema index count next rows was failed old) span → (r : Region) → IsRegion schema r → page ≡ region_page schema r → new.store.honest ≡ old.store.honest
+    → Puts span.page page old.store new.store → KeepsTold (tree_view schema index count next rows was failed old) (tree_view schema index count next rows now failed new)
+told_there schema index count next rows was now failed old new span page some small there r is spells same puts =
+    told_put schema index count next rows was now failed old new span.page there.region r some small there.on.0 is there.on.2 same
+    (subst (λ (q : List ℕ). Puts span.page q old.store new.store) spells puts)

@@ -5,11 +5,11 @@ use Rattle.ub_bigmin.specs.Box.{Corners, HoldsAny}
 use Rattle.ub_bigmin.specs.Extremes.{LeastFrom}
 use Rattle.ub_check.specs.Standing.{IsRegionRefused}
 use Rattle.ub_store.specs.declared.fault.StoreFault.TheVariants as store
-use Rattle.ub_index.specs.Searching.{Gives, GivesFrom, IsFrom, region_of}
+use Rattle.ub_index.specs.Searching.{Gives, GivesFrom, IsFrom}
 use Rattle.ub_index.specs.Index.{top}
 use Rattle.ub_index.specs.Way.{LeadsTo}
-use Rattle.ub_index.specs.declared.seat.Seat.{Seat}
 use Rattle.ub_store.specs.Facts.{IsPage, page_count}
+use Rattle.ub_index.specs.View.{entry_at}
 use Rattle.ub_store.specs.View.{Trace, emptied}
 use Rattle.ub_table.specs.declared.fault.PageFault.{PageFault}
 use Rattle.ub_table.specs.declared.row.Key.{Key}
@@ -74,20 +74,20 @@ pub traced_told : (old new : TreeView) → IsTraced old new → (region : Region
 traced_told old new is region told = retold_so new.trace (subst (λ (t : TreeView). IsRegionOf t region) is told)
   where
     retold_so : (trace : Trace) → IsRegionOf (record old { trace = trace }) region → IsRegionOf old region
-    retold_so trace h = record { key = h.key; seat = h.seat; falls = h.falls; region_is = h.region_is }
+    retold_so trace h = record { key = h.key; falls = h.falls }
 
 -- and so does one that has the same pages and the same index
 pub told_kept : (old new : TreeView) → new.store.honest ≡ old.store.honest → new.store.pages ≡ old.store.pages → new.inner ≡ old.inner
     → (region : Region) → IsRegionOf old region → IsRegionOf new region
 told_kept old new honesty pages inners region told = record {
   key = told.key;
-  seat = told.seat;
-  falls = subst (λ (i : Inner). Gives i.index new.store told.key told.seat) (sym inners) (record {
+  falls = subst (λ (i : Inner). Gives i.index new.store told.key region) (sym inners) (record {
     holds = told.falls.holds;
+    from = told.falls.from;
+    to = told.falls.to;
     way = λ honest. subst (λ (ps : List (List ℕ)). LeadsTo old.inner.index.last ps told.key old.inner.index.levels (top old.inner.index.root) None
-        (record { first = told.seat.first; page = told.seat.page }) told.seat.next) (sym pages) (told.falls.way (sym honesty ∙ honest));
+        (entry_at region) region.next) (sym pages) (told.falls.way (sym honesty ∙ honest));
   });
-  region_is = told.region_is ∙ ap (λ (i : Inner). region_of i.index.last told.seat) (sym inners);
 }
 
 pub traced_gives : (old new : TreeView) → IsTraced old new → (boxes : List Corners) (after found : Option Region) → GivesNext boxes new after found → GivesNext boxes old after found

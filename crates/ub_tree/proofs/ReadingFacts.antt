@@ -4,11 +4,9 @@ use Rattle.std.specs.List.{AllByRecursion}
 use Rattle.std.specs.Result.{IsErrAnd, IsErrOf}
 use Rattle.ub_check.proofs.StandingFacts.{each_get}
 use Rattle.ub_check.specs.Standing.{IsRegionRefused, IsHeldBy}
-use Rattle.ub_index.specs.Searching.{region_of}
 use Rattle.ub_index.specs.View.{IndexView}
 use Rattle.ub_index.specs.declared.fault.IndexFault.TheVariants as index
 use Rattle.ub_index.specs.declared.fault.IndexFault.{IndexFault}
-use Rattle.ub_index.specs.declared.seat.Seat.{Seat}
 use Rattle.ub_page.specs.Region.{region_page}
 use Rattle.ub_region.specs.Regions.{firsts_of, index_holding}
 use Rattle.ub_store.specs.Facts.{StoreFacts, IsPage, page_count, counted as counted_there}
@@ -20,8 +18,8 @@ use Rattle.ub_table.specs.Region.{Region, IsRegion, keys_of}
 use Rattle.ub_table.specs.declared.fault.PageFault.{PageFault}
 use Rattle.ub_table.specs.declared.row.Key.{Key}
 use Rattle.ub_table.specs.declared.schema.Schema.{Schema}
-use Rattle.ub_tree.proofs.IndexedFacts.{seat_of_key}
-use Rattle.ub_tree.proofs.TreeFacts.{all_get, apart_next, firsts_placed, region_get, seat_placed}
+use Rattle.ub_tree.proofs.IndexedFacts.{at_of_key}
+use Rattle.ub_tree.proofs.TreeFacts.{all_get, apart_next, firsts_placed, region_get, placed_there}
 use Rattle.ub_tree.specs.Effects.{IsPageMissing, IsPageRefused, IsReadFault, IsSpanFault, IsTakenIn, Searches, read_store}
 use Rattle.ub_tree.specs.Faults.{index_fault, tree_fault}
 use Rattle.ub_tree.specs.Opened.{IsPassing}
@@ -32,43 +30,36 @@ use Rattle.ub_tree.specs.Tree.{tree_view}
 use Rattle.ub_tree.specs.View.{TreeView, IsSound, regions}
 use Rattle.ub_tree.specs.declared.fault.TreeFault.{TreeFault}
 use Rattle.ub_tree.specs.declared.fault.TreeFault.TheVariants.{Failed, Page}
-use Rattle.ub_tree.specs.inner.Change.{IsOnSeat, IsSeatIn, IsSeatOf, IsSeatThere}
-
--- the region of a seat, as the tree tells of it
-pub seat_told : (t : TreeView) (seat : Seat) → IsSeatOf t seat → IsRegionOf t (region_of t.inner.index.last seat)
-seat_told t seat told = record { key = told.0; seat = seat; falls = told.1; region_is = refl }
+use Rattle.ub_tree.specs.inner.Change.{IsRegionIn, IsRegionThere}
 
 -- so it is told of a page that was refused, or isn't there
-pub refused_there : (t : TreeView) (seat : Seat) (page : List ℕ) (fault : PageFault) → IsSeatOf t seat → IsPage t.store seat.page page → IsRegionRefused t.schema seat.first seat.next page fault
-    → IsPageRefused t seat.page fault
-refused_there t seat page fault told is refused = inr (region_of t.inner.index.last seat, seat_told t seat told, refl, page, is, refused)
+pub refused_there : (t : TreeView) (span : Span) (page : List ℕ) (fault : PageFault) → IsRegionOf t span → IsPage t.store span.page page → IsRegionRefused t.schema span.first span.next page fault
+    → IsPageRefused t span.page fault
+refused_there t span page fault told is refused = inr (span, told, refl, page, is, refused)
 
-pub missing_there : (t : TreeView) (seat : Seat) → IsSeatOf t seat → page_count t.store ≤ seat.page → IsPageMissing t
-missing_there t seat told past = inr (region_of t.inner.index.last seat, seat_told t seat told, past)
+pub missing_there : (t : TreeView) (span : Span) → IsRegionOf t span → page_count t.store ≤ span.page → IsPageMissing t
+missing_there t span told past = inr (span, told, past)
 
--- what stands on the page of a seat is taken in
-pub taken_on : (t : TreeView) (seat : Seat) (region : Region) → IsOnSeat t seat region → IsTakenIn t (region_of t.inner.index.last seat) region
-taken_on t seat region on = (on.is, on.held, on.page)
-
--- on a sound tree a region stands on the page of each seat
-pub sound_on : (t : TreeView) (i : ℕ) (seat : Seat) → IsSound t → IsSeatIn t i seat → (r : Region) × IsOnSeat t seat r
-sound_on t i seat sound at =
-    let (p, there, page, first) = seat_placed t.placed i seat at in
+-- on a sound tree a region stands on the page of each span
+pub sound_on : (t : TreeView) (i : ℕ) (span : Span) → IsSound t → IsRegionIn t i span → (r : Region) × IsTakenIn t span r
+sound_on t i span sound at =
+    let (p, there, page, first) = placed_there t.placed i span at in
     let region = region_get t.placed i p there in
     let each = each_get (IsRegion t.schema) (regions t) i p.region sound.regions_are.each region in
     let apart = apart_next t.schema.dims (regions t) i p.region sound.regions_are.apart region in
     let spelled = all_get (λ q. slice_get t.store.pages q.page ≡ Some (region_page t.schema q.region)) t.placed i p sound.placed_are.spelled there in
-    let next : seat.next ≡ slice_get (firsts_of (regions t)) (suc i) = at.next ∙ ap (λ (ks : List Key). slice_get ks (suc i)) (firsts_placed t.placed) in (
+    let next : span.next ≡ slice_get (firsts_of (regions t)) (suc i) = at.next ∙ ap (λ (ks : List Key). slice_get ks (suc i)) (firsts_placed t.placed) in (
       p.region,
-      record {
-        is = each;
-        held = (first, subst (λ (o : Option Key). IfSome o (λ end. AllByRecursion (λ key. IsBefore key end) (keys_of t.schema.dims p.region.rows))) (sym next) apart);
-        page = λ honest. ap (slice_get t.store.pages) (sym page) ∙ spelled;
-      },
+      (
+        each,
+        (first, subst (λ (o : Option Key). IfSome o (λ end. AllByRecursion (λ key. IsBefore key end) (keys_of t.schema.dims p.region.rows))) (sym next) apart),
+        λ honest. ap (slice_get t.store.pages) (sym page) ∙ spelled,
+      ),
     )
 
-pub sound_seat : (t : TreeView) (seat : Seat) → IsSound t → IsSeatOf t seat → (r : Region) × IsOnSeat t seat r
-sound_seat t seat sound told = sound_on t (index_holding told.0 (first_keys (map entry_of t.placed))) seat sound (seat_of_key t sound told.0 seat told.1)
+-- and so one that the tree tells of
+pub sound_span : (t : TreeView) (span : Span) → IsSound t → IsRegionOf t span → (r : Region) × IsTakenIn t span r
+sound_span t span sound told = sound_on t (index_holding told.key (first_keys (map entry_of t.placed))) span sound (at_of_key t sound told.key span told.falls)
 
 -- a fault of a page of this number, of which this is known
 abbrev pub IsTold : ℕ → (PageFault → Type 0) → TreeFault → Type 0
@@ -191,9 +182,9 @@ past_pages count number page there also (inl none) = omega arith
 past_pages count number page there also (inr (inl past)) = omega arith
 past_pages count number page there also (inr (inr past)) = omega arith
 
--- a seat of a tree that is as it was
-pub same_there : (a b : TreeView) (seat : Seat) → b ≡ a → IsSeatThere a seat → IsSeatThere b seat
-same_there a b seat same h = subst (λ (v : TreeView). IsSeatThere v seat) (sym same) h
+-- a span of a tree that is as it was
+pub same_there : (a b : TreeView) (span : Span) → b ≡ a → IsRegionThere a span → IsRegionThere b span
+same_there a b span same h = subst (λ (v : TreeView). IsRegionThere v span) (sym same) h
 
 -- a search after one that changed nothing, and the answers of searches as those of others
 pub then_searched : {T : Type 0} (r : Result T TreeFault) (a b c : TreeView) → b ≡ a → Searches b c r → Searches a c r

@@ -8,12 +8,12 @@ use Rattle.ub_index.proofs.KeyFacts.{le_before}
 use Rattle.ub_index.specs.Changing.{IsAtMostOne, Mends, Spelled, Spreads, Turns, named_as, so_far}
 use Rattle.ub_index.specs.Index.{entries_of, pages_under, top, under}
 use Rattle.ub_index.specs.Lowering.{IsDropFault, IsDropped, IsLowerFault, IsRootRefused}
-use Rattle.ub_index.specs.Preparing.{ChangeView, IsChangeFault, IsPrepared, Settles, change_view, entry_at}
+use Rattle.ub_index.specs.Preparing.{ChangeView, IsChangeFault, IsPrepared, Settles, change_view}
 use Rattle.ub_index.specs.Searching.{Gives, store_after}
-use Rattle.ub_index.specs.View.{IndexView}
+use Rattle.ub_index.specs.View.{IndexView, entry_at}
 use Rattle.ub_index.specs.declared.fault.IndexFault.{IndexFault}
 use Rattle.ub_index.specs.declared.fault.IndexFault.TheVariants as index
-use Rattle.ub_index.specs.declared.seat.Seat.{Seat}
+use Rattle.ub_region.specs.declared.region.Region.{Region as Span}
 use Rattle.ub_index.specs.declared.told.Told.{Told}
 use Rattle.ub_index.specs.declared.told.Told.TheVariants.{Same, Gone, One, Two}
 use Rattle.ub_index_page.specs.declared.index.TheConstants.{MAX_LEVEL}
@@ -40,19 +40,19 @@ use Rattle.ub_tree.specs.View.{TreeView, IsSound, region_count}
 use Rattle.ub_tree.specs.declared.fault.TreeFault.{TreeFault}
 use Rattle.ub_tree.specs.inner.Change.{IsReadyFault, IsSpelledAt, MakesReady}
 
--- where the way to a key leads to a seat, a region comes behind it, unless there is no room
-pub change_room : (i : IndexView) (facts : StoreFacts) (key : Key) (seat : Seat) → i.last < 2 ^ 128 → IsHonest facts → Gives i facts key seat
+-- where the way to a key leads to a span, a region comes behind it, unless there is no room
+pub change_room : (i : IndexView) (facts : StoreFacts) (key : Key) (span : Span) → i.last < 2 ^ 128 → IsHonest facts → Gives i facts key span
     → (added : Entry) (from : Spelled) (e : IndexFault) → IsChangeFault i facts key (Some added) from e → HasNoRoom (index_fault e)
-change_room i facts key seat small honest given added from (index.Page n fault) h = elim (h honest) [
-  | inl stops ↦ absurd (led_not_stopped i.last facts.pages key small i.levels (top i.root) None (entry_at seat) seat.next n (Some fault) (given.way honest) stops)
+change_room i facts key span small honest given added from (index.Page n fault) h = elim (h honest) [
+  | inl stops ↦ absurd (led_not_stopped i.last facts.pages key small i.levels (top i.root) None (entry_at span) span.next n (Some fault) (given.way honest) stops)
   | inr gone ↦ absurd (never_gone i.last facts.pages key added i.levels (top i.root) None from gone.2 gone.3)
 ]
-change_room i facts key seat small honest given added from index.Full h = inl refl
-change_room i facts key seat small honest given added from (index.Store store.Memory) h = inr (inr (inl refl))
-change_room i facts key seat small honest given added from (index.Store store.Device) h = inr (inr (inr refl))
-change_room i facts key seat small honest given added from (index.Store store.BadSize) h = inr (inl refl)
-change_room i facts key seat small honest given added from (index.Store store.NoPage) h =
-    absurd (led_not_stopped i.last facts.pages key small i.levels (top i.root) None (entry_at seat) seat.next h.0 None (given.way honest) (h.2 honest))
+change_room i facts key span small honest given added from index.Full h = inl refl
+change_room i facts key span small honest given added from (index.Store store.Memory) h = inr (inr (inl refl))
+change_room i facts key span small honest given added from (index.Store store.Device) h = inr (inr (inr refl))
+change_room i facts key span small honest given added from (index.Store store.BadSize) h = inr (inl refl)
+change_room i facts key span small honest given added from (index.Store store.NoPage) h =
+    absurd (led_not_stopped i.last facts.pages key small i.levels (top i.root) None (entry_at span) span.next h.0 None (given.way honest) (h.2 honest))
 
 pub room_err : {T : Type 0} (r : Result T TreeFault) (e : IndexFault) → IsErrAnd r (λ x. x ≡ index_fault e) → HasNoRoom (index_fault e) → IfErr r HasNoRoom
 room_err (Ok x) e is h = tt
@@ -236,5 +236,5 @@ drop_fault t key small more taken (index.Store store.NoPage) (grows, why) = ((λ
     never sound (inr lower) = taken sound lower.0 lower.2.0 None (lower.1 sound.honest) (lower.2.2 sound.honest)
 
 -- a region that comes after another one isn't the first
-pub behind_origin : (t : TreeView) (key : Key) (seat : Seat) (next : Key) → FallsTo t key seat → seat.next ≡ Some next → IsBefore origin next
-behind_origin t key seat next falls is = le_before origin seat.first next (not_before_origin seat.first) (begins_before t key seat next falls is)
+pub behind_origin : (t : TreeView) (key : Key) (span : Span) (next : Key) → FallsTo t key span → span.next ≡ Some next → IsBefore origin next
+behind_origin t key span next falls is = le_before origin span.first next (not_before_origin span.first) (begins_before t key span next falls is)

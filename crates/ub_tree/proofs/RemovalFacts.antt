@@ -3,7 +3,6 @@ use Rattle.std.proofs.Common.{◌≡◌, ◌≢◌, ◌<◌, ◌+◌, ◌-◌, �
 use Rattle.std.proofs.lemmas.List.Sorted.{length_permutation}
 use Rattle.std.specs.List.{AllByRecursion}
 use Rattle.std.specs.Result.{IsErrAnd}
-use Rattle.ub_index.specs.declared.seat.Seat.{Seat}
 use Rattle.ub_region.proofs.Laws.{remove_keeps, remove_none, remove_rows, remove_table}
 use Rattle.ub_region.specs.Joins.{put_rows, JoinsNext, JoinsBefore}
 use Rattle.ub_region.specs.Regions.{AreRegions, firsts_of, index_holding, remove, rows_of, settle}
@@ -16,67 +15,67 @@ use Rattle.ub_table.specs.declared.row.Row.{Row}
 use Rattle.ub_tree.proofs.EffectFacts.{sound_stored}
 use Rattle.ub_tree.proofs.HoldingFacts.{no_answer}
 use Rattle.ub_tree.proofs.ShrinkFacts.{has_at, join_one, join_with, length-regions, put_alone, regions_put, removed_at, settle_before, settle_large, settle_next}
-use Rattle.ub_tree.proofs.TreeFacts.{firsts_placed, region_get, seat_placed, seat_within}
-use Rattle.ub_tree.specs.Holding.{Answers, AnswersRemoval, IsSeatOrBefore, ShrinksAt}
+use Rattle.ub_tree.proofs.TreeFacts.{firsts_placed, region_get, placed_there, within_placed}
+use Rattle.ub_tree.specs.Holding.{Answers, AnswersRemoval, IsThatOrBefore, ShrinksAt}
 use Rattle.ub_tree.specs.Opened.{IsPassing}
 use Rattle.ub_tree.specs.Others.{DropsEntry, KeepsEntries, WritesIndex, WritesPage}
 use Rattle.ub_tree.specs.Placed.{Placed, entry_of, regions_in}
-use Rattle.ub_tree.specs.Effects.{IsReadFault}
+use Rattle.ub_tree.specs.Effects.{IsReadFault, IsTakenIn}
 use Rattle.ub_tree.specs.Removal.{IsRemovalFault, IsRemoved}
 use Rattle.ub_tree.specs.Spans.{first_keys, Region as Span}
 use Rattle.ub_tree.specs.Told.{FallsTo, IsRegionOf, KeepsTold}
 use Rattle.ub_tree.specs.View.{TreeView, IsSound, region_count, regions, tree_rows}
 use Rattle.ub_tree.specs.declared.fault.TreeFault.{TreeFault}
 use Rattle.ub_tree.specs.declared.fault.TreeFault.TheVariants.{Full, Page, Store, Failed as HasFailed, Memory}
-use Rattle.ub_tree.specs.inner.Change.{IsElsewhereSame, IsOnSeat, IsPut, IsSeatIn, IsSeatOf, IsSeatThere, IsStored, JoinsAt, TakesAt, Writes, placed_with, regions_with}
+use Rattle.ub_tree.specs.inner.Change.{IsElsewhereSame, IsPut, IsRegionIn, IsRegionThere, IsStored, JoinsAt, TakesAt, Writes, placed_with, regions_with}
 use Rattle.ub_writing.specs.Marks.{HasMark}
 use Rattle.ub_zaddr.specs.Address.{last_address}
 
 -- the rows that were read of the next region are put to these, where a page holds both
-pub joins_next : (a s m : TreeView) (i : ℕ) (next : Seat) (rows new more : List Row) (fit : Bool) (c : ℕ) → s ≡ a → m ≡ s → IsSeatIn a (i + 1) next
-    → ((j : ℕ) (p : Placed) → IsHonest s.store → IsSeatIn s j next → slice_get s.placed j ≡ Some p → more ≡ p.region.rows) → c ≡ m.schema.page_rows → fit ≡ nat_le (length rows + length more) c
+pub joins_next : (a s m : TreeView) (i : ℕ) (next : Span) (rows new more : List Row) (fit : Bool) (c : ℕ) → s ≡ a → m ≡ s → IsRegionIn a (i + 1) next
+    → ((j : ℕ) (p : Placed) → IsHonest s.store → IsRegionIn s j next → slice_get s.placed j ≡ Some p → more ≡ p.region.rows) → c ≡ m.schema.page_rows → fit ≡ nat_le (length rows + length more) c
     → new ≡ (if fit then rows ++ more else rows) → IsHonest a.store → JoinsNext a.schema.page_rows i rows new fit (regions a)
 joins_next a s m i next rows new more fit c one two at read count fits made honest =
     let up : i + 1 ≡ suc i = omega arith in
-    let some = seat_placed a.placed (i + 1) next at in
+    let some = placed_there a.placed (i + 1) next at in
     let b = some.0 in
     let there : slice_get a.placed (suc i) ≡ Some b = ap (slice_get a.placed) (sym up) ∙ some.1 in
     let same : more ≡ b.region.rows =
-    subst (λ (v : TreeView). (j : ℕ) (p : Placed) → IsHonest v.store → IsSeatIn v j next → slice_get v.placed j ≡ Some p → more ≡ p.region.rows) one read (i + 1) b honest at some.1 in
+    subst (λ (v : TreeView). (j : ℕ) (p : Placed) → IsHonest v.store → IsRegionIn v j next → slice_get v.placed j ≡ Some p → more ≡ p.region.rows) one read (i + 1) b honest at some.1 in
     let count_a : c ≡ a.schema.page_rows = count ∙ ap (λ (v : TreeView). v.schema.page_rows) (two ∙ one) in
     join_with a.schema.page_rows i rows new fit b.region (regions a) (region_get a.placed (suc i) b there) (rw (← same, ← count_a) fits) (rw (← same) made)
 
 -- and so those of the region before
-pub joins_one : (a s m : TreeView) (i j : ℕ) (seat before : Seat) (rows new more : List Row) (fit : Bool) (c : ℕ) → s ≡ a → m ≡ s → i ≡ j + 1 → IsSeatIn a j before → IsSeatIn a i seat
-    → ((k : ℕ) (p : Placed) → IsHonest s.store → IsSeatIn s k before → slice_get s.placed k ≡ Some p → more ≡ p.region.rows) → c ≡ m.schema.page_rows → fit ≡ nat_le (length more + length rows) c
+pub joins_one : (a s m : TreeView) (i j : ℕ) (span before : Span) (rows new more : List Row) (fit : Bool) (c : ℕ) → s ≡ a → m ≡ s → i ≡ j + 1 → IsRegionIn a j before → IsRegionIn a i span
+    → ((k : ℕ) (p : Placed) → IsHonest s.store → IsRegionIn s k before → slice_get s.placed k ≡ Some p → more ≡ p.region.rows) → c ≡ m.schema.page_rows → fit ≡ nat_le (length more + length rows) c
     → new ≡ (if fit then more ++ rows else rows) → IsHonest a.store → JoinsBefore a.schema.page_rows i rows new fit (regions a)
-joins_one a s m i j seat before rows new more fit c one two is at_before at read count fits made honest =
+joins_one a s m i j span before rows new more fit c one two is at_before at read count fits made honest =
     let down : j ≡ i - 1 = omega arith in
-    let some = seat_placed a.placed j before at_before in
+    let some = placed_there a.placed j before at_before in
     let b = some.0 in
     let there : slice_get a.placed (i - 1) ≡ Some b = ap (slice_get a.placed) (sym down) ∙ some.1 in
     let same : more ≡ b.region.rows =
-    subst (λ (v : TreeView). (k : ℕ) (p : Placed) → IsHonest v.store → IsSeatIn v k before → slice_get v.placed k ≡ Some p → more ≡ p.region.rows) one read j b honest at_before some.1 in
+    subst (λ (v : TreeView). (k : ℕ) (p : Placed) → IsHonest v.store → IsRegionIn v k before → slice_get v.placed k ≡ Some p → more ≡ p.region.rows) one read j b honest at_before some.1 in
     let count_a : c ≡ a.schema.page_rows = count ∙ ap (λ (v : TreeView). v.schema.page_rows) (two ∙ one) in
     let long = length-regions a.placed in
-    let lt = seat_within a.placed i seat at in
+    let lt = within_placed a.placed i span at in
     let later : i ≢ 0 = (λ none. absurd (omega arith)) in
     join_one a.schema.page_rows i rows new fit b.region (regions a) later (region_get a.placed (i - 1) b there) (omega arith) (rw (← same, ← count_a) fits) (rw (← same) made)
 
--- what the rows of the region of a seat, put on its page, make of the regions
-abbrev pub Rewrites : Result (Unit {0}) TreeFault → Seat → List Row → TreeView → TreeView → Type 0
-Rewrites r seat rows old new = (i : ℕ) → IsStored old → IsSeatIn old i seat
-    → OnOk r (IsStored new × (new.placed ≡ placed_with i (record { page = seat.page; region = record { first = seat.first; rows = rows } } ∷ []) old.placed))
+-- what the rows of the region of a span, put on its page, make of the regions
+abbrev pub Rewrites : Result (Unit {0}) TreeFault → Span → List Row → TreeView → TreeView → Type 0
+Rewrites r span rows old new = (i : ℕ) → IsStored old → IsRegionIn old i span
+    → OnOk r (IsStored new × (new.placed ≡ placed_with i (record { page = span.page; region = record { first = span.first; rows = rows } } ∷ []) old.placed))
 
-pub rewritten_alone : (a b : TreeView) (r : Result (Unit {0}) TreeFault) (i : ℕ) (seat : Seat) (rows : List Row) → IsStored a → IsSeatIn a i seat → Rewrites r seat rows a b
+pub rewritten_alone : (a b : TreeView) (r : Result (Unit {0}) TreeFault) (i : ℕ) (span : Span) (rows : List Row) → IsStored a → IsRegionIn a i span → Rewrites r span rows a b
     → OnOk r (IsStored b × (regions b ≡ put_rows i false rows (regions a)))
-rewritten_alone a b (Err e) i seat rows stored at written = tt
-rewritten_alone a b (Ok x) i seat rows stored at written =
+rewritten_alone a b (Err e) i span rows stored at written = tt
+rewritten_alone a b (Ok x) i span rows stored at written =
     let both = written i stored at in
-    let p = seat_placed a.placed i seat at in
+    let p = placed_there a.placed i span at in
     let region = region_get a.placed i p.0 p.1 in (
       both.0,
-      ap regions_in both.1 ∙ regions_put i (record { page = seat.page; region = record { first = seat.first; rows = rows } } ∷ []) a.placed
+      ap regions_in both.1 ∙ regions_put i (record { page = span.page; region = record { first = span.first; rows = rows } } ∷ []) a.placed
           ∙ subst (λ (k : Key). regions_with i (record { first = k; rows = rows } ∷ []) (regions a) ≡ put_rows i false rows (regions a)) p.3 (put_alone i rows p.0.region (regions a) region),
     )
 
@@ -84,59 +83,59 @@ rewritten_alone a b (Ok x) i seat rows stored at written =
 as_same : (d : TreeView) (r : Result (Unit {0}) TreeFault) (xs ys : List Region) → xs ≡ ys → OnOk r (IsStored d × (regions d ≡ xs)) → OnOk r (IsStored d × (regions d ≡ ys))
 as_same d r xs ys same h = subst (λ (zs : List Region). OnOk r (IsStored d × (regions d ≡ zs))) same h
 
-module _ (a : TreeView) (i : ℕ) (seat : Seat) (rows : List Row) (stored : IsStored a) (at : IsSeatIn a i seat) where
+module _ (a : TreeView) (i : ℕ) (span : Span) (rows : List Row) (stored : IsStored a) (at : IsRegionIn a i span) where
   within : i < length (regions a)
-  within = (let lt = seat_within a.placed i seat at in let long = length-regions a.placed in omega arith)
+  within = (let lt = within_placed a.placed i span at in let long = length-regions a.placed in omega arith)
 
   abbrev settled : List Region
   settled = settle a.schema.page_rows i (put_rows i false rows (regions a))
 
   -- rows that are not few stay alone
-  pub settled_large : (d : TreeView) (r : Result (Unit {0}) TreeFault) → nat_lt (length rows) (a.schema.page_rows / 2) ≡ false → Rewrites r seat rows a d → OnOk r (IsStored d × (regions d ≡ settled))
+  pub settled_large : (d : TreeView) (r : Result (Unit {0}) TreeFault) → nat_lt (length rows) (a.schema.page_rows / 2) ≡ false → Rewrites r span rows a d → OnOk r (IsStored d × (regions d ≡ settled))
   settled_large d r large written =
-      as_same d r (put_rows i false rows (regions a)) settled (settle_large a.schema.page_rows i rows (regions a) within large) (rewritten_alone a d r i seat rows stored at written)
+      as_same d r (put_rows i false rows (regions a)) settled (settle_large a.schema.page_rows i rows (regions a) within large) (rewritten_alone a d r i span rows stored at written)
 
   -- few rows that fit on no page with others stay alone
   pub settled_alone : (m b d : TreeView) (r : Result (Unit {0}) TreeFault) (left new : List Row) → nat_lt (length rows) (a.schema.page_rows / 2) ≡ true → m ≡ a → b ≡ m
       → JoinsNext a.schema.page_rows i rows left false (regions a)
-      → ((j : ℕ) → IsStored m → IsSeatIn m j seat → JoinsBefore m.schema.page_rows j left new false (regions m))
-      → Rewrites r seat new b d → OnOk r (IsStored d × (regions d ≡ settled))
+      → ((j : ℕ) → IsStored m → IsRegionIn m j span → JoinsBefore m.schema.page_rows j left new false (regions m))
+      → Rewrites r span new b d → OnOk r (IsStored d × (regions d ≡ settled))
   settled_alone m b d r left new few one two next before written =
       as_same d r (put_rows i false new (regions a)) settled
       (settle_before a.schema.page_rows i rows left new false (regions a) within few next
-      (subst (λ (v : TreeView). (j : ℕ) → IsStored v → IsSeatIn v j seat → JoinsBefore v.schema.page_rows j left new false (regions v)) one before i stored at))
-      (rewritten_alone a d r i seat new stored at (subst (λ (v : TreeView). Rewrites r seat new v d) (two ∙ one) written))
+      (subst (λ (v : TreeView). (j : ℕ) → IsStored v → IsRegionIn v j span → JoinsBefore v.schema.page_rows j left new false (regions v)) one before i stored at))
+      (rewritten_alone a d r i span new stored at (subst (λ (v : TreeView). Rewrites r span new v d) (two ∙ one) written))
 
   -- what two regions that are joined make of the regions
-  abbrev Joins : Result (Unit {0}) TreeFault → Seat → Seat → List Row → TreeView → TreeView → Type 0
-  Joins r first second new old d = (j : ℕ) → IsStored old → IsSeatIn old j first → IsSeatIn old (j + 1) second → AllByRecursion (IsRegion old.schema) (put_rows j true new (regions old))
+  abbrev Joins : Result (Unit {0}) TreeFault → Span → Span → List Row → TreeView → TreeView → Type 0
+  Joins r first second new old d = (j : ℕ) → IsStored old → IsRegionIn old j first → IsRegionIn old (j + 1) second → AllByRecursion (IsRegion old.schema) (put_rows j true new (regions old))
       → OnOk r (IsStored d × (regions d ≡ put_rows j true new (regions old)))
 
   -- few rows that fit on a page with those of the next region
-  pub settled_next : (m d : TreeView) (r : Result (Unit {0}) TreeFault) (next : Seat) (new : List Row) → nat_lt (length rows) (a.schema.page_rows / 2) ≡ true → m ≡ a
-      → JoinsNext a.schema.page_rows i rows new true (regions a) → IsSeatIn a (i + 1) next → Joins r seat next new m d
+  pub settled_next : (m d : TreeView) (r : Result (Unit {0}) TreeFault) (next : Span) (new : List Row) → nat_lt (length rows) (a.schema.page_rows / 2) ≡ true → m ≡ a
+      → JoinsNext a.schema.page_rows i rows new true (regions a) → IsRegionIn a (i + 1) next → Joins r span next new m d
       → AllByRecursion (IsRegion a.schema) settled → OnOk r (IsStored d × (regions d ≡ settled))
   settled_next m d r next new few one joins at_next written all =
       let same = settle_next a.schema.page_rows i rows new (regions a) within few joins in
       as_same d r (put_rows i true new (regions a)) settled same
-      (subst (λ (v : TreeView). Joins r seat next new v d) one written i stored at at_next (subst (AllByRecursion (IsRegion a.schema)) (sym same) all))
+      (subst (λ (v : TreeView). Joins r span next new v d) one written i stored at at_next (subst (AllByRecursion (IsRegion a.schema)) (sym same) all))
 
   -- few rows that fit on the page of the region before
-  pub settled_before : (m b d : TreeView) (r : Result (Unit {0}) TreeFault) (before : Seat) (left new : List Row) → nat_lt (length rows) (a.schema.page_rows / 2) ≡ true → m ≡ a → b ≡ m
+  pub settled_before : (m b d : TreeView) (r : Result (Unit {0}) TreeFault) (before : Span) (left new : List Row) → nat_lt (length rows) (a.schema.page_rows / 2) ≡ true → m ≡ a → b ≡ m
       → JoinsNext a.schema.page_rows i rows left false (regions a)
-      → ((j : ℕ) → IsStored m → IsSeatIn m j seat → JoinsBefore m.schema.page_rows j left new true (regions m))
-      → ((j : ℕ) → IsStored m → IsSeatIn m j seat → (k : ℕ) × (j ≡ k + 1) × IsSeatIn m k before)
-      → Joins r before seat new b d → AllByRecursion (IsRegion a.schema) settled → OnOk r (IsStored d × (regions d ≡ settled))
+      → ((j : ℕ) → IsStored m → IsRegionIn m j span → JoinsBefore m.schema.page_rows j left new true (regions m))
+      → ((j : ℕ) → IsStored m → IsRegionIn m j span → (k : ℕ) × (j ≡ k + 1) × IsRegionIn m k before)
+      → Joins r before span new b d → AllByRecursion (IsRegion a.schema) settled → OnOk r (IsStored d × (regions d ≡ settled))
   settled_before m b d r before left new few one two next joins found written all =
-      let place = subst (λ (v : TreeView). (j : ℕ) → IsStored v → IsSeatIn v j seat → (k : ℕ) × (j ≡ k + 1) × IsSeatIn v k before) one found i stored at in
+      let place = subst (λ (v : TreeView). (j : ℕ) → IsStored v → IsRegionIn v j span → (k : ℕ) × (j ≡ k + 1) × IsRegionIn v k before) one found i stored at in
       let k = place.0 in
       let up = place.1 in
       let down : i - 1 ≡ k = omega arith in
       let same : put_rows (i - 1) true new (regions a) ≡ settled = settle_before a.schema.page_rows i rows left new true (regions a) within few next
-      (subst (λ (v : TreeView). (j : ℕ) → IsStored v → IsSeatIn v j seat → JoinsBefore v.schema.page_rows j left new true (regions v)) one joins i stored at) in
+      (subst (λ (v : TreeView). (j : ℕ) → IsStored v → IsRegionIn v j span → JoinsBefore v.schema.page_rows j left new true (regions v)) one joins i stored at) in
       let same_k : put_rows k true new (regions a) ≡ settled = ap (λ (n : ℕ). put_rows n true new (regions a)) (sym down) ∙ same in
       as_same d r (put_rows k true new (regions a)) settled same_k
-      (subst (λ (v : TreeView). Joins r before seat new v d) (two ∙ one) written k stored place.2 (subst (λ (n : ℕ). IsSeatIn a n seat) up at) (subst (AllByRecursion (IsRegion a.schema)) (sym same_k) all))
+      (subst (λ (v : TreeView). Joins r before span new v d) (two ∙ one) written k stored place.2 (subst (λ (n : ℕ). IsRegionIn a n span) up at) (subst (AllByRecursion (IsRegion a.schema)) (sym same_k) all))
 
 module _ {T : Type 0} (r : Result T TreeFault) (a b d : TreeView) (same : b ≡ a) where
   on_ok : {P Q : Type 0} → (P → Q) → OnOk r P → OnOk r Q
@@ -147,41 +146,41 @@ module _ {T : Type 0} (r : Result T TreeFault) (a b d : TreeView) (same : b ≡ 
       by_result (Err e) f h = tt
 
   -- a region from which a row was taken, alone or joined with a neighbour
-  pub taken_alone : (seat : Seat) → OnOk r (IsPut b d) → OnOk r (KeepsTold b d) → Writes seat b d r → OnOk r (TakesAt seat a d)
-  taken_alone seat put told w = subst (λ (v : TreeView). OnOk r (TakesAt seat v d)) same (both_ok put told)
+  pub taken_alone : (span : Span) → OnOk r (IsPut b d) → OnOk r (KeepsTold b d) → Writes span b d r → OnOk r (TakesAt span a d)
+  taken_alone span put told w = subst (λ (v : TreeView). OnOk r (TakesAt span v d)) same (both_ok put told)
     where
-      taken : IsPut b d → KeepsTold b d → TakesAt seat b d
+      taken : IsPut b d → KeepsTold b d → TakesAt span b d
       taken p k = record {
         same = p ∙ ap (λ (v : TreeView). record b { placed = v.placed; store = v.store; is_changed = true; inner = v.inner }) (sym p);
         shrunk = inl (w.kept, (k, w.count));
       }
 
-      both_ok : OnOk r (IsPut b d) → OnOk r (KeepsTold b d) → OnOk r (TakesAt seat b d)
+      both_ok : OnOk r (IsPut b d) → OnOk r (KeepsTold b d) → OnOk r (TakesAt span b d)
       both_ok p k = by_both r p k taken
         where
           by_both : (q : Result T TreeFault) {P Q R : Type 0} → OnOk q P → OnOk q Q → (P → Q → R) → OnOk q R
           by_both (Ok x) p k f = f p k
           by_both (Err e) p k f = tt
 
-  pub taken_joined : (seat first : Seat) → IsSeatOrBefore a seat first → OnOk r (JoinsAt first b d) → OnOk r (TakesAt seat a d)
-  taken_joined seat first is joined = subst (λ (v : TreeView). IsSeatOrBefore v seat first → OnOk r (TakesAt seat v d)) same
+  pub taken_joined : (span first : Span) → IsThatOrBefore a span first → OnOk r (JoinsAt first b d) → OnOk r (TakesAt span a d)
+  taken_joined span first is joined = subst (λ (v : TreeView). IsThatOrBefore v span first → OnOk r (TakesAt span v d)) same
       (λ here. on_ok (λ (h : JoinsAt first b d). record { same = h.same; shrunk = inr (first, here, h.others, h.dropped) }) joined) is
 
 -- how many rows are counted says nothing of regions and pages
 told_counted : (t : TreeView) (n : ℕ) (region : Span) → IsRegionOf t region → IsRegionOf (record t { rows = n }) region
-told_counted t n region h = record { key = h.key; seat = h.seat; falls = h.falls; region_is = h.region_is }
+told_counted t n region h = record { key = h.key; falls = h.falls }
 
 told_uncounted : (t : TreeView) (n : ℕ) (region : Span) → IsRegionOf (record t { rows = n }) region → IsRegionOf t region
-told_uncounted t n region h = record { key = h.key; seat = h.seat; falls = h.falls; region_is = h.region_is }
+told_uncounted t n region h = record { key = h.key; falls = h.falls }
 
-pub shrinks_by : (a b mid d : TreeView) (key : Key) (seat : Seat) (n : ℕ) → b ≡ a → d ≡ record mid { rows = n } → FallsTo a key seat → TakesAt seat b mid → ShrinksAt key a d
-shrinks_by a b mid d key seat n same is falls h =
+pub shrinks_by : (a b mid d : TreeView) (key : Key) (span : Span) (n : ℕ) → b ≡ a → d ≡ record mid { rows = n } → FallsTo a key span → TakesAt span b mid → ShrinksAt key a d
+shrinks_by a b mid d key span n same is falls h =
     subst (λ (v : TreeView). ShrinksAt key a v) (sym is)
-    (subst (λ (v : TreeView). FallsTo v key seat → ShrinksAt key v (record mid { rows = n })) same (λ here. record { seat = seat; falls = here; others = by_case h.shrunk }) falls)
+    (subst (λ (v : TreeView). FallsTo v key span → ShrinksAt key v (record mid { rows = n })) same (λ here. record { span = span; falls = here; others = by_case h.shrunk }) falls)
   where
-    by_case : (WritesPage seat.page b mid × KeepsEntries b mid) ⊎ ((first : Seat) × IsSeatOrBefore b seat first × WritesIndex first.page b mid × DropsEntry b mid)
-        → (WritesPage seat.page b (record mid { rows = n }) × KeepsEntries b (record mid { rows = n }))
-        ⊎ ((first : Seat) × IsSeatOrBefore b seat first × WritesIndex first.page b (record mid { rows = n }) × DropsEntry b (record mid { rows = n }))
+    by_case : (WritesPage span.page b mid × KeepsEntries b mid) ⊎ ((first : Span) × IsThatOrBefore b span first × WritesIndex first.page b mid × DropsEntry b mid)
+        → (WritesPage span.page b (record mid { rows = n }) × KeepsEntries b (record mid { rows = n }))
+        ⊎ ((first : Span) × IsThatOrBefore b span first × WritesIndex first.page b (record mid { rows = n }) × DropsEntry b (record mid { rows = n }))
     by_case (inl k) = inl (
       k.0,
       (
@@ -191,33 +190,33 @@ shrinks_by a b mid d key seat n same is falls h =
     )
     by_case (inr k) = inr (k.0, k.1, k.2, k.3)
 
--- the rows of the region that holds a key, which are those of a seat
-pub record IsHolder (a : TreeView) (key : Key) (seat : Seat) (rows : List Row) : Type 0 where
-  pub at : IsStored a → IsSeatIn a (index_holding key (first_keys (map entry_of a.placed))) seat
-  pub rows_are : (i : ℕ) (p : Placed) → IsHonest a.store → IsSeatIn a i seat → slice_get a.placed i ≡ Some p → rows ≡ p.region.rows
+-- the rows of the region that holds a key, which are those of a span
+pub record IsHolder (a : TreeView) (key : Key) (span : Span) (rows : List Row) : Type 0 where
+  pub at : IsStored a → IsRegionIn a (index_holding key (first_keys (map entry_of a.placed))) span
+  pub rows_are : (i : ℕ) (p : Placed) → IsHonest a.store → IsRegionIn a i span → slice_get a.placed i ≡ Some p → rows ≡ p.region.rows
 
-pub holder : (a s : TreeView) (key : Key) (seat : Seat) (rows : List Row) → s ≡ a → (IsStored a → IsSeatIn a (index_holding key (first_keys (map entry_of a.placed))) seat)
-    → ((i : ℕ) (p : Placed) → IsHonest s.store → IsSeatIn s i seat → slice_get s.placed i ≡ Some p → rows ≡ p.region.rows) → IsHolder a key seat rows
-holder a s key seat rows same at read = record {
+pub holder : (a s : TreeView) (key : Key) (span : Span) (rows : List Row) → s ≡ a → (IsStored a → IsRegionIn a (index_holding key (first_keys (map entry_of a.placed))) span)
+    → ((i : ℕ) (p : Placed) → IsHonest s.store → IsRegionIn s i span → slice_get s.placed i ≡ Some p → rows ≡ p.region.rows) → IsHolder a key span rows
+holder a s key span rows same at read = record {
   at = at;
-  rows_are = subst (λ (v : TreeView). (i : ℕ) (p : Placed) → IsHonest v.store → IsSeatIn v i seat → slice_get v.placed i ≡ Some p → rows ≡ p.region.rows) same read;
+  rows_are = subst (λ (v : TreeView). (i : ℕ) (p : Placed) → IsHonest v.store → IsRegionIn v i span → slice_get v.placed i ≡ Some p → rows ≡ p.region.rows) same read;
 }
 
-module _ (a : TreeView) (key : Key) (seat : Seat) (rows : List Row) (h : IsHolder a key seat rows) (sound : IsSound a) where
+module _ (a : TreeView) (key : Key) (span : Span) (rows : List Row) (h : IsHolder a key span rows) (sound : IsSound a) where
   abbrev index : ℕ
   index = index_holding key (first_keys (map entry_of a.placed))
 
-  pub seat_at : IsSeatIn a index seat
-  seat_at = h.at (sound_stored a sound)
+  pub region_stands : IsRegionIn a index span
+  region_stands = h.at (sound_stored a sound)
 
   index_is : index ≡ index_holding key (firsts_of (regions a))
   index_is = ap (index_holding key) (firsts_placed a.placed)
 
-  there : (p : Placed) × (slice_get a.placed index ≡ Some p) × (p.page ≡ seat.page) × (p.region.first ≡ seat.first)
-  there = seat_placed a.placed index seat seat_at
+  there : (p : Placed) × (slice_get a.placed index ≡ Some p) × (p.page ≡ span.page) × (p.region.first ≡ span.first)
+  there = placed_there a.placed index span region_stands
 
   rows_there : rows ≡ there.0.region.rows
-  rows_there = h.rows_are index there.0 sound.honest seat_at there.1
+  rows_there = h.rows_are index there.0 sound.honest region_stands there.1
 
   pub found_is : has_key a.schema.dims key (tree_rows a) ≡ has_key a.schema.dims key rows
   found_is = has_at a.schema a.next key (regions a) index there.0.region sound.regions_are index_is (region_get a.placed index there.0 there.1) ∙ ap (has_key a.schema.dims key) (sym rows_there)
@@ -234,11 +233,11 @@ module _ (a : TreeView) (key : Key) (seat : Seat) (rows : List Row) (h : IsHolde
       sym (length_permutation (rows_of (regions a)) (taken.row ∷ rows_of (remove a.schema.dims a.schema.page_rows key (regions a))) taken.rows)
 
 -- no row has the key
-pub none_removed : (a b : TreeView) (key : Key) (seat : Seat) (rows : List Row) → IsHolder a key seat rows → b ≡ a → has_key a.schema.dims key rows ≡ false → IsSound a → IsRemoved key false a b
-none_removed a b key seat rows h same has sound = subst (IsRemoved key false a) (sym same) (record {
-  found_is = sym (found_is a key seat rows h sound ∙ has);
+pub none_removed : (a b : TreeView) (key : Key) (span : Span) (rows : List Row) → IsHolder a key span rows → b ≡ a → has_key a.schema.dims key rows ≡ false → IsSound a → IsRemoved key false a b
+none_removed a b key span rows h same has sound = subst (IsRemoved key false a) (sym same) (record {
+  found_is = sym (found_is a key span rows h sound ∙ has);
   schema = refl;
-  regions_are = sym (remove_none a.schema.dims a.schema.page_rows key (regions a) (found_is a key seat rows h sound ∙ has));
+  regions_are = sym (remove_none a.schema.dims a.schema.page_rows key (regions a) (found_is a key span rows h sound ∙ has));
   table = λ old is. is;
   next = refl;
   rows = omega arith;
@@ -246,43 +245,43 @@ none_removed a b key seat rows h same has sound = subst (IsRemoved key false a) 
 })
 
 -- a sound tree with a row counts one
-pub some_counted : (a : TreeView) (key : Key) (seat : Seat) (rows : List Row) → IsHolder a key seat rows → has_key a.schema.dims key rows ≡ true → a.rows ≡ 0 → ¬ (IsSound a)
-some_counted a key seat rows h has none sound =
-    let less = one_less a key seat rows h sound has in
+pub some_counted : (a : TreeView) (key : Key) (span : Span) (rows : List Row) → IsHolder a key span rows → has_key a.schema.dims key rows ≡ true → a.rows ≡ 0 → ¬ (IsSound a)
+some_counted a key span rows h has none sound =
+    let less = one_less a key span rows h sound has in
     let counted = sound.rows_are in
     absurd (omega arith)
 
 -- a row was taken out of a sound tree
-pub shrunk : (a b after d : TreeView) (key : Key) (seat : Seat) (rows : List Row) → IsHolder a key seat rows → b ≡ a → has_key a.schema.dims key rows ≡ true
+pub shrunk : (a b after d : TreeView) (key : Key) (span : Span) (rows : List Row) → IsHolder a key span rows → b ≡ a → has_key a.schema.dims key rows ≡ true
     → IsElsewhereSame b after → (IsSound b → after.is_changed ≡ true → HasMark b.schema after.store.pages) → after.inner.index.last ≡ last_address after.schema.dims → region_count after < 2 ^ 32
     → d ≡ record after { rows = after.rows - 1 }
-    → ((i : ℕ) → IsStored b → IsSeatIn b i seat → AllByRecursion (IsRegion b.schema) (settle b.schema.page_rows i (put_rows i false (remove_row b.schema.dims key rows) (regions b)))
+    → ((i : ℕ) → IsStored b → IsRegionIn b i span → AllByRecursion (IsRegion b.schema) (settle b.schema.page_rows i (put_rows i false (remove_row b.schema.dims key rows) (regions b)))
     → IsStored after × (regions after ≡ settle b.schema.page_rows i (put_rows i false (remove_row b.schema.dims key rows) (regions b))))
     → IsSound a → IsRemoved key true a d
-shrunk a b after d key seat rows h same has changed marks last few lowered written sound =
+shrunk a b after d key span rows h same has changed marks last few lowered written sound =
     let whole : after ≡ record a { placed = after.placed; store = after.store; is_changed = true; inner = after.inner } =
     changed ∙ ap (λ (v : TreeView). record v { placed = after.placed; store = after.store; is_changed = true; inner = after.inner }) same in
-    let is = removed_is a key seat rows h sound has in
+    let is = removed_is a key span rows h sound has in
     let new = remove a.schema.dims a.schema.page_rows key (regions a) in
     let new_are : AreRegions a.schema a.next new = remove_keeps a.schema a.next key (regions a) sound.regions_are in
     let each = subst (AllByRecursion (IsRegion a.schema)) is new_are.each in
     let i = index_holding key (first_keys (map entry_of a.placed)) in
-    let at_a = subst (λ (v : TreeView). (j : ℕ) → IsStored v → IsSeatIn v j seat → AllByRecursion (IsRegion v.schema) (settle v.schema.page_rows j (put_rows j false (remove_row v.schema.dims key rows) (regions v)))
+    let at_a = subst (λ (v : TreeView). (j : ℕ) → IsStored v → IsRegionIn v j span → AllByRecursion (IsRegion v.schema) (settle v.schema.page_rows j (put_rows j false (remove_row v.schema.dims key rows) (regions v)))
     → IsStored after × (regions after ≡ settle v.schema.page_rows j (put_rows j false (remove_row v.schema.dims key rows) (regions v)))) same written in
-    let both = at_a i (sound_stored a sound) (seat_at a key seat rows h sound) each in
+    let both = at_a i (sound_stored a sound) (region_stands a key span rows h sound) each in
     let stored : IsStored (record a { placed = after.placed; store = after.store; is_changed = true; inner = after.inner }) = subst IsStored whole both.0 in
     let are : regions_in after.placed ≡ new = both.1 ∙ sym is in
     let mark : HasMark a.schema after.store.pages =
     subst (λ (v : TreeView). HasMark v.schema after.store.pages) same (marks (subst IsSound (sym same) sound) (ap (λ (v : TreeView). v.is_changed) whole)) in
-    let less = one_less a key seat rows h sound has in
+    let less = one_less a key span rows h sound has in
     let counted = sound.rows_are in
     let long : length (rows_of (regions_in after.placed)) ≡ length (rows_of new) = ap (λ (rs : List Region). length (rows_of rs)) are in
     let count = stored.count_is in
     subst (IsRemoved key true a) (sym (lowered ∙ ap (λ (v : TreeView). record v { rows = v.rows - 1 }) whole)) (record {
-      found_is = sym (found_is a key seat rows h sound ∙ has);
+      found_is = sym (found_is a key span rows h sound ∙ has);
       schema = refl;
       regions_are = are;
-      table = λ old is. rw are (remove_table a.schema a.next key (regions a) old sound.regions_are is (found_is a key seat rows h sound ∙ has));
+      table = λ old is. rw are (remove_table a.schema a.next key (regions a) old sound.regions_are is (found_is a key span rows h sound ∙ has));
       next = refl;
       rows = omega arith;
       sound = record {
@@ -310,19 +309,19 @@ passing_only : (r : Result Bool TreeFault) (e : TreeFault) → IsErrAnd r (λ x.
 passing_only (Ok x) e is h = tt
 passing_only (Err f) e is h = rw is h
 
--- where no seat is found for the key
-pub unled_removal : (a : TreeView) (key : Key) (r : Result Bool TreeFault) (e : TreeFault) → IsErrAnd r (λ x. x ≡ e) → ((seat : Seat) → IsHonest a.store → FallsTo a key seat → IsPassing e)
+-- where no span is found for the key
+pub unled_removal : (a : TreeView) (key : Key) (r : Result Bool TreeFault) (e : TreeFault) → IsErrAnd r (λ x. x ≡ e) → ((span : Span) → IsHonest a.store → FallsTo a key span → IsPassing e)
     → IsHonest a.store → AnswersRemoval a key r
 unled_removal a key r e told led honest page region falls =
-    let passing = led falls.seat honest falls.falls in
+    let passing = led falls.span honest falls.falls in
     (λ has none. passing_either r e _ told passing, λ none. passing_only r e told passing, no_answer r e _ told)
 
 -- a region that was read stands there
-pub read_there : (a s : TreeView) (key : Key) (seat : Seat) (rows : List Row) → s ≡ a → FallsTo a key seat → seat.page < page_count s.store → IsOnSeat s seat (record { first = seat.first; rows = rows }) → IsSeatThere s seat
-read_there a s key seat rows same falls there on = record {
-  seat_is = subst (λ (v : TreeView). IsSeatOf v seat) (sym same) (key, falls);
+pub read_there : (a s : TreeView) (key : Key) (span : Span) (rows : List Row) → s ≡ a → FallsTo a key span → span.page < page_count s.store → IsTakenIn s span (record { first = span.first; rows = rows }) → IsRegionThere s span
+read_there a s key span rows same falls there on = record {
+  told = subst (λ (v : TreeView). IsRegionOf v span) (sym same) (record { key = key; falls = falls });
   there = there;
-  region = record { first = seat.first; rows = rows };
+  region = record { first = span.first; rows = rows };
   on = on;
 }
 

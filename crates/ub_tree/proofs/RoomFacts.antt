@@ -5,9 +5,9 @@ use Rattle.std.proofs.lemmas.List.{length-drop}
 use Rattle.std.specs.List.{AllByRecursion, list_any}
 use Rattle.ub_index.proofs.Laws.{same_key}
 use Rattle.ub_index.proofs.KeyFacts.{le_before}
-use Rattle.ub_index.specs.Preparing.{IsWithinSeat}
+use Rattle.ub_index.specs.Preparing.{IsWithinRegion}
 use Rattle.ub_index.specs.Way.{HoldsKey}
-use Rattle.ub_index.specs.declared.seat.Seat.{Seat}
+use Rattle.ub_region.specs.declared.region.Region.{Region as Span}
 use Rattle.ub_region.proofs.Laws.{IsFilled, two_chain, all_append, all_drop, all_left, all_more, all_right, before_or_same, upto_before, IsBeforeNext, up_append, up_head, up_tail, up_cons, up_remove, keys_append, all_keys, all_of_keys, all_insert, all_remove, length-insert_row, length-remove_row}
 use Rattle.ub_region.specs.Regions.{rows_of, two_regions}
 use Rattle.ub_region.specs.Rows.{has_key, insert_row, remove_row, cut, split}
@@ -20,7 +20,8 @@ use Rattle.ub_table.specs.declared.row.TheConstants.{MAX_ROW_NUMBER}
 use Rattle.ub_table.specs.declared.schema.Schema.{Schema}
 use Rattle.ub_tree.specs.Told.{FallsTo}
 use Rattle.ub_tree.specs.View.{TreeView}
-use Rattle.ub_tree.specs.inner.Change.{AreRowsFrom, CanStand, IsOnSeat, split_of}
+use Rattle.ub_tree.specs.inner.Change.{AreRowsFrom, CanStand, split_of}
+use Rattle.ub_tree.specs.Effects.{IsTakenIn}
 use Rattle.ub_zaddr.specs.Address.{last_address}
 
 not_before : (key first : Key) → precedes key first ≡ false → ¬ (IsBefore key first)
@@ -129,7 +130,7 @@ filled_with schema first next row rows are holds good none =
 pub within_for : (schema : Schema) (first : Key) (next : Option Key) (row : Row) (rows : List Row) → AreRowsFrom schema first next rows → HoldsKey (key_of schema.dims row) first next
     → IsRow schema.dims (measures_of schema) row → has_key schema.dims (key_of schema.dims row) rows ≡ false
     → schema.page_rows < length (insert_row schema.dims row rows)
-    → IsWithinSeat (last_address schema.dims) first next (split schema.dims schema.page_rows (insert_row schema.dims row rows)).first
+    → IsWithinRegion (last_address schema.dims) first next (split schema.dims schema.page_rows (insert_row schema.dims row rows)).first
 within_for schema first next row rows are holds good none over =
     let dims = schema.dims in
     let key : Key = key_of dims row in
@@ -151,28 +152,28 @@ within_for schema first next row rows are holds good none over =
       number = sep.number;
     }
 
--- so they can stand in the place of a seat's region
-pub can_stand : (t : TreeView) (seat : Seat) (row : Row) (rows : List Row) → t.inner.index.last ≡ last_address t.schema.dims → AreRowsFrom t.schema seat.first seat.next rows
-    → HoldsKey (key_of t.schema.dims row) seat.first seat.next → IsRow t.schema.dims (measures_of t.schema) row → has_key t.schema.dims (key_of t.schema.dims row) rows ≡ false
-    → CanStand t seat (insert_row t.schema.dims row rows)
-can_stand t seat row rows last are holds good none = record {
-  each = filled_each t.schema seat.first (insert_row t.schema.dims row rows) (filled_with t.schema seat.first seat.next row rows are holds good none);
-  within = λ over. subst (λ (n : ℕ). IsWithinSeat n seat.first seat.next (split t.schema.dims t.schema.page_rows (insert_row t.schema.dims row rows)).first) (sym last)
-      (within_for t.schema seat.first seat.next row rows are holds good none over);
+-- so they can stand in the place of a region's own
+pub can_stand : (t : TreeView) (span : Span) (row : Row) (rows : List Row) → t.inner.index.last ≡ last_address t.schema.dims → AreRowsFrom t.schema span.first span.next rows
+    → HoldsKey (key_of t.schema.dims row) span.first span.next → IsRow t.schema.dims (measures_of t.schema) row → has_key t.schema.dims (key_of t.schema.dims row) rows ≡ false
+    → CanStand t span (insert_row t.schema.dims row rows)
+can_stand t span row rows last are holds good none = record {
+  each = filled_each t.schema span.first (insert_row t.schema.dims row rows) (filled_with t.schema span.first span.next row rows are holds good none);
+  within = λ over. subst (λ (n : ℕ). IsWithinRegion n span.first span.next (split t.schema.dims t.schema.page_rows (insert_row t.schema.dims row rows)).first) (sym last)
+      (within_for t.schema span.first span.next row rows are holds good none over);
 }
 
 -- rows that can stand in place of a region's are one, where a page holds them, and else two
-pub one_stands : (t : TreeView) (seat : Seat) (rows : List Row) → CanStand t seat rows → length rows ≤ t.schema.page_rows → IsRegion t.schema (record { first = seat.first; rows = rows })
-one_stands t seat rows can few = let fits = le-leb (length rows) t.schema.page_rows few in let one = rw fits at can.each in one.0
+pub one_stands : (t : TreeView) (span : Span) (rows : List Row) → CanStand t span rows → length rows ≤ t.schema.page_rows → IsRegion t.schema (record { first = span.first; rows = rows })
+one_stands t span rows can few = let fits = le-leb (length rows) t.schema.page_rows few in let one = rw fits at can.each in one.0
 
-pub two_stand : (t : TreeView) (seat : Seat) (rows : List Row) → CanStand t seat rows → t.schema.page_rows < length rows
-    → IsRegion t.schema (record { first = seat.first; rows = (split t.schema.dims t.schema.page_rows rows).left })
+pub two_stand : (t : TreeView) (span : Span) (rows : List Row) → CanStand t span rows → t.schema.page_rows < length rows
+    → IsRegion t.schema (record { first = span.first; rows = (split t.schema.dims t.schema.page_rows rows).left })
     × IsRegion t.schema (record { first = (split t.schema.dims t.schema.page_rows rows).first; rows = (split t.schema.dims t.schema.page_rows rows).right })
-two_stand t seat rows can over = let many = lt-leb (length rows) t.schema.page_rows over in let two = rw many at can.each in (two.0, two.1.0)
+two_stand t span rows can over = let many = lt-leb (length rows) t.schema.page_rows over in let two = rw many at can.each in (two.0, two.1.0)
 
 -- the rows of a region that was read
-pub rows_on : (t : TreeView) (seat : Seat) (region : Region) → IsOnSeat t seat region → AreRowsFrom t.schema seat.first seat.next region.rows
-rows_on t seat region on = (subst (λ (k : Key). IsRegion t.schema (record { first = k; rows = region.rows })) on.held.0 on.is, on.held.1)
+pub rows_on : (t : TreeView) (span : Span) (region : Region) → IsTakenIn t span region → AreRowsFrom t.schema span.first span.next region.rows
+rows_on t span region on = (subst (λ (k : Key). IsRegion t.schema (record { first = k; rows = region.rows })) on.1.0 on.0, on.1.1)
 
 -- and so they are with one of them taken out
 pub rows_without : (schema : Schema) (first : Key) (next : Option Key) (key : Key) (rows : List Row) → AreRowsFrom schema first next rows → AreRowsFrom schema first next (remove_row schema.dims key rows)
@@ -207,15 +208,15 @@ joined_region schema first second rows more left right before below fit =
       within = rw (keys_append dims rows more) (all_append (λ key. ¬ (IsBefore key first)) (keys_of dims rows) (keys_of dims more) left.within later);
     }
 
--- a seat to which some key falls ends after it begins
-pub begins_before : (t : TreeView) (key : Key) (seat : Seat) (next : Key) → FallsTo t key seat → seat.next ≡ Some next → IsBefore seat.first next
-begins_before t key seat next falls is = le_before seat.first key next falls.holds.from (subst (λ (o : Option Key). IfSome o (IsBefore key)) is falls.holds.to)
+-- a span to which some key falls ends after it begins
+pub begins_before : (t : TreeView) (key : Key) (span : Span) (next : Key) → FallsTo t key span → span.next ≡ Some next → IsBefore span.first next
+begins_before t key span next falls is = le_before span.first key next falls.holds.from (subst (λ (o : Option Key). IfSome o (IsBefore key)) is falls.holds.to)
 
-pub next_region : (t : TreeView) (key : Key) (seat next : Seat) (rows more : List Row) → FallsTo t key seat → seat.next ≡ Some next.first → AreRowsFrom t.schema seat.first seat.next rows
+pub next_region : (t : TreeView) (key : Key) (span next : Span) (rows more : List Row) → FallsTo t key span → span.next ≡ Some next.first → AreRowsFrom t.schema span.first span.next rows
     → AreRowsFrom t.schema next.first next.next more → length rows + length more ≤ t.schema.page_rows
-    → IsRegion t.schema (record { first = seat.first; rows = rows ++ more })
-next_region t key seat next rows more falls is are are_more fit =
-    joined_region t.schema seat.first next.first rows more are.0 are_more.0 (begins_before t key seat next.first falls is)
+    → IsRegion t.schema (record { first = span.first; rows = rows ++ more })
+next_region t key span next rows more falls is are are_more fit =
+    joined_region t.schema span.first next.first rows more are.0 are_more.0 (begins_before t key span next.first falls is)
     (subst (λ (o : Option Key). IfSome o (λ end. AllByRecursion (λ k. IsBefore k end) (keys_of t.schema.dims rows))) is are.1) fit
 
 -- no row of a sound tree has the number that is next

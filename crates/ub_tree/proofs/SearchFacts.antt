@@ -3,7 +3,7 @@ use Rattle.std.proofs.Common.{◌≡◌, ◌<◌, ◌^◌, ◌∙◌, ◌⊎◌,
 use Rattle.std.proofs.lemmas.Bool.{cases_Bool}
 use Rattle.std.specs.Result.{IsErrAnd}
 use Rattle.ub_index.proofs.KeyFacts.{le_before}
-use Rattle.ub_index.proofs.LeadFacts.{ways_are_one, ways_hold}
+use Rattle.ub_index.proofs.LeadFacts.{one_given, ways_hold}
 use Rattle.ub_index.proofs.WayFacts.{never_stops}
 use Rattle.ub_index.specs.Held.{AreChecked}
 use Rattle.ub_index.specs.Index.{top}
@@ -12,7 +12,7 @@ use Rattle.ub_index.specs.View.{IndexView, Stops}
 use Rattle.ub_index.specs.Way.{HoldsKey}
 use Rattle.ub_index.specs.declared.fault.IndexFault.{IndexFault}
 use Rattle.ub_index.specs.declared.fault.IndexFault.TheVariants as index
-use Rattle.ub_index.specs.declared.seat.Seat.{Seat}
+use Rattle.ub_region.specs.declared.region.Region.{Region as Span}
 use Rattle.ub_store.specs.Facts.{StoreFacts, IsHonest}
 use Rattle.ub_store.specs.View.{PagerView}
 use Rattle.ub_store.specs.declared.fault.StoreFault.TheVariants as store
@@ -72,18 +72,20 @@ before_all : (a b : Key) (end : Option Key) → IsBefore a b → IfSome end (IsB
 before_all a b None h k = tt
 before_all a b (Some end) h k = before_trans a b end h k
 
--- over an honest store two seats to which keys fall are one, where each begins before the other ends
-pub overlaps : (t : TreeView) (one_key other_key : Key) (one other : Seat) → FallsTo t one_key one → FallsTo t other_key other → ¬ (one ≡ other)
+-- over an honest store two regions to which keys fall are one, where each begins before the other ends
+pub overlaps : (t : TreeView) (one_key other_key : Key) (one other : Span) → FallsTo t one_key one → FallsTo t other_key other → ¬ (one ≡ other)
     → IfSome one.next (IsBefore one.first) → IfSome one.next (IsBefore other.first) → IfSome other.next (IsBefore one.first) → IfSome other.next (IsBefore other.first)
     → ¬ (IsHonest t.store)
 overlaps t one_key other_key one other falls other_falls apart within one_within other_within within_other honest =
     let from = later_from one.first other.first in
     let common = later_of one.first other.first in
-    apart (ways_are_one t.inner.index t.store common one other
-    ((ways_hold t.inner.index t.store one_key one (falls.way honest)).2 common (record { from = from.0; to = later_within one.first other.first one.next within one_within }))
-    ((ways_hold t.inner.index t.store other_key other (other_falls.way honest)).2 common (record { from = from.1; to = later_within one.first other.first other.next other_within within_other })))
+    let one_holds : HoldsKey common one.first one.next = record { from = from.0; to = later_within one.first other.first one.next within one_within } in
+    let other_holds : HoldsKey common other.first other.next = record { from = from.1; to = later_within one.first other.first other.next other_within within_other } in
+    apart (one_given t.inner.index t.store common one other honest
+    (record { holds = one_holds; from = falls.from; to = falls.to; way = λ _. (ways_hold t.inner.index t.store one_key one (falls.way honest)).2 common one_holds })
+    (record { holds = other_holds; from = other_falls.from; to = other_falls.to; way = λ _. (ways_hold t.inner.index t.store other_key other (other_falls.way honest)).2 common other_holds }))
 
--- a seat that holds a key isn't empty
+-- a span that holds a key isn't empty
 pub not_empty : (key first : Key) (next : Option Key) → HoldsKey key first next → IfSome next (IsBefore first)
 not_empty key first None h = tt
 not_empty key first (Some end) h = le_before first key end h.from h.to

@@ -15,10 +15,10 @@ use Rattle.ub_index.specs.Changed.{Replaces}
 use Rattle.ub_index.specs.Changing.{IsOutside, Stand}
 use Rattle.ub_index.specs.Index.{pages_under, top}
 use Rattle.ub_index.specs.Making.{IsCommitted, PutsSheets, StayOutside, changed}
-use Rattle.ub_index.specs.Preparing.{ChangeView, IsForeign, MakesIndex, entry_at}
+use Rattle.ub_index.specs.Preparing.{ChangeView, IsForeign, MakesIndex}
 use Rattle.ub_index.specs.Standing.{AreOwnPages, AreRegionsThere, region_pages}
-use Rattle.ub_index.specs.View.{IndexView, IsIndexOn, IsSeatAt, entries_in}
-use Rattle.ub_index.specs.declared.seat.Seat.{Seat}
+use Rattle.ub_index.specs.View.{IndexView, IsIndexOn, IsRegionAt, entries_in, entry_at}
+use Rattle.ub_region.specs.declared.region.Region.{Region as Span}
 use Rattle.ub_page.specs.declared.entries.Entry.{Entry}
 use Rattle.ub_region.proofs.Laws.{all_left, all_more, all_right}
 use Rattle.ub_store.specs.Facts.{StoreFacts, IsHonest, page_count}
@@ -104,44 +104,44 @@ module _ (schema : Schema) (index : IndexView) (a : StoreFacts) (placed : List P
   spelled_entries : AllByRecursion (IsSpelled schema a.pages) (placed_of schema a.pages entries)
   spelled_entries = subst (AllByRecursion (IsSpelled schema a.pages)) viewed spelled
 
-  -- what is known of the page of a seat, and of those of the other regions, where a change is made
-  module _ (from : ℕ) (far : page_count a ≤ from) (change : ChangeView) (i : ℕ) (seat : Seat) (at : IsSeatAt (map entry_of placed) i seat) where
-    at_of : IsSeatAt entries i seat
-    at_of = subst (λ (es : List Entry). IsSeatAt es i seat) (sym entries_are) at
+  -- what is known of the page of a span, and of those of the other regions, where a change is made
+  module _ (from : ℕ) (far : page_count a ≤ from) (change : ChangeView) (i : ℕ) (span : Span) (at : IsRegionAt (map entry_of placed) i span) where
+    at_of : IsRegionAt entries i span
+    at_of = subst (λ (es : List Entry). IsRegionAt es i span) (sym entries_are) at
 
-    parts_of : region_pages entries ≡ region_pages (take i entries) ++ seat.page ∷ region_pages (drop (suc i) entries)
-    parts_of = ap region_pages (sym (parted entries i (entry_at seat) at_of.entry)) ∙ map-append (λ (e : Entry). e.page) (take i entries) (entry_at seat ∷ drop (suc i) entries)
+    parts_of : region_pages entries ≡ region_pages (take i entries) ++ span.page ∷ region_pages (drop (suc i) entries)
+    parts_of = ap region_pages (sym (parted entries i (entry_at span) at_of.entry)) ∙ map-append (λ (e : Entry). e.page) (take i entries) (entry_at span ∷ drop (suc i) entries)
 
-    pub seat_foreign : IsForeign index a from change seat.page
-    seat_foreign = (all_right (IsForeign index a from change) (region_pages (take i entries)) (seat.page ∷ region_pages (drop (suc i) entries))
+    pub page_foreign : IsForeign index a from change span.page
+    page_foreign = (all_right (IsForeign index a from change) (region_pages (take i entries)) (span.page ∷ region_pages (drop (suc i) entries))
         (subst (AllByRecursion (IsForeign index a from change)) parts_of (foreign_regions index a is own there from change far).0.1)).0
 
-    own_parts : IsDistinct nat_eq ((0 ∷ pages_under a.pages index.levels (top index.root)) ++ (region_pages (take i entries) ++ seat.page ∷ region_pages (drop (suc i) entries)))
+    own_parts : IsDistinct nat_eq ((0 ∷ pages_under a.pages index.levels (top index.root)) ++ (region_pages (take i entries) ++ span.page ∷ region_pages (drop (suc i) entries)))
     own_parts = subst (λ (ns : List ℕ). IsDistinct nat_eq (reserved index a.pages ++ ns)) parts_of own
 
-    less_parts : AllByRecursion (λ n. n < page_count a) (region_pages (take i entries) ++ seat.page ∷ region_pages (drop (suc i) entries))
+    less_parts : AllByRecursion (λ n. n < page_count a) (region_pages (take i entries) ++ span.page ∷ region_pages (drop (suc i) entries))
     less_parts = subst (AllByRecursion (λ n. n < page_count a)) parts_of there
 
-    pub before_regions : AllByRecursion (λ n. IsOutside n (0 ∷ page_count a ∷ seat.page ∷ [])) (region_pages (take i entries))
-    before_regions = apart_before (pages_under a.pages index.levels (top index.root)) (region_pages (take i entries)) (region_pages (drop (suc i) entries)) seat.page (page_count a) own_parts less_parts
+    pub before_regions : AllByRecursion (λ n. IsOutside n (0 ∷ page_count a ∷ span.page ∷ [])) (region_pages (take i entries))
+    before_regions = apart_before (pages_under a.pages index.levels (top index.root)) (region_pages (take i entries)) (region_pages (drop (suc i) entries)) span.page (page_count a) own_parts less_parts
 
-    pub after_regions : AllByRecursion (λ n. IsOutside n (0 ∷ page_count a ∷ seat.page ∷ [])) (region_pages (drop (suc i) entries))
-    after_regions = apart_after (pages_under a.pages index.levels (top index.root)) (region_pages (take i entries)) (region_pages (drop (suc i) entries)) seat.page (page_count a) own_parts less_parts
+    pub after_regions : AllByRecursion (λ n. IsOutside n (0 ∷ page_count a ∷ span.page ∷ [])) (region_pages (drop (suc i) entries))
+    after_regions = apart_after (pages_under a.pages index.levels (top index.root)) (region_pages (take i entries)) (region_pages (drop (suc i) entries)) span.page (page_count a) own_parts less_parts
 
   -- a change of the index of which this is known, made over a store that had grown, on which some pages were put
-  module _ (from : ℕ) (far : page_count a ≤ from) (change : ChangeView) (i : ℕ) (seat : Seat) (at : IsSeatAt (map entry_of placed) i seat) (fs : List Entry)
-      (makes : MakesIndex index a from change (Replaces (entry_at seat) fs (entries_in index a)))
+  module _ (from : ℕ) (far : page_count a ≤ from) (change : ChangeView) (i : ℕ) (span : Span) (at : IsRegionAt (map entry_of placed) i span) (fs : List Entry)
+      (makes : MakesIndex index a from change (Replaces (entry_at span) fs (entries_in index a)))
       (grown filled new : StoreFacts) (grows : Grows a grown) (honest_filled : IsHonest filled) (honest_new : IsHonest new)
       (numbers : List ℕ) (others : StayOutside numbers grown.pages filled.pages) (foreign : AllByRecursion (IsForeign index a from change) numbers)
       (puts : PutsSheets change.sheets filled new) (stand : Stand new.pages change.sheets) where
-    pub committed : IsCommitted index a from change (entry_at seat) fs filled new
-    committed = made index a grown filled new from change (entry_at seat) fs numbers is makes grows others foreign honest_filled honest_new puts stand
+    pub committed : IsCommitted index a from change (entry_at span) fs filled new
+    committed = made index a grown filled new from change (entry_at span) fs numbers is makes grows others foreign honest_filled honest_new puts stand
 
-    at_entries : IsSeatAt entries i seat
-    at_entries = subst (λ (es : List Entry). IsSeatAt es i seat) (sym entries_are) at
+    at_entries : IsRegionAt entries i span
+    at_entries = subst (λ (es : List Entry). IsRegionAt es i span) (sym entries_are) at
 
     pub new_entries : entries_in (changed index change) new ≡ take i entries ++ (fs ++ drop (suc i) entries)
-    new_entries = replaced_at index.last entries (entries_in (changed index change) new) i seat fs (are_places index a is).0 at_entries committed.entries_are
+    new_entries = replaced_at index.last entries (entries_in (changed index change) new) i span fs (are_places index a is).0 at_entries committed.entries_are
 
     -- the page of a region that none of those is was kept
     kept_page : (n : ℕ) → n < page_count a → IsForeign index a from change n → IsOutside n numbers → slice_get new.pages n ≡ slice_get a.pages n
@@ -152,8 +152,8 @@ module _ (schema : Schema) (index : IndexView) (a : StoreFacts) (placed : List P
     kept_each [] less free apart = tt
     kept_each (e ∷ es) less free apart = (kept_page e.page less.0 free.0 apart.0, kept_each es less.1 free.1 apart.1)
 
-    whole : take i entries ++ entry_at seat ∷ drop (suc i) entries ≡ entries
-    whole = parted entries i (entry_at seat) at_entries.entry
+    whole : take i entries ++ entry_at span ∷ drop (suc i) entries ≡ entries
+    whole = parted entries i (entry_at span) at_entries.entry
 
     abbrev before : List Entry
     before = take i entries
@@ -161,29 +161,29 @@ module _ (schema : Schema) (index : IndexView) (a : StoreFacts) (placed : List P
     abbrev after : List Entry
     after = drop (suc i) entries
 
-    pages_parts : region_pages entries ≡ region_pages before ++ seat.page ∷ region_pages after
-    pages_parts = ap region_pages (sym whole) ∙ map-append (λ (e : Entry). e.page) before (entry_at seat ∷ after)
+    pages_parts : region_pages entries ≡ region_pages before ++ span.page ∷ region_pages after
+    pages_parts = ap region_pages (sym whole) ∙ map-append (λ (e : Entry). e.page) before (entry_at span ∷ after)
 
-    less : AllByRecursion (λ n. n < page_count a) (region_pages before ++ seat.page ∷ region_pages after)
+    less : AllByRecursion (λ n. n < page_count a) (region_pages before ++ span.page ∷ region_pages after)
     less = subst (AllByRecursion (λ n. n < page_count a)) pages_parts there
 
-    free : AllByRecursion (IsForeign index a from change) (region_pages before ++ seat.page ∷ region_pages after)
+    free : AllByRecursion (IsForeign index a from change) (region_pages before ++ span.page ∷ region_pages after)
     free = subst (AllByRecursion (IsForeign index a from change)) pages_parts (foreign_regions index a is own there from change far).0.1
 
     module _ (apart_before : AllByRecursion (λ n. IsOutside n numbers) (region_pages before)) (apart_after : AllByRecursion (λ n. IsOutside n numbers) (region_pages after))
         (news : List Placed) (told : AllByRecursion (IsTold schema new.pages) news) (fs_are : fs ≡ map entry_of news) (own_new : AreOwnPages (changed index change) new) where
       kept_before : AllByRecursion (IsKept a.pages new.pages) before
-      kept_before = kept_each before (all_left (λ n. n < page_count a) (region_pages before) (seat.page ∷ region_pages after) less)
-          (all_left (IsForeign index a from change) (region_pages before) (seat.page ∷ region_pages after) free) apart_before
+      kept_before = kept_each before (all_left (λ n. n < page_count a) (region_pages before) (span.page ∷ region_pages after) less)
+          (all_left (IsForeign index a from change) (region_pages before) (span.page ∷ region_pages after) free) apart_before
 
       kept_after : AllByRecursion (IsKept a.pages new.pages) after
-      kept_after = kept_each after (all_right (λ n. n < page_count a) (region_pages before) (seat.page ∷ region_pages after) less).1
-          (all_right (IsForeign index a from change) (region_pages before) (seat.page ∷ region_pages after) free).1 apart_after
+      kept_after = kept_each after (all_right (λ n. n < page_count a) (region_pages before) (span.page ∷ region_pages after) less).1
+          (all_right (IsForeign index a from change) (region_pages before) (span.page ∷ region_pages after) free).1 apart_after
 
-      parts : placed_of schema a.pages before ++ placed_at schema a.pages (entry_at seat) ∷ placed_of schema a.pages after ≡ placed_of schema a.pages entries
-      parts = sym (map-append (placed_at schema a.pages) before (entry_at seat ∷ after)) ∙ ap (placed_of schema a.pages) whole
+      parts : placed_of schema a.pages before ++ placed_at schema a.pages (entry_at span) ∷ placed_of schema a.pages after ≡ placed_of schema a.pages entries
+      parts = sym (map-append (placed_at schema a.pages) before (entry_at span ∷ after)) ∙ ap (placed_of schema a.pages) whole
 
-      spelled_parts : AllByRecursion (IsSpelled schema a.pages) (placed_of schema a.pages before ++ placed_at schema a.pages (entry_at seat) ∷ placed_of schema a.pages after)
+      spelled_parts : AllByRecursion (IsSpelled schema a.pages) (placed_of schema a.pages before ++ placed_at schema a.pages (entry_at span) ∷ placed_of schema a.pages after)
       spelled_parts = subst (AllByRecursion (IsSpelled schema a.pages)) (sym parts) spelled_entries
 
       parts_new : placed_of schema a.pages before ++ news ++ placed_of schema a.pages after ≡ placed_with i news placed
@@ -210,8 +210,8 @@ module _ (schema : Schema) (index : IndexView) (a : StoreFacts) (placed : List P
       new_are = record {
         spelled = subst (All (IsSpelled schema new.pages)) parts_new
             (spelled_changed schema a.pages new.pages before after news kept_before kept_after told
-            (all_left (IsSpelled schema a.pages) (placed_of schema a.pages before) (placed_at schema a.pages (entry_at seat) ∷ placed_of schema a.pages after) spelled_parts)
-            (all_right (IsSpelled schema a.pages) (placed_of schema a.pages before) (placed_at schema a.pages (entry_at seat) ∷ placed_of schema a.pages after) spelled_parts).1);
+            (all_left (IsSpelled schema a.pages) (placed_of schema a.pages before) (placed_at schema a.pages (entry_at span) ∷ placed_of schema a.pages after) spelled_parts)
+            (all_right (IsSpelled schema a.pages) (placed_of schema a.pages before) (placed_at schema a.pages (entry_at span) ∷ placed_of schema a.pages after) spelled_parts).1);
         own = subst (λ (ns : List ℕ). IsDistinct nat_eq (reserved (changed index change) new.pages ++ ns))
             (ap region_pages new_indexed.entries_are ∙ pages_by (placed_with i news placed)) own_new;
         within = All-from_recursion (λ n. n < length new.pages) (reserved (changed index change) new.pages)

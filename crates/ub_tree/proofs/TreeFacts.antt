@@ -8,8 +8,7 @@ use Rattle.ub_check.proofs.StandingFacts.{each_get}
 use Rattle.ub_check.specs.Standing.{IsHeldBy}
 use Rattle.ub_zaddr.specs.Address.{last_address}
 use Rattle.ub_page.specs.Region.{region_on, region_page}
-use Rattle.ub_index.specs.View.{IsSeatAt}
-use Rattle.ub_index.specs.declared.seat.Seat.{Seat}
+use Rattle.ub_index.specs.View.{IsRegionAt}
 use Rattle.ub_page.specs.declared.entries.Entry.{Entry}
 use Rattle.ub_region.specs.Regions.{AreRegions, AreApart, firsts_of}
 use Rattle.ub_region.specs.Spans.{span_end}
@@ -112,19 +111,19 @@ span_known schema entries pages next last reserved span regions placed found =
       },
     )
 
--- the region of a seat
-pub seat_within : (placed : List Placed) (i : ℕ) (seat : Seat) → IsSeatAt (map entry_of placed) i seat → i < length placed
-seat_within placed i seat h = (let lt = h.within in let long = length-map placed entry_of in omega arith)
+-- the region of a span
+pub within_placed : (placed : List Placed) (i : ℕ) (span : Span) → IsRegionAt (map entry_of placed) i span → i < length placed
+within_placed placed i span h = (let lt = h.within in let long = length-map placed entry_of in omega arith)
 
-pub seat_placed : (placed : List Placed) (i : ℕ) (seat : Seat) → IsSeatAt (map entry_of placed) i seat
-    → (p : Placed) × (slice_get placed i ≡ Some p) × (p.page ≡ seat.page) × (p.region.first ≡ seat.first)
-seat_placed placed i seat h = by_index placed i h.entry
+pub placed_there : (placed : List Placed) (i : ℕ) (span : Span) → IsRegionAt (map entry_of placed) i span
+    → (p : Placed) × (slice_get placed i ≡ Some p) × (p.page ≡ span.page) × (p.region.first ≡ span.first)
+placed_there placed i span h = by_index placed i h.entry
   where
-    by_index : (ps : List Placed) (i : ℕ) → slice_get (map entry_of ps) i ≡ Some (record { first = seat.first; page = seat.page })
-        → (p : Placed) × (slice_get ps i ≡ Some p) × (p.page ≡ seat.page) × (p.region.first ≡ seat.first)
+    by_index : (ps : List Placed) (i : ℕ) → slice_get (map entry_of ps) i ≡ Some (record { first = span.first; page = span.page })
+        → (p : Placed) × (slice_get ps i ≡ Some p) × (p.page ≡ span.page) × (p.region.first ≡ span.first)
     by_index [] i at = cc
     by_index (p ∷ ps) zero at =
-        let entry : Entry = record { first = seat.first; page = seat.page } in
+        let entry : Entry = record { first = span.first; page = span.page } in
         let same : entry_of p ≡ entry = cc in
         (p, refl, ap (λ (e : Entry). e.page) same, ap (λ (e : Entry). e.first) same)
     by_index (p ∷ ps) (suc i) at = by_index ps i at

@@ -2,8 +2,7 @@
 use Rattle.std.specs.Prelude.{◌≡◌, ◌≢◌, ◌+◌, ◌<◌, ◌⊎◌, ℕ, Bool, true, false, Some, Result, Err, IfErr, IfOk, length}
 use Rattle.std.specs.Result.{IsErrAnd}
 use Rattle.ub_index.specs.Preparing.{HasFullWay}
-use Rattle.ub_index.specs.Searching.{key_before, region_of}
-use Rattle.ub_index.specs.declared.seat.Seat.{Seat}
+use Rattle.ub_index.specs.Searching.{key_before}
 use Rattle.ub_index_page.specs.declared.index.TheConstants.{MAX_LEVEL}
 use Rattle.ub_region.specs.Rows.{has_key}
 use Rattle.ub_store.specs.Facts.{IsHonest}
@@ -16,6 +15,7 @@ use Rattle.ub_table.specs.declared.row.TheConstants.{MAX_ROW_NUMBER}
 use Rattle.ub_tree.specs.Effects.{IsTakenIn}
 use Rattle.ub_tree.specs.Opened.{IsPassing}
 use Rattle.ub_tree.specs.Others.{AddsEntry, DropsEntry, KeepsEntries, WritesIndex, WritesPage}
+use Rattle.ub_tree.specs.Spans.{Region as Span}
 use Rattle.ub_tree.specs.Told.{FallsTo}
 use Rattle.ub_tree.specs.View.{TreeView, region_count}
 use Rattle.ub_tree.specs.declared.fault.TreeFault.{TreeFault}
@@ -23,32 +23,32 @@ use Rattle.ub_tree.specs.declared.fault.TreeFault.TheVariants.{Full, Page, Store
 
 -- a key falls into the region that the page of this number spells, in its place
 pub record FallsInto (t : TreeView) (key : Key) (page : ℕ) (region : Region) : Type 0 where
-  pub seat : Seat
-  pub falls : FallsTo t key seat
-  pub page_is : seat.page ≡ page
-  pub taken : IsTakenIn t (region_of t.inner.index.last seat) region
+  pub span : Span
+  pub falls : FallsTo t key span
+  pub page_is : span.page ≡ page
+  pub taken : IsTakenIn t span region
 
 -- a row was put into the region that a key falls to, of any tree: its page alone was written; or a region and its page are more,
 -- and those of the index were written; and that is so just where that region was full
 pub record GrowsAt (key : Key) (old new : TreeView) : Type 0 where
-  pub seat : Seat
-  pub falls : FallsTo old key seat
-  pub others : (WritesPage seat.page old new × KeepsEntries old new) ⊎ (WritesIndex seat.page old new × AddsEntry seat.first old new)
-  pub full : (page : ℕ) (region : Region) → IsHonest old.store → FallsInto old key page region → length region.rows ≡ old.schema.page_rows → AddsEntry seat.first old new
+  pub span : Span
+  pub falls : FallsTo old key span
+  pub others : (WritesPage span.page old new × KeepsEntries old new) ⊎ (WritesIndex span.page old new × AddsEntry span.first old new)
+  pub full : (page : ℕ) (region : Region) → IsHonest old.store → FallsInto old key page region → length region.rows ≡ old.schema.page_rows → AddsEntry span.first old new
   pub spare : (page : ℕ) (region : Region) → IsHonest old.store → FallsInto old key page region → length region.rows < old.schema.page_rows → KeepsEntries old new
 
--- a seat, or that of the region before it, which the greatest key before it falls to
-abbrev pub IsSeatOrBefore : TreeView → Seat → Seat → Type 0
-IsSeatOrBefore t seat first =
-    (first ≡ seat) ⊎ ((key : Key) × (key_before seat.first.z seat.first.number ≡ Some key) × FallsTo t key first)
+-- a region, or the one before it, which the greatest key before it falls to
+abbrev pub IsThatOrBefore : TreeView → Span → Span → Type 0
+IsThatOrBefore t span first =
+    (first ≡ span) ⊎ ((key : Key) × (key_before span.first.z span.first.number ≡ Some key) × FallsTo t key first)
 
 -- a row was taken out of the region that a key falls to, of any tree: its page alone was written; or two neighbours, one of which is
 -- that region, were joined into the first of them, whose page was written, and those of the index
 pub record ShrinksAt (key : Key) (old new : TreeView) : Type 0 where
-  pub seat : Seat
-  pub falls : FallsTo old key seat
-  pub others : (WritesPage seat.page old new × KeepsEntries old new)
-      ⊎ ((first : Seat) × IsSeatOrBefore old seat first × WritesIndex first.page old new × DropsEntry old new)
+  pub span : Span
+  pub falls : FallsTo old key span
+  pub others : (WritesPage span.page old new × KeepsEntries old new)
+      ⊎ ((first : Span) × IsThatOrBefore old span first × WritesIndex first.page old new × DropsEntry old new)
 
 -- the answer is this fault, unless memory was refused or the device failed
 abbrev pub Answers : {A : Type 0} → Result A TreeFault → TreeFault → Type 0
@@ -58,15 +58,15 @@ Answers result fault = IsErrAnd result (λ told. (told ≡ fault) ⊎ IsPassing 
 abbrev pub HasNoRoom : TreeFault → Type 0
 HasNoRoom fault = (fault ≡ Full) ⊎ ((fault ≡ Store store.BadSize) ⊎ IsPassing fault)
 
--- what an insertion into the region of a seat must answer, where it is full just if this is so: BadCount of the first page where another
+-- what an insertion into a region must answer, where that is full just if this is so: BadCount of the first page where another
 -- region is needed and there are as many as can be counted, and no page is refused otherwise; and where the index has 16 levels, each
 -- page of which on the way there is full, that there is no room
-abbrev pub AnswersSeat : {A : Type 0} → Type 0 → TreeView → Seat → Result A TreeFault → Type 0
-AnswersSeat IsFull t seat result =
+abbrev pub AnswersAt : {A : Type 0} → Type 0 → TreeView → Span → Result A TreeFault → Type 0
+AnswersAt IsFull t span result =
     (IsFull → region_count t ≡ 4294967295 → result ≡ Err (Page 0 BadCount))
-    × (IsHonest t.store → FallsTo t seat.first seat → (page : ℕ) (fault : PageFault) → result ≡ Err (Page page fault) → IsFull × (region_count t ≡ 4294967295))
-    × (IsHonest t.store → FallsTo t seat.first seat → IsFull → region_count t ≢ 4294967295 → t.inner.index.levels ≡ MAX_LEVEL
-    → HasFullWay t.inner.index t.store seat.first → IsErrAnd result HasNoRoom)
+    × (IsHonest t.store → FallsTo t span.first span → (page : ℕ) (fault : PageFault) → result ≡ Err (Page page fault) → IsFull × (region_count t ≡ 4294967295))
+    × (IsHonest t.store → FallsTo t span.first span → IsFull → region_count t ≢ 4294967295 → t.inner.index.levels ≡ MAX_LEVEL
+    → HasFullWay t.inner.index t.store span.first → IsErrAnd result HasNoRoom)
 
 -- what an insertion of a row with this key must answer: BadOrder of the page of the region that it falls into, where that has
 -- the key; and where it hasn't, no page is refused, unless another region would be needed and there are as many as can be

@@ -3,22 +3,20 @@
 use Rattle.std.specs.Prelude.{◌≤◌, ◌<◌, ◌^◌, ℕ, List, [], ◌∷◌, Option, Some, None, IfSome, ◌↔◌, ◌≡◌}
 use Rattle.ub_bigmin.specs.Box.{Corners, HoldsAny}
 use Rattle.ub_bigmin.specs.Extremes.{LeastFrom}
-use Rattle.ub_index.specs.Searching.{Gives, GivesAfter, region_of}
-use Rattle.ub_index.specs.declared.seat.Seat.{Seat}
+use Rattle.ub_index.specs.Searching.{Gives, GivesAfter}
 use Rattle.ub_table.specs.declared.row.Key.{Key}
 use Rattle.ub_tree.specs.Spans.{IsLater, Region}
 use Rattle.ub_tree.specs.View.{TreeView, region_count}
 
--- a seat to which a key falls: it holds the key, and over an honest store the way to the key leads there, on which each page fits
-abbrev pub FallsTo : TreeView → Key → Seat → Type 0
-FallsTo t key seat = Gives t.inner.index t.store key seat
+-- a region to which a key falls: it holds the key, and has its span, and over an honest store the way to the key leads there, on which
+-- each page fits
+abbrev pub FallsTo : TreeView → Key → Region → Type 0
+FallsTo t key region = Gives t.inner.index t.store key region
 
 -- a region that the tree tells of: one to which some key falls; of a sound tree each of its regions, with its span, and no other
 pub record IsRegionOf (t : TreeView) (region : Region) : Type 0 where
   pub key : Key
-  pub seat : Seat
-  pub falls : FallsTo t key seat
-  pub region_is : region ≡ region_of t.inner.index.last seat
+  pub falls : FallsTo t key region
 
 -- a region that is found after another one begins later, if one is given, and with a key of the space
 pub record IsFoundAfter (last : ℕ) (after : Option Region) (region : Region) : Type 0 where

@@ -3,7 +3,7 @@ ghost use Rattle.std.specs.Prelude.{FitsSigned, ℕ, map, ◌≡◌, ◌≢◌, 
 ghost use Rattle.std.specs.List.{AllByRecursion, insert, list_any};
 ghost use Rattle.ub_index.specs.Changing.{AreIndexPages, AreOnce, Stand};
 ghost use Rattle.ub_index.specs.Making.{PutsSheets, changed};
-ghost use Rattle.ub_index.specs.Preparing.{IsWithinSeat};
+ghost use Rattle.ub_index.specs.Preparing.{IsWithinRegion};
 ghost use Rattle.ub_index_page.specs.Index.{IsIndexKind};
 ghost use Rattle.ub_page.specs.Bytes.{padded};
 ghost use Rattle.ub_page.specs.Region.{region_page};
@@ -11,15 +11,15 @@ ghost use Rattle.ub_region.specs.Rows.{insert_row};
 ghost use Rattle.ub_store.specs.Facts as facts;
 ghost use Rattle.ub_store.specs.Facts.{page_count};
 ghost use Rattle.ub_table.specs.Keys.{is_same};
-ghost use Rattle.ub_table.specs.Region.{Region, IsRegion, key_of, measures_of};
+ghost use Rattle.ub_table.specs.Region.{Region as RegionRows, IsRegion, key_of, measures_of};
 ghost use Rattle.ub_tree.specs.Change as spec;
 ghost use Rattle.ub_tree.specs.Change.{IsInserted, Suits, numbered};
-ghost use Rattle.ub_tree.specs.inner.Change.{CanStand, GrowsTo, HasStopped, IsIndexFault, IsOnSeat, IsPut, IsReadAt, IsSeatIn, IsSeatOf, IsSeatThere, IsSplitAt, IsStored, KeepsGrown, PutsRows, StoresAt, StoresRows, Writes, WritesBoth, placed_with};
-ghost use Rattle.ub_tree.specs.Effects.{Searches, Changes};
-ghost use Rattle.ub_tree.specs.Holding.{AnswersKey, AnswersRow, AnswersSeat, GrowsAt};
+ghost use Rattle.ub_tree.specs.inner.Change.{CanStand, GrowsTo, HasStopped, IsIndexFault, IsPut, IsReadAt, IsRegionIn, IsRegionThere, IsSplitAt, IsStored, KeepsGrown, PutsRows, StoresAt, StoresRows, Writes, WritesBoth, placed_with};
+ghost use Rattle.ub_tree.specs.Effects.{Searches, Changes, IsTakenIn};
+ghost use Rattle.ub_tree.specs.Holding.{AnswersKey, AnswersRow, AnswersAt, GrowsAt};
 ghost use Rattle.ub_tree.specs.Opened.{IsPassing};
 ghost use Rattle.ub_tree.specs.Placed.{Placed};
-ghost use Rattle.ub_tree.specs.Told.{KeepsTold};
+ghost use Rattle.ub_tree.specs.Told.{KeepsTold, IsRegionOf};
 ghost use Rattle.ub_tree.specs.View.{IsSound, region_count};
 ghost use Rattle.ub_writing.specs.Puts.{PutsTwo};
 
@@ -27,9 +27,9 @@ use crate::fault::{TreeFault, bad_count};
 use crate::room::{Drafts, Room, list_rows, new_room};
 use crate::tree::Tree;
 use ub_check::take_region;
-use ub_index::{Change, Seat};
+use ub_index::Change;
 use ub_page::{Draft, Page, RegionPage, write_region};
-use ub_region::{Halves, Rows, index_in, is_equal};
+use ub_region::{Halves, Region, Rows, index_in, is_equal};
 use ub_store::{MAX_PAGES, PageStore, StoreFault};
 use ub_table::{Key, MAX_ROW_NUMBER, PageFault, Row};
 use ub_writing::{write_page, write_pages};
@@ -59,51 +59,56 @@ impl<S: PageStore> Tree<S> {
         Ok(new_room(self.alloc, self.schema.shape())?)
     }
 
-    // Lists the rows of the region of a seat, which is read into this room.
+    // Lists the rows of a region, which is read into this page.
     pub(crate) fn rows_at(
         &mut self,
-        seat: &Seat,
-        region: &mut RegionPage,
+        region: &Region,
+        page: &mut RegionPage,
         rows: &mut Rows,
     ) -> Result<(), TreeFault>
-        requires { IsSeatOf self.old seat.now }
-        ensures on { OnOk result (IsOnSeat self.old seat.now
-            (record { first = seat.now.first; rows = rows.new })) }
-        ensures there { OnOk result (seat.now.page < page_count self.old.store) }
+        requires { IsRegionOf self.old region.now }
+        ensures on { OnOk result (IsTakenIn self.old region.now
+            (record { first = region.now.first; rows = rows.new })) }
+        ensures there { OnOk result (region.now.page < page_count self.old.store) }
         ensures rows { (i : ℕ) (p : Placed) → facts.IsHonest self.old.store
-            → IsSeatIn self.old i seat.now → slice_get self.old.placed i ≡ Some p
+            → IsRegionIn self.old i region.now → slice_get self.old.placed i ≡ Some p
             → OnOk result (rows.new ≡ p.region.rows) }
-        ensures taken { facts.IsHonest self.old.store → (r : Region)
-            → IsOnSeat self.old seat.now r → MatchResult result (λ _. rows.new ≡ r.rows) IsPassing }
+        ensures taken { facts.IsHonest self.old.store → (r : RegionRows)
+            → IsTakenIn self.old region.now r
+            → MatchResult result (λ _. rows.new ≡ r.rows) IsPassing }
         ensures effect { Searches self.old self.new result }
     {
-        self.read_at(seat, region)?;
-        list_rows(region, rows);
+        self.read_at(region, page)?;
+        list_rows(page, rows);
         Ok(())
     }
 
-    // Reads the region of a seat. After a fault any region may stand there. A page that is refused isn't held after it.
-    pub(crate) fn read_at(&mut self, seat: &Seat, region: &mut RegionPage) -> Result<(), TreeFault>
-        requires { IsSeatOf self.old seat.now }
-        ensures read { OnOk result (IsReadAt self.old seat.now region.new) }
-        ensures there { OnOk result (seat.now.page < page_count self.old.store) }
+    // Reads a region. After a fault any region may stand in `page`. A page that is refused isn't held after it.
+    pub(crate) fn read_at(
+        &mut self,
+        region: &Region,
+        page: &mut RegionPage,
+    ) -> Result<(), TreeFault>
+        requires { IsRegionOf self.old region.now }
+        ensures read { OnOk result (IsReadAt self.old region.now page.new) }
+        ensures there { OnOk result (region.now.page < page_count self.old.store) }
         ensures rows { (i : ℕ) (p : Placed) → facts.IsHonest self.old.store
-            → IsSeatIn self.old i seat.now → slice_get self.old.placed i ≡ Some p
-            → OnOk result (region.new.region.rows ≡ p.region.rows) }
-        ensures taken { facts.IsHonest self.old.store → (r : Region)
-            → IsOnSeat self.old seat.now r
-            → MatchResult result (λ _. region.new.region ≡ r) IsPassing }
+            → IsRegionIn self.old i region.now → slice_get self.old.placed i ≡ Some p
+            → OnOk result (page.new.region.rows ≡ p.region.rows) }
+        ensures taken { facts.IsHonest self.old.store → (r : RegionRows)
+            → IsTakenIn self.old region.now r
+            → MatchResult result (λ _. page.new.region ≡ r) IsPassing }
         ensures effect { Searches self.old self.new result }
     {
-        let number = seat.page;
+        let number = region.page;
         self.pager.bring(number)?;
         match take_region(
             &self.schema,
-            &seat.first,
-            seat.next,
+            &region.first,
+            region.next,
             number,
             self.pager.cached(number),
-            region,
+            page,
         ) {
             Ok(()) => Ok(()),
             Err(fault) => {
@@ -113,47 +118,47 @@ impl<S: PageStore> Tree<S> {
         }
     }
 
-    // Puts these rows on the page of the region of a seat. After a fault the tree has failed.
+    // Puts these rows on the page of a region. After a fault the tree has failed.
     pub(crate) fn rewrite(
         &mut self,
-        seat: &Seat,
+        region: &Region,
         rows: &[Row],
         drafts: &mut Drafts,
     ) -> Result<(), TreeFault>
-        requires seat { IsSeatThere self.old seat.now }
+        requires there { IsRegionThere self.old region.now }
         requires region { IsRegion self.old.schema
-            (record { first = seat.now.first; rows = rows.now }) }
+            (record { first = region.now.first; rows = rows.now }) }
         ensures same { OnOk result (IsPut self.old self.new) }
-        ensures written { (i : ℕ) → IsStored self.old → IsSeatIn self.old i seat.now
+        ensures written { (i : ℕ) → IsStored self.old → IsRegionIn self.old i region.now
             → OnOk result (IsStored self.new × (self.new.placed ≡ placed_with i (record {
-              page = seat.now.page;
-              region = record { first = seat.now.first; rows = rows.now };
+              page = region.now.page;
+              region = record { first = region.now.first; rows = rows.now };
             } ∷ []) self.old.placed)) }
         ensures told { OnOk result (KeepsTold self.old self.new) }
         ensures faults { IfErr result (λ fault. fault ≡ TreeFault.Store StoreFault.Device) }
         ensures stays { self.old.is_changed ≡ true → self.new.is_changed ≡ true }
-        ensures effect { Writes seat.now self.old self.new result }
+        ensures effect { Writes region.now self.old self.new result }
     {
-        write_region(&self.schema, seat.first, rows, &mut drafts.page);
-        self.put_page(seat, drafts.page.page())
+        write_region(&self.schema, region.first, rows, &mut drafts.page);
+        self.put_page(region, drafts.page.page())
     }
 
-    // Puts a page, which spells a region, in the place of that of the region of a seat, and before it the mark, where it is due.
+    // Puts a page, which spells a region, in the place of that of a region, and before it the mark, where it is due.
     // After a fault the tree has failed.
-    fn put_page(&mut self, seat: &Seat, page: &Page) -> Result<(), TreeFault>
-        requires seat { IsSeatThere self.old seat.now }
-        requires page { (r : Region) × IsRegion self.old.schema r
+    fn put_page(&mut self, region: &Region, page: &Page) -> Result<(), TreeFault>
+        requires there { IsRegionThere self.old region.now }
+        requires page { (r : RegionRows) × IsRegion self.old.schema r
             × (page.now ≡ region_page self.old.schema r) }
         ensures same { OnOk result (IsPut self.old self.new) }
-        ensures written { PutsRows seat.now page.now self.old self.new result }
+        ensures written { PutsRows region.now page.now self.old self.new result }
         ensures told { OnOk result (KeepsTold self.old self.new) }
         ensures faults { IfErr result (λ fault. fault ≡ TreeFault.Store StoreFault.Device) }
         ensures stays { self.old.is_changed ≡ true → self.new.is_changed ≡ true }
-        ensures effect { Writes seat.now self.old self.new result }
+        ensures effect { Writes region.now self.old self.new result }
     {
         // Its contract tells the proof that the index doesn't stand on the first page.
         let _root = self.index.root();
-        match write_page(&mut self.pager, &mut self.mark, seat.page, page) {
+        match write_page(&mut self.pager, &mut self.mark, region.page, page) {
             Ok(()) => Ok(()),
             Err(fault) => Err(failing(&mut self.is_failed, fault)),
         }
@@ -183,24 +188,24 @@ impl<S: PageStore> Tree<S> {
         }
     }
 
-    // Puts the pages of the halves of a region: that of the new one, on the page of this number, and that of the seat. After a fault
+    // Puts the pages of the halves of a region: that of the new one, on the page of this number, and that of the old one. After a fault
     // the tree has failed.
-    fn put_halves(&mut self, seat: &Seat, number: u32, drafts: &Drafts) -> Result<(), TreeFault>
-        requires seat { seat.now.page < page_count self.old.store }
+    fn put_halves(&mut self, region: &Region, number: u32, drafts: &Drafts) -> Result<(), TreeFault>
+        requires own { region.now.page < page_count self.old.store }
         requires there { number < page_count self.old.store }
         requires kinds { (¬ (IsIndexKind (padded drafts.now.other)))
             × (¬ (IsIndexKind (padded drafts.now.page))) }
         ensures same { OnOk result (IsPut self.old self.new) }
-        ensures put { OnOk result (PutsTwo number (padded drafts.now.other) seat.now.page
+        ensures put { OnOk result (PutsTwo number (padded drafts.now.other) region.now.page
             (padded drafts.now.page)
             self.old.store self.new.store) }
-        ensures effect { WritesBoth number seat.now self.old self.new result }
+        ensures effect { WritesBoth number region.now self.old self.new result }
     {
         match write_pages(
             &mut self.pager,
             &mut self.mark,
             (number, drafts.other.page()),
-            (seat.page, drafts.page.page()),
+            (region.page, drafts.page.page()),
         ) {
             Ok(()) => Ok(()),
             Err(fault) => Err(failing(&mut self.is_failed, fault)),
@@ -235,31 +240,31 @@ impl<S: PageStore> Tree<S> {
         }
     }
 
-    // Puts these halves of the rows of the region of a seat on its page and on a new one, and that into the index. All that can be
+    // Puts these halves of the rows of a region on its page and on a new one, and that into the index. All that can be
     // refused comes before the first page is written, and before the store has a page more. After a failure of the device that comes
     // later the tree has failed.
     fn split(
         &mut self,
-        seat: &Seat,
+        region: &Region,
         halves: &Halves<'_>,
         drafts: &mut Drafts,
     ) -> Result<(), TreeFault>
-        requires seat { IsSeatThere self.old seat.now }
-        requires within { IsWithinSeat self.old.inner.index.last seat.now.first seat.now.next
+        requires there { IsRegionThere self.old region.now }
+        requires within { IsWithinRegion self.old.inner.index.last region.now.first region.now.next
             halves.now.first }
         requires left { IsRegion self.old.schema
-            (record { first = seat.now.first; rows = halves.now.left.now }) }
+            (record { first = region.now.first; rows = halves.now.left.now }) }
         requires right { IsRegion self.old.schema
             (record { first = halves.now.first; rows = halves.now.right.now }) }
-        ensures same { OnOk result (StoresAt seat.now self.old.schema.page_rows
+        ensures same { OnOk result (StoresAt region.now self.old.schema.page_rows
             self.old self.new) }
-        ensures written { (i : ℕ) → IsStored self.old → IsSeatIn self.old i seat.now
-            → OnOk result (IsStored self.new × IsSplitAt i seat.now (record {
+        ensures written { (i : ℕ) → IsStored self.old → IsRegionIn self.old i region.now
+            → OnOk result (IsStored self.new × IsSplitAt i region.now (record {
               left = halves.now.left.now;
               first = halves.now.first;
               right = halves.now.right.now;
             }) self.old self.new × KeepsGrown self.old self.new) }
-        ensures counted { AnswersSeat (Unit {0}) self.old seat.now result }
+        ensures counted { AnswersAt (Unit {0}) self.old region.now result }
         ensures effect { Changes self.old self.new result }
     {
         // Its contract tells the proof how many levels there can be.
@@ -267,68 +272,69 @@ impl<S: PageStore> Tree<S> {
         if self.count == MAX_PAGES {
             return Err(self.uncounted());
         }
-        let change = self.prepare_add(seat, &halves.first)?;
-        write_region(&self.schema, seat.first, halves.left, &mut drafts.page);
+        let change = self.prepare_add(region, &halves.first)?;
+        write_region(&self.schema, region.first, halves.left, &mut drafts.page);
         write_region(&self.schema, halves.first, halves.right, &mut drafts.other);
         self.grow(&change)?;
-        self.put_halves(seat, change.page(), drafts)?;
+        self.put_halves(region, change.page(), drafts)?;
         self.put_index(&change)?;
         self.count += 1;
         Ok(())
     }
 
-    // Puts a row in among those of the region of a seat, which was read into this room, and puts
+    // Puts a row in among those of a region, which was read into this room, and puts
     // them on its page, or on that and a new one.
     fn store_with(
         &mut self,
-        seat: &Seat,
+        region: &Region,
         key: &Key,
         row: &Row,
         room: &mut Room,
     ) -> Result<(), TreeFault>
-        requires seat { IsSeatOf self.old seat.now × (seat.now.page < page_count self.old.store) }
+        requires there { IsRegionOf self.old region.now
+            × (region.now.page < page_count self.old.store) }
         requires key { key.now ≡ key_of self.old.schema.dims row.now }
-        requires read { IsReadAt self.old seat.now room.old.region }
-        requires rows { CanStand self.old seat.now
+        requires read { IsReadAt self.old region.now room.old.region }
+        requires rows { CanStand self.old region.now
             (insert_row self.old.schema.dims row.now room.old.region.region.rows) }
-        ensures same { OnOk result (StoresAt seat.now
+        ensures same { OnOk result (StoresAt region.now
             (length room.old.region.region.rows) self.old self.new) }
-        ensures written { StoresRows seat.now
+        ensures written { StoresRows region.now
             (insert_row self.old.schema.dims row.now room.old.region.region.rows)
             self.old self.new result }
-        ensures counted { AnswersSeat
-            (length room.old.region.region.rows ≡ self.old.schema.page_rows) self.old seat.now
+        ensures counted { AnswersAt
+            (length room.old.region.region.rows ≡ self.old.schema.page_rows) self.old region.now
             result }
         ensures effect { Changes self.old self.new result }
     {
         let index = index_in(room.region.keys(), key);
         if room.region.len() == self.schema.page_rows() as usize {
-            return self.split_with(seat, index, row, room);
+            return self.split_with(region, index, row, room);
         }
         room.region.insert_at(index, row);
         room.region.write(&self.schema, &mut room.drafts.page);
-        self.put_page(seat, room.drafts.page.page())
+        self.put_page(region, room.drafts.page.page())
     }
 
-    // Puts a row in among the rows of the region of a seat, which was read into this room and fills
+    // Puts a row in among the rows of a region, which was read into this room and fills
     // its page, and puts them on that and a new one.
     fn split_with(
         &mut self,
-        seat: &Seat,
+        region: &Region,
         index: usize,
         row: &Row,
         room: &mut Room,
     ) -> Result<(), TreeFault>
-        requires seat { IsSeatThere self.old seat.now }
+        requires there { IsRegionThere self.old region.now }
         requires full { length room.old.region.region.rows ≡ self.old.schema.page_rows }
         requires within { index ≤ length room.old.region.region.rows }
-        requires rows { CanStand self.old seat.now
+        requires rows { CanStand self.old region.now
             (insert room.old.region.region.rows index row.now) }
-        ensures same { OnOk result (StoresAt seat.now self.old.schema.page_rows
+        ensures same { OnOk result (StoresAt region.now self.old.schema.page_rows
             self.old self.new) }
-        ensures written { StoresRows seat.now
+        ensures written { StoresRows region.now
             (insert room.old.region.region.rows index row.now) self.old self.new result }
-        ensures counted { AnswersSeat (Unit {0}) self.old seat.now result }
+        ensures counted { AnswersAt (Unit {0}) self.old region.now result }
         ensures effect { Changes self.old self.new result }
     {
         list_rows(&room.region, &mut room.rows);
@@ -336,7 +342,7 @@ impl<S: PageStore> Tree<S> {
         let halves = room
             .rows
             .split(self.schema.shape(), self.schema.page_rows());
-        self.split(seat, &halves, &mut room.drafts)
+        self.split(region, &halves, &mut room.drafts)
     }
 
     /// Puts a row in, with these coordinates and measures, and gives its number: one more than the last row got.
@@ -414,15 +420,15 @@ impl<S: PageStore> Tree<S> {
         ensures effect { Changes self.old self.new result }
     {
         let key = row.key(self.schema.shape());
-        let seat = self.seat_of(&key)?;
-        self.read_at(&seat, &mut room.region)?;
+        let region = self.region_holding(&key)?;
+        self.read_at(&region, &mut room.region)?;
         if has_key(room.region.keys(), &key) {
             return Err(TreeFault::Page {
-                page: seat.page,
+                page: region.page,
                 fault: PageFault::BadOrder,
             });
         }
-        self.store_with(&seat, &key, row, room)?;
+        self.store_with(&region, &key, row, room)?;
         self.next += 1;
         self.rows += 1;
         Ok(row.number)

@@ -5,7 +5,7 @@
 // opened), `Old` and `Upgrade` (the pages of a table of an older format, and what is made of them), `Closing`, `Checking` (where a
 // check of all pages stops); the functions of `law` ensure the laws of a sound tree. The code: `creation`, `opening` and `upgrading`
 // to begin, `checking` to look at all pages, `tree` to search and read, `change` to put rows in, `removal` to take them out, `closing`
-// to end; `seats` asks the index where a region is.
+// to end; `finding` asks the index where a region is.
 //
 // What belongs here is what a tree does over a store. In which order its pages go out, and the mark of a changed table, stand in
 // `ub_writing`; where each region's page is, in `ub_index`; how a region is taken in, and all pages are checked, in `ub_check`; how the
@@ -19,12 +19,12 @@ mod checking;
 mod closing;
 mod creation;
 pub mod fault;
+mod finding;
 pub mod law;
 mod opening;
 pub mod read_fault;
 mod removal;
 mod room;
-mod seats;
 pub mod sink;
 pub mod tree;
 mod upgrading;

@@ -7,37 +7,37 @@ ghost use Rattle.ub_store.specs.Facts as facts;
 ghost use Rattle.ub_store.specs.Facts.{page_count};
 ghost use Rattle.ub_table.specs.Region.{IsRegion};
 ghost use Rattle.ub_table.specs.declared.row.Key as key;
-ghost use Rattle.ub_tree.specs.inner.Change.{AreRowsFrom, IsSeatIn, IsSeatOf, IsSeatThere, IsStored, JoinsAt, TakesAt};
+ghost use Rattle.ub_tree.specs.inner.Change.{AreRowsFrom, IsRegionIn, IsRegionThere, IsStored, JoinsAt, TakesAt};
 ghost use Rattle.ub_tree.specs.Effects.{Searches, Changes};
 ghost use Rattle.ub_tree.specs.Holding.{AnswersRemoval, ShrinksAt};
 ghost use Rattle.ub_tree.specs.Removal.{IsRemoved, IsRemovalFault};
-ghost use Rattle.ub_tree.specs.Told.{FallsTo};
+ghost use Rattle.ub_tree.specs.Told.{FallsTo, IsRegionOf};
 ghost use Rattle.ub_tree.specs.View.{IsSound, regions};
 
 use crate::fault::{TreeFault, bad_count};
 use crate::room::{Drafts, Room};
 use crate::tree::Tree;
-use ub_index::Seat;
+use ub_region::Region;
 use ub_store::PageStore;
 use ub_table::{Key, Row};
 
 impl<S: PageStore> Tree<S> {
-    // Puts rows on the page of the region of a seat, among them those of the next region, which is then no more. After a fault of a
+    // Puts rows on the page of a region, among them those of the next region, which is then no more. After a fault of a
     // write the tree has failed.
     fn join_at(
         &mut self,
-        seat: &Seat,
-        next: &Seat,
+        region: &Region,
+        next: &Region,
         rows: &[Row],
         drafts: &mut Drafts,
     ) -> Result<(), TreeFault>
-        requires seat { IsSeatThere self.old seat.now }
-        requires next { IsSeatOf self.old next.now × (seat.now.next ≡ Some next.now.first) }
+        requires there { IsRegionThere self.old region.now }
+        requires next { IsRegionOf self.old next.now × (region.now.next ≡ Some next.now.first) }
         requires region { IsRegion self.old.schema
-            (record { first = seat.now.first; rows = rows.now }) }
-        ensures same { OnOk result (JoinsAt seat.now self.old self.new) }
-        ensures written { (i : ℕ) → IsStored self.old → IsSeatIn self.old i seat.now
-            → IsSeatIn self.old (i + 1) next.now
+            (record { first = region.now.first; rows = rows.now }) }
+        ensures same { OnOk result (JoinsAt region.now self.old self.new) }
+        ensures written { (i : ℕ) → IsStored self.old → IsRegionIn self.old i region.now
+            → IsRegionIn self.old (i + 1) next.now
             → AllByRecursion (IsRegion self.old.schema)
             (put_rows i true rows.now (regions self.old))
             → OnOk result (IsStored self.new
@@ -50,30 +50,30 @@ impl<S: PageStore> Tree<S> {
             return Err(self.uncounted());
         }
         let change = self.prepare_drop(next)?;
-        self.rewrite(seat, rows, drafts)?;
+        self.rewrite(region, rows, drafts)?;
         self.put_index(&change)?;
         self.count -= 1;
         Ok(())
     }
 
-    // Takes over the rows of the region after that of a seat, if there is one and a page holds them
-    // together with these, and then gives its seat.
-    fn join_next(&mut self, seat: &Seat, room: &mut Room) -> Result<Option<Seat>, TreeFault>
-        requires seat { IsSeatOf self.old seat.now }
-        requires rows { AreRowsFrom self.old.schema seat.now.first seat.now.next room.old.rows }
+    // Takes over the rows of the region after this one, if there is one and a page holds them
+    // together with these, and then gives that.
+    fn join_next(&mut self, region: &Region, room: &mut Room) -> Result<Option<Region>, TreeFault>
+        requires told { IsRegionOf self.old region.now }
+        requires rows { AreRowsFrom self.old.schema region.now.first region.now.next room.old.rows }
         ensures rows { IfOk result (λ found. MatchOption found (room.new.rows ≡ room.old.rows)
             (λ _. IsRegion self.old.schema
-            (record { first = seat.now.first; rows = room.new.rows }))) }
+            (record { first = region.now.first; rows = room.new.rows }))) }
         ensures found { IfOk result (λ found. IfSome found (λ next.
-            IsSeatOf self.old next × (seat.now.next ≡ Some next.first))) }
-        ensures next { (i : ℕ) → IsStored self.old → IsSeatIn self.old i seat.now
-            → IfOk result (λ found. IfSome found (IsSeatIn self.old (i + 1))) }
-        ensures joined { (i : ℕ) → IsStored self.old → IsSeatIn self.old i seat.now
+            IsRegionOf self.old next × (region.now.next ≡ Some next.first))) }
+        ensures next { (i : ℕ) → IsStored self.old → IsRegionIn self.old i region.now
+            → IfOk result (λ found. IfSome found (IsRegionIn self.old (i + 1))) }
+        ensures joined { (i : ℕ) → IsStored self.old → IsRegionIn self.old i region.now
             → IfOk result (λ found. JoinsNext self.old.schema.page_rows i
             room.old.rows room.new.rows (is_some found) (regions self.old)) }
         ensures effect { Searches self.old self.new result }
     {
-        let next = match self.seat_after(seat)? {
+        let next = match self.region_after(region)? {
             Some(next) => next,
             None => return Ok(None),
         };
@@ -85,29 +85,29 @@ impl<S: PageStore> Tree<S> {
         }
     }
 
-    // Puts the rows of the region before that of a seat before these, if there is one and a page
-    // holds them together, and then gives its seat.
-    fn join_before(&mut self, seat: &Seat, room: &mut Room) -> Result<Option<Seat>, TreeFault>
-        requires seat { IsSeatOf self.old seat.now }
-        requires rows { AreRowsFrom self.old.schema seat.now.first seat.now.next room.old.rows }
+    // Puts the rows of the region before this one before these, if there is one and a page
+    // holds them together, and then gives that.
+    fn join_before(&mut self, region: &Region, room: &mut Room) -> Result<Option<Region>, TreeFault>
+        requires told { IsRegionOf self.old region.now }
+        requires rows { AreRowsFrom self.old.schema region.now.first region.now.next room.old.rows }
         ensures rows { IfOk result (λ found. MatchOption found (room.new.rows ≡ room.old.rows)
             (λ before. IsRegion self.old.schema
             (record { first = before.first; rows = room.new.rows }))) }
-        ensures there { IfOk result (λ found. IfSome found (IsSeatThere self.old)) }
+        ensures there { IfOk result (λ found. IfSome found (IsRegionThere self.old)) }
         ensures ends { IfOk result (λ found. IfSome found
-            (λ before. before.next ≡ Some seat.now.first)) }
+            (λ before. before.next ≡ Some region.now.first)) }
         ensures falls { IfOk result (λ found. IfSome found (λ before. (k : key.Key)
-            × (key_before seat.now.first.z seat.now.first.number ≡ Some k)
+            × (key_before region.now.first.z region.now.first.number ≡ Some k)
             × FallsTo self.old k before)) }
-        ensures before { (i : ℕ) → IsStored self.old → IsSeatIn self.old i seat.now
+        ensures before { (i : ℕ) → IsStored self.old → IsRegionIn self.old i region.now
             → IfOk result (λ found. IfSome found (λ before. (j : ℕ) × (i ≡ j + 1)
-            × IsSeatIn self.old j before)) }
-        ensures joined { (i : ℕ) → IsStored self.old → IsSeatIn self.old i seat.now
+            × IsRegionIn self.old j before)) }
+        ensures joined { (i : ℕ) → IsStored self.old → IsRegionIn self.old i region.now
             → IfOk result (λ found. JoinsBefore self.old.schema.page_rows i
             room.old.rows room.new.rows (is_some found) (regions self.old)) }
         ensures effect { Searches self.old self.new result }
     {
-        let before = match self.seat_before(seat)? {
+        let before = match self.region_before(region)? {
             Some(before) => before,
             None => return Ok(None),
         };
@@ -119,13 +119,13 @@ impl<S: PageStore> Tree<S> {
         }
     }
 
-    // Puts the rows that are left of the region of a seat on its page. Few rows are joined with
+    // Puts the rows that are left of a region on its page. Few rows are joined with
     // those of the next region, or else of the one before, where a page holds both.
-    fn settle(&mut self, seat: &Seat, room: &mut Room) -> Result<(), TreeFault>
-        requires seat { IsSeatThere self.old seat.now }
-        requires rows { AreRowsFrom self.old.schema seat.now.first seat.now.next room.old.rows }
-        ensures same { OnOk result (TakesAt seat.now self.old self.new) }
-        ensures written { (i : ℕ) → IsStored self.old → IsSeatIn self.old i seat.now
+    fn settle(&mut self, region: &Region, room: &mut Room) -> Result<(), TreeFault>
+        requires there { IsRegionThere self.old region.now }
+        requires rows { AreRowsFrom self.old.schema region.now.first region.now.next room.old.rows }
+        ensures same { OnOk result (TakesAt region.now self.old self.new) }
+        ensures written { (i : ℕ) → IsStored self.old → IsRegionIn self.old i region.now
             → AllByRecursion (IsRegion self.old.schema)
             (settle self.old.schema.page_rows i (put_rows i false room.old.rows (regions self.old)))
             → OnOk result (IsStored self.new × (regions self.new ≡
@@ -135,15 +135,15 @@ impl<S: PageStore> Tree<S> {
         ensures stays { self.old.is_changed ≡ true → self.new.is_changed ≡ true }
     {
         if !room.rows.are_few(self.schema.page_rows()) {
-            return self.rewrite(seat, room.rows.as_slice(), &mut room.drafts);
+            return self.rewrite(region, room.rows.as_slice(), &mut room.drafts);
         }
-        if let Some(next) = self.join_next(seat, room)? {
-            return self.join_at(seat, &next, room.rows.as_slice(), &mut room.drafts);
+        if let Some(next) = self.join_next(region, room)? {
+            return self.join_at(region, &next, room.rows.as_slice(), &mut room.drafts);
         }
-        if let Some(before) = self.join_before(seat, room)? {
-            return self.join_at(&before, seat, room.rows.as_slice(), &mut room.drafts);
+        if let Some(before) = self.join_before(region, room)? {
+            return self.join_at(&before, region, room.rows.as_slice(), &mut room.drafts);
         }
-        self.rewrite(seat, room.rows.as_slice(), &mut room.drafts)
+        self.rewrite(region, room.rows.as_slice(), &mut room.drafts)
     }
 
     /// Takes out the row with this key, and tells whether there is one; where there is none nothing is written. A region
@@ -193,15 +193,15 @@ impl<S: PageStore> Tree<S> {
         ensures stays { self.old.is_changed ≡ true → self.new.is_changed ≡ true }
         ensures marks { IfOk result (λ found. found ≡ true → self.new.is_changed ≡ true) }
     {
-        let seat = self.seat_of(key)?;
-        self.rows_at(&seat, &mut room.region, &mut room.rows)?;
+        let region = self.region_holding(key)?;
+        self.rows_at(&region, &mut room.region, &mut room.rows)?;
         if !room.rows.remove(self.schema.shape(), key) {
             return Ok(false);
         }
         if self.rows == 0 {
             return Err(bad_count());
         }
-        self.settle(&seat, room)?;
+        self.settle(&region, room)?;
         self.rows -= 1;
         Ok(true)
     }

@@ -7,9 +7,8 @@ use Rattle.ub_index.specs.Changed.{Replaces}
 use Rattle.ub_index.specs.Changing.{AreIndexPages, IsOutside}
 use Rattle.ub_index.specs.Filling.{KeepsFilled}
 use Rattle.ub_index.specs.Making.{IsPutFault}
-use Rattle.ub_index.specs.Preparing.{ChangeView, IsWithinSeat, MakesIndex, TakesNeeded, added_at, entry_at}
-use Rattle.ub_index.specs.View.{IsSeatAt, entries_in}
-use Rattle.ub_index.specs.declared.seat.Seat.{Seat}
+use Rattle.ub_index.specs.Preparing.{ChangeView, IsWithinRegion, MakesIndex, TakesNeeded, added_at}
+use Rattle.ub_index.specs.View.{IsRegionAt, entries_in, entry_at}
 use Rattle.ub_index.specs.declared.sheet.Sheet.{Sheet}
 use Rattle.ub_page.specs.Region.{RegionView, region_page}
 use Rattle.ub_region.specs.Regions.{split_region}
@@ -21,13 +20,14 @@ use Rattle.ub_table.specs.Region.{Region, IsRegion, keys_of}
 use Rattle.ub_table.specs.declared.row.Key.{Key}
 use Rattle.ub_table.specs.declared.row.Row.{Row}
 use Rattle.ub_table.specs.declared.schema.Schema.{Schema}
-use Rattle.ub_tree.specs.Effects.{HasEnded, IsChangeMissing, IsChangeRefused, IsFull, IsIndexFull, IsReadFault, Leaves, read_store, written_store, IsMarkedFirst}
+use Rattle.ub_tree.specs.Effects.{HasEnded, IsChangeMissing, IsChangeRefused, IsFull, IsIndexFull, IsReadFault, IsTakenIn, Leaves, read_store, written_store, IsMarkedFirst}
 use Rattle.ub_tree.specs.Grown.{IsOnlyGrown}
-use Rattle.ub_tree.specs.Holding.{IsSeatOrBefore}
+use Rattle.ub_tree.specs.Holding.{IsThatOrBefore}
 use Rattle.ub_tree.specs.Indexed.{HasIndex, reserved}
 use Rattle.ub_tree.specs.Others.{AddsEntry, DropsEntry, KeepsEntries, KeepsOthers, WritesIndex, WritesPage}
 use Rattle.ub_tree.specs.Placed.{Placed, ArePlaced, entry_of}
-use Rattle.ub_tree.specs.Told.{FallsTo}
+use Rattle.ub_tree.specs.Spans.{Region as Span}
+use Rattle.ub_tree.specs.Told.{FallsTo, IsRegionOf}
 use Rattle.ub_tree.specs.View.{TreeView, IsSound, region_count, regions}
 use Rattle.ub_tree.specs.declared.fault.TreeFault.{TreeFault}
 use Rattle.ub_tree.specs.declared.fault.TreeFault.TheVariants.{Full, Memory, Page, Store}
@@ -50,24 +50,24 @@ IsPut old new = new ≡ record old { placed = new.placed; store = new.store; is_
 abbrev pub IsElsewhereSame : TreeView → TreeView → Type 0
 IsElsewhereSame old new = new ≡ record old { placed = new.placed; store = new.store; is_changed = true; inner = new.inner }
 
--- the same, and the region of a seat, which had so many rows, was written anew; it was split where its page was full
-pub record StoresAt (seat : Seat) (count : ℕ) (old new : TreeView) : Type 0 where
+-- the same, and a region, which had so many rows, was written anew; it was split where its page was full
+pub record StoresAt (span : Span) (count : ℕ) (old new : TreeView) : Type 0 where
   pub same : IsElsewhereSame old new
-  pub others : (WritesPage seat.page old new × KeepsEntries old new) ⊎ (WritesIndex seat.page old new × AddsEntry seat.first old new)
-  pub full : count ≡ old.schema.page_rows → AddsEntry seat.first old new
+  pub others : (WritesPage span.page old new × KeepsEntries old new) ⊎ (WritesIndex span.page old new × AddsEntry span.first old new)
+  pub full : count ≡ old.schema.page_rows → AddsEntry span.first old new
   pub spare : count < old.schema.page_rows → KeepsEntries old new
 
--- the same, and the region of a seat was written anew, with the rows of the next one, which is no more
-pub record JoinsAt (seat : Seat) (old new : TreeView) : Type 0 where
+-- the same, and a region was written anew, with the rows of the next one, which is no more
+pub record JoinsAt (span : Span) (old new : TreeView) : Type 0 where
   pub same : IsElsewhereSame old new
-  pub others : WritesIndex seat.page old new
+  pub others : WritesIndex span.page old new
   pub dropped : DropsEntry old new
 
--- the same, and a row was taken out of the region of a seat
-pub record TakesAt (seat : Seat) (old new : TreeView) : Type 0 where
+-- the same, and a row was taken out of a region
+pub record TakesAt (span : Span) (old new : TreeView) : Type 0 where
   pub same : IsElsewhereSame old new
-  pub shrunk : (WritesPage seat.page old new × KeepsEntries old new)
-      ⊎ ((first : Seat) × IsSeatOrBefore old seat first × WritesIndex first.page old new × DropsEntry old new)
+  pub shrunk : (WritesPage span.page old new × KeepsEntries old new)
+      ⊎ ((first : Span) × IsThatOrBefore old span first × WritesIndex first.page old new × DropsEntry old new)
 
 -- in place of the region at an index stand these
 abbrev pub placed_with : ℕ → List Placed → List Placed → List Placed
@@ -82,47 +82,37 @@ abbrev pub IsWriteFault : TreeView → TreeView → TreeFault → Type 0
 IsWriteFault old new (Store store.Device) = IsTrue old.store.can_fail × HasStopped (Store store.Device) old new
 IsWriteFault old new _ = ⊥
 
--- a call within that only writes, and of the pages but the first only that of the region of a seat
-pub record Writes {A : Type 0} (seat : Seat) (old new : TreeView) (result : Result A TreeFault) : Type 0 where
+-- a call within that only writes, and of the pages but the first only that of a region
+pub record Writes {A : Type 0} (span : Span) (old new : TreeView) (result : Result A TreeFault) : Type 0 where
   pub frame : new ≡ record old { placed = new.placed; is_changed = new.is_changed; is_failed = new.is_failed; store = written_store result old.store new.store }
   pub marked : IsMarkedFirst old new
   pub done : OnOk result (new.is_failed ≡ old.is_failed)
   pub faults : IfErr result (IsWriteFault old new)
-  pub kept : WritesPage seat.page old new
+  pub kept : WritesPage span.page old new
   pub count : page_count new.store ≡ page_count old.store
 
--- the seat of a region that the tree tells of
-abbrev pub IsSeatOf : TreeView → Seat → Type 0
-IsSeatOf t seat = (key : Key) × FallsTo t key seat
+-- the region of this index, whatever its span is
+abbrev pub IsRegionIn : TreeView → ℕ → Span → Type 0
+IsRegionIn t i span = IsRegionAt (map entry_of t.placed) i span
 
--- the seat of the region of this index
-abbrev pub IsSeatIn : TreeView → ℕ → Seat → Type 0
-IsSeatIn t i seat = IsSeatAt (map entry_of t.placed) i seat
-
--- the page of a seat's region spells this one, in its place
-pub record IsOnSeat (t : TreeView) (seat : Seat) (region : Region) : Type 0 where
-  pub is : IsRegion t.schema region
-  pub held : IsHeldBy t.schema.dims seat.first seat.next region
-  pub page : IsPage t.store seat.page (region_page t.schema region)
-
--- the seat of a region that the tree tells of, which stands there in its place
-pub record IsSeatThere (t : TreeView) (seat : Seat) : Type 0 where
-  pub seat_is : IsSeatOf t seat
-  pub there : seat.page < page_count t.store
+-- a region that the tree tells of, which stands there in its place
+pub record IsRegionThere (t : TreeView) (span : Span) : Type 0 where
+  pub told : IsRegionOf t span
+  pub there : span.page < page_count t.store
   pub region : Region
-  pub on : IsOnSeat t seat region
+  pub on : IsTakenIn t span region
 
--- where the page spells rows, they are those of the region of the seat now
-abbrev pub PutsRows : {A : Type 0} → Seat → List ℕ → TreeView → TreeView → Result A TreeFault → Type 0
-PutsRows seat page old new result =
-    (i : ℕ) (rows : List Row) → IsStored old → IsSeatIn old i seat → IsRegion old.schema (record { first = seat.first; rows = rows })
-    → page ≡ region_page old.schema (record { first = seat.first; rows = rows })
-    → OnOk result (IsStored new × (new.placed ≡ placed_with i (record { page = seat.page; region = record { first = seat.first; rows = rows } } ∷ []) old.placed))
+-- where the page spells rows, they are those of the region now
+abbrev pub PutsRows : {A : Type 0} → Span → List ℕ → TreeView → TreeView → Result A TreeFault → Type 0
+PutsRows span page old new result =
+    (i : ℕ) (rows : List Row) → IsStored old → IsRegionIn old i span → IsRegion old.schema (record { first = span.first; rows = rows })
+    → page ≡ region_page old.schema (record { first = span.first; rows = rows })
+    → OnOk result (IsStored new × (new.placed ≡ placed_with i (record { page = span.page; region = record { first = span.first; rows = rows } } ∷ []) old.placed))
 
--- the region of a seat was read
-pub record IsReadAt (t : TreeView) (seat : Seat) (page : RegionView) : Type 0 where
+-- a region was read
+pub record IsReadAt (t : TreeView) (span : Span) (page : RegionView) : Type 0 where
   pub dims : page.dims ≡ t.schema.dims
-  pub on : IsOnSeat t seat page.region
+  pub on : IsTakenIn t span page.region
 
 -- the rows are those of a region which begins with this key, and they stand before the next one
 abbrev pub AreRowsFrom : Schema → Key → Option Key → List Row → Type 0
@@ -135,28 +125,28 @@ pub record IsSpelledAt (t : TreeView) (from : ℕ) (change : ChangeView) (sheet 
   pub own : (n : ℕ) → n < page_count t.store → IsOutside n (reserved t.inner.index t.store.pages) → ¬ (n ≡ sheet.number)
   pub there : (sheet.number < page_count t.store) ⊎ ((from ≤ sheet.number) × (sheet.number < change.next))
 
--- what is prepared for a region that comes behind that of a seat, with this first key
-pub record IsAddReady (t : TreeView) (seat : Seat) (first : Key) (change : ChangeView) : Type 0 where
+-- what is prepared for a region that comes behind another one, with this first key
+pub record IsAddReady (t : TreeView) (span : Span) (first : Key) (change : ChangeView) : Type 0 where
   pub start : change.start ≡ page_count t.store
   pub some : page_count t.store + 1 ≤ change.next
   pub few : change.next ≤ page_count t.store + 1 + (t.inner.index.levels + 1)
-  pub needed : IsHonest t.store → TakesNeeded t.inner.index t.store seat.first change
+  pub needed : IsHonest t.store → TakesNeeded t.inner.index t.store span.first change
   pub spelled : IsHonest t.store → AllByRecursion (IsSpelledAt t (page_count t.store + 1) change) change.sheets
-  pub pages : IsHonest t.store → FallsTo t seat.first seat → IsWithinSeat t.inner.index.last seat.first seat.next first
+  pub pages : IsHonest t.store → FallsTo t span.first span → IsWithinRegion t.inner.index.last span.first span.next first
       → AreIndexPages t.inner.index.last change.sheets
-  pub makes : (i : ℕ) → IsStored t → IsSeatIn t i seat → IsWithinSeat t.inner.index.last seat.first seat.next first
+  pub makes : (i : ℕ) → IsStored t → IsRegionIn t i span → IsWithinRegion t.inner.index.last span.first span.next first
       → MakesIndex t.inner.index t.store (page_count t.store + 1) change
-      (Replaces (entry_at seat) (entry_at seat ∷ added_at first t.store ∷ []) (entries_in t.inner.index t.store))
-  pub fills : (i : ℕ) → IsStored t → IsSeatIn t i seat → IsWithinSeat t.inner.index.last seat.first seat.next first
+      (Replaces (entry_at span) (entry_at span ∷ added_at first t.store ∷ []) (entries_in t.inner.index t.store))
+  pub fills : (i : ℕ) → IsStored t → IsRegionIn t i span → IsWithinRegion t.inner.index.last span.first span.next first
       → KeepsFilled t.inner.index t.store change
 
--- what is prepared for the region of a seat that goes
-pub record IsDropReady (t : TreeView) (seat : Seat) (change : ChangeView) : Type 0 where
+-- what is prepared for a region that goes
+pub record IsDropReady (t : TreeView) (span : Span) (change : ChangeView) : Type 0 where
   pub spelled : IsHonest t.store → AllByRecursion (IsSpelledAt t (page_count t.store) change) change.sheets
   pub pages : IsHonest t.store → AreIndexPages t.inner.index.last change.sheets
   pub next : IsHonest t.store → change.next ≡ page_count t.store
-  pub makes : (i : ℕ) → IsStored t → IsSeatIn t i seat → IsBefore origin seat.first
-      → MakesIndex t.inner.index t.store (page_count t.store) change (Replaces (entry_at seat) [] (entries_in t.inner.index t.store))
+  pub makes : (i : ℕ) → IsStored t → IsRegionIn t i span → IsBefore origin span.first
+      → MakesIndex t.inner.index t.store (page_count t.store) change (Replaces (entry_at span) [] (entries_in t.inner.index t.store))
 
 -- why a change of the index isn't prepared: as a search, or a change, is refused
 abbrev pub IsReadyFault : TreeView → TreeFault → Type 0
@@ -185,15 +175,15 @@ pub record GrowsTo {A : Type 0} (count : ℕ) (old new : TreeView) (result : Res
   pub done : OnOk result ((new.is_failed ≡ old.is_failed) × (page_count new.store ≡ count))
   pub left : IfErr result (IsGrowthLeft count old new)
 
--- a call within that only writes, and of the pages but the first only that of this number and that of a seat's region; a table that was
+-- a call within that only writes, and of the pages but the first only that of this number and that of a region; a table that was
 -- marked as changed, or is now, has the mark on its first page
-pub record WritesBoth {A : Type 0} (number : ℕ) (seat : Seat) (old new : TreeView) (result : Result A TreeFault) : Type 0 where
+pub record WritesBoth {A : Type 0} (number : ℕ) (span : Span) (old new : TreeView) (result : Result A TreeFault) : Type 0 where
   pub frame : new ≡ record old { placed = new.placed; is_changed = new.is_changed; is_failed = new.is_failed; store = written_store result old.store new.store }
   pub kept : KeepsUnless new.is_changed old.store new.store
-  pub marked : number ≢ 0 → seat.page ≢ 0 → IsHonest old.store → (old.is_changed ≡ true → HasMark old.schema old.store.pages) → new.is_changed ≡ true → HasMark old.schema new.store.pages
+  pub marked : number ≢ 0 → span.page ≢ 0 → IsHonest old.store → (old.is_changed ≡ true → HasMark old.schema old.store.pages) → new.is_changed ≡ true → HasMark old.schema new.store.pages
   pub done : OnOk result (new.is_failed ≡ old.is_failed)
   pub faults : IfErr result (IsWriteFault old new)
-  pub others : KeepsOthers (0 ∷ number ∷ seat.page ∷ []) old.store new.store
+  pub others : KeepsOthers (0 ∷ number ∷ span.page ∷ []) old.store new.store
 
 -- why the pages that a change spells aren't put: the store failed, which it then can; or it has no page of that number
 abbrev pub IsIndexFault : ChangeView → StoreFacts → TreeFault → Type 0
@@ -205,26 +195,26 @@ abbrev pub KeepsGrown : TreeView → TreeView → Type 0
 KeepsGrown old new = IsOnlyGrown old → IsOnlyGrown new
 
 -- in place of the region at an index stand two, the second on a page of its own
-abbrev pub IsSplitAt : ℕ → Seat → Halves → TreeView → TreeView → Type 0
-IsSplitAt index seat halves old new =
-    (n : ℕ) × (new.placed ≡ placed_with index (record { page = seat.page; region = record { first = seat.first; rows = halves.left } } ∷ record { page = n; region = record { first = halves.first; rows = halves.right } } ∷ []) old.placed)
+abbrev pub IsSplitAt : ℕ → Span → Halves → TreeView → TreeView → Type 0
+IsSplitAt index span halves old new =
+    (n : ℕ) × (new.placed ≡ placed_with index (record { page = span.page; region = record { first = span.first; rows = halves.left } } ∷ record { page = n; region = record { first = halves.first; rows = halves.right } } ∷ []) old.placed)
 
 -- what becomes of a region that begins with this key, of these rows
 abbrev pub split_of : Schema → Key → List Row → List Region
 split_of schema first rows = split_region schema.dims schema.page_rows (record { first = first; rows = rows })
 
--- rows that can stand in place of those of the region of a seat: they make a region, or two, and the second begins there
-pub record CanStand (t : TreeView) (seat : Seat) (rows : List Row) : Type 0 where
-  pub each : AllByRecursion (IsRegion t.schema) (split_of t.schema seat.first rows)
-  pub within : t.schema.page_rows < length rows → IsWithinSeat t.inner.index.last seat.first seat.next (split t.schema.dims t.schema.page_rows rows).first
+-- rows that can stand in place of those of a region: they make a region, or two, and the second begins there
+pub record CanStand (t : TreeView) (span : Span) (rows : List Row) : Type 0 where
+  pub each : AllByRecursion (IsRegion t.schema) (split_of t.schema span.first rows)
+  pub within : t.schema.page_rows < length rows → IsWithinRegion t.inner.index.last span.first span.next (split t.schema.dims t.schema.page_rows rows).first
 
 -- in place of the region at an index these
 abbrev pub regions_with : ℕ → List Region → List Region → List Region
 regions_with index news regions = take index regions ++ news ++ drop (suc index) regions
 
--- the region of a seat has these rows now, or it and a new one have them, where they are more than a page holds; and where rows were
+-- a region has these rows now, or it and a new one have them, where they are more than a page holds; and where rows were
 -- only put in before, that is so still
-abbrev pub StoresRows : {A : Type 0} → Seat → List Row → TreeView → TreeView → Result A TreeFault → Type 0
-StoresRows seat rows old new result =
-    (i : ℕ) → IsStored old → IsSeatIn old i seat → AllByRecursion (IsRegion old.schema) (split_of old.schema seat.first rows)
-    → OnOk result (IsStored new × (regions new ≡ regions_with i (split_of old.schema seat.first rows) (regions old)) × KeepsGrown old new)
+abbrev pub StoresRows : {A : Type 0} → Span → List Row → TreeView → TreeView → Result A TreeFault → Type 0
+StoresRows span rows old new result =
+    (i : ℕ) → IsStored old → IsRegionIn old i span → AllByRecursion (IsRegion old.schema) (split_of old.schema span.first rows)
+    → OnOk result (IsStored new × (regions new ≡ regions_with i (split_of old.schema span.first rows) (regions old)) × KeepsGrown old new)

@@ -6,7 +6,7 @@ use Rattle.ub_index.specs.View.{index_view}
 use Rattle.ub_index.specs.Descending.{IsForgotten}
 use Rattle.ub_index.specs.declared.descent.Leaf.{Leaf}
 use Rattle.ub_index.specs.declared.descent.Place.{Place}
-use Rattle.ub_index.specs.declared.seat.Seat.{Seat}
+use Rattle.ub_region.specs.declared.region.Region.{Region}
 use Rattle.ub_index.proofs.BehindFacts.{step_before, step_given}
 use Rattle.ub_index.proofs.HeldFacts.{keeps_on}
 use Rattle.ub_index.proofs.SearchFacts.{answered, step_refused}
@@ -15,14 +15,14 @@ use Rattle.ub_index.proofs.index.descend.Goals as goal
 
 pub returns-in_err-place-clause-effect : goal.returns-in_err-place-clause-effect
 returns-in_err-place-clause-effect g c =
-    step_refused Seat Place (λ (k : Key). k ≡ c.args.key.now) (index_view c.args.root c.args.levels c.args.last) c.args.key.now refl 1 (omega arith) c.in_ok-leaf.leaf.place.entry
+    step_refused Region Place (λ (k : Key). k ≡ c.args.key.now) (index_view c.args.root c.args.levels c.args.last) c.args.key.now refl 1 (omega arith) c.in_ok-leaf.leaf.place.entry
     c.in_ok-leaf.leaf.place.next c.args.pager.now c.leaf_of.new.pager c.step_down.new.pager (ap (λ (p : PagerView). p.store) c.in_ok-leaf.ensures.effect.same)
     (ap (λ (p : PagerView). p.trace) c.in_ok-leaf.ensures.effect.same) c.in_ok-leaf.ensures.effect.checked (λ honest sure. (c.in_ok-leaf.ensures.leads honest sure).stops)
     c.from_residual-in_err-place.result c.in_err-place.field-0.0 c.from_residual-in_err-place.ensures.1 c.in_err-place.ensures.effect
 
 pub returns-clause-given : goal.returns-clause-given
 returns-clause-given g c = λ sure.
-    subst (λ (seat : Seat). Gives (index_view c.args.root c.args.levels c.args.last) c.args.pager.now.store c.args.key.now seat) (sym c.seat_at.ensures)
+    subst (λ (region : Region). Gives (index_view c.args.root c.args.levels c.args.last) c.args.pager.now.store c.args.key.now region) (sym c.region_at.ensures.region)
     (step_given (index_view c.args.root c.args.levels c.args.last) c.args.pager.now.store c.args.key.now c.in_ok-leaf.leaf c.in_ok-place.place c.in_ok-leaf.ensures.holds
     (λ honest. c.in_ok-leaf.ensures.leads honest sure) c.in_ok-place.ensures.holds
     (step_before c.args.last c.args.pager.now.store c.leaf_of.new.pager.store (ap (λ (p : PagerView). p.store) c.in_ok-leaf.ensures.effect.same) c.args.key.now 1
@@ -37,7 +37,7 @@ returns-in_err-leaf-clause-forgotten g c = if_err (IsForgotten c.leaf_of.new.pag
 
 pub returns-in_err-leaf-clause-effect : goal.returns-in_err-leaf-clause-effect
 returns-in_err-leaf-clause-effect g c =
-    refused_as Seat Leaf (λ (k : Key). k ≡ c.args.key.now) (index_view c.args.root c.args.levels c.args.last) c.args.pager.now c.leaf_of.new.pager c.from_residual.result c.in_err-leaf.field-0.0
+    refused_as Region Leaf (λ (k : Key). k ≡ c.args.key.now) (index_view c.args.root c.args.levels c.args.last) c.args.pager.now c.leaf_of.new.pager c.from_residual.result c.in_err-leaf.field-0.0
     c.from_residual.ensures.1 c.in_err-leaf.ensures.effect
 
 pub returns-in_err-place-clause-given : goal.returns-in_err-place-clause-given
@@ -49,7 +49,16 @@ returns-in_err-place-clause-forgotten g c =
 
 pub returns-clause-effect : goal.returns-clause-effect
 returns-clause-effect g c =
-    answered (λ (k : Key). k ≡ c.args.key.now) (index_view c.args.root c.args.levels c.args.last) c.args.pager.now c.step_down.new.pager c.seat_at.result
+    answered (λ (k : Key). k ≡ c.args.key.now) (index_view c.args.root c.args.levels c.args.last) c.args.pager.now c.step_down.new.pager c.region_at.result
     (ap (λ (p : PagerView). p.store) c.in_ok-place.ensures.effect.same ∙ ap (λ (p : PagerView). p.store) c.in_ok-leaf.ensures.effect.same)
     (ap (λ (p : PagerView). p.trace) c.in_ok-place.ensures.effect.same ∙ ap (λ (p : PagerView). p.trace) c.in_ok-leaf.ensures.effect.same)
     (keeps_on c.args.last c.args.pager.now c.leaf_of.new.pager c.step_down.new.pager c.in_ok-leaf.ensures.effect.checked c.in_ok-place.ensures.effect.checked)
+
+pub returns-clause-small : goal.returns-clause-small
+returns-clause-small g c = c.region_at.ensures.small
+
+pub returns-in_err-leaf-clause-small : goal.returns-in_err-leaf-clause-small
+returns-in_err-leaf-clause-small g c = none_ok _ c.from_residual.result _ c.from_residual.ensures.1
+
+pub returns-in_err-place-clause-small : goal.returns-in_err-place-clause-small
+returns-in_err-place-clause-small g c = none_ok _ c.from_residual-in_err-place.result _ c.from_residual-in_err-place.ensures.1

@@ -1,12 +1,10 @@
-use Rattle.std.proofs.Common.{◌∙◌, ℕ, Option, ap, subst, sym}
+use Rattle.std.proofs.Common.{◌∙◌, ◌<◌, ◌^◌, IfSome, Option, subst, sym}
 use Rattle.std.specs.Option.{option_copied}
 use Rattle.ub_region.specs.declared.region.Region.{Region}
 use Rattle.ub_table.proofs.Laws.{before_of}
 use Rattle.ub_table.specs.declared.row.Key.{Key}
 use Rattle.ub_index.specs.Descending.{FindsAfter}
-use Rattle.ub_index.specs.Searching.{Aims, IsSought, region_of}
-use Rattle.ub_index.specs.View.{IndexView}
-use Rattle.ub_index.specs.declared.seat.Seat.{Seat}
+use Rattle.ub_index.specs.Searching.{Aims, IsSought}
 use Rattle.ub_index.proofs.BehindFacts.{not_crossed}
 use Rattle.ub_index.proofs.LaterFacts.{found_given, found_later, none_given}
 use Rattle.ub_index.proofs.StepFacts.{none_ok, refused_as}
@@ -23,33 +21,32 @@ returns-in_err-from-clause-small g c = none_ok _ c.from_residual.result _ c.from
 
 pub returns-in_err-from-clause-effect : goal.returns-in_err-from-clause-effect
 returns-in_err-from-clause-effect g c =
-    refused_as (Option Region) (Option (Key × Seat)) (IsSought c.args.self.now c.args.pager.now.store (Aims c.args.goal.now) (option_copied c.args.after)) c.args.self.now c.args.pager.now
-    c.seat_after.new.pager c.from_residual.result c.in_err-from.field-0.0 c.from_residual.ensures.1 c.in_err-from.ensures.effect
+    refused_as (Option Region) (Option (Key × Region)) (IsSought c.args.self.now c.args.pager.now.store (Aims c.args.goal.now) (option_copied c.args.after)) c.args.self.now c.args.pager.now
+    c.region_after.new.pager c.from_residual.result c.in_err-from.field-0.0 c.from_residual.ensures.1 c.in_err-from.ensures.effect
 
 pub returns-in-Some-clause-effect : goal.returns-in-Some-clause-effect
 returns-in-Some-clause-effect g c = record {
   same = c.in_ok-from.ensures.effect.same;
   checked = c.in_ok-from.ensures.effect.checked;
   faults = λ sure honest.
-      let found = subst (λ (o : Option (Key × Seat)). FindsAfter c.args.self.now c.args.pager.now.store (Aims c.args.goal.now) (option_copied c.args.after) o) c.in-Some.is (c.in_ok-from.ensures.found sure) in
-      absurd (not_crossed c.args.self.now c.args.pager.now.store (Aims c.args.goal.now) (option_copied c.args.after) c.in-Some.from c.in-Some.seat found honest
-      (before_of c.in-Some.seat.first c.in-Some.from (sym c.is_before.ensures ∙ c.if-is_before.true)));
+      let found = subst (λ (o : Option (Key × Region)). FindsAfter c.args.self.now c.args.pager.now.store (Aims c.args.goal.now) (option_copied c.args.after) o) c.in-Some.is (c.in_ok-from.ensures.found sure) in
+      absurd (not_crossed c.args.self.now c.args.pager.now.store (Aims c.args.goal.now) (option_copied c.args.after) c.in-Some.from c.in-Some.region found honest
+      (before_of c.in-Some.region.first c.in-Some.from (sym c.is_before.ensures ∙ c.if-is_before.true)));
 }
 
 pub returns-in-Some-2-clause-given : goal.returns-in-Some-2-clause-given
 returns-in-Some-2-clause-given g c = λ sure.
-    let last = ap (λ (v : IndexView). v.last) c.self.view_is in
-    found_given c.args.self.now c.args.pager.now.store (Aims c.args.goal.now) (option_copied c.args.after) c.in_ok-from.field-0 c.in-Some.from c.in-Some.seat c.region_at.result
-    (c.in_ok-from.ensures.found sure) c.in-Some.is (c.region_at.ensures.region ∙ ap (λ (n : ℕ). region_of n c.in-Some.seat) last)
+    found_given c.args.self.now c.args.pager.now.store (Aims c.args.goal.now) (option_copied c.args.after) c.in_ok-from.field-0 c.in-Some.from c.in-Some.region
+    (c.in_ok-from.ensures.found sure) c.in-Some.is
 
 pub returns-in-Some-2-clause-later : goal.returns-in-Some-2-clause-later
 returns-in-Some-2-clause-later g c = λ sure.
-    let last = ap (λ (v : IndexView). v.last) c.self.view_is in
-    found_later c.args.self.now c.args.pager.now.store (Aims c.args.goal.now) (option_copied c.args.after) c.in_ok-from.field-0 c.in-Some.from c.in-Some.seat c.region_at.result
-    (c.in_ok-from.ensures.found sure) c.in-Some.is (sym c.is_before.ensures ∙ c.if-is_before.false) (c.region_at.ensures.region ∙ ap (λ (n : ℕ). region_of n c.in-Some.seat) last)
+    found_later c.args.self.now c.args.pager.now.store (Aims c.args.goal.now) (option_copied c.args.after) c.in_ok-from.field-0 c.in-Some.from c.in-Some.region
+    (c.in_ok-from.ensures.found sure) c.in-Some.is (sym c.is_before.ensures ∙ c.if-is_before.false)
 
 pub returns-in-Some-2-clause-small : goal.returns-in-Some-2-clause-small
-returns-in-Some-2-clause-small g c = c.region_at.ensures.small
+returns-in-Some-2-clause-small g c =
+    subst (λ (o : Option (Key × Region)). IfSome o (λ found. found.1.first.number < 2 ^ 32)) c.in-Some.is c.in_ok-from.ensures.small
 
 pub returns-in-Some-2-clause-effect : goal.returns-in-Some-2-clause-effect
 returns-in-Some-2-clause-effect g c = record { same = c.in_ok-from.ensures.effect.same; checked = c.in_ok-from.ensures.effect.checked; faults = λ sure. tt }
@@ -57,7 +54,7 @@ returns-in-Some-2-clause-effect g c = record { same = c.in_ok-from.ensures.effec
 pub returns-in-None-clause-given : goal.returns-in-None-clause-given
 returns-in-None-clause-given g c = λ sure.
     none_given c.args.self.now c.args.pager.now.store (Aims c.args.goal.now) (option_copied c.args.after)
-    (subst (λ (o : Option (Key × Seat)). FindsAfter c.args.self.now c.args.pager.now.store (Aims c.args.goal.now) (option_copied c.args.after) o) c.in-None.is (c.in_ok-from.ensures.found sure))
+    (subst (λ (o : Option (Key × Region)). FindsAfter c.args.self.now c.args.pager.now.store (Aims c.args.goal.now) (option_copied c.args.after) o) c.in-None.is (c.in_ok-from.ensures.found sure))
 
 pub returns-in-None-clause-effect : goal.returns-in-None-clause-effect
 returns-in-None-clause-effect g c = record { same = c.in_ok-from.ensures.effect.same; checked = c.in_ok-from.ensures.effect.checked; faults = λ sure. tt }

@@ -2,8 +2,8 @@ use Rattle.std.proofs.Common.{◌+◌, [], ◌∷◌, Some, IfOk, refl, rules}
 use Rattle.ub_index.specs.Changed.{Replaces}
 use Rattle.ub_index.specs.Changing.{AreIndexPages, so_far}
 use Rattle.ub_index.specs.Filling.{KeepsFilled}
-use Rattle.ub_index.specs.Preparing.{ChangeView, IsPrepared, MakesIndex, TakesNeeded, added_at, entry_at}
-use Rattle.ub_index.specs.View.{entries_in}
+use Rattle.ub_index.specs.Preparing.{ChangeView, IsPrepared, MakesIndex, TakesNeeded, added_at}
+use Rattle.ub_index.specs.View.{entries_in, entry_at}
 use Rattle.ub_store.specs.Facts.{page_count}
 use Rattle.ub_index.proofs.FoundFacts.{if_ok}
 use Rattle.ub_index.proofs.FullFacts.{takes_needed}
@@ -16,28 +16,28 @@ returns-clause-ready g c = λ i is own at within.
     let store = c.args.pager.now.store in
     let honest = is.honest in
     let prepared : IfOk c.prepare.result
-    (IsPrepared c.args.self.now c.args.pager.now.store c.args.seat.now.first (Some (added_at c.args.first.now c.args.pager.now.store)) (page_count c.args.pager.now.store)
+    (IsPrepared c.args.self.now c.args.pager.now.store c.args.region.now.first (Some (added_at c.args.first.now c.args.pager.now.store)) (page_count c.args.pager.now.store)
     (so_far [] (page_count c.args.pager.now.store + 1))) = search (rules, honest) in
     if_ok c.prepare.result
-    (IsPrepared c.args.self.now c.args.pager.now.store c.args.seat.now.first (Some (added_at c.args.first.now c.args.pager.now.store)) (page_count c.args.pager.now.store)
+    (IsPrepared c.args.self.now c.args.pager.now.store c.args.region.now.first (Some (added_at c.args.first.now c.args.pager.now.store)) (page_count c.args.pager.now.store)
     (so_far [] (page_count c.args.pager.now.store + 1)))
-    (λ change. MakesIndex c.args.self.now c.args.pager.now.store (page_count c.args.pager.now.store + 1) change (Replaces (entry_at c.args.seat.now) (entry_at c.args.seat.now ∷ added_at c.args.first.now c.args.pager.now.store ∷ [])
+    (λ change. MakesIndex c.args.self.now c.args.pager.now.store (page_count c.args.pager.now.store + 1) change (Replaces (entry_at c.args.region.now) (entry_at c.args.region.now ∷ added_at c.args.first.now c.args.pager.now.store ∷ [])
     (entries_in c.args.self.now c.args.pager.now.store)))
     (λ (change : ChangeView) made.
-    ready_added c.args.self.now c.args.pager.now.store i c.args.seat.now c.args.first.now change c.prepare.ensures.bounds.0 c.prepare.ensures.bounds.1 (search rules) is own at within made)
+    ready_added c.args.self.now c.args.pager.now.store i c.args.region.now c.args.first.now change c.prepare.ensures.bounds.0 c.prepare.ensures.bounds.1 (search rules) is own at within made)
     prepared
 
 pub returns-clause-takes : goal.returns-clause-takes
 returns-clause-takes g c = λ honest.
     let prepared : IfOk c.prepare.result
-    (IsPrepared c.args.self.now c.args.pager.now.store c.args.seat.now.first (Some (added_at c.args.first.now c.args.pager.now.store)) (page_count c.args.pager.now.store)
+    (IsPrepared c.args.self.now c.args.pager.now.store c.args.region.now.first (Some (added_at c.args.first.now c.args.pager.now.store)) (page_count c.args.pager.now.store)
     (so_far [] (page_count c.args.pager.now.store + 1))) = search (rules, honest) in
     if_ok c.prepare.result
-    (IsPrepared c.args.self.now c.args.pager.now.store c.args.seat.now.first (Some (added_at c.args.first.now c.args.pager.now.store)) (page_count c.args.pager.now.store)
+    (IsPrepared c.args.self.now c.args.pager.now.store c.args.region.now.first (Some (added_at c.args.first.now c.args.pager.now.store)) (page_count c.args.pager.now.store)
     (so_far [] (page_count c.args.pager.now.store + 1)))
-    (TakesNeeded c.args.self.now c.args.pager.now.store c.args.seat.now.first)
+    (TakesNeeded c.args.self.now c.args.pager.now.store c.args.region.now.first)
     (λ (change : ChangeView) made.
-    takes_needed c.args.self.now c.args.pager.now.store c.args.seat.now.first (added_at c.args.first.now c.args.pager.now.store) (page_count c.args.pager.now.store)
+    takes_needed c.args.self.now c.args.pager.now.store c.args.region.now.first (added_at c.args.first.now c.args.pager.now.store) (page_count c.args.pager.now.store)
     (so_far [] (page_count c.args.pager.now.store + 1)) made.0 made.1 change refl (search rules) made.2 made.3)
     prepared
 
@@ -46,25 +46,25 @@ returns-clause-fills g c = λ i is own at within.
     let store = c.args.pager.now.store in
     let honest = is.honest in
     let prepared : IfOk c.prepare.result
-    (IsPrepared c.args.self.now c.args.pager.now.store c.args.seat.now.first (Some (added_at c.args.first.now c.args.pager.now.store)) (page_count c.args.pager.now.store)
+    (IsPrepared c.args.self.now c.args.pager.now.store c.args.region.now.first (Some (added_at c.args.first.now c.args.pager.now.store)) (page_count c.args.pager.now.store)
     (so_far [] (page_count c.args.pager.now.store + 1))) = search (rules, honest) in
     if_ok c.prepare.result
-    (IsPrepared c.args.self.now c.args.pager.now.store c.args.seat.now.first (Some (added_at c.args.first.now c.args.pager.now.store)) (page_count c.args.pager.now.store)
+    (IsPrepared c.args.self.now c.args.pager.now.store c.args.region.now.first (Some (added_at c.args.first.now c.args.pager.now.store)) (page_count c.args.pager.now.store)
     (so_far [] (page_count c.args.pager.now.store + 1)))
     (KeepsFilled c.args.self.now c.args.pager.now.store)
     (λ (change : ChangeView) made.
-    fills_added c.args.self.now c.args.pager.now.store i c.args.seat.now c.args.first.now change c.prepare.ensures.bounds.0 c.prepare.ensures.bounds.1 (search rules) is own at within made)
+    fills_added c.args.self.now c.args.pager.now.store i c.args.region.now c.args.first.now change c.prepare.ensures.bounds.0 c.prepare.ensures.bounds.1 (search rules) is own at within made)
     prepared
 
 pub returns-clause-pages : goal.returns-clause-pages
 returns-clause-pages g c = λ honest leads within.
     let prepared : IfOk c.prepare.result
-    (IsPrepared c.args.self.now c.args.pager.now.store c.args.seat.now.first (Some (added_at c.args.first.now c.args.pager.now.store)) (page_count c.args.pager.now.store)
+    (IsPrepared c.args.self.now c.args.pager.now.store c.args.region.now.first (Some (added_at c.args.first.now c.args.pager.now.store)) (page_count c.args.pager.now.store)
     (so_far [] (page_count c.args.pager.now.store + 1))) = search (rules, honest) in
     if_ok c.prepare.result
-    (IsPrepared c.args.self.now c.args.pager.now.store c.args.seat.now.first (Some (added_at c.args.first.now c.args.pager.now.store)) (page_count c.args.pager.now.store)
+    (IsPrepared c.args.self.now c.args.pager.now.store c.args.region.now.first (Some (added_at c.args.first.now c.args.pager.now.store)) (page_count c.args.pager.now.store)
     (so_far [] (page_count c.args.pager.now.store + 1)))
     (λ (change : ChangeView). AreIndexPages c.args.self.now.last change.sheets)
     (λ (change : ChangeView) made.
-    added_pages c.args.self.now c.args.pager.now.store c.args.seat.now c.args.first.now change c.prepare.ensures.bounds.0 c.prepare.ensures.bounds.2 c.prepare.ensures.bounds.3 (search rules) leads within made)
+    added_pages c.args.self.now c.args.pager.now.store c.args.region.now c.args.first.now change c.prepare.ensures.bounds.0 c.prepare.ensures.bounds.2 c.prepare.ensures.bounds.3 (search rules) leads within made)
     prepared

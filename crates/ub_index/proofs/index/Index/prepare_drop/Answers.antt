@@ -2,8 +2,8 @@ use Rattle.std.proofs.Common.{◌≡◌, [], None, IfOk, ap, rules, subst, sym}
 use Rattle.ub_index.specs.Changed.{Replaces}
 use Rattle.ub_index.specs.Changing.{AreIndexPages, so_far}
 use Rattle.ub_index.specs.Lowering.{LowersTo, MakesLow}
-use Rattle.ub_index.specs.Preparing.{ChangeView, IsPrepared, MakesIndex, entry_at}
-use Rattle.ub_index.specs.View.{IndexView, entries_in}
+use Rattle.ub_index.specs.Preparing.{ChangeView, IsPrepared, MakesIndex}
+use Rattle.ub_index.specs.View.{IndexView, entries_in, entry_at}
 use Rattle.ub_index.specs.declared.change.Change.{Change}
 use Rattle.ub_store.specs.Facts.{page_count}
 use Rattle.ub_store.specs.View.{PagerView}
@@ -16,13 +16,13 @@ pub returns-clause-ready : goal.returns-clause-ready
 returns-clause-ready g c = λ i is own at later.
     let store = c.args.pager.now.store in
     let honest = is.honest in
-    let first : IsPrepared c.args.self.now c.args.pager.now.store c.args.seat.now.first None (page_count c.args.pager.now.store) (so_far [] (page_count c.args.pager.now.store)) c.in_ok-change.change =
+    let first : IsPrepared c.args.self.now c.args.pager.now.store c.args.region.now.first None (page_count c.args.pager.now.store) (so_far [] (page_count c.args.pager.now.store)) c.in_ok-change.change =
     search (rules, honest) in
     let lowers : IfOk c.lowered.result (LowersTo c.args.pager.now.store.pages c.in_ok-change.change) = search (rules, honest) in
     if_ok c.lowered.result (LowersTo c.args.pager.now.store.pages c.in_ok-change.change)
-    (λ change. MakesIndex c.args.self.now c.args.pager.now.store (page_count c.args.pager.now.store) change (Replaces (entry_at c.args.seat.now) [] (entries_in c.args.self.now c.args.pager.now.store)))
+    (λ change. MakesIndex c.args.self.now c.args.pager.now.store (page_count c.args.pager.now.store) change (Replaces (entry_at c.args.region.now) [] (entries_in c.args.self.now c.args.pager.now.store)))
     (λ (change : ChangeView) lowered.
-    dropped_makes c.args.self.now c.args.pager.now.store i c.args.seat.now c.in_ok-change.ensures.bounds.0 c.in_ok-change.ensures.bounds.1 (search rules) is own at later c.in_ok-change.change
+    dropped_makes c.args.self.now c.args.pager.now.store i c.args.region.now c.in_ok-change.ensures.bounds.0 c.in_ok-change.ensures.bounds.1 (search rules) is own at later c.in_ok-change.change
     first.0 first.1 first.2 first.3 change lowered)
     lowers
 
@@ -30,32 +30,32 @@ pub returns-clause-low : goal.returns-clause-low
 returns-clause-low g c = λ i is own at later.
     let store = c.args.pager.now.store in
     let honest = is.honest in
-    let first : IsPrepared c.args.self.now c.args.pager.now.store c.args.seat.now.first None (page_count c.args.pager.now.store) (so_far [] (page_count c.args.pager.now.store)) c.in_ok-change.change =
+    let first : IsPrepared c.args.self.now c.args.pager.now.store c.args.region.now.first None (page_count c.args.pager.now.store) (so_far [] (page_count c.args.pager.now.store)) c.in_ok-change.change =
     search (rules, honest) in
     let lowers : IfOk c.lowered.result (LowersTo c.args.pager.now.store.pages c.in_ok-change.change) = search (rules, honest) in
     if_ok c.lowered.result (LowersTo c.args.pager.now.store.pages c.in_ok-change.change)
     (λ change. (change.next ≡ change.start) × MakesLow c.args.self.now c.args.pager.now.store change)
     (λ (change : ChangeView) lowered.
-    dropped_low c.args.self.now c.args.pager.now.store i c.args.seat.now c.in_ok-change.ensures.bounds.0 c.in_ok-change.ensures.bounds.1 (search rules) is own at later c.in_ok-change.change
+    dropped_low c.args.self.now c.args.pager.now.store i c.args.region.now c.in_ok-change.ensures.bounds.0 c.in_ok-change.ensures.bounds.1 (search rules) is own at later c.in_ok-change.change
     first.0 first.1 first.2 first.3 change lowered)
     lowers
 
 pub returns-clause-effect : goal.returns-clause-effect
 returns-clause-effect g c =
-    dropped_effect Change c.args.self.now c.self.inside.last c.args.seat.now.first c.args.pager.now c.prepare.new.pager c.lowered.new.pager c.in_ok-change.change c.lowered.result
+    dropped_effect Change c.args.self.now c.self.inside.last c.args.region.now.first c.args.pager.now c.prepare.new.pager c.lowered.new.pager c.in_ok-change.change c.lowered.result
     (ap (λ (v : IndexView). v.last) c.self.view_is)
     (ap (λ (p : PagerView). p.store) c.in_ok-change.ensures.effect.same) (ap (λ (p : PagerView). p.trace) c.in_ok-change.ensures.effect.same) c.in_ok-change.ensures.effect.checked
     (λ honest. search (rules, honest)) c.lowered.ensures.effect
 
 pub returns-clause-pages : goal.returns-clause-pages
 returns-clause-pages g c = λ honest.
-    let first : IsPrepared c.args.self.now c.args.pager.now.store c.args.seat.now.first None (page_count c.args.pager.now.store) (so_far [] (page_count c.args.pager.now.store)) c.in_ok-change.change =
+    let first : IsPrepared c.args.self.now c.args.pager.now.store c.args.region.now.first None (page_count c.args.pager.now.store) (so_far [] (page_count c.args.pager.now.store)) c.in_ok-change.change =
     search (rules, honest) in
     let lowers : IfOk c.lowered.result (LowersTo c.args.pager.now.store.pages c.in_ok-change.change) = search (rules, honest) in
     if_ok c.lowered.result (LowersTo c.args.pager.now.store.pages c.in_ok-change.change)
     (λ (change : ChangeView). AreIndexPages c.args.self.now.last change.sheets)
     (λ (change : ChangeView) lowered.
     subst (λ (v : ChangeView). AreIndexPages c.args.self.now.last v.sheets) (sym lowered.same)
-    (dropped_pages c.args.self.now c.args.pager.now.store c.args.seat.now.first c.in_ok-change.change c.in_ok-change.ensures.bounds.0 c.in_ok-change.ensures.bounds.2 c.in_ok-change.ensures.bounds.3
+    (dropped_pages c.args.self.now c.args.pager.now.store c.args.region.now.first c.in_ok-change.change c.in_ok-change.ensures.bounds.0 c.in_ok-change.ensures.bounds.2 c.in_ok-change.ensures.bounds.3
     (search rules) first))
     lowers

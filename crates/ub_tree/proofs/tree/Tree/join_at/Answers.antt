@@ -5,7 +5,8 @@ use Rattle.ub_table.specs.declared.fault.PageFault.TheVariants.{BadCount}
 use Rattle.ub_tree.specs.Tree.{placed_in, tree_view}
 use Rattle.ub_tree.specs.View.{TreeView, region_count, regions}
 use Rattle.ub_tree.specs.declared.fault.TreeFault.TheVariants.{Page}
-use Rattle.ub_tree.specs.inner.Change.{IsDropReady, IsSeatIn, IsSeatOf, IsSeatThere, IsStored, JoinsAt}
+use Rattle.ub_tree.specs.inner.Change.{IsDropReady, IsRegionIn, IsRegionThere, IsStored, JoinsAt}
+use Rattle.ub_tree.specs.Told.{IsRegionOf}
 use Rattle.ub_tree.proofs.EffectFacts.{changes_by, ready_by, refused_none, then_changed, unchanged}
 use Rattle.ub_tree.proofs.HoldingFacts.{removal_fault}
 use Rattle.ub_tree.proofs.RefusedFacts.{device_removal, index_removal}
@@ -18,10 +19,10 @@ returns-then-self-eq1-clause-effect g c =
     let a = c.args.self.now in
     let one : region_count a ≡ 1 = sym (ap (λ (v : TreeView). region_count v) c.self.view_is) ∙ c.if-self-eq1.true in
     rw c.uncounted.ensures.fault
-    (unchanged (Page 0 BadCount) a (alone_not_sound a c.args.seat.now c.args.next.now one c.requires.seat.seat_is c.requires.next.1, inr (inr (inl (refl, refl, inr (inr one)))), refl))
+    (unchanged (Page 0 BadCount) a (alone_not_sound a c.args.region.now c.args.next.now one c.requires.there.told c.requires.next.1, inr (inr (inl (refl, refl, inr (inr one)))), refl))
 
 pub prepare_drop-requires-clause-behind : goal.prepare_drop-requires-clause-behind
-prepare_drop-requires-clause-behind g c = behind_first c.args.self.now c.args.seat.now c.args.next.now c.requires.seat.seat_is c.requires.next.1
+prepare_drop-requires-clause-behind g c = behind_first c.args.self.now c.args.region.now c.args.next.now c.requires.there.told c.requires.next.1
 
 pub prepare_drop-requires-clause-more : goal.prepare_drop-requires-clause-more
 prepare_drop-requires-clause-more g c = λ one. c.if-self-eq1.false (ap (λ (v : TreeView). region_count v) c.self.view_is ∙ one)
@@ -34,81 +35,81 @@ pub returns-in_err-rewrite-clause-effect : goal.returns-in_err-rewrite-clause-ef
 returns-in_err-rewrite-clause-effect g c =
     let b = c.prepare_drop.new.self in
     let same = c.in_ok-change.ensures.effect.same in
-    let of = subst (λ (v : TreeView). IsSeatOf v c.args.seat.now) (sym same) c.requires.seat.seat_is in
+    let of = subst (λ (v : TreeView). IsRegionOf v c.args.region.now) (sym same) c.requires.there.told in
     then_changed c.from_residual-in_err-rewrite.result c.args.self.now b c.rewrite.new.self same
-    (changes_by b c.rewrite.new.self c.args.seat.now of c.from_residual-in_err-rewrite.result c.in_err-rewrite.field-0.0 c.from_residual-in_err-rewrite.ensures.1 c.in_err-rewrite.ensures.effect)
+    (changes_by b c.rewrite.new.self c.args.region.now of c.from_residual-in_err-rewrite.result c.in_err-rewrite.field-0.0 c.from_residual-in_err-rewrite.ensures.1 c.in_err-rewrite.ensures.effect)
 
 pub returns-in_err-put_index-clause-effect : goal.returns-in_err-put_index-clause-effect
 returns-in_err-put_index-clause-effect g c =
     let b = c.prepare_drop.new.self in
-    let seat = c.args.seat.now in
+    let span = c.args.region.now in
     let next = c.args.next.now in
     let change = c.in_ok-change.change in
     let same = c.in_ok-change.ensures.effect.same in
-    let there = subst (λ (v : TreeView). IsSeatThere v seat) (sym same) c.requires.seat in
-    let of_next = subst (λ (v : TreeView). IsSeatOf v next) (sym same) c.requires.next.0 in
+    let there = subst (λ (v : TreeView). IsRegionThere v span) (sym same) c.requires.there in
+    let of_next = subst (λ (v : TreeView). IsRegionOf v next) (sym same) c.requires.next.0 in
     let ready = subst (λ (v : TreeView). IsDropReady v next change) (sym same) c.in_ok-change.ensures.ready in
     then_changed c.from_residual-in_err-put_index.result c.args.self.now b c.put_index.new.self same
-    (index_failed b c.rewrite.new.self c.put_index.new.self seat next change there of_next c.requires.next.1 ready c.in_ok-rewrite.ensures.same c.in_ok-rewrite.ensures.effect c.put_index.ensures.kept
+    (index_failed b c.rewrite.new.self c.put_index.new.self span next change there of_next c.requires.next.1 ready c.in_ok-rewrite.ensures.same c.in_ok-rewrite.ensures.effect c.put_index.ensures.kept
     c.from_residual-in_err-put_index.result c.in_err-put_index.field-0.0 c.from_residual-in_err-put_index.ensures.1 c.put_index.ensures.marked c.in_err-put_index.ensures.stopped.0 c.in_err-put_index.ensures.stopped.1)
 
 pub returns-clause-same : goal.returns-clause-same
 returns-clause-same g c =
     let b = c.prepare_drop.new.self in
-    let seat = c.args.seat.now in
+    let span = c.args.region.now in
     let next = c.args.next.now in
     let change = c.in_ok-change.change in
     let same = c.in_ok-change.ensures.effect.same in
-    let there = subst (λ (v : TreeView). IsSeatThere v seat) (sym same) c.requires.seat in
-    let of_next = subst (λ (v : TreeView). IsSeatOf v next) (sym same) c.requires.next.0 in
+    let there = subst (λ (v : TreeView). IsRegionThere v span) (sym same) c.requires.there in
+    let of_next = subst (λ (v : TreeView). IsRegionOf v next) (sym same) c.requires.next.0 in
     let ready = subst (λ (v : TreeView). IsDropReady v next change) (sym same) c.in_ok-change.ensures.ready in
     let u = c.self-2.inside in
     let d : TreeView = tree_view u.schema u.index (u.count - 1) u.next u.rows (is_written u.mark) u.is_failed u.pager in
     let is = ap (λ (v : TreeView). record v { inner = record v.inner { count = v.inner.count - 1 } }) c.self-2.view_is in
     let some : 1 ≤ region_count b = subst (λ (v : TreeView). 1 ≤ region_count v) (c.self.view_is ∙ sym same) c.self.invariant.some in
-    subst (λ (v : TreeView). JoinsAt seat v d) same
-    (joined_at b c.rewrite.new.self c.put_index.new.self seat next change there of_next c.requires.next.1 ready c.in_ok-rewrite.ensures.same c.in_ok-rewrite.ensures.effect c.put_index.ensures.kept
+    subst (λ (v : TreeView). JoinsAt span v d) same
+    (joined_at b c.rewrite.new.self c.put_index.new.self span next change there of_next c.requires.next.1 ready c.in_ok-rewrite.ensures.same c.in_ok-rewrite.ensures.effect c.put_index.ensures.kept
     d c.in_ok-put_index.ensures.now is some)
 
 pub returns-clause-written : goal.returns-clause-written
 returns-clause-written g c = λ i stored at at_next each.
     let a = c.args.self.now in
     let b = c.prepare_drop.new.self in
-    let seat = c.args.seat.now in
+    let span = c.args.region.now in
     let next = c.args.next.now in
     let rows = c.args.rows.now in
     let change = c.in_ok-change.change in
     let same = c.in_ok-change.ensures.effect.same in
-    let there = subst (λ (v : TreeView). IsSeatThere v seat) (sym same) c.requires.seat in
-    let of_next = subst (λ (v : TreeView). IsSeatOf v next) (sym same) c.requires.next.0 in
+    let there = subst (λ (v : TreeView). IsRegionThere v span) (sym same) c.requires.there in
+    let of_next = subst (λ (v : TreeView). IsRegionOf v next) (sym same) c.requires.next.0 in
     let ready = subst (λ (v : TreeView). IsDropReady v next change) (sym same) c.in_ok-change.ensures.ready in
     let u = c.self-2.inside in
     let d : TreeView = tree_view u.schema u.index (u.count - 1) u.next u.rows (is_written u.mark) u.is_failed u.pager in
     let is = ap (λ (v : TreeView). record v { inner = record v.inner { count = v.inner.count - 1 } }) c.self-2.view_is in
     let viewed : b.placed ≡ placed_in b.schema b.inner.index b.store = subst (λ (v : TreeView). v.placed ≡ placed_in v.schema v.inner.index v.store) (c.self.view_is ∙ sym same) refl in
     let stored_b = subst IsStored (sym same) stored in
-    let at_b = subst (λ (v : TreeView). IsSeatIn v i seat) (sym same) at in
-    let at_next_b = subst (λ (v : TreeView). IsSeatIn v (i + 1) next) (sym same) at_next in
-    let good = subst (λ (v : TreeView). IsRegion v.schema (record { first = seat.first; rows = rows })) (sym same) c.requires.region in
+    let at_b = subst (λ (v : TreeView). IsRegionIn v i span) (sym same) at in
+    let at_next_b = subst (λ (v : TreeView). IsRegionIn v (i + 1) next) (sym same) at_next in
+    let good = subst (λ (v : TreeView). IsRegion v.schema (record { first = span.first; rows = rows })) (sym same) c.requires.region in
     subst (λ (v : TreeView). IsStored d × (regions d ≡ put_rows i true rows (regions v))) same
-    (joined_written b c.rewrite.new.self c.put_index.new.self seat next change there of_next c.requires.next.1 ready c.in_ok-rewrite.ensures.same c.in_ok-rewrite.ensures.effect c.put_index.ensures.kept
+    (joined_written b c.rewrite.new.self c.put_index.new.self span next change there of_next c.requires.next.1 ready c.in_ok-rewrite.ensures.same c.in_ok-rewrite.ensures.effect c.put_index.ensures.kept
     d c.in_ok-put_index.ensures.now is i rows viewed refl c.in_ok-put_index.ensures.works stored_b at_b at_next_b good (c.in_ok-rewrite.ensures.written i stored_b at_b) c.in_ok-put_index.ensures.stand)
 
 pub returns-clause-effect : goal.returns-clause-effect
 returns-clause-effect g c =
     let b = c.prepare_drop.new.self in
-    let seat = c.args.seat.now in
+    let span = c.args.region.now in
     let next = c.args.next.now in
     let change = c.in_ok-change.change in
     let same = c.in_ok-change.ensures.effect.same in
-    let there = subst (λ (v : TreeView). IsSeatThere v seat) (sym same) c.requires.seat in
-    let of_next = subst (λ (v : TreeView). IsSeatOf v next) (sym same) c.requires.next.0 in
+    let there = subst (λ (v : TreeView). IsRegionThere v span) (sym same) c.requires.there in
+    let of_next = subst (λ (v : TreeView). IsRegionOf v next) (sym same) c.requires.next.0 in
     let ready = subst (λ (v : TreeView). IsDropReady v next change) (sym same) c.in_ok-change.ensures.ready in
     let u = c.self-2.inside in
     let d : TreeView = tree_view u.schema u.index (u.count - 1) u.next u.rows (is_written u.mark) u.is_failed u.pager in
     let is = ap (λ (v : TreeView). record v { inner = record v.inner { count = v.inner.count - 1 } }) c.self-2.view_is in
     then_changed (Ok tt) c.args.self.now b d same
-    (joined_effect b c.rewrite.new.self c.put_index.new.self seat next change there of_next c.requires.next.1 ready c.in_ok-rewrite.ensures.same c.in_ok-rewrite.ensures.effect c.put_index.ensures.kept
+    (joined_effect b c.rewrite.new.self c.put_index.new.self span next change there of_next c.requires.next.1 ready c.in_ok-rewrite.ensures.same c.in_ok-rewrite.ensures.effect c.put_index.ensures.kept
     d c.in_ok-put_index.ensures.now is tt c.in_ok-put_index.ensures.works)
 
 pub returns-then-self-eq1-clause-same : goal.returns-then-self-eq1-clause-same
@@ -140,11 +141,11 @@ returns-in_err-change-clause-faults g c = removal_fault c.from_residual.result c
 pub returns-in_err-change-clause-stays : goal.returns-in_err-change-clause-stays
 returns-in_err-change-clause-stays g c = λ was. subst (λ (v : TreeView). v.is_changed ≡ true) (sym c.in_err-change.ensures.effect.same) was
 
-pub rewrite-requires-clause-seat : goal.rewrite-requires-clause-seat
-rewrite-requires-clause-seat g c = subst (λ (v : TreeView). IsSeatThere v c.args.seat.now) (sym c.in_ok-change.ensures.effect.same) c.requires.seat
+pub rewrite-requires-clause-there : goal.rewrite-requires-clause-there
+rewrite-requires-clause-there g c = subst (λ (v : TreeView). IsRegionThere v c.args.region.now) (sym c.in_ok-change.ensures.effect.same) c.requires.there
 
 pub rewrite-requires-clause-region : goal.rewrite-requires-clause-region
-rewrite-requires-clause-region g c = subst (λ (v : TreeView). IsRegion v.schema (record { first = c.args.seat.now.first; rows = c.args.rows.now })) (sym c.in_ok-change.ensures.effect.same) c.requires.region
+rewrite-requires-clause-region g c = subst (λ (v : TreeView). IsRegion v.schema (record { first = c.args.region.now.first; rows = c.args.rows.now })) (sym c.in_ok-change.ensures.effect.same) c.requires.region
 
 pub returns-in_err-rewrite-clause-same : goal.returns-in_err-rewrite-clause-same
 returns-in_err-rewrite-clause-same g c = refused_none _ c.from_residual-in_err-rewrite.result c.in_err-rewrite.field-0.0 c.from_residual-in_err-rewrite.ensures.1

@@ -8,7 +8,8 @@ use Rattle.ub_tree.proofs.RefusedFacts.{refused_search, searched, then_refused_s
 use Rattle.ub_tree.proofs.ShrinkFacts.{join_last, length-regions}
 use Rattle.ub_tree.specs.Placed.{entry_of}
 use Rattle.ub_tree.specs.View.{TreeView, regions}
-use Rattle.ub_tree.specs.inner.Change.{IsOnSeat, IsSeatOf}
+use Rattle.ub_tree.specs.Told.{IsRegionOf}
+use Rattle.ub_tree.specs.Effects.{IsTakenIn}
 use Rattle.ub_tree.proofs.tree.Tree.join_next.Goals.{then-join, else-join}
 use Rattle.ub_tree.proofs.tree.Tree.join_next.Goals as goal
 
@@ -26,7 +27,7 @@ returns-clause-joined g c = λ i stored at.
     let next = c.in-Some.next in
     let stands = rw c.in-Some.is at (c.in_ok-next.ensures.after i stored at) in
     let count = c.page_rows.ensures.page_rows ∙ ap (λ (v : TreeView). v.schema.page_rows) c.self.view_is in
-    let joined = joins_next a c.seat_after.new.self c.rows_at.new.self i next c.args.room.now.rows c.join.new.self c.rows_at.new.rows c.join.result c.page_rows.result
+    let joined = joins_next a c.region_after.new.self c.rows_at.new.self i next c.args.room.now.rows c.join.new.self c.rows_at.new.rows c.join.result c.page_rows.result
     c.in_ok-next.ensures.effect.same c.in_ok-rows_at.ensures.effect.same stands c.in_ok-rows_at.ensures.rows count c.join.ensures.fit c.join.ensures.rows stored.honest in
     elim c.if-join.branch [
       | then-join w ↦ rw w.result-is (rw w.if-join.true at joined)
@@ -36,9 +37,9 @@ returns-clause-joined g c = λ i stored at.
 pub returns-clause-rows : goal.returns-clause-rows
 returns-clause-rows g c =
     let a = c.args.self.now in
-    let s = c.seat_after.new.self in
+    let s = c.region_after.new.self in
     let m = c.rows_at.new.self in
-    let seat = c.args.seat.now in
+    let span = c.args.region.now in
     let next = c.in-Some.next in
     let rows = c.args.room.now.rows in
     let more = c.rows_at.new.rows in
@@ -46,8 +47,8 @@ returns-clause-rows g c =
     let two = c.in_ok-rows_at.ensures.effect.same in
     let begins = rw c.in-Some.is at c.in_ok-next.ensures.begins in
     let count : c.page_rows.result ≡ a.schema.page_rows = c.page_rows.ensures.page_rows ∙ ap (λ (v : TreeView). v.schema.page_rows) (c.self.view_is ∙ two ∙ one) in
-    let on = subst (λ (v : TreeView). IsOnSeat v next (record { first = next.first; rows = more })) one c.in_ok-rows_at.ensures.on in
-    let made = next_region a c.requires.seat.0 seat next rows more c.requires.seat.1 begins c.requires.rows (rows_on a next (record { first = next.first; rows = more }) on) in
+    let on = subst (λ (v : TreeView). IsTakenIn v next (record { first = next.first; rows = more })) one c.in_ok-rows_at.ensures.on in
+    let made = next_region a c.requires.told.key span next rows more c.requires.told.falls begins c.requires.rows (rows_on a next (record { first = next.first; rows = more }) on) in
     elim c.if-join.branch [
       | then-join w ↦
           let fit = leb-true (length rows + length more) c.page_rows.result (sym c.join.ensures.fit ∙ w.if-join.true) in
@@ -56,8 +57,8 @@ returns-clause-rows g c =
       | else-join w ↦ rw w.result-is (rw w.if-join.false at c.join.ensures.rows)
     ]
 
-pub seat_after-requires : goal.seat_after-requires
-seat_after-requires g c = c.requires.seat
+pub region_after-requires : goal.region_after-requires
+region_after-requires g c = c.requires.told
 
 pub returns-in_err-next-clause-rows : goal.returns-in_err-next-clause-rows
 returns-in_err-next-clause-rows g c = no_answer c.from_residual.result c.in_err-next.field-0.0 _ c.from_residual.ensures.1
@@ -72,7 +73,7 @@ pub returns-in_err-next-clause-joined : goal.returns-in_err-next-clause-joined
 returns-in_err-next-clause-joined g c = λ i stored at. no_answer c.from_residual.result c.in_err-next.field-0.0 _ c.from_residual.ensures.1
 
 pub returns-in_err-next-clause-effect : goal.returns-in_err-next-clause-effect
-returns-in_err-next-clause-effect g c = refused_search c.from_residual.result c.in_err-next.field-0.0 c.args.self.now c.seat_after.new.self c.from_residual.ensures.1 c.in_err-next.ensures.effect
+returns-in_err-next-clause-effect g c = refused_search c.from_residual.result c.in_err-next.field-0.0 c.args.self.now c.region_after.new.self c.from_residual.ensures.1 c.in_err-next.ensures.effect
 
 pub returns-in-None-clause-rows : goal.returns-in-None-clause-rows
 returns-in-None-clause-rows g c = refl
@@ -84,12 +85,12 @@ pub returns-in-None-clause-next : goal.returns-in-None-clause-next
 returns-in-None-clause-next g c = λ i stored at. tt
 
 pub returns-in-None-clause-effect : goal.returns-in-None-clause-effect
-returns-in-None-clause-effect g c = searched _ c.args.self.now c.seat_after.new.self c.in_ok-next.ensures.effect.same
+returns-in-None-clause-effect g c = searched _ c.args.self.now c.region_after.new.self c.in_ok-next.ensures.effect.same
 
 pub rows_at-requires : goal.rows_at-requires
 rows_at-requires g c =
     let of = rw c.in-Some.is at c.in_ok-next.ensures.falls in
-    subst (λ (v : TreeView). IsSeatOf v c.in-Some.next) (sym c.in_ok-next.ensures.effect.same) of
+    subst (λ (v : TreeView). IsRegionOf v c.in-Some.next) (sym c.in_ok-next.ensures.effect.same) of
 
 pub returns-in_err-rows_at-clause-rows : goal.returns-in_err-rows_at-clause-rows
 returns-in_err-rows_at-clause-rows g c = no_answer c.from_residual-in_err-rows_at.result c.in_err-rows_at.field-0.0 _ c.from_residual-in_err-rows_at.ensures.1
@@ -105,7 +106,7 @@ returns-in_err-rows_at-clause-joined g c = λ i stored at. no_answer c.from_resi
 
 pub returns-in_err-rows_at-clause-effect : goal.returns-in_err-rows_at-clause-effect
 returns-in_err-rows_at-clause-effect g c =
-    then_refused_search c.from_residual-in_err-rows_at.result c.in_err-rows_at.field-0.0 c.args.self.now c.seat_after.new.self c.rows_at.new.self c.in_ok-next.ensures.effect.same
+    then_refused_search c.from_residual-in_err-rows_at.result c.in_err-rows_at.field-0.0 c.args.self.now c.region_after.new.self c.rows_at.new.self c.in_ok-next.ensures.effect.same
     c.from_residual-in_err-rows_at.ensures.1 c.in_err-rows_at.ensures.effect
 
 pub returns-clause-found : goal.returns-clause-found

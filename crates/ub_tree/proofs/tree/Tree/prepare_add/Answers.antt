@@ -1,7 +1,7 @@
 use Rattle.std.proofs.Common.{◌<◌, ◌+◌, ◌^◌, List, Some, subst, sym, arith}
 use Rattle.ub_index.specs.Index.{top}
 use Rattle.ub_index.specs.Preparing.{added_at}
-use Rattle.ub_index.specs.View.{IsSeatAt}
+use Rattle.ub_index.specs.View.{IsRegionAt}
 use Rattle.ub_page.specs.declared.entries.Entry.{Entry}
 use Rattle.ub_store.specs.Facts.{page_count}
 use Rattle.ub_tree.proofs.CallFacts.{last_small, stored_on}
@@ -19,7 +19,7 @@ returns-in_err-change-clause-led g c =
     let small = subst (λ n. n < 2 ^ 128) (sym c.self.invariant.last_is) (last_small t.schema.dims t.schema.counts.few_dims) in
     rw (← c.self.view_is) (λ honest falls.
     room_err c.from_residual.result c.in_err-change.field-0.0 c.from_residual.ensures.1
-    (change_room t.index t.pager.store c.args.seat.now.first c.args.seat.now small honest falls (added_at c.args.first.now t.pager.store) _ c.in_err-change.field-0.0 c.in_err-change.ensures.effect.faults))
+    (change_room t.index t.pager.store c.args.region.now.first c.args.region.now small honest falls (added_at c.args.first.now t.pager.store) _ c.in_err-change.field-0.0 c.in_err-change.ensures.effect.faults))
 
 pub returns-in_err-change-clause-effect : goal.returns-in_err-change-clause-effect
 returns-in_err-change-clause-effect g c =
@@ -27,7 +27,7 @@ returns-in_err-change-clause-effect g c =
     let small = subst (λ n. n < 2 ^ 128) (sym c.self.invariant.last_is) (last_small t.schema.dims t.schema.counts.few_dims) in
     let old : TreeView = tree_view t.schema t.index t.count t.next t.rows (is_written t.mark) t.is_failed t.pager in
     rw (← c.self.view_is) (not_ready t.schema t.index t.count t.next t.rows (is_written t.mark) t.is_failed t.pager c.prepare_add.new.pager (Unit {0}) c.from_residual.result c.in_err-change.field-0.0 c.from_residual.ensures.1 c.in_err-change.ensures.effect.same
-    (add_fault old c.args.seat.now.first (added_at c.args.first.now t.pager.store) small c.root-root.ensures.high c.in_err-change.field-0.0 c.in_err-change.ensures.effect.faults))
+    (add_fault old c.args.region.now.first (added_at c.args.first.now t.pager.store) small c.root-root.ensures.high c.in_err-change.field-0.0 c.in_err-change.ensures.effect.faults))
 
 pub returns-clause-ready : goal.returns-clause-ready
 returns-clause-ready g c =
@@ -41,10 +41,10 @@ returns-clause-ready g c =
       spelled = λ honest.
           let (middle, told, turns, settles) = c.in_ok-change.ensures.made honest in
           all_spelled old (page_count t.pager.store + 1) (omega arith) (page_count t.pager.store) t.index.root t.index.levels middle c.in_ok-change.change
-          (spells t.index.last t.pager.store.pages c.args.seat.now.first (Some (added_at c.args.first.now t.pager.store)) t.index.levels (top t.index.root) _ _ middle told (omega arith) turns) told settles;
+          (spells t.index.last t.pager.store.pages c.args.region.now.first (Some (added_at c.args.first.now t.pager.store)) t.index.levels (top t.index.root) _ _ middle told (omega arith) turns) told settles;
       pages = λ honest falls within. c.in_ok-change.ensures.pages honest (falls.way honest) within;
       makes = λ i stored at within. c.in_ok-change.ensures.ready i (stored_on old stored) (reached_once t.index t.pager.store _ stored.placed_are.own)
-          (subst (λ (es : List Entry). IsSeatAt es i c.args.seat.now) (sym stored.indexed.entries_are) at) within;
+          (subst (λ (es : List Entry). IsRegionAt es i c.args.region.now) (sym stored.indexed.entries_are) at) within;
       fills = λ i stored at within. c.in_ok-change.ensures.fills i (stored_on old stored) (reached_once t.index t.pager.store _ stored.placed_are.own)
-          (subst (λ (es : List Entry). IsSeatAt es i c.args.seat.now) (sym stored.indexed.entries_are) at) within;
+          (subst (λ (es : List Entry). IsRegionAt es i c.args.region.now) (sym stored.indexed.entries_are) at) within;
     })

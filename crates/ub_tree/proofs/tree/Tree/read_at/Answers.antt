@@ -5,13 +5,15 @@ use Rattle.ub_check.specs.Standing.{IsRegionRefused}
 use Rattle.ub_page.specs.Region.{RegionView, region_page}
 use Rattle.ub_store.specs.Facts.{IsHonest, IsPage, page_count}
 use Rattle.ub_tree.proofs.EffectFacts.{refused_none}
-use Rattle.ub_tree.proofs.ReadingFacts.{missing_there, page_refused_by, passing_there, read_page_by, read_there, refused_there, searched_tree, sound_seat, store_refused, told_above}
-use Rattle.ub_tree.proofs.SeatFacts.{seat_rows}
+use Rattle.ub_tree.proofs.ReadingFacts.{missing_there, page_refused_by, passing_there, read_page_by, read_there, refused_there, searched_tree, sound_span, store_refused, told_above}
+use Rattle.ub_tree.proofs.ThereFacts.{rows_there}
 use Rattle.ub_tree.specs.Faults.{index_fault}
 use Rattle.ub_store.specs.View.{PagerView}
 use Rattle.ub_tree.specs.Tree.{tree_view}
 use Rattle.ub_tree.specs.View.{TreeView}
-use Rattle.ub_tree.specs.inner.Change.{IsOnSeat, IsReadAt, IsSeatOf}
+use Rattle.ub_tree.specs.inner.Change.{IsReadAt}
+use Rattle.ub_tree.specs.Told.{IsRegionOf}
+use Rattle.ub_tree.specs.Effects.{IsTakenIn}
 use Rattle.ub_tree.proofs.HeldFacts.{region_checked, region_gone, tree_kept}
 use Rattle.ub_writing.specs.Marks.{is_written}
 use Rattle.ub_tree.proofs.tree.Tree.read_at.Goals as goal
@@ -20,7 +22,7 @@ pub returns-in_err-bring-clause-effect : goal.returns-in_err-bring-clause-effect
 returns-in_err-bring-clause-effect g c =
     let t = c.self.inside in
     let old : TreeView = tree_view t.schema t.index t.count t.next t.rows (is_written t.mark) t.is_failed t.pager in
-    let told : IsSeatOf old c.args.seat.now = subst (λ (v : TreeView). IsSeatOf v c.args.seat.now) (sym c.self.view_is) c.requires in
+    let told : IsRegionOf old c.args.region.now = subst (λ (v : TreeView). IsRegionOf v c.args.region.now) (sym c.self.view_is) c.requires in
     rw (← c.self.view_is) (record {
       same = searched_tree c.from_residual.result t.schema t.index t.count t.next t.rows (is_written t.mark) t.is_failed t.pager c.bring.new.self
           (read_there c.from_residual.result Bool c.in_err-bring.field-0.0 t.pager.store c.bring.new.self.store c.from_residual.ensures.1 c.in_err-bring.ensures.effect.same) c.in_err-bring.ensures.trace;
@@ -28,11 +30,11 @@ returns-in_err-bring-clause-effect g c =
           c.in_err-bring.ensures.effect.device
           (λ no_page. (
             (λ sound.
-                let on = sound_seat old c.args.seat.now sound told in
-                let there : c.args.seat.now.page < page_count t.pager.store = slice_get_within t.pager.store.pages c.args.seat.now.page (region_page t.schema on.0) (on.1.page sound.honest) in
+                let on = sound_span old c.args.region.now sound told in
+                let there : c.args.region.now.page < page_count t.pager.store = slice_get_within t.pager.store.pages c.args.region.now.page (region_page t.schema on.0) (on.1.2 sound.honest) in
                 let past = c.in_err-bring.ensures.missing no_page in
                 omega arith),
-            missing_there old c.args.seat.now told (c.in_err-bring.ensures.missing no_page),
+            missing_there old c.args.region.now told (c.in_err-bring.ensures.missing no_page),
           ))
           c.in_err-bring.ensures.no_size;
     })
@@ -41,27 +43,27 @@ pub returns-in-Err-clause-effect : goal.returns-in-Err-clause-effect
 returns-in-Err-clause-effect g c =
     let t = c.self.inside in
     let old : TreeView = tree_view t.schema t.index t.count t.next t.rows (is_written t.mark) t.is_failed t.pager in
-    let told : IsSeatOf old c.args.seat.now = subst (λ (v : TreeView). IsSeatOf v c.args.seat.now) (sym c.self.view_is) c.requires in
+    let told : IsRegionOf old c.args.region.now = subst (λ (v : TreeView). IsRegionOf v c.args.region.now) (sym c.self.view_is) c.requires in
     rw (← c.self.view_is) (record {
       same = searched_tree {T = Unit {0}} (Err c.from.result) t.schema t.index t.count t.next t.rows (is_written t.mark) t.is_failed t.pager c.forget.new.self
-          (read_page_by {T = Unit {0}} (IsRegionRefused t.schema c.args.seat.now.first c.args.seat.now.next c.cached.result.now) (Err c.from.result) (index_fault c.in-Err.fault) c.args.seat.now.page t.pager.store c.forget.new.self.store
-          c.from.ensures (told_above (IsRegionRefused t.schema c.args.seat.now.first c.args.seat.now.next c.cached.result.now) c.args.seat.now.page c.in-Err.fault c.in-Err.ensures.refused) (ap (λ (p : PagerView). p.store) c.forget.ensures.same ∙ c.in_ok-bring.ensures.effect.same)) (ap (λ (p : PagerView). p.trace) c.forget.ensures.same ∙ c.in_ok-bring.ensures.trace);
-      faults = page_refused_by {T = Unit {0}} (IsRegionRefused t.schema c.args.seat.now.first c.args.seat.now.next c.cached.result.now) (Err c.from.result) (index_fault c.in-Err.fault) c.args.seat.now.page old
-          c.from.ensures (told_above (IsRegionRefused t.schema c.args.seat.now.first c.args.seat.now.next c.cached.result.now) c.args.seat.now.page c.in-Err.fault c.in-Err.ensures.refused)
+          (read_page_by {T = Unit {0}} (IsRegionRefused t.schema c.args.region.now.first c.args.region.now.next c.cached.result.now) (Err c.from.result) (index_fault c.in-Err.fault) c.args.region.now.page t.pager.store c.forget.new.self.store
+          c.from.ensures (told_above (IsRegionRefused t.schema c.args.region.now.first c.args.region.now.next c.cached.result.now) c.args.region.now.page c.in-Err.fault c.in-Err.ensures.refused) (ap (λ (p : PagerView). p.store) c.forget.ensures.same ∙ c.in_ok-bring.ensures.effect.same)) (ap (λ (p : PagerView). p.trace) c.forget.ensures.same ∙ c.in_ok-bring.ensures.trace);
+      faults = page_refused_by {T = Unit {0}} (IsRegionRefused t.schema c.args.region.now.first c.args.region.now.next c.cached.result.now) (Err c.from.result) (index_fault c.in-Err.fault) c.args.region.now.page old
+          c.from.ensures (told_above (IsRegionRefused t.schema c.args.region.now.first c.args.region.now.next c.cached.result.now) c.args.region.now.page c.in-Err.fault c.in-Err.ensures.refused)
           (λ sound.
-          let on = sound_seat old c.args.seat.now sound told in
-          let at : slice_get t.pager.store.pages c.args.seat.now.page ≡ Some c.cached.result.now = (page_still _ _ _ _ _ c.in_ok-bring.ensures.effect c.cached.ensures.page) sound.honest in
-          let spelled : slice_get t.pager.store.pages c.args.seat.now.page ≡ Some (region_page t.schema on.0) = on.1.page sound.honest in
+          let on = sound_span old c.args.region.now sound told in
+          let at : slice_get t.pager.store.pages c.args.region.now.page ≡ Some c.cached.result.now = (page_still _ _ _ _ _ c.in_ok-bring.ensures.effect c.cached.ensures.page) sound.honest in
+          let spelled : slice_get t.pager.store.pages c.args.region.now.page ≡ Some (region_page t.schema on.0) = on.1.2 sound.honest in
           let page : c.cached.result.now ≡ region_page t.schema on.0 = cc in
-          (let bad = (c.in-Err.ensures.exact on.0 on.1.is page on.1.held).0 in cc))
-          (λ f refused. refused_there old c.args.seat.now c.cached.result.now f told (page_still _ _ _ _ _ c.in_ok-bring.ensures.effect c.cached.ensures.page) refused);
+          (let bad = (c.in-Err.ensures.exact on.0 on.1.0 page on.1.1).0 in cc))
+          (λ f refused. refused_there old c.args.region.now c.cached.result.now f told (page_still _ _ _ _ _ c.in_ok-bring.ensures.effect c.cached.ensures.page) refused);
     })
 
 pub returns-in-Ok-clause-rows : goal.returns-in-Ok-clause-rows
 returns-in-Ok-clause-rows g c =
     let t = c.self.inside in
     rw (← c.self.view_is) (λ i p honest at there.
-    seat_rows t.schema t.index t.count t.next t.rows (is_written t.mark) t.is_failed t.pager i c.args.seat.now c.cached.result.now c.take_region.new.region.region p honest at there ((page_still _ _ _ _ _ c.in_ok-bring.ensures.effect c.cached.ensures.page) honest) c.in-Ok.ensures.on)
+    rows_there t.schema t.index t.count t.next t.rows (is_written t.mark) t.is_failed t.pager i c.args.region.now c.cached.result.now c.take_region.new.region.region p honest at there ((page_still _ _ _ _ _ c.in_ok-bring.ensures.effect c.cached.ensures.page) honest) c.in-Ok.ensures.on)
 
 pub returns-in_err-bring-clause-read : goal.returns-in_err-bring-clause-read
 returns-in_err-bring-clause-read g c = refused_none _ c.from_residual.result _ c.from_residual.ensures.1
@@ -86,7 +88,7 @@ returns-in_err-bring-clause-taken g c = λ honest r on.
     let a = c.args.self.now in
     passing_there Bool _ c.from_residual.result c.in_err-bring.field-0.0 c.from_residual.ensures.1
     (λ no_page.
-    let there : c.args.seat.now.page < page_count a.store = slice_get_within a.store.pages c.args.seat.now.page (region_page a.schema r) (on.page honest) in
+    let there : c.args.region.now.page < page_count a.store = slice_get_within a.store.pages c.args.region.now.page (region_page a.schema r) (on.2 honest) in
     let past = c.in_err-bring.ensures.missing no_page in
     let same = ap (λ (v : TreeView). page_count v.store) c.self.view_is in
     omega arith)
@@ -96,38 +98,38 @@ pub returns-in-Err-clause-taken : goal.returns-in-Err-clause-taken
 returns-in-Err-clause-taken g c = λ honest r on.
     let t = c.self.inside in
     let honest_t = subst (λ (v : TreeView). IsHonest v.store) (sym c.self.view_is) honest in
-    let on_t = subst (λ (v : TreeView). IsOnSeat v c.args.seat.now r) (sym c.self.view_is) on in
-    let at : slice_get t.pager.store.pages c.args.seat.now.page ≡ Some c.cached.result.now = (page_still _ _ _ _ _ c.in_ok-bring.ensures.effect c.cached.ensures.page) honest_t in
-    let spelled : slice_get t.pager.store.pages c.args.seat.now.page ≡ Some (region_page t.schema r) = on_t.page honest_t in
+    let on_t = subst (λ (v : TreeView). IsTakenIn v c.args.region.now r) (sym c.self.view_is) on in
+    let at : slice_get t.pager.store.pages c.args.region.now.page ≡ Some c.cached.result.now = (page_still _ _ _ _ _ c.in_ok-bring.ensures.effect c.cached.ensures.page) honest_t in
+    let spelled : slice_get t.pager.store.pages c.args.region.now.page ≡ Some (region_page t.schema r) = on_t.2 honest_t in
     let page : c.cached.result.now ≡ region_page t.schema r = cc in
-    (let bad = (c.in-Err.ensures.exact r on_t.is page on_t.held).0 in cc)
+    (let bad = (c.in-Err.ensures.exact r on_t.0 page on_t.1).0 in cc)
 
 pub returns-in-Ok-clause-read : goal.returns-in-Ok-clause-read
 returns-in-Ok-clause-read g c =
     let t = c.self.inside in
     let old : TreeView = tree_view t.schema t.index t.count t.next t.rows (is_written t.mark) t.is_failed t.pager in
-    let read : IsReadAt old c.args.seat.now c.take_region.new.region = record {
+    let read : IsReadAt old c.args.region.now c.take_region.new.region = record {
       dims = c.in-Ok.ensures.dims;
-      on = record {
-        is = c.in-Ok.ensures.found.0;
-        held = c.in-Ok.ensures.held;
-        page = subst (λ (page : List ℕ). IsPage t.pager.store c.args.seat.now.page page) c.in-Ok.ensures.found.1 (page_still _ _ _ _ _ c.in_ok-bring.ensures.effect c.cached.ensures.page);
-      };
+      on = (
+        c.in-Ok.ensures.found.0,
+        c.in-Ok.ensures.held,
+        subst (λ (page : List ℕ). IsPage t.pager.store c.args.region.now.page page) c.in-Ok.ensures.found.1 (page_still _ _ _ _ _ c.in_ok-bring.ensures.effect c.cached.ensures.page),
+      );
     } in
-    subst (λ (v : TreeView). IsReadAt v c.args.seat.now c.take_region.new.region) c.self.view_is read
+    subst (λ (v : TreeView). IsReadAt v c.args.region.now c.take_region.new.region) c.self.view_is read
 
 pub returns-in-Ok-clause-there : goal.returns-in-Ok-clause-there
-returns-in-Ok-clause-there g c = subst (λ (v : TreeView). c.args.seat.now.page < page_count v.store) c.self.view_is c.in_ok-bring.ensures.there
+returns-in-Ok-clause-there g c = subst (λ (v : TreeView). c.args.region.now.page < page_count v.store) c.self.view_is c.in_ok-bring.ensures.there
 
 pub returns-in-Ok-clause-taken : goal.returns-in-Ok-clause-taken
 returns-in-Ok-clause-taken g c = λ honest r on.
     let t = c.self.inside in
     let honest_t = subst (λ (v : TreeView). IsHonest v.store) (sym c.self.view_is) honest in
-    let on_t = subst (λ (v : TreeView). IsOnSeat v c.args.seat.now r) (sym c.self.view_is) on in
-    let at : slice_get t.pager.store.pages c.args.seat.now.page ≡ Some c.cached.result.now = (page_still _ _ _ _ _ c.in_ok-bring.ensures.effect c.cached.ensures.page) honest_t in
-    let spelled : slice_get t.pager.store.pages c.args.seat.now.page ≡ Some (region_page t.schema r) = on_t.page honest_t in
+    let on_t = subst (λ (v : TreeView). IsTakenIn v c.args.region.now r) (sym c.self.view_is) on in
+    let at : slice_get t.pager.store.pages c.args.region.now.page ≡ Some c.cached.result.now = (page_still _ _ _ _ _ c.in_ok-bring.ensures.effect c.cached.ensures.page) honest_t in
+    let spelled : slice_get t.pager.store.pages c.args.region.now.page ≡ Some (region_page t.schema r) = on_t.2 honest_t in
     let page : c.cached.result.now ≡ region_page t.schema r = cc in
-    ap (λ (v : RegionView). v.region) (c.take_region.ensures.exact r on_t.is page on_t.held).1
+    ap (λ (v : RegionView). v.region) (c.take_region.ensures.exact r on_t.0 page on_t.1).1
 
 pub returns-in-Ok-clause-effect : goal.returns-in-Ok-clause-effect
 returns-in-Ok-clause-effect g c =
@@ -141,12 +143,12 @@ pub invariant_of-self-in-Ok : goal.invariant_of-self-in-Ok
 invariant_of-self-in-Ok g c =
     let t = c.self.inside in
     tree_kept t.schema t.index t.count t.next t.rows t.mark t.pager c.bring.new.self c.self.invariant
-    (region_checked t.schema t.index.last c.args.seat.now.page t.pager c.bring.new.self _ c.in_ok-bring.ensures.effect.same c.in_ok-bring.ensures.others c.take_region.new.region.region c.cached.result.now
+    (region_checked t.schema t.index.last c.args.region.now.page t.pager c.bring.new.self _ c.in_ok-bring.ensures.effect.same c.in_ok-bring.ensures.others c.take_region.new.region.region c.cached.result.now
     c.cached.ensures.held c.in-Ok.ensures.found.0 c.in-Ok.ensures.found.1)
 
 pub invariant_of-self-in-Err : goal.invariant_of-self-in-Err
 invariant_of-self-in-Err g c =
     let t = c.self.inside in
     tree_kept t.schema t.index t.count t.next t.rows t.mark t.pager c.forget.new.self c.self.invariant
-    (region_gone t.index.last c.args.seat.now.page t.pager c.bring.new.self _ c.in_ok-bring.ensures.effect.same c.in_ok-bring.ensures.others c.forget.new.self c.forget.ensures.same c.forget.ensures.gone
+    (region_gone t.index.last c.args.region.now.page t.pager c.bring.new.self _ c.in_ok-bring.ensures.effect.same c.in_ok-bring.ensures.others c.forget.new.self c.forget.ensures.same c.forget.ensures.gone
     c.forget.ensures.others)

@@ -4,9 +4,9 @@ use Rattle.ub_check.proofs.StandingFacts.{page_still}
 use Rattle.ub_check.specs.Standing.{IsRegionRefused}
 use Rattle.ub_page.specs.Region.{region_page}
 use Rattle.ub_store.specs.Facts.{page_count}
-use Rattle.ub_tree.proofs.ReadingFacts.{if_told, never_failed, page_refused, read_page, read_there, read_tree, span_refused, span_unread, store_refused, told_failed}
+use Rattle.ub_tree.proofs.ReadingFacts.{if_told, never_failed, page_refused, read_page, read_there, read_tree, sound_span, span_refused, span_unread, store_refused, told_failed}
 use Rattle.ub_tree.proofs.SearchFacts.{known_is}
-use Rattle.ub_tree.proofs.SeatFacts.{sound_span, tree_known}
+use Rattle.ub_tree.proofs.ThereFacts.{tree_known}
 use Rattle.ub_store.specs.View.{PagerView}
 use Rattle.ub_tree.specs.Tree.{tree_view}
 use Rattle.ub_tree.specs.View.{TreeView}

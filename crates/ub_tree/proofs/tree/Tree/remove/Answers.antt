@@ -65,7 +65,7 @@ returns-in_err-room-clause-failed g c = λ is.
 
 pub returns-in_err-room-clause-refused : goal.returns-in_err-room-clause-refused
 returns-in_err-room-clause-refused g c = λ works honest.
-    unled_removal c.args.self.now c.args.key c.from_residual.result c.in_err-room.field-0.0 c.from_residual.ensures.1 (λ seat here falls. c.in_err-room.ensures.passing) honest
+    unled_removal c.args.self.now c.args.key c.from_residual.result c.in_err-room.field-0.0 c.from_residual.ensures.1 (λ span here falls. c.in_err-room.ensures.passing) honest
 
 pub returns-in_err-room-clause-faults : goal.returns-in_err-room-clause-faults
 returns-in_err-room-clause-faults g c =

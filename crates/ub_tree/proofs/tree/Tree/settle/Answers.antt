@@ -1,9 +1,10 @@
 use Rattle.std.proofs.Common.{◌≡◌, ◌/◌, ◌∙◌, IfErr, inl, inr, refl, ap, sym, subst, length, nat_lt, true, false}
-use Rattle.ub_tree.specs.Holding.{IsSeatOrBefore}
+use Rattle.ub_tree.specs.Holding.{IsThatOrBefore}
 use Rattle.ub_tree.specs.View.{TreeView}
 use Rattle.ub_table.specs.Region.{IsRegion}
 use Rattle.ub_tree.specs.Removal.{IsRemovalFault}
-use Rattle.ub_tree.specs.inner.Change.{AreRowsFrom, IsSeatOf, IsSeatThere}
+use Rattle.ub_tree.specs.inner.Change.{AreRowsFrom, IsRegionThere}
+use Rattle.ub_tree.specs.Told.{IsRegionOf}
 use Rattle.ub_tree.proofs.EffectFacts.{changed_by, refused_none, searched_by, then_changed}
 use Rattle.ub_tree.proofs.RemovalFacts.{searched_removal, written_removal, settled_alone, settled_before, settled_large, settled_next, taken_alone, taken_joined}
 use Rattle.ub_tree.proofs.tree.Tree.settle.Goals as goal
@@ -13,14 +14,14 @@ returns-then-not-are_few-clause-written g c = λ i stored at each.
     let a = c.args.self.now in
     let count : c.page_rows.result ≡ a.schema.page_rows = c.page_rows.ensures.page_rows ∙ ap (λ (v : TreeView). v.schema.page_rows) c.self.view_is in
     let large : nat_lt (length c.args.room.now.rows) (a.schema.page_rows / 2) ≡ false = rw (← count) (sym c.are_few.ensures ∙ c.if-not-are_few.true) in
-    settled_large a i c.args.seat.now c.args.room.now.rows stored at c.rewrite.new.self c.rewrite.result large (rw c.as_slice.ensures.rows at c.rewrite.ensures.written)
+    settled_large a i c.args.region.now c.args.room.now.rows stored at c.rewrite.new.self c.rewrite.result large (rw c.as_slice.ensures.rows at c.rewrite.ensures.written)
 
 pub returns-in-Some-clause-written : goal.returns-in-Some-clause-written
 returns-in-Some-clause-written g c = λ i stored at each.
     let a = c.args.self.now in
     let count : c.page_rows.result ≡ a.schema.page_rows = c.page_rows.ensures.page_rows ∙ ap (λ (v : TreeView). v.schema.page_rows) c.self.view_is in
     let few : nat_lt (length c.args.room.now.rows) (a.schema.page_rows / 2) ≡ true = rw (← count) (sym c.are_few.ensures ∙ c.if-not-are_few.false) in
-    settled_next a i c.args.seat.now c.args.room.now.rows stored at c.join_next.new.self c.join_at.new.self c.join_at.result c.in-Some.next c.join_next.new.room.rows few c.in_ok-next.ensures.effect.same
+    settled_next a i c.args.region.now c.args.room.now.rows stored at c.join_next.new.self c.join_at.new.self c.join_at.result c.in-Some.next c.join_next.new.room.rows few c.in_ok-next.ensures.effect.same
     (rw c.in-Some.is at (c.in_ok-next.ensures.joined i stored at)) (rw c.in-Some.is at (c.in_ok-next.ensures.next i stored at)) (rw c.as_slice-in-Some.ensures.rows at c.join_at.ensures.written) each
 
 pub returns-in-Some-2-clause-written : goal.returns-in-Some-2-clause-written
@@ -28,7 +29,7 @@ returns-in-Some-2-clause-written g c = λ i stored at each.
     let a = c.args.self.now in
     let count : c.page_rows.result ≡ a.schema.page_rows = c.page_rows.ensures.page_rows ∙ ap (λ (v : TreeView). v.schema.page_rows) c.self.view_is in
     let few : nat_lt (length c.args.room.now.rows) (a.schema.page_rows / 2) ≡ true = rw (← count) (sym c.are_few.ensures ∙ c.if-not-are_few.false) in
-    settled_before a i c.args.seat.now c.args.room.now.rows stored at c.join_next.new.self c.join_before.new.self c.join_at-in-Some-2.new.self c.join_at-in-Some-2.result c.in-Some-2.before
+    settled_before a i c.args.region.now c.args.room.now.rows stored at c.join_next.new.self c.join_before.new.self c.join_at-in-Some-2.new.self c.join_at-in-Some-2.result c.in-Some-2.before
     c.join_next.new.room.rows c.join_before.new.room.rows few c.in_ok-next.ensures.effect.same c.in_ok-before.ensures.effect.same
     (rw c.in_default.is at (c.in_ok-next.ensures.joined i stored at)) (rw c.in-Some-2.is at c.in_ok-before.ensures.joined) (rw c.in-Some-2.is at c.in_ok-before.ensures.before)
     (rw c.as_slice-in-Some-2.ensures.rows at c.join_at-in-Some-2.ensures.written) each
@@ -38,12 +39,12 @@ returns-clause-written g c = λ i stored at each.
     let a = c.args.self.now in
     let count : c.page_rows.result ≡ a.schema.page_rows = c.page_rows.ensures.page_rows ∙ ap (λ (v : TreeView). v.schema.page_rows) c.self.view_is in
     let few : nat_lt (length c.args.room.now.rows) (a.schema.page_rows / 2) ≡ true = rw (← count) (sym c.are_few.ensures ∙ c.if-not-are_few.false) in
-    settled_alone a i c.args.seat.now c.args.room.now.rows stored at c.join_next.new.self c.join_before.new.self c.rewrite-2.new.self c.rewrite-2.result c.join_next.new.room.rows c.join_before.new.room.rows
+    settled_alone a i c.args.region.now c.args.room.now.rows stored at c.join_next.new.self c.join_before.new.self c.rewrite-2.new.self c.rewrite-2.result c.join_next.new.room.rows c.join_before.new.room.rows
     few c.in_ok-next.ensures.effect.same c.in_ok-before.ensures.effect.same (rw c.in_default.is at (c.in_ok-next.ensures.joined i stored at)) (rw c.in_default-2.is at c.in_ok-before.ensures.joined)
     (rw c.as_slice-2.ensures.rows at c.rewrite-2.ensures.written)
 
 pub returns-then-not-are_few-clause-effect : goal.returns-then-not-are_few-clause-effect
-returns-then-not-are_few-clause-effect g c = changed_by c.args.self.now c.rewrite.new.self c.args.seat.now c.requires.seat.seat_is c.rewrite.result c.rewrite.ensures.effect
+returns-then-not-are_few-clause-effect g c = changed_by c.args.self.now c.rewrite.new.self c.args.region.now c.requires.there.told c.rewrite.result c.rewrite.ensures.effect
 
 pub returns-in_err-next-clause-effect : goal.returns-in_err-next-clause-effect
 returns-in_err-next-clause-effect g c =
@@ -59,9 +60,9 @@ returns-in-Some-2-clause-effect g c =
 pub returns-clause-effect : goal.returns-clause-effect
 returns-clause-effect g c =
     let same = c.in_ok-before.ensures.effect.same ∙ c.in_ok-next.ensures.effect.same in
-    let of = subst (λ (v : TreeView). IsSeatOf v c.args.seat.now) (sym same) c.requires.seat.seat_is in
+    let of = subst (λ (v : TreeView). IsRegionOf v c.args.region.now) (sym same) c.requires.there.told in
     then_changed c.rewrite-2.result c.args.self.now c.join_before.new.self c.rewrite-2.new.self same
-    (changed_by c.join_before.new.self c.rewrite-2.new.self c.args.seat.now of c.rewrite-2.result c.rewrite-2.ensures.effect)
+    (changed_by c.join_before.new.self c.rewrite-2.new.self c.args.region.now of c.rewrite-2.result c.rewrite-2.ensures.effect)
 
 pub returns-in_err-before-clause-effect : goal.returns-in_err-before-clause-effect
 returns-in_err-before-clause-effect g c =
@@ -70,22 +71,22 @@ returns-in_err-before-clause-effect g c =
 
 pub returns-then-not-are_few-clause-same : goal.returns-then-not-are_few-clause-same
 returns-then-not-are_few-clause-same g c =
-    taken_alone c.rewrite.result c.args.self.now c.args.self.now c.rewrite.new.self refl c.args.seat.now c.rewrite.ensures.same c.rewrite.ensures.told c.rewrite.ensures.effect
+    taken_alone c.rewrite.result c.args.self.now c.args.self.now c.rewrite.new.self refl c.args.region.now c.rewrite.ensures.same c.rewrite.ensures.told c.rewrite.ensures.effect
 
 pub returns-in-Some-clause-same : goal.returns-in-Some-clause-same
 returns-in-Some-clause-same g c =
-    taken_joined c.join_at.result c.args.self.now c.join_next.new.self c.join_at.new.self c.in_ok-next.ensures.effect.same c.args.seat.now c.args.seat.now (inl refl) c.join_at.ensures.same
+    taken_joined c.join_at.result c.args.self.now c.join_next.new.self c.join_at.new.self c.in_ok-next.ensures.effect.same c.args.region.now c.args.region.now (inl refl) c.join_at.ensures.same
 
 pub returns-in-Some-2-clause-same : goal.returns-in-Some-2-clause-same
 returns-in-Some-2-clause-same g c =
     let falls = rw c.in-Some-2.is at c.in_ok-before.ensures.falls in
-    let falls_a = subst (λ (v : TreeView). IsSeatOrBefore v c.args.seat.now c.in-Some-2.before) c.in_ok-next.ensures.effect.same (inr falls) in
+    let falls_a = subst (λ (v : TreeView). IsThatOrBefore v c.args.region.now c.in-Some-2.before) c.in_ok-next.ensures.effect.same (inr falls) in
     taken_joined c.join_at-in-Some-2.result c.args.self.now c.join_before.new.self c.join_at-in-Some-2.new.self (c.in_ok-before.ensures.effect.same ∙ c.in_ok-next.ensures.effect.same)
-    c.args.seat.now c.in-Some-2.before falls_a c.join_at-in-Some-2.ensures.same
+    c.args.region.now c.in-Some-2.before falls_a c.join_at-in-Some-2.ensures.same
 
 pub returns-clause-same : goal.returns-clause-same
 returns-clause-same g c =
-    taken_alone c.rewrite-2.result c.args.self.now c.join_before.new.self c.rewrite-2.new.self (c.in_ok-before.ensures.effect.same ∙ c.in_ok-next.ensures.effect.same) c.args.seat.now
+    taken_alone c.rewrite-2.result c.args.self.now c.join_before.new.self c.rewrite-2.new.self (c.in_ok-before.ensures.effect.same ∙ c.in_ok-next.ensures.effect.same) c.args.region.now
     c.rewrite-2.ensures.same c.rewrite-2.ensures.told c.rewrite-2.ensures.effect
 
 pub returns-in_err-before-clause-faults : goal.returns-in_err-before-clause-faults
@@ -93,8 +94,8 @@ returns-in_err-before-clause-faults g c =
     searched_removal c.from_residual-in_err-before.result c.in_err-before.field-0.0 c.args.self.now c.join_next.new.self c.from_residual-in_err-before.ensures.1
     c.in_ok-next.ensures.effect.same c.in_err-before.ensures.effect.faults
 
-pub rewrite-requires-clause-seat : goal.rewrite-requires-clause-seat
-rewrite-requires-clause-seat g c = c.requires.seat
+pub rewrite-requires-clause-there : goal.rewrite-requires-clause-there
+rewrite-requires-clause-there g c = c.requires.there
 
 pub rewrite-requires-clause-region : goal.rewrite-requires-clause-region
 rewrite-requires-clause-region g c = rw c.as_slice.ensures.rows c.requires.rows.0
@@ -105,8 +106,8 @@ returns-then-not-are_few-clause-faults g c = written_removal c.rewrite.result c.
 pub returns-then-not-are_few-clause-stays : goal.returns-then-not-are_few-clause-stays
 returns-then-not-are_few-clause-stays g c = c.rewrite.ensures.stays
 
-pub join_next-requires-clause-seat : goal.join_next-requires-clause-seat
-join_next-requires-clause-seat g c = c.requires.seat.seat_is
+pub join_next-requires-clause-told : goal.join_next-requires-clause-told
+join_next-requires-clause-told g c = c.requires.there.told
 
 pub join_next-requires-clause-rows : goal.join_next-requires-clause-rows
 join_next-requires-clause-rows g c = c.requires.rows
@@ -121,18 +122,18 @@ pub returns-in_err-next-clause-faults : goal.returns-in_err-next-clause-faults
 returns-in_err-next-clause-faults g c =
     searched_removal c.from_residual.result c.in_err-next.field-0.0 c.args.self.now c.args.self.now c.from_residual.ensures.1 refl c.in_err-next.ensures.effect.faults
 
-pub join_at-requires-clause-seat : goal.join_at-requires-clause-seat
-join_at-requires-clause-seat g c = subst (λ (v : TreeView). IsSeatThere v c.args.seat.now) (sym c.in_ok-next.ensures.effect.same) c.requires.seat
+pub join_at-requires-clause-there : goal.join_at-requires-clause-there
+join_at-requires-clause-there g c = subst (λ (v : TreeView). IsRegionThere v c.args.region.now) (sym c.in_ok-next.ensures.effect.same) c.requires.there
 
 pub join_at-requires-clause-next : goal.join_at-requires-clause-next
 join_at-requires-clause-next g c =
     let found = rw c.in-Some.is at c.in_ok-next.ensures.found in
-    (subst (λ (v : TreeView). IsSeatOf v c.in-Some.next) (sym c.in_ok-next.ensures.effect.same) found.0, found.1)
+    (subst (λ (v : TreeView). IsRegionOf v c.in-Some.next) (sym c.in_ok-next.ensures.effect.same) found.0, found.1)
 
 pub join_at-requires-clause-region : goal.join_at-requires-clause-region
 join_at-requires-clause-region g c =
     let good = rw c.in-Some.is at c.in_ok-next.ensures.rows in
-    rw c.as_slice-in-Some.ensures.rows (subst (λ (v : TreeView). IsRegion v.schema (record { first = c.args.seat.now.first; rows = c.join_next.new.room.rows })) (sym c.in_ok-next.ensures.effect.same) good)
+    rw c.as_slice-in-Some.ensures.rows (subst (λ (v : TreeView). IsRegion v.schema (record { first = c.args.region.now.first; rows = c.join_next.new.room.rows })) (sym c.in_ok-next.ensures.effect.same) good)
 
 pub returns-in-Some-clause-faults : goal.returns-in-Some-clause-faults
 returns-in-Some-clause-faults g c = subst (λ (v : TreeView). IfErr c.join_at.result (IsRemovalFault v)) c.in_ok-next.ensures.effect.same c.join_at.ensures.faults
@@ -143,13 +144,13 @@ returns-in-Some-clause-stays g c = λ was. c.join_at.ensures.stays (subst (λ (v
 pub returns-in_err-next-clause-stays : goal.returns-in_err-next-clause-stays
 returns-in_err-next-clause-stays g c = λ was. subst (λ (v : TreeView). v.is_changed ≡ true) (sym c.in_err-next.ensures.effect.same) was
 
-pub join_before-requires-clause-seat : goal.join_before-requires-clause-seat
-join_before-requires-clause-seat g c = subst (λ (v : TreeView). IsSeatOf v c.args.seat.now) (sym c.in_ok-next.ensures.effect.same) c.requires.seat.seat_is
+pub join_before-requires-clause-told : goal.join_before-requires-clause-told
+join_before-requires-clause-told g c = subst (λ (v : TreeView). IsRegionOf v c.args.region.now) (sym c.in_ok-next.ensures.effect.same) c.requires.there.told
 
 pub join_before-requires-clause-rows : goal.join_before-requires-clause-rows
 join_before-requires-clause-rows g c =
     let left = rw c.in_default.is at c.in_ok-next.ensures.rows in
-    rw left (subst (λ (v : TreeView). AreRowsFrom v.schema c.args.seat.now.first c.args.seat.now.next c.args.room.now.rows) (sym c.in_ok-next.ensures.effect.same) c.requires.rows)
+    rw left (subst (λ (v : TreeView). AreRowsFrom v.schema c.args.region.now.first c.args.region.now.next c.args.room.now.rows) (sym c.in_ok-next.ensures.effect.same) c.requires.rows)
 
 pub returns-in_err-before-clause-same : goal.returns-in_err-before-clause-same
 returns-in_err-before-clause-same g c = refused_none _ c.from_residual-in_err-before.result c.in_err-before.field-0.0 c.from_residual-in_err-before.ensures.1
@@ -161,14 +162,14 @@ pub returns-in_err-before-clause-stays : goal.returns-in_err-before-clause-stays
 returns-in_err-before-clause-stays g c =
     λ was. ap (λ (v : TreeView). v.is_changed) c.in_err-before.ensures.effect.same ∙ (ap (λ (v : TreeView). v.is_changed) c.in_ok-next.ensures.effect.same ∙ was)
 
-pub join_at-requires-in-Some-2-clause-seat : goal.join_at-requires-in-Some-2-clause-seat
-join_at-requires-in-Some-2-clause-seat g c =
-    subst (λ (v : TreeView). IsSeatThere v c.in-Some-2.before) (sym c.in_ok-before.ensures.effect.same) (rw c.in-Some-2.is at c.in_ok-before.ensures.there)
+pub join_at-requires-in-Some-2-clause-there : goal.join_at-requires-in-Some-2-clause-there
+join_at-requires-in-Some-2-clause-there g c =
+    subst (λ (v : TreeView). IsRegionThere v c.in-Some-2.before) (sym c.in_ok-before.ensures.effect.same) (rw c.in-Some-2.is at c.in_ok-before.ensures.there)
 
 pub join_at-requires-in-Some-2-clause-next : goal.join_at-requires-in-Some-2-clause-next
 join_at-requires-in-Some-2-clause-next g c =
     let same = c.in_ok-before.ensures.effect.same ∙ c.in_ok-next.ensures.effect.same in
-    (subst (λ (v : TreeView). IsSeatOf v c.args.seat.now) (sym same) c.requires.seat.seat_is, rw c.in-Some-2.is at c.in_ok-before.ensures.ends)
+    (subst (λ (v : TreeView). IsRegionOf v c.args.region.now) (sym same) c.requires.there.told, rw c.in-Some-2.is at c.in_ok-before.ensures.ends)
 
 pub join_at-requires-in-Some-2-clause-region : goal.join_at-requires-in-Some-2-clause-region
 join_at-requires-in-Some-2-clause-region g c =
@@ -183,14 +184,14 @@ pub returns-in-Some-2-clause-stays : goal.returns-in-Some-2-clause-stays
 returns-in-Some-2-clause-stays g c =
     λ was. c.join_at-in-Some-2.ensures.stays (subst (λ (v : TreeView). v.is_changed ≡ true) (sym (c.in_ok-before.ensures.effect.same ∙ c.in_ok-next.ensures.effect.same)) was)
 
-pub rewrite-requires-2-clause-seat : goal.rewrite-requires-2-clause-seat
-rewrite-requires-2-clause-seat g c = subst (λ (v : TreeView). IsSeatThere v c.args.seat.now) (sym (c.in_ok-before.ensures.effect.same ∙ c.in_ok-next.ensures.effect.same)) c.requires.seat
+pub rewrite-requires-2-clause-there : goal.rewrite-requires-2-clause-there
+rewrite-requires-2-clause-there g c = subst (λ (v : TreeView). IsRegionThere v c.args.region.now) (sym (c.in_ok-before.ensures.effect.same ∙ c.in_ok-next.ensures.effect.same)) c.requires.there
 
 pub rewrite-requires-2-clause-region : goal.rewrite-requires-2-clause-region
 rewrite-requires-2-clause-region g c =
     let same = c.in_ok-before.ensures.effect.same ∙ c.in_ok-next.ensures.effect.same in
     let left = (rw c.in_default-2.is at c.in_ok-before.ensures.rows) ∙ (rw c.in_default.is at c.in_ok-next.ensures.rows) in
-    rw c.as_slice-2.ensures.rows (rw left (subst (λ (v : TreeView). IsRegion v.schema (record { first = c.args.seat.now.first; rows = c.args.room.now.rows })) (sym same) c.requires.rows.0))
+    rw c.as_slice-2.ensures.rows (rw left (subst (λ (v : TreeView). IsRegion v.schema (record { first = c.args.region.now.first; rows = c.args.room.now.rows })) (sym same) c.requires.rows.0))
 
 pub returns-clause-faults : goal.returns-clause-faults
 returns-clause-faults g c = written_removal c.rewrite-2.result c.args.self.now c.rewrite-2.ensures.faults

@@ -25,7 +25,7 @@ pub returns-in_err-change-clause-counted : goal.returns-in_err-change-clause-cou
 returns-in_err-change-clause-counted g c =
     let few = c.if-self.false in
     let count = ap (λ (v : TreeView). v.inner.count) c.self.view_is in
-    unready_answers c.args.self.now c.args.seat.now c.from_residual.result c.in_err-change.field-0.0 c.from_residual.ensures.1 (λ many. few (count ∙ many)) c.in_err-change.ensures.led
+    unready_answers c.args.self.now c.args.region.now c.from_residual.result c.in_err-change.field-0.0 c.from_residual.ensures.1 (λ many. few (count ∙ many)) c.in_err-change.ensures.led
 
 pub returns-in_err-change-clause-effect : goal.returns-in_err-change-clause-effect
 returns-in_err-change-clause-effect g c = ready_by c.from_residual.result c.in_err-change.field-0.0 c.args.self.now c.prepare_add.new.self c.from_residual.ensures.1 c.in_err-change.ensures.effect
@@ -34,14 +34,14 @@ pub returns-in_err-put_halves-clause-effect : goal.returns-in_err-put_halves-cla
 returns-in_err-put_halves-clause-effect g c =
     let change = c.in_ok-change.change in
     let grew = subst (λ (v : TreeView). GrowsTo {A = Unit {0}} (page_count v.store + (change.next - change.start)) v c.grow.new.self (Ok tt)) c.in_ok-change.ensures.effect.same c.in_ok-grow.ensures in
-    halves_refused c.args.self.now c.grow.new.self c.put_halves.new.self c.args.seat.now c.requires.seat.seat_is c.args.halves.now.first change c.page.result c.requires.seat.there
+    halves_refused c.args.self.now c.grow.new.self c.put_halves.new.self c.args.region.now c.requires.there.told c.args.halves.now.first change c.page.result c.requires.there.there
     c.requires.within c.in_ok-change.ensures.ready c.page.ensures grew c.from_residual-in_err-put_halves.result c.in_err-put_halves.field-0.0 c.from_residual-in_err-put_halves.ensures.1 c.in_err-put_halves.ensures.effect
 
 pub returns-in_err-put_index-clause-effect : goal.returns-in_err-put_index-clause-effect
 returns-in_err-put_index-clause-effect g c =
     let change = c.in_ok-change.change in
     let grew = subst (λ (v : TreeView). GrowsTo {A = Unit {0}} (page_count v.store + (change.next - change.start)) v c.grow.new.self (Ok tt)) c.in_ok-change.ensures.effect.same c.in_ok-grow.ensures in
-    index_refused c.args.self.now c.grow.new.self c.put_halves.new.self c.args.seat.now c.requires.seat.seat_is c.args.halves.now.first change c.page.result c.requires.seat.there
+    index_refused c.args.self.now c.grow.new.self c.put_halves.new.self c.args.region.now c.requires.there.told c.args.halves.now.first change c.page.result c.requires.there.there
     c.requires.within c.in_ok-change.ensures.ready c.page.ensures grew c.put_index.new.self c.in_ok-put_halves.ensures.effect c.in_ok-put_halves.ensures.same c.in_ok-put_halves.ensures.put.count
     c.in_err-put_index.ensures.kept c.from_residual-in_err-put_index.result c.in_err-put_index.field-0.0 c.from_residual-in_err-put_index.ensures.1 c.in_err-put_index.ensures.marked c.in_err-put_index.ensures.stopped
 
@@ -52,7 +52,7 @@ returns-clause-same g c =
     let n = c.put_index.new.self in
     let d : TreeView = tree_view u.schema u.index (u.count + 1) u.next u.rows (is_written u.mark) u.is_failed u.pager in
     let grew = subst (λ (v : TreeView). GrowsTo {A = Unit {0}} (page_count v.store + (change.next - change.start)) v c.grow.new.self (Ok tt)) c.in_ok-change.ensures.effect.same c.in_ok-grow.ensures in
-    parts_at c.args.self.now c.grow.new.self c.put_halves.new.self c.args.seat.now c.requires.seat.seat_is c.args.halves.now.first change c.page.result c.requires.seat.there
+    parts_at c.args.self.now c.grow.new.self c.put_halves.new.self c.args.region.now c.requires.there.told c.args.halves.now.first change c.page.result c.requires.there.there
     c.requires.within c.in_ok-change.ensures.ready c.page.ensures grew n c.in_ok-put_halves.ensures.effect c.in_ok-put_halves.ensures.same c.in_ok-put_halves.ensures.put.count
     c.in_ok-put_index.ensures.kept d _ c.in_ok-put_index.ensures.now
     (ap (λ (v : TreeView). v.inner.count) c.in_ok-put_halves.ensures.same ∙ (ap (λ (v : TreeView). v.inner.count) grew.frame))
@@ -81,10 +81,10 @@ returns-clause-written g c = λ i stored at.
     let seen : a.placed ≡ placed_in a.schema a.inner.index a.store =
     sym (ap (λ (v : TreeView). v.placed) c.self.view_is) ∙ ap (λ (v : TreeView). placed_in v.schema v.inner.index v.store) c.self.view_is in
     let schema_2 : c.self-2.inside.schema ≡ a.schema = ap (λ (v : TreeView). v.schema) c.self-2.view_is ∙ ap (λ (v : TreeView). v.schema) c.in_ok-change.ensures.effect.same in
-    let both = parts_stored a seen stored i c.args.seat.now at c.requires.seat.there halves.first halves.left.now halves.right.now _ _ change c.page.result c.grow.new.self.store h.store n.store
+    let both = parts_stored a seen stored i c.args.region.now at c.requires.there.there halves.first halves.left.now halves.right.now _ _ change c.page.result c.grow.new.self.store h.store n.store
     makes grew.grows honest_g honest_h honest_n (c.page.ensures ∙ ready.start) c.in_ok-put_halves.ensures.put c.in_ok-put_index.ensures.kept
     (c.in_ok-put_index.ensures.stand makes.once honest_h)
-    c.requires.left (c.write_region.ensures.page ∙ ap (λ (s : Schema). region_page s (record { first = c.args.seat.now.first; rows = halves.left.now })) schema_2)
+    c.requires.left (c.write_region.ensures.page ∙ ap (λ (s : Schema). region_page s (record { first = c.args.region.now.first; rows = halves.left.now })) schema_2)
     c.requires.right (c.write_region-2.ensures.page ∙ ap (λ (s : Schema). region_page s (record { first = halves.first; rows = halves.right.now })) schema_2)
     (ready.fills i stored at c.requires.within) d refl
     (ap (λ (v : TreeView). v.schema) d_is ∙ (ap (λ (v : TreeView). v.schema) now ∙ (ap (λ (v : TreeView). v.schema) same ∙ ap (λ (v : TreeView). v.schema) grew.frame)))
@@ -103,7 +103,7 @@ returns-clause-effect g c =
     let n = c.put_index.new.self in
     let d : TreeView = tree_view u.schema u.index (u.count + 1) u.next u.rows (is_written u.mark) u.is_failed u.pager in
     let grew = subst (λ (v : TreeView). GrowsTo {A = Unit {0}} (page_count v.store + (change.next - change.start)) v c.grow.new.self (Ok tt)) c.in_ok-change.ensures.effect.same c.in_ok-grow.ensures in
-    parts_effect c.args.self.now c.grow.new.self c.put_halves.new.self c.args.seat.now c.requires.seat.seat_is c.args.halves.now.first change c.page.result c.requires.seat.there
+    parts_effect c.args.self.now c.grow.new.self c.put_halves.new.self c.args.region.now c.requires.there.told c.args.halves.now.first change c.page.result c.requires.there.there
     c.requires.within c.in_ok-change.ensures.ready c.page.ensures grew n c.in_ok-put_halves.ensures.effect c.in_ok-put_halves.ensures.same c.in_ok-put_halves.ensures.put.count
     c.in_ok-put_index.ensures.kept d _ c.in_ok-put_index.ensures.now
     (ap (λ (v : TreeView). v.inner.count) c.in_ok-put_halves.ensures.same ∙ (ap (λ (v : TreeView). v.inner.count) grew.frame))
@@ -138,7 +138,7 @@ returns-in_err-grow-clause-counted g c =
     let count = ap (λ (v : TreeView). v.inner.count) c.self.view_is in
     let change = c.in_ok-change.change in
     let left = c.in_err-grow.ensures.left in
-    unparted_answers c.args.self.now c.args.seat.now c.from_residual-in_err-grow.result c.in_err-grow.field-0.0 c.from_residual-in_err-grow.ensures.1 (λ many. few (count ∙ many))
+    unparted_answers c.args.self.now c.args.region.now c.from_residual-in_err-grow.result c.in_err-grow.field-0.0 c.from_residual-in_err-grow.ensures.1 (λ many. few (count ∙ many))
     (λ page fault same. subst (λ (x : TreeFault). IsGrowthLeft (page_count c.prepare_add.new.self.store + (change.next - change.start)) c.prepare_add.new.self c.grow.new.self x) same left)
     (λ honest levels way. c.in_ok-change.ensures.full honest levels way refl)
 
@@ -147,14 +147,14 @@ returns-in_err-grow-clause-effect g c =
     let change = c.in_ok-change.change in
     let e = c.in_err-grow.field-0.0 in
     let grew = subst (λ (v : TreeView). GrowsTo {A = Unit {0}} (page_count v.store + (change.next - change.start)) v c.grow.new.self (Err e)) c.in_ok-change.ensures.effect.same c.in_err-grow.ensures in
-    growth_refused c.args.self.now c.grow.new.self c.args.seat.now c.args.halves.now.first change c.requires.seat.there c.in_ok-change.ensures.ready
+    growth_refused c.args.self.now c.grow.new.self c.args.region.now c.args.halves.now.first change c.requires.there.there c.in_ok-change.ensures.ready
     (subst (λ (v : TreeView). v.inner.index.levels ≤ MAX_LEVEL) c.self.view_is c.root-root.ensures.high) c.from_residual-in_err-grow.result e c.from_residual-in_err-grow.ensures.1 grew
 
-pub put_halves-requires-clause-seat : goal.put_halves-requires-clause-seat
-put_halves-requires-clause-seat g c =
+pub put_halves-requires-clause-own : goal.put_halves-requires-clause-own
+put_halves-requires-clause-own g c =
     let change = c.in_ok-change.change in
     let grew = subst (λ (v : TreeView). GrowsTo {A = Unit {0}} (page_count v.store + (change.next - change.start)) v c.grow.new.self (Ok tt)) c.in_ok-change.ensures.effect.same c.in_ok-grow.ensures in
-    let there = c.requires.seat.there in
+    let there = c.requires.there.there in
     let more = grew.grows.more in
     omega arith
 
@@ -179,7 +179,7 @@ returns-in_err-put_halves-clause-counted g c =
     let few = c.if-self.false in
     let count = ap (λ (v : TreeView). v.inner.count) c.self.view_is in
     let fault_is = c.in_err-put_halves.ensures.effect.faults in
-    unparted_answers c.args.self.now c.args.seat.now c.from_residual-in_err-put_halves.result c.in_err-put_halves.field-0.0 c.from_residual-in_err-put_halves.ensures.1 (λ many. few (count ∙ many))
+    unparted_answers c.args.self.now c.args.region.now c.from_residual-in_err-put_halves.result c.in_err-put_halves.field-0.0 c.from_residual-in_err-put_halves.ensures.1 (λ many. few (count ∙ many))
     (λ page fault same. subst (λ (x : TreeFault). IsWriteFault c.grow.new.self c.put_halves.new.self x) same fault_is)
     (λ honest levels way. c.in_ok-change.ensures.full honest levels way refl)
 
@@ -194,7 +194,7 @@ returns-in_err-put_index-clause-counted g c =
     let few = c.if-self.false in
     let count = ap (λ (v : TreeView). v.inner.count) c.self.view_is in
     let fault_is = c.in_err-put_index.ensures.stopped.1 in
-    unparted_answers c.args.self.now c.args.seat.now c.from_residual-in_err-put_index.result c.in_err-put_index.field-0.0 c.from_residual-in_err-put_index.ensures.1 (λ many. few (count ∙ many))
+    unparted_answers c.args.self.now c.args.region.now c.from_residual-in_err-put_index.result c.in_err-put_index.field-0.0 c.from_residual-in_err-put_index.ensures.1 (λ many. few (count ∙ many))
     (λ page fault same. subst (λ (x : TreeFault). IsIndexFault c.in_ok-change.change c.put_halves.new.self.store x) same fault_is)
     (λ honest levels way. c.in_ok-change.ensures.full honest levels way refl)
 
@@ -202,13 +202,13 @@ pub returns-clause-counted : goal.returns-clause-counted
 returns-clause-counted g c =
     let few = c.if-self.false in
     let count = ap (λ (v : TreeView). v.inner.count) c.self.view_is in
-    parted_answers c.args.self.now c.args.seat.now tt (λ many. few (count ∙ many)) (λ honest levels way. c.in_ok-change.ensures.full honest levels way refl)
+    parted_answers c.args.self.now c.args.region.now tt (λ many. few (count ∙ many)) (λ honest levels way. c.in_ok-change.ensures.full honest levels way refl)
 
 pub put_halves-requires-clause-kinds : goal.put_halves-requires-clause-kinds
 put_halves-requires-clause-kinds g c =
     let schema : c.self-2.inside.schema ≡ c.args.self.now.schema = ap (λ (v : TreeView). v.schema) c.self-2.view_is ∙ ap (λ (v : TreeView). v.schema) c.in_ok-change.ensures.effect.same in
     let right = c.write_region-2.ensures.page ∙ ap (λ (s : Schema). region_page s (record { first = c.args.halves.now.first; rows = c.args.halves.now.right.now })) schema in
-    let left = c.write_region.ensures.page ∙ ap (λ (s : Schema). region_page s (record { first = c.args.seat.now.first; rows = c.args.halves.now.left.now })) schema in (
+    let left = c.write_region.ensures.page ∙ ap (λ (s : Schema). region_page s (record { first = c.args.region.now.first; rows = c.args.halves.now.left.now })) schema in (
       subst (λ (p : List ℕ). ¬ (IsIndexKind p)) (sym right) (region_no_kind c.args.self.now.schema _ c.requires.right),
       subst (λ (p : List ℕ). ¬ (IsIndexKind p)) (sym left) (region_no_kind c.args.self.now.schema _ c.requires.left),
     )
@@ -219,9 +219,9 @@ put_index-requires g c = λ honest.
     let grew = subst (λ (v : TreeView). GrowsTo {A = Unit {0}} (page_count v.store + (c.in_ok-change.change.next - c.in_ok-change.change.start)) v c.grow.new.self (Ok tt)) c.in_ok-change.ensures.effect.same
     c.in_ok-grow.ensures in
     let was : IsHonest a.store = sym (ap (λ (v : TreeView). v.store.honest) grew.frame) ∙ (sym (ap (λ (v : TreeView). v.store.honest) c.in_ok-put_halves.ensures.effect.frame) ∙ honest) in
-    let seat = c.requires.seat.seat_is in
-    let holds = ways_hold a.inner.index a.store seat.0 c.args.seat.now (seat.1.way was) in
+    let told = c.requires.there.told in
+    let holds = ways_hold a.inner.index a.store told.key c.args.region.now (told.falls.way was) in
     let last : c.put_halves.new.self.inner.index.last ≡ a.inner.index.last =
     ap (λ (v : TreeView). v.inner.index.last) c.in_ok-put_halves.ensures.same ∙ ap (λ (v : TreeView). v.inner.index.last) grew.frame in
     subst (λ (n : ℕ). AreIndexPages n c.in_ok-change.change.sheets) (sym last)
-    (c.in_ok-change.ensures.ready.pages was (record { holds = holds.1; way = λ _. holds.2 c.args.seat.now.first holds.1 }) c.requires.within)
+    (c.in_ok-change.ensures.ready.pages was (record { holds = holds.1; from = told.falls.from; to = told.falls.to; way = λ _. holds.2 c.args.region.now.first holds.1 }) c.requires.within)

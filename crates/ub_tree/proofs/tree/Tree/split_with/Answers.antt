@@ -2,7 +2,7 @@ use Rattle.std.proofs.Common.{◌≡◌, ◌+◌, ◌≤◌, ◌∙◌, ℕ, Lis
 use Rattle.std.proofs.lemmas.Bool.{lt-leb}
 use Rattle.std.proofs.lemmas.List.Edits.{length-insert}
 use Rattle.std.specs.List.{insert}
-use Rattle.ub_index.specs.Preparing.{IsWithinSeat}
+use Rattle.ub_index.specs.Preparing.{IsWithinRegion}
 use Rattle.ub_region.specs.Rows.{Halves, split}
 use Rattle.ub_table.specs.Region.{IsRegion}
 use Rattle.ub_table.specs.declared.row.Key.{Key}
@@ -27,7 +27,7 @@ returns-clause-written g c = λ i stored at all.
     let over : nat_le (length rows) old.schema.page_rows ≡ false = lt-leb (length rows) old.schema.page_rows (omega arith) in
     let halves = c.split-halves.ensures in
     let written = rw (halves.0, halves.1, halves.2, dims, count, listed) at c.split.ensures.written in
-    two_stored old c.split.new.self i c.args.seat.now rows c.split.result over (written i stored at)
+    two_stored old c.split.new.self i c.args.region.now rows c.split.result over (written i stored at)
 
 pub insert_at-requires-clause-room : goal.insert_at-requires-clause-room
 insert_at-requires-clause-room g c =
@@ -49,8 +49,8 @@ split-halves-requires-clause-over g c =
     let listed = c.insert_at.ensures ∙ ap (λ (rs : List Row). insert rs c.args.index c.args.row.now) c.list_rows.ensures in
     ap (λ (rs : List Row). length rs) listed ∙ length-insert before c.args.index c.args.row.now c.requires.within ∙ ap (λ (n : ℕ). n + 1) (c.requires.full ∙ sym count)
 
-pub split-requires-clause-seat : goal.split-requires-clause-seat
-split-requires-clause-seat g c = c.requires.seat
+pub split-requires-clause-there : goal.split-requires-clause-there
+split-requires-clause-there g c = c.requires.there
 
 pub split-requires-clause-within : goal.split-requires-clause-within
 split-requires-clause-within g c =
@@ -63,7 +63,7 @@ split-requires-clause-within g c =
     let full = c.requires.full in
     let more : length rows ≡ length before + 1 = length-insert before c.args.index c.args.row.now c.requires.within in
     let first = c.split-halves.ensures.1 ∙ ap (λ (h : Halves). h.first) (same_split dims count listed) in
-    subst (λ (k : Key). IsWithinSeat old.inner.index.last c.args.seat.now.first c.args.seat.now.next k) (sym first) (c.requires.rows.within (omega arith))
+    subst (λ (k : Key). IsWithinRegion old.inner.index.last c.args.region.now.first c.args.region.now.next k) (sym first) (c.requires.rows.within (omega arith))
 
 pub split-requires-clause-left : goal.split-requires-clause-left
 split-requires-clause-left g c =
@@ -76,7 +76,7 @@ split-requires-clause-left g c =
     let full = c.requires.full in
     let more : length rows ≡ length before + 1 = length-insert before c.args.index c.args.row.now c.requires.within in
     let left = c.split-halves.ensures.0 ∙ ap (λ (h : Halves). h.left) (same_split dims count listed) in
-    subst (λ (rs : List Row). IsRegion old.schema (record { first = c.args.seat.now.first; rows = rs })) (sym left) (two_stand old c.args.seat.now rows c.requires.rows (omega arith)).0
+    subst (λ (rs : List Row). IsRegion old.schema (record { first = c.args.region.now.first; rows = rs })) (sym left) (two_stand old c.args.region.now rows c.requires.rows (omega arith)).0
 
 pub split-requires-clause-right : goal.split-requires-clause-right
 split-requires-clause-right g c =
@@ -93,7 +93,7 @@ split-requires-clause-right g c =
     let right = c.split-halves.ensures.2 ∙ ap (λ (h : Halves). h.right) same in
     subst (λ (k : Key). IsRegion old.schema (record { first = k; rows = c.split-halves.result.right.now })) (sym first)
     (subst (λ (rs : List Row). IsRegion old.schema (record { first = (split old.schema.dims old.schema.page_rows rows).first; rows = rs })) (sym right)
-    (two_stand old c.args.seat.now rows c.requires.rows (omega arith)).1)
+    (two_stand old c.args.region.now rows c.requires.rows (omega arith)).1)
 
 pub returns-clause-same : goal.returns-clause-same
 returns-clause-same g c = c.split.ensures.same

@@ -19,7 +19,7 @@ use Rattle.ub_tree.specs.inner.Change.{CanStand, StoresAt, StoresRows}
 use Rattle.ub_tree.proofs.tree.Tree.store_with.Goals as goal
 
 pub returns-clause-effect : goal.returns-clause-effect
-returns-clause-effect g c = changed_by c.args.self.now c.put_page.new.self c.args.seat.now c.requires.seat.0 c.put_page.result c.put_page.ensures.effect
+returns-clause-effect g c = changed_by c.args.self.now c.put_page.new.self c.args.region.now c.requires.there.0 c.put_page.result c.put_page.ensures.effect
 
 pub returns-clause-written : goal.returns-clause-written
 returns-clause-written g c = λ i stored at all.
@@ -30,30 +30,30 @@ returns-clause-written g c = λ i stored at all.
     let keys = c.keys.ensures.keys ∙ ap (λ (d : ℕ). keys_of d rows) c.requires.read.dims in
     let made : new ≡ insert rows c.index_in-index.result row = c.index_in-index.ensures.index b.schema.dims row rows keys c.requires.key in
     let same : c.page_rows.result ≡ b.schema.page_rows = c.page_rows.ensures.page_rows ∙ ap (λ (v : TreeView). v.schema.page_rows) c.self.view_is in
-    let few = c.requires.read.on.is.few in
+    let few = c.requires.read.on.0.few in
     let less : length rows < b.schema.page_rows = (let long = c.len.ensures.len in let other = c.if-len-page_rows.false in omega arith) in
     let more = length-insert_row b.schema.dims row rows in
     let fits : nat_le (length new) b.schema.page_rows ≡ true = le-leb (length new) b.schema.page_rows (omega arith) in
-    let good = one_stands b c.args.seat.now new c.requires.rows (omega arith) in
-    let region : c.insert_at.new.self.region ≡ record { first = c.args.seat.now.first; rows = new } =
+    let good = one_stands b c.args.region.now new c.requires.rows (omega arith) in
+    let region : c.insert_at.new.self.region ≡ record { first = c.args.region.now.first; rows = new } =
     ap (λ (v : RegionView). v.region) c.insert_at.ensures
-    ∙ ap (λ (k : Key). record { first = k; rows = insert rows c.index_in-index.result row }) c.requires.read.on.held.0
-    ∙ ap (λ (rs : List Row). record { first = c.args.seat.now.first; rows = rs }) (sym made) in
-    let page : padded c.write.new.draft ≡ region_page b.schema (record { first = c.args.seat.now.first; rows = new }) =
+    ∙ ap (λ (k : Key). record { first = k; rows = insert rows c.index_in-index.result row }) c.requires.read.on.1.0
+    ∙ ap (λ (rs : List Row). record { first = c.args.region.now.first; rows = rs }) (sym made) in
+    let page : padded c.write.new.draft ≡ region_page b.schema (record { first = c.args.region.now.first; rows = new }) =
     c.write.ensures ∙ ap (λ (v : TreeView). region_page v.schema c.insert_at.new.self.region) c.self.view_is ∙ ap (region_page b.schema) region in
-    one_stored b c.put_page.new.self i c.args.seat.now new c.put_page.result fits (c.put_page.ensures.written i new stored at good (c.page.ensures ∙ page))
-    (writes_grown b c.put_page.new.self i c.args.seat.now c.put_page.result stored at c.put_page.ensures.effect)
+    one_stored b c.put_page.new.self i c.args.region.now new c.put_page.result fits (c.put_page.ensures.written i new stored at good (c.page.ensures ∙ page))
+    (writes_grown b c.put_page.new.self i c.args.region.now c.put_page.result stored at c.put_page.ensures.effect)
 
 pub index_in-index-requires : goal.index_in-index-requires
 index_in-index-requires g c =
     let rows = c.args.room.now.region.region.rows in
     let keys = c.keys.ensures.keys ∙ ap (λ (d : ℕ). keys_of d rows) c.requires.read.dims in
-    subst AreKeysAscending (sym keys) c.requires.read.on.is.ascending
+    subst AreKeysAscending (sym keys) c.requires.read.on.0.ascending
 
-pub split_with-requires-clause-seat : goal.split_with-requires-clause-seat
-split_with-requires-clause-seat g c = record {
-  seat_is = c.requires.seat.0;
-  there = c.requires.seat.1;
+pub split_with-requires-clause-there : goal.split_with-requires-clause-there
+split_with-requires-clause-there g c = record {
+  told = c.requires.there.0;
+  there = c.requires.there.1;
   region = c.args.room.now.region.region;
   on = c.requires.read.on;
 }
@@ -74,12 +74,12 @@ split_with-requires-clause-rows g c =
     let row = c.args.row.now in
     let rows = c.args.room.now.region.region.rows in
     let keys = c.keys.ensures.keys ∙ ap (λ (d : ℕ). keys_of d rows) c.requires.read.dims in
-    subst (λ (rs : List Row). CanStand b c.args.seat.now rs) (c.index_in-index.ensures.index b.schema.dims row rows keys c.requires.key) c.requires.rows
+    subst (λ (rs : List Row). CanStand b c.args.region.now rs) (c.index_in-index.ensures.index b.schema.dims row rows keys c.requires.key) c.requires.rows
 
 pub returns-then-len-page_rows-clause-same : goal.returns-then-len-page_rows-clause-same
 returns-then-len-page_rows-clause-same g c =
     let full = sym c.len.ensures.len ∙ c.if-len-page_rows.true ∙ c.page_rows.ensures.page_rows ∙ ap (λ (v : TreeView). v.schema.page_rows) c.self.view_is in
-    subst (λ (n : ℕ). OnOk c.split_with.result (StoresAt c.args.seat.now n c.args.self.now c.split_with.new.self)) (sym full) c.split_with.ensures.same
+    subst (λ (n : ℕ). OnOk c.split_with.result (StoresAt c.args.region.now n c.args.self.now c.split_with.new.self)) (sym full) c.split_with.ensures.same
 
 pub returns-then-len-page_rows-clause-written : goal.returns-then-len-page_rows-clause-written
 returns-then-len-page_rows-clause-written g c =
@@ -88,19 +88,19 @@ returns-then-len-page_rows-clause-written g c =
     let rows = c.args.room.now.region.region.rows in
     let keys = c.keys.ensures.keys ∙ ap (λ (d : ℕ). keys_of d rows) c.requires.read.dims in
     let made = c.index_in-index.ensures.index b.schema.dims row rows keys c.requires.key in
-    subst (λ (rs : List Row). StoresRows c.args.seat.now rs b c.split_with.new.self c.split_with.result) (sym made) c.split_with.ensures.written
+    subst (λ (rs : List Row). StoresRows c.args.region.now rs b c.split_with.new.self c.split_with.result) (sym made) c.split_with.ensures.written
 
 pub returns-then-len-page_rows-clause-counted : goal.returns-then-len-page_rows-clause-counted
 returns-then-len-page_rows-clause-counted g c =
     let full = sym c.len.ensures.len ∙ c.if-len-page_rows.true ∙ c.page_rows.ensures.page_rows ∙ ap (λ (v : TreeView). v.schema.page_rows) c.self.view_is in
-    filled_answers _ c.args.self.now c.args.seat.now c.split_with.result full c.split_with.ensures.counted
+    filled_answers _ c.args.self.now c.args.region.now c.split_with.result full c.split_with.ensures.counted
 
 pub returns-then-len-page_rows-clause-effect : goal.returns-then-len-page_rows-clause-effect
 returns-then-len-page_rows-clause-effect g c = c.split_with.ensures.effect
 
 pub insert_at-requires-clause-room : goal.insert_at-requires-clause-room
 insert_at-requires-clause-room g c =
-    let few = c.requires.read.on.is.few in
+    let few = c.requires.read.on.0.few in
     let bound = c.page_rows.ensures.few in
     let same = c.page_rows.ensures.page_rows ∙ ap (λ (v : TreeView). v.schema.page_rows) c.self.view_is in
     let long = c.len.ensures.len in
@@ -122,22 +122,22 @@ write-requires g c =
     let keys = c.keys.ensures.keys ∙ ap (λ (d : ℕ). keys_of d rows) c.requires.read.dims in
     let made : new ≡ insert rows c.index_in-index.result row = c.index_in-index.ensures.index b.schema.dims row rows keys c.requires.key in
     let same : c.page_rows.result ≡ b.schema.page_rows = c.page_rows.ensures.page_rows ∙ ap (λ (v : TreeView). v.schema.page_rows) c.self.view_is in
-    let few = c.requires.read.on.is.few in
+    let few = c.requires.read.on.0.few in
     let long = c.len.ensures.len in
     let other = c.if-len-page_rows.false in
     let more = length-insert_row b.schema.dims row rows in
-    let good = one_stands b c.args.seat.now new c.requires.rows (omega arith) in
-    let region : c.insert_at.new.self.region ≡ record { first = c.args.seat.now.first; rows = new } =
+    let good = one_stands b c.args.region.now new c.requires.rows (omega arith) in
+    let region : c.insert_at.new.self.region ≡ record { first = c.args.region.now.first; rows = new } =
     ap (λ (v : RegionView). v.region) c.insert_at.ensures
-    ∙ ap (λ (k : Key). record { first = k; rows = insert rows c.index_in-index.result row }) c.requires.read.on.held.0
-    ∙ ap (λ (rs : List Row). record { first = c.args.seat.now.first; rows = rs }) (sym made) in
+    ∙ ap (λ (k : Key). record { first = k; rows = insert rows c.index_in-index.result row }) c.requires.read.on.1.0
+    ∙ ap (λ (rs : List Row). record { first = c.args.region.now.first; rows = rs }) (sym made) in
     subst (λ (r : Region). IsRegion c.self.inside.schema r) (sym region)
-    (subst (λ (v : TreeView). IsRegion v.schema (record { first = c.args.seat.now.first; rows = new })) (sym c.self.view_is) good)
+    (subst (λ (v : TreeView). IsRegion v.schema (record { first = c.args.region.now.first; rows = new })) (sym c.self.view_is) good)
 
-pub put_page-requires-clause-seat : goal.put_page-requires-clause-seat
-put_page-requires-clause-seat g c = record {
-  seat_is = c.requires.seat.0;
-  there = c.requires.seat.1;
+pub put_page-requires-clause-there : goal.put_page-requires-clause-there
+put_page-requires-clause-there g c = record {
+  told = c.requires.there.0;
+  there = c.requires.there.1;
   region = c.args.room.now.region.region;
   on = c.requires.read.on;
 }
@@ -151,16 +151,16 @@ put_page-requires-clause-page g c =
     let keys = c.keys.ensures.keys ∙ ap (λ (d : ℕ). keys_of d rows) c.requires.read.dims in
     let made : new ≡ insert rows c.index_in-index.result row = c.index_in-index.ensures.index b.schema.dims row rows keys c.requires.key in
     let same : c.page_rows.result ≡ b.schema.page_rows = c.page_rows.ensures.page_rows ∙ ap (λ (v : TreeView). v.schema.page_rows) c.self.view_is in
-    let few = c.requires.read.on.is.few in
+    let few = c.requires.read.on.0.few in
     let long = c.len.ensures.len in
     let other = c.if-len-page_rows.false in
     let more = length-insert_row b.schema.dims row rows in
-    let good = one_stands b c.args.seat.now new c.requires.rows (omega arith) in
-    let region : c.insert_at.new.self.region ≡ record { first = c.args.seat.now.first; rows = new } =
+    let good = one_stands b c.args.region.now new c.requires.rows (omega arith) in
+    let region : c.insert_at.new.self.region ≡ record { first = c.args.region.now.first; rows = new } =
     ap (λ (v : RegionView). v.region) c.insert_at.ensures
-    ∙ ap (λ (k : Key). record { first = k; rows = insert rows c.index_in-index.result row }) c.requires.read.on.held.0
-    ∙ ap (λ (rs : List Row). record { first = c.args.seat.now.first; rows = rs }) (sym made) in (
-      record { first = c.args.seat.now.first; rows = new },
+    ∙ ap (λ (k : Key). record { first = k; rows = insert rows c.index_in-index.result row }) c.requires.read.on.1.0
+    ∙ ap (λ (rs : List Row). record { first = c.args.region.now.first; rows = rs }) (sym made) in (
+      record { first = c.args.region.now.first; rows = new },
       good,
       c.page.ensures ∙ c.write.ensures ∙ ap (λ (v : TreeView). region_page v.schema c.insert_at.new.self.region) c.self.view_is ∙ ap (region_page b.schema) region,
     )
@@ -168,10 +168,10 @@ put_page-requires-clause-page g c =
 pub returns-clause-same : goal.returns-clause-same
 returns-clause-same g c =
     let same = c.page_rows.ensures.page_rows ∙ ap (λ (v : TreeView). v.schema.page_rows) c.self.view_is in
-    put_at c.put_page.result c.args.self.now c.put_page.new.self c.args.seat.now _ (λ full. c.if-len-page_rows.false (c.len.ensures.len ∙ full ∙ sym same))
+    put_at c.put_page.result c.args.self.now c.put_page.new.self c.args.region.now _ (λ full. c.if-len-page_rows.false (c.len.ensures.len ∙ full ∙ sym same))
     c.put_page.ensures.same c.put_page.ensures.told c.put_page.ensures.effect
 
 pub returns-clause-counted : goal.returns-clause-counted
 returns-clause-counted g c =
     let same = c.page_rows.ensures.page_rows ∙ ap (λ (v : TreeView). v.schema.page_rows) c.self.view_is in
-    spared_answers _ c.args.self.now c.args.seat.now c.put_page.result (λ full. c.if-len-page_rows.false (c.len.ensures.len ∙ full ∙ sym same)) c.put_page.ensures.faults
+    spared_answers _ c.args.self.now c.args.region.now c.put_page.result (λ full. c.if-len-page_rows.false (c.len.ensures.len ∙ full ∙ sym same)) c.put_page.ensures.faults

@@ -1,32 +1,21 @@
--- What is read of the region of a seat, or of a span, of a sound tree.
+-- What is read of a region of a sound tree.
 use Rattle.std.proofs.Common.{◌≡◌, ◌∙◌, ℕ, Bool, List, Some, sym, ap, subst, refl, slice_get}
 use Rattle.std.specs.List.{Contains}
-use Rattle.ub_index.specs.Preparing.{entry_at}
-use Rattle.ub_index.specs.View.{IndexView}
-use Rattle.ub_index.specs.declared.seat.Seat.{Seat}
+use Rattle.ub_index.specs.View.{IndexView, entry_at}
 use Rattle.ub_page.specs.Region.{region_on}
 use Rattle.ub_page.specs.declared.entries.Entry.{Entry}
 use Rattle.ub_store.specs.Facts.{IsHonest}
 use Rattle.ub_store.specs.View.{PagerView}
 use Rattle.ub_table.specs.Region.{Region}
 use Rattle.ub_table.specs.declared.schema.Schema.{Schema}
-use Rattle.ub_tree.proofs.ReadingFacts.{sound_seat, taken_on}
 use Rattle.ub_tree.proofs.SearchFacts.{known_is}
 use Rattle.ub_tree.proofs.TreeFacts.{IsKnown, entries_back, rows_read, span_known, spans_are}
-use Rattle.ub_tree.specs.Effects.{IsTakenIn}
 use Rattle.ub_tree.specs.Indexed.{entries_on, reserved}
 use Rattle.ub_tree.specs.Placed.{Placed, ArePlaced, placed_of}
 use Rattle.ub_tree.specs.Spans.{Region as Span}
-use Rattle.ub_tree.specs.Told.{IsRegionOf}
 use Rattle.ub_tree.specs.Tree.{known_pages, tree_view}
 use Rattle.ub_tree.specs.View.{TreeView, IsSound, spans_of}
-use Rattle.ub_tree.specs.inner.Change.{IsSeatIn}
-
--- on a sound tree a region stands on the page of each span that it tells of
-pub sound_span : (t : TreeView) (span : Span) → IsSound t → IsRegionOf t span → (r : Region) × IsTakenIn t span r
-sound_span t span sound told =
-    let on = sound_seat t told.seat sound (told.key, told.falls) in
-    (on.0, subst (λ (s : Span). IsTakenIn t s on.0) (sym told.region_is) (taken_on t told.seat on.0 on.1))
+use Rattle.ub_tree.specs.inner.Change.{IsRegionIn}
 
 module _ (schema : Schema) (index : IndexView) (count next rows : ℕ) (changed failed : Bool) (pager : PagerView) where
   abbrev tree : TreeView
@@ -46,10 +35,10 @@ module _ (schema : Schema) (index : IndexView) (count next rows : ℕ) (changed 
       let spans = spans_are schema pages entries index.last sound.last_is in
       span_known schema entries pages next index.last (reserved index pager.store.pages) span sound.regions_are placed (rw (← spans) at there)
 
-  -- the rows that the page of a seat tells are those of its region
-  pub seat_rows : (i : ℕ) (seat : Seat) (page : List ℕ) (region : Region) (p : Placed) → IsHonest pager.store → IsSeatIn tree i seat → slice_get tree.placed i ≡ Some p
-      → slice_get pager.store.pages seat.page ≡ Some page → region ≡ region_on schema page → region.rows ≡ p.region.rows
-  seat_rows i seat page region p honest at there at_page on =
+  -- the rows that the page of a span tells are those of its region
+  pub rows_there : (i : ℕ) (span : Span) (page : List ℕ) (region : Region) (p : Placed) → IsHonest pager.store → IsRegionIn tree i span → slice_get tree.placed i ≡ Some p
+      → slice_get pager.store.pages span.page ≡ Some page → region ≡ region_on schema page → region.rows ≡ p.region.rows
+  rows_there i span page region p honest at there at_page on =
       let known = known_is pager.store honest in
-      let entry : slice_get entries i ≡ Some (entry_at seat) = ap (λ (es : List Entry). slice_get es i) (sym (entries_back schema pages entries)) ∙ at.entry in
-      rows_read schema pages entries i (entry_at seat) page region.rows region p entry (ap (λ (ps : List (List ℕ)). slice_get ps seat.page) known ∙ at_page) refl on there
+      let entry : slice_get entries i ≡ Some (entry_at span) = ap (λ (es : List Entry). slice_get es i) (sym (entries_back schema pages entries)) ∙ at.entry in
+      rows_read schema pages entries i (entry_at span) page region.rows region p entry (ap (λ (ps : List (List ℕ)). slice_get ps span.page) known ∙ at_page) refl on there

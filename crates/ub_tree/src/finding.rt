@@ -1,8 +1,7 @@
 ghost use Rattle.std.specs.Prelude.{◌≡◌, ◌≢◌, ◌↔◌, ℕ, Some, None, map, IfErr, IfOk, IfSome, IsOk, IsTrue, MatchResult};
 ghost use Rattle.ub_index.specs.Preparing.{HasFullWay};
 ghost use Rattle.ub_index.specs.Searching.{key_before};
-ghost use Rattle.ub_index.specs.View.{IsNextSeat, IsPreviousSeat};
-ghost use Rattle.ub_index.specs.declared.seat.Seat as spec;
+ghost use Rattle.ub_index.specs.View.{IsNextRegion, IsPreviousRegion};
 ghost use Rattle.ub_index_page.specs.declared.index.TheConstants.{MAX_LEVEL};
 ghost use Rattle.ub_region.specs.Regions.{index_holding};
 ghost use Rattle.ub_store.specs.Facts.{IsHonest};
@@ -13,108 +12,108 @@ ghost use Rattle.ub_tree.specs.Holding.{HasNoRoom};
 ghost use Rattle.ub_tree.specs.Opened.{IsPassing};
 ghost use Rattle.ub_tree.specs.Placed.{entry_of};
 ghost use Rattle.ub_tree.specs.Removal.{IsRemovalFault};
-ghost use Rattle.ub_tree.specs.Spans.{first_keys};
-ghost use Rattle.ub_tree.specs.Told.{FallsTo};
+ghost use Rattle.ub_tree.specs.Spans.{first_keys, Region as Span};
+ghost use Rattle.ub_tree.specs.Told.{FallsTo, IsRegionOf};
 ghost use Rattle.ub_tree.specs.View.{region_count};
-ghost use Rattle.ub_tree.specs.inner.Change.{IsAddReady, IsDropReady, IsSeatIn, IsSeatOf, IsStored, MakesReady};
+ghost use Rattle.ub_tree.specs.inner.Change.{IsAddReady, IsDropReady, IsRegionIn, IsStored, MakesReady};
 
 use crate::fault::TreeFault;
 use crate::tree::Tree;
-use ub_index::{Change, Seat};
-use ub_region::is_equal;
+use ub_index::Change;
+use ub_region::{Region, is_equal};
 use ub_store::PageStore;
 use ub_table::{Key, PageFault};
 
 impl<S: PageStore> Tree<S> {
-    // The seat of the region that holds a key.
-    pub(crate) fn seat_of(&mut self, key: &Key) -> Result<Seat, TreeFault>
+    // The region that holds a key.
+    pub(crate) fn region_holding(&mut self, key: &Key) -> Result<Region, TreeFault>
         ensures falls { IfOk result (FallsTo self.old key.now) }
-        ensures seat { IsStored self.old → IfOk result (IsSeatIn self.old
+        ensures region { IsStored self.old → IfOk result (IsRegionIn self.old
             (index_holding key.now (first_keys (map entry_of self.old.placed)))) }
-        ensures led { (seat : spec.Seat) → IsHonest self.old.store → FallsTo self.old key.now seat
-            → MatchResult result (λ found. found ≡ seat) IsPassing }
+        ensures led { (span : Span) → IsHonest self.old.store → FallsTo self.old key.now span
+            → MatchResult result (λ found. found ≡ span) IsPassing }
         ensures effect { Searches self.old self.new result }
     {
-        let seat = self.index.seat_of(&mut self.pager, key)?;
-        Ok(seat)
+        let region = self.index.region_holding(&mut self.pager, key)?;
+        Ok(region)
     }
 
-    // The seat of the region after that of a seat, if there is one: where that begins. Only a store that isn't honest can tell of
+    // The region after another one, if there is one: it begins where that one tells. Only a store that isn't honest can tell of
     // another one, which is refused: so no region is changed together with one that isn't its neighbour.
-    pub(crate) fn seat_after(&mut self, seat: &Seat) -> Result<Option<Seat>, TreeFault>
-        requires { IsSeatOf self.old seat.now }
+    pub(crate) fn region_after(&mut self, region: &Region) -> Result<Option<Region>, TreeFault>
+        requires { IsRegionOf self.old region.now }
         ensures begins { IfOk result (λ found. IfSome found
-            (λ next. seat.now.next ≡ Some next.first)) }
-        ensures falls { IfOk result (λ found. IfSome found (IsSeatOf self.old)) }
-        ensures last { IfOk result (λ found. found ≡ None → seat.now.next ≡ None) }
-        ensures after { (i : ℕ) → IsStored self.old → IsSeatIn self.old i seat.now
-            → IfOk result (IsNextSeat (map entry_of self.old.placed) i) }
+            (λ next. region.now.next ≡ Some next.first)) }
+        ensures falls { IfOk result (λ found. IfSome found (IsRegionOf self.old)) }
+        ensures last { IfOk result (λ found. found ≡ None → region.now.next ≡ None) }
+        ensures after { (i : ℕ) → IsStored self.old → IsRegionIn self.old i region.now
+            → IfOk result (IsNextRegion (map entry_of self.old.placed) i) }
         ensures effect { Searches self.old self.new result }
     {
-        let Some(next) = self.index.after(&mut self.pager, seat)? else {
+        let Some(next) = self.index.after(&mut self.pager, region)? else {
             return Ok(None);
         };
-        if begins_at(&next.first, &seat.next) {
+        if begins_at(&next.first, &region.next) {
             Ok(Some(next))
         } else {
             Err(self.apart())
         }
     }
 
-    // The seat of the region before that of a seat, if there is one: which ends where that begins. Otherwise as `seat_after`.
-    pub(crate) fn seat_before(&mut self, seat: &Seat) -> Result<Option<Seat>, TreeFault>
-        requires { IsSeatOf self.old seat.now }
+    // The region before another one, if there is one: which ends where that begins. Otherwise as `region_after`.
+    pub(crate) fn region_before(&mut self, region: &Region) -> Result<Option<Region>, TreeFault>
+        requires { IsRegionOf self.old region.now }
         ensures ends { IfOk result (λ found. IfSome found
-            (λ before. before.next ≡ Some seat.now.first)) }
+            (λ before. before.next ≡ Some region.now.first)) }
         ensures falls { IfOk result (λ found. IfSome found (λ before. (k : key.Key)
-            × (key_before seat.now.first.z seat.now.first.number ≡ Some k)
+            × (key_before region.now.first.z region.now.first.number ≡ Some k)
             × FallsTo self.old k before)) }
-        ensures before { (i : ℕ) → IsStored self.old → IsSeatIn self.old i seat.now
-            → IfOk result (IsPreviousSeat (map entry_of self.old.placed) i) }
+        ensures before { (i : ℕ) → IsStored self.old → IsRegionIn self.old i region.now
+            → IfOk result (IsPreviousRegion (map entry_of self.old.placed) i) }
         ensures effect { Searches self.old self.new result }
     {
-        let Some(before) = self.index.before(&mut self.pager, seat)? else {
+        let Some(before) = self.index.before(&mut self.pager, region)? else {
             return Ok(None);
         };
-        // What it answers has 32 bits, so that no key stands between the greatest one before the seat's first and that.
+        // What it answers has 32 bits, so that no key stands between the greatest one before the region's first and that.
         let _number = number_in(&before.next);
-        if begins_at(&seat.first, &before.next) {
+        if begins_at(&region.first, &before.next) {
             Ok(Some(before))
         } else {
             Err(self.apart())
         }
     }
 
-    // Makes ready that a region comes behind that of a seat, with this first key.
-    pub(crate) fn prepare_add(&mut self, seat: &Seat, first: &Key) -> Result<Change, TreeFault>
-        ensures ready { IfOk result (IsAddReady self.old seat.now first.now) }
-        ensures led { IsHonest self.old.store → FallsTo self.old seat.now.first seat.now
+    // Makes ready that a region comes behind another one, with this first key.
+    pub(crate) fn prepare_add(&mut self, region: &Region, first: &Key) -> Result<Change, TreeFault>
+        ensures ready { IfOk result (IsAddReady self.old region.now first.now) }
+        ensures led { IsHonest self.old.store → FallsTo self.old region.now.first region.now
             → IfErr result HasNoRoom }
         ensures full { IsHonest self.old.store → self.old.inner.index.levels ≡ MAX_LEVEL
-            → HasFullWay self.old.inner.index self.old.store seat.now.first → ¬ (IsOk result) }
+            → HasFullWay self.old.inner.index self.old.store region.now.first → ¬ (IsOk result) }
         ensures effect { MakesReady self.old self.new result }
     {
         // Its contract tells the proof how many levels there can be.
         let _root = self.index.root();
         let change = self
             .index
-            .prepare_add(self.alloc, &mut self.pager, seat, first)?;
+            .prepare_add(self.alloc, &mut self.pager, region, first)?;
         Ok(change)
     }
 
-    // Makes ready that the region of a seat goes, which is not the first, nor the only one that is counted.
-    pub(crate) fn prepare_drop(&mut self, seat: &Seat) -> Result<Change, TreeFault>
-        requires told { IsSeatOf self.old seat.now }
-        requires behind { IsBefore origin seat.now.first }
+    // Makes ready that a region goes, which is not the first, nor the only one that is counted.
+    pub(crate) fn prepare_drop(&mut self, region: &Region) -> Result<Change, TreeFault>
+        requires told { IsRegionOf self.old region.now }
+        requires behind { IsBefore origin region.now.first }
         requires more { region_count self.old ≢ 1 }
-        ensures ready { IfOk result (IsDropReady self.old seat.now) }
+        ensures ready { IfOk result (IsDropReady self.old region.now) }
         ensures faults { IfErr result (IsRemovalFault self.old) }
         ensures effect { MakesReady self.old self.new result }
     {
         // Their contracts tell the proof how many levels and pages there can be.
         let _root = self.index.root();
         let _pages = self.pager.pages();
-        let change = self.index.prepare_drop(self.alloc, &mut self.pager, seat)?;
+        let change = self.index.prepare_drop(self.alloc, &mut self.pager, region)?;
         Ok(change)
     }
 

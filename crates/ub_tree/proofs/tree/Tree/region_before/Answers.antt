@@ -1,44 +1,43 @@
 use Rattle.std.proofs.Common.{◌≡◌, ◌<◌, ◌^◌, inl, inr, ℕ, List, Option, Some, subst, sym}
 use Rattle.ub_index.specs.Searching.{key_before}
-use Rattle.ub_index.specs.declared.seat.Seat.{Seat}
+use Rattle.ub_region.specs.declared.region.Region.{Region as Span}
 use Rattle.ub_table.specs.declared.row.Key.{Key}
-use Rattle.ub_index.specs.View.{IsIndexOn, IsPreviousSeat, IsSeatAt, entries_in}
+use Rattle.ub_index.specs.View.{IsIndexOn, IsPreviousRegion, IsRegionAt, entries_in}
 use Rattle.ub_page.specs.declared.entries.Entry.{Entry}
 use Rattle.ub_tree.proofs.CallFacts.{last_small, stored_on}
 use Rattle.ub_tree.proofs.HoldingFacts.{no_answer}
 use Rattle.ub_tree.proofs.NeighbourFacts.{before_ends, few_of, given_next, search_apart}
 use Rattle.ub_tree.proofs.SearchFacts.{search_refused, searched_there}
 use Rattle.ub_tree.specs.Faults.{index_fault}
-use Rattle.ub_tree.specs.Told.{FallsTo}
+use Rattle.ub_tree.specs.Told.{FallsTo, IsRegionOf}
 use Rattle.ub_store.specs.Facts.{IsHonest}
 use Rattle.ub_tree.specs.Tree.{tree_view}
 use Rattle.ub_tree.specs.View.{TreeView}
-use Rattle.ub_tree.specs.inner.Change.{IsSeatOf}
 use Rattle.ub_writing.specs.Marks.{is_written}
-use Rattle.ub_tree.proofs.tree.Tree.seat_before.Goals as goal
+use Rattle.ub_tree.proofs.tree.Tree.region_before.Goals as goal
 
 pub returns-in_err-before-clause-effect : goal.returns-in_err-before-clause-effect
 returns-in_err-before-clause-effect g c =
     let t = c.self.inside in
     let small = subst (λ n. n < 2 ^ 128) (sym c.self.invariant.last_is) (last_small t.schema.dims t.schema.counts.few_dims) in
-    rw (← c.self.view_is) (search_refused t.schema t.index t.count t.next t.rows (is_written t.mark) t.is_failed t.pager c.before-2.new.pager _ (Option Seat) c.from_residual.result c.in_err-before.field-0.0 small c.self.invariant.checked
+    rw (← c.self.view_is) (search_refused t.schema t.index t.count t.next t.rows (is_written t.mark) t.is_failed t.pager c.before-2.new.pager _ (Option Span) c.from_residual.result c.in_err-before.field-0.0 small c.self.invariant.checked
     c.from_residual.ensures.1 c.in_err-before.ensures.effect)
 
 pub returns-else-begins_at-clause-effect : goal.returns-else-begins_at-clause-effect
 returns-else-begins_at-clause-effect g c =
     let t = c.self.inside in
-    let seat = c.args.seat.now in
+    let span = c.args.region.now in
     let before = c.in-Some.before in
     let v : TreeView = tree_view t.schema t.index t.count t.next t.rows (is_written t.mark) t.is_failed t.pager in
-    let told = subst (λ (x : TreeView). IsSeatOf x seat) (sym c.self.view_is) c.requires in
-    let given = given_next v (key_before seat.first.z seat.first.number) before (rw c.in-Some.is at (c.in_ok-before.ensures.given c.self.invariant.checked)) in
+    let told = subst (λ (x : TreeView). IsRegionOf x span) (sym c.self.view_is) c.requires in
+    let given = given_next v (key_before span.first.z span.first.number) before (rw c.in-Some.is at (c.in_ok-before.ensures.given c.self.invariant.checked)) in
     let few = few_of (λ (k : Key). k.number) before.next c.number_in-number.result c.number_in-number.type_inv c.number_in-number.ensures in
     let over : ¬ (IsHonest t.pager.store) =
-    elim (before_ends v told.0 given.0 seat before told.1 given.1 given.2 few) [
+    elim (before_ends v told.key given.0 span before told.falls given.1 given.2 few) [
       | inl same ↦ let no = c.if-begins_at.ensures.1 same in cc
       | inr over ↦ over
     ] in
-    rw (← c.self.view_is) (search_apart t.schema t.index t.count t.next t.rows (is_written t.mark) t.is_failed t.pager c.before-2.new.pager _ (Option Seat) c.in_ok-before.field-0 c.apart.result
+    rw (← c.self.view_is) (search_apart t.schema t.index t.count t.next t.rows (is_written t.mark) t.is_failed t.pager c.before-2.new.pager _ (Option Span) c.in_ok-before.field-0 c.apart.result
     c.in_ok-before.ensures.effect c.apart.ensures over)
 
 pub returns-in_err-before-clause-ends : goal.returns-in_err-before-clause-ends
@@ -59,41 +58,41 @@ returns-in_default-clause-falls g c = tt
 pub returns-in_default-clause-before : goal.returns-in_default-clause-before
 returns-in_default-clause-before g c = λ i stored at.
     let a = c.args.self.now in
-    let seat = c.args.seat.now in
+    let span = c.args.region.now in
     let found = c.in_ok-before.field-0 in
-    let told = subst (λ (v : TreeView). (j : ℕ) → IsIndexOn v.inner.index v.store → IsSeatAt (entries_in v.inner.index v.store) j seat → IsPreviousSeat (entries_in v.inner.index v.store) j found)
+    let told = subst (λ (v : TreeView). (j : ℕ) → IsIndexOn v.inner.index v.store → IsRegionAt (entries_in v.inner.index v.store) j span → IsPreviousRegion (entries_in v.inner.index v.store) j found)
     c.self.view_is (c.in_ok-before.ensures.before c.self.invariant.checked) in
-    let previous = subst (λ (es : List Entry). IsSeatAt es i seat → IsPreviousSeat es i found) stored.indexed.entries_are (told i (stored_on a stored)) at in
+    let previous = subst (λ (es : List Entry). IsRegionAt es i span → IsPreviousRegion es i found) stored.indexed.entries_are (told i (stored_on a stored)) at in
     rw c.in_default.is at previous
 
 pub returns-in_default-clause-effect : goal.returns-in_default-clause-effect
 returns-in_default-clause-effect g c =
     let t = c.self.inside in
-    rw (← c.self.view_is) (searched_there t.schema t.index t.count t.next t.rows (is_written t.mark) t.is_failed t.pager c.before-2.new.pager _ (Option Seat) _ c.in_ok-before.field-0 c.in_ok-before.ensures.effect)
+    rw (← c.self.view_is) (searched_there t.schema t.index t.count t.next t.rows (is_written t.mark) t.is_failed t.pager c.before-2.new.pager _ (Option Span) _ c.in_ok-before.field-0 c.in_ok-before.ensures.effect)
 
 pub returns-then-begins_at-clause-falls : goal.returns-then-begins_at-clause-falls
 returns-then-begins_at-clause-falls g c =
     let t = c.self.inside in
-    let seat = c.args.seat.now in
+    let span = c.args.region.now in
     let before = c.in-Some.before in
     let v : TreeView = tree_view t.schema t.index t.count t.next t.rows (is_written t.mark) t.is_failed t.pager in
-    let given = given_next v (key_before seat.first.z seat.first.number) before (rw c.in-Some.is at (c.in_ok-before.ensures.given c.self.invariant.checked)) in
-    subst (λ (x : TreeView). (k : Key) × (key_before seat.first.z seat.first.number ≡ Some k) × FallsTo x k before) c.self.view_is given
+    let given = given_next v (key_before span.first.z span.first.number) before (rw c.in-Some.is at (c.in_ok-before.ensures.given c.self.invariant.checked)) in
+    subst (λ (x : TreeView). (k : Key) × (key_before span.first.z span.first.number ≡ Some k) × FallsTo x k before) c.self.view_is given
 
 pub returns-then-begins_at-clause-before : goal.returns-then-begins_at-clause-before
 returns-then-begins_at-clause-before g c = λ i stored at.
     let a = c.args.self.now in
-    let seat = c.args.seat.now in
+    let span = c.args.region.now in
     let found = c.in_ok-before.field-0 in
-    let told = subst (λ (v : TreeView). (j : ℕ) → IsIndexOn v.inner.index v.store → IsSeatAt (entries_in v.inner.index v.store) j seat → IsPreviousSeat (entries_in v.inner.index v.store) j found)
+    let told = subst (λ (v : TreeView). (j : ℕ) → IsIndexOn v.inner.index v.store → IsRegionAt (entries_in v.inner.index v.store) j span → IsPreviousRegion (entries_in v.inner.index v.store) j found)
     c.self.view_is (c.in_ok-before.ensures.before c.self.invariant.checked) in
-    let previous = subst (λ (es : List Entry). IsSeatAt es i seat → IsPreviousSeat es i found) stored.indexed.entries_are (told i (stored_on a stored)) at in
+    let previous = subst (λ (es : List Entry). IsRegionAt es i span → IsPreviousRegion es i found) stored.indexed.entries_are (told i (stored_on a stored)) at in
     rw c.in-Some.is at previous
 
 pub returns-then-begins_at-clause-effect : goal.returns-then-begins_at-clause-effect
 returns-then-begins_at-clause-effect g c =
     let t = c.self.inside in
-    rw (← c.self.view_is) (searched_there t.schema t.index t.count t.next t.rows (is_written t.mark) t.is_failed t.pager c.before-2.new.pager _ (Option Seat) _ c.in_ok-before.field-0 c.in_ok-before.ensures.effect)
+    rw (← c.self.view_is) (searched_there t.schema t.index t.count t.next t.rows (is_written t.mark) t.is_failed t.pager c.before-2.new.pager _ (Option Span) _ c.in_ok-before.field-0 c.in_ok-before.ensures.effect)
 
 pub returns-else-begins_at-clause-ends : goal.returns-else-begins_at-clause-ends
 returns-else-begins_at-clause-ends g c = tt

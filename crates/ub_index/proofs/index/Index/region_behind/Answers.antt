@@ -4,16 +4,16 @@ use Rattle.ub_store.specs.View.{PagerView}
 use Rattle.ub_table.specs.declared.row.Key.{Key}
 use Rattle.ub_index.specs.Descending.{FindsAfter, IsForgotten, LooksAt}
 use Rattle.ub_index.specs.Held.{AreChecked, KeepsChecked}
-use Rattle.ub_index.specs.Searching.{Aims, Gives, GoesDown, IsSought}
+use Rattle.ub_index.specs.Searching.{Aims, Gives, GoesDown, IsSought, region_of}
 use Rattle.ub_index.specs.View.{IndexView, index_view}
 use Rattle.ub_index.specs.declared.descent.Found.{Found}
 use Rattle.ub_index.specs.declared.descent.Leaf.{Leaf}
-use Rattle.ub_index.specs.declared.seat.Seat.{Seat}
+use Rattle.ub_region.specs.declared.region.Region.{Region}
 use Rattle.ub_index.proofs.BehindFacts.{beyond_found, beyond_sought, here_found, nothing_found}
 use Rattle.ub_index.proofs.HeldFacts.{keeps_on}
 use Rattle.ub_index.proofs.SearchFacts.{answered, search_refused, step_refused}
 use Rattle.ub_index.proofs.StepFacts.{if_err, none_ok}
-use Rattle.ub_index.proofs.index.Index.seat_behind.Goals as goal
+use Rattle.ub_index.proofs.index.Index.region_behind.Goals as goal
 
 -- what is looked at on the pages of a store that is the same
 looked : (last : ℕ) (old mid : StoreFacts) → mid ≡ old → (To : Key → Option ℕ → Type 0) (key : Key) (leaf : Leaf) (found now : Found) → found ≡ now
@@ -37,38 +37,38 @@ returns-in-Here-clause-found g c = λ sure_now.
     let sure : AreChecked c.self.inside.last c.args.pager.now = subst (λ (v : IndexView). AreChecked v.last c.args.pager.now) (sym c.self.view_is) sure_now in
     let stores = ap (λ (p : PagerView). p.store) c.in_ok-leaf.ensures.effect.same in
     let looks = looked c.self.inside.last c.args.pager.now.store c.leaf_of.new.pager.store stores (Aims c.args.goal.now) c.args.region.now.first c.in_ok-leaf.leaf _ _ c.in-Here.is (c.in_ok-look.ensures.looks (c.in_ok-leaf.ensures.effect.checked sure)) in
-    subst (λ (s : Seat). FindsAfter c.args.self.now c.args.pager.now.store (Aims c.args.goal.now) (Some c.args.region.now) (Some (c.in-Here.from, s))) (sym c.seat_at.ensures)
+    subst (λ (s : Region). FindsAfter c.args.self.now c.args.pager.now.store (Aims c.args.goal.now) (Some c.args.region.now) (Some (c.in-Here.from, s))) (sym c.region_at.ensures.region)
     (subst (λ (v : IndexView). FindsAfter v c.args.pager.now.store (Aims c.args.goal.now) (Some c.args.region.now)
-    (Some (c.in-Here.from, record { first = c.in-Here.place.entry.first; page = c.in-Here.place.entry.page; next = c.in-Here.place.next }))) c.self.view_is
+    (Some (c.in-Here.from, region_of c.self.inside.last c.in-Here.place.entry c.in-Here.place.next))) c.self.view_is
     (here_found (index_view c.self.inside.root c.self.inside.levels c.self.inside.last) c.args.pager.now.store (Aims c.args.goal.now)
     c.args.region.now c.in_ok-leaf.leaf c.in_ok-leaf.ensures.holds (λ honest. c.in_ok-leaf.ensures.leads honest sure) c.in-Here.from c.in-Here.place looks))
 
-pub returns-in_ok-seat_of-in-Beyond-clause-found : goal.returns-in_ok-seat_of-in-Beyond-clause-found
-returns-in_ok-seat_of-in-Beyond-clause-found g c = λ sure_now.
+pub returns-in_ok-region_holding-in-Beyond-clause-found : goal.returns-in_ok-region_holding-in-Beyond-clause-found
+returns-in_ok-region_holding-in-Beyond-clause-found g c = λ sure_now.
     let sure : AreChecked c.self.inside.last c.args.pager.now = subst (λ (v : IndexView). AreChecked v.last c.args.pager.now) (sym c.self.view_is) sure_now in
     let stores = ap (λ (p : PagerView). p.store) c.in_ok-leaf.ensures.effect.same in
     let stores_too = ap (λ (p : PagerView). p.store) c.in_ok-look.ensures.effect.same in
     let looks = looked c.self.inside.last c.args.pager.now.store c.leaf_of.new.pager.store stores (Aims c.args.goal.now) c.args.region.now.first c.in_ok-leaf.leaf _ _ c.in-Beyond.is (c.in_ok-look.ensures.looks (c.in_ok-leaf.ensures.effect.checked sure)) in
-    let given = subst (λ (v : IndexView). Gives v c.look.new.pager.store c.in-Beyond.aim c.in_ok-seat_of-in-Beyond.field-0) (sym c.self.view_is) (c.in_ok-seat_of-in-Beyond.ensures.given (kept_so c.self.inside.last c.args.self.now.last c.args.pager.now c.look.new.pager (ap (λ (v : IndexView). v.last) c.self.view_is)
+    let given = subst (λ (v : IndexView). Gives v c.look.new.pager.store c.in-Beyond.aim c.in_ok-region_holding-in-Beyond.field-0) (sym c.self.view_is) (c.in_ok-region_holding-in-Beyond.ensures.given (kept_so c.self.inside.last c.args.self.now.last c.args.pager.now c.look.new.pager (ap (λ (v : IndexView). v.last) c.self.view_is)
     (keeps_on c.self.inside.last c.args.pager.now c.leaf_of.new.pager c.look.new.pager c.in_ok-leaf.ensures.effect.checked c.in_ok-look.ensures.effect.checked) sure_now)) in
-    let before = subst (λ (f : StoreFacts). Gives (index_view c.self.inside.root c.self.inside.levels c.self.inside.last) f c.in-Beyond.aim c.in_ok-seat_of-in-Beyond.field-0)
+    let before = subst (λ (f : StoreFacts). Gives (index_view c.self.inside.root c.self.inside.levels c.self.inside.last) f c.in-Beyond.aim c.in_ok-region_holding-in-Beyond.field-0)
     (stores_too ∙ stores) given in
-    subst (λ (v : IndexView). FindsAfter v c.args.pager.now.store (Aims c.args.goal.now) (Some c.args.region.now) (Some (c.in-Beyond.from, c.in_ok-seat_of-in-Beyond.field-0))) c.self.view_is
+    subst (λ (v : IndexView). FindsAfter v c.args.pager.now.store (Aims c.args.goal.now) (Some c.args.region.now) (Some (c.in-Beyond.from, c.in_ok-region_holding-in-Beyond.field-0))) c.self.view_is
     (beyond_found (index_view c.self.inside.root c.self.inside.levels c.self.inside.last) c.args.pager.now.store (Aims c.args.goal.now)
-    c.args.region.now c.in_ok-leaf.leaf c.in_ok-leaf.ensures.holds (λ honest. c.in_ok-leaf.ensures.leads honest sure) c.in-Beyond.from c.in-Beyond.aim c.in_ok-seat_of-in-Beyond.field-0 looks before)
+    c.args.region.now c.in_ok-leaf.leaf c.in_ok-leaf.ensures.holds (λ honest. c.in_ok-leaf.ensures.leads honest sure) c.in-Beyond.from c.in-Beyond.aim c.in_ok-region_holding-in-Beyond.field-0 looks before)
 
 pub returns-in_err-look-clause-effect : goal.returns-in_err-look-clause-effect
 returns-in_err-look-clause-effect g c =
     subst (λ (v : IndexView). GoesDown (IsSought v c.args.pager.now.store (Aims c.args.goal.now) (Some c.args.region.now)) v c.args.pager.now c.look.new.pager c.from_residual-in_err-look.result) c.self.view_is
-    (step_refused (Option (Key × Seat)) Found
+    (step_refused (Option (Key × Region)) Found
     (IsSought (index_view c.self.inside.root c.self.inside.levels c.self.inside.last) c.args.pager.now.store (Aims c.args.goal.now) (Some c.args.region.now))
     (index_view c.self.inside.root c.self.inside.levels c.self.inside.last) c.args.region.now.first (inl (c.args.region.now, refl, refl)) 1 (omega arith) c.in_ok-leaf.leaf.place.entry
     c.in_ok-leaf.leaf.place.next c.args.pager.now c.leaf_of.new.pager c.look.new.pager (ap (λ (p : PagerView). p.store) c.in_ok-leaf.ensures.effect.same)
     (ap (λ (p : PagerView). p.trace) c.in_ok-leaf.ensures.effect.same) c.in_ok-leaf.ensures.effect.checked (λ honest sure. (c.in_ok-leaf.ensures.leads honest sure).stops)
     c.from_residual-in_err-look.result c.in_err-look.field-0.0 c.from_residual-in_err-look.ensures.1 c.in_err-look.ensures.effect)
 
-pub returns-in_err-seat_of-in-Beyond-clause-effect : goal.returns-in_err-seat_of-in-Beyond-clause-effect
-returns-in_err-seat_of-in-Beyond-clause-effect g c =
+pub returns-in_err-region_holding-in-Beyond-clause-effect : goal.returns-in_err-region_holding-in-Beyond-clause-effect
+returns-in_err-region_holding-in-Beyond-clause-effect g c =
     let stores = ap (λ (p : PagerView). p.store) c.in_ok-leaf.ensures.effect.same in
     let stores_too = ap (λ (p : PagerView). p.store) c.in_ok-look.ensures.effect.same in
     let traces = ap (λ (p : PagerView). p.trace) c.in_ok-leaf.ensures.effect.same in
@@ -78,16 +78,16 @@ returns-in_err-seat_of-in-Beyond-clause-effect g c =
     let looks = looked c.self.inside.last c.args.pager.now.store c.leaf_of.new.pager.store stores (Aims c.args.goal.now) c.args.region.now.first c.in_ok-leaf.leaf _ _ c.in-Beyond.is (c.in_ok-look.ensures.looks (c.in_ok-leaf.ensures.effect.checked sure)) in
     beyond_sought (index_view c.self.inside.root c.self.inside.levels c.self.inside.last) c.args.pager.now.store (Aims c.args.goal.now)
     c.args.region.now c.in_ok-leaf.leaf c.in_ok-leaf.ensures.holds (λ honest. c.in_ok-leaf.ensures.leads honest sure) c.in-Beyond.from c.in-Beyond.aim looks in
-    let effect = subst (λ (v : IndexView). GoesDown {A = Seat} (λ (k : Key). k ≡ c.in-Beyond.aim) v c.look.new.pager c.seat_of.new.pager (Err c.in_err-seat_of-in-Beyond.field-0.0)) (sym c.self.view_is)
-    c.in_err-seat_of-in-Beyond.ensures.effect in
-    subst (λ (v : IndexView). GoesDown (IsSought v c.args.pager.now.store (Aims c.args.goal.now) (Some c.args.region.now)) v c.args.pager.now c.seat_of.new.pager c.from_residual-in_err-seat_of-in-Beyond.result)
+    let effect = subst (λ (v : IndexView). GoesDown {A = Region} (λ (k : Key). k ≡ c.in-Beyond.aim) v c.look.new.pager c.region_holding.new.pager (Err c.in_err-region_holding-in-Beyond.field-0.0)) (sym c.self.view_is)
+    c.in_err-region_holding-in-Beyond.ensures.effect in
+    subst (λ (v : IndexView). GoesDown (IsSought v c.args.pager.now.store (Aims c.args.goal.now) (Some c.args.region.now)) v c.args.pager.now c.region_holding.new.pager c.from_residual-in_err-region_holding-in-Beyond.result)
     c.self.view_is
-    (search_refused (Option (Key × Seat)) Seat (λ (k : Key). k ≡ c.in-Beyond.aim)
+    (search_refused (Option (Key × Region)) Region (λ (k : Key). k ≡ c.in-Beyond.aim)
     (IsSought (index_view c.self.inside.root c.self.inside.levels c.self.inside.last) c.args.pager.now.store (Aims c.args.goal.now) (Some c.args.region.now))
-    (index_view c.self.inside.root c.self.inside.levels c.self.inside.last) c.args.pager.now c.look.new.pager c.seat_of.new.pager
+    (index_view c.self.inside.root c.self.inside.levels c.self.inside.last) c.args.pager.now c.look.new.pager c.region_holding.new.pager
     (λ sure k is. subst (λ (x : Key). IsSought (index_view c.self.inside.root c.self.inside.levels c.self.inside.last) c.args.pager.now.store (Aims c.args.goal.now) (Some c.args.region.now) x) (sym is) (sought sure))
     (stores_too ∙ stores) (traces_too ∙ traces) kept
-    c.from_residual-in_err-seat_of-in-Beyond.result c.in_err-seat_of-in-Beyond.field-0.0 c.from_residual-in_err-seat_of-in-Beyond.ensures.1 effect)
+    c.from_residual-in_err-region_holding-in-Beyond.result c.in_err-region_holding-in-Beyond.field-0.0 c.from_residual-in_err-region_holding-in-Beyond.ensures.1 effect)
 
 pub returns-in_err-leaf-clause-found : goal.returns-in_err-leaf-clause-found
 returns-in_err-leaf-clause-found g c = λ sure. none_ok _ c.from_residual.result _ c.from_residual.ensures.1
@@ -98,7 +98,7 @@ returns-in_err-leaf-clause-forgotten g c = if_err (IsForgotten c.leaf_of.new.pag
 pub returns-in_err-leaf-clause-effect : goal.returns-in_err-leaf-clause-effect
 returns-in_err-leaf-clause-effect g c =
     subst (λ (v : IndexView). GoesDown (IsSought v c.args.pager.now.store (Aims c.args.goal.now) (Some c.args.region.now)) v c.args.pager.now c.leaf_of.new.pager c.from_residual.result) c.self.view_is
-    (search_refused (Option (Key × Seat)) Leaf (λ (k : Key). k ≡ c.args.region.now.first)
+    (search_refused (Option (Key × Region)) Leaf (λ (k : Key). k ≡ c.args.region.now.first)
     (IsSought (index_view c.self.inside.root c.self.inside.levels c.self.inside.last) c.args.pager.now.store (Aims c.args.goal.now) (Some c.args.region.now))
     (index_view c.self.inside.root c.self.inside.levels c.self.inside.last) c.args.pager.now c.args.pager.now c.leaf_of.new.pager
     (λ sure k is. inl (c.args.region.now, refl, is)) refl refl
@@ -111,13 +111,13 @@ pub returns-in_err-look-clause-forgotten : goal.returns-in_err-look-clause-forgo
 returns-in_err-look-clause-forgotten g c =
     if_err (IsForgotten c.look.new.pager) c.from_residual-in_err-look.result c.in_err-look.field-0.0 c.from_residual-in_err-look.ensures.1 c.in_err-look.ensures.forgotten
 
-pub returns-in_err-seat_of-in-Beyond-clause-found : goal.returns-in_err-seat_of-in-Beyond-clause-found
-returns-in_err-seat_of-in-Beyond-clause-found g c = λ sure. none_ok _ c.from_residual-in_err-seat_of-in-Beyond.result _ c.from_residual-in_err-seat_of-in-Beyond.ensures.1
+pub returns-in_err-region_holding-in-Beyond-clause-found : goal.returns-in_err-region_holding-in-Beyond-clause-found
+returns-in_err-region_holding-in-Beyond-clause-found g c = λ sure. none_ok _ c.from_residual-in_err-region_holding-in-Beyond.result _ c.from_residual-in_err-region_holding-in-Beyond.ensures.1
 
-pub returns-in_err-seat_of-in-Beyond-clause-forgotten : goal.returns-in_err-seat_of-in-Beyond-clause-forgotten
-returns-in_err-seat_of-in-Beyond-clause-forgotten g c =
-    if_err (IsForgotten c.seat_of.new.pager) c.from_residual-in_err-seat_of-in-Beyond.result c.in_err-seat_of-in-Beyond.field-0.0 c.from_residual-in_err-seat_of-in-Beyond.ensures.1
-    c.in_err-seat_of-in-Beyond.ensures.forgotten
+pub returns-in_err-region_holding-in-Beyond-clause-forgotten : goal.returns-in_err-region_holding-in-Beyond-clause-forgotten
+returns-in_err-region_holding-in-Beyond-clause-forgotten g c =
+    if_err (IsForgotten c.region_holding.new.pager) c.from_residual-in_err-region_holding-in-Beyond.result c.in_err-region_holding-in-Beyond.field-0.0 c.from_residual-in_err-region_holding-in-Beyond.ensures.1
+    c.in_err-region_holding-in-Beyond.ensures.forgotten
 
 pub returns-in-Nothing-clause-effect : goal.returns-in-Nothing-clause-effect
 returns-in-Nothing-clause-effect g c =
@@ -129,21 +129,36 @@ returns-in-Nothing-clause-effect g c =
 
 pub returns-in-Here-clause-effect : goal.returns-in-Here-clause-effect
 returns-in-Here-clause-effect g c =
-    answered (IsSought c.args.self.now c.args.pager.now.store (Aims c.args.goal.now) (Some c.args.region.now)) c.args.self.now c.args.pager.now c.look.new.pager (Some (c.in-Here.from, c.seat_at.result))
+    answered (IsSought c.args.self.now c.args.pager.now.store (Aims c.args.goal.now) (Some c.args.region.now)) c.args.self.now c.args.pager.now c.look.new.pager (Some (c.in-Here.from, c.region_at.result))
     (ap (λ (p : PagerView). p.store) c.in_ok-look.ensures.effect.same ∙ ap (λ (p : PagerView). p.store) c.in_ok-leaf.ensures.effect.same)
     (ap (λ (p : PagerView). p.trace) c.in_ok-look.ensures.effect.same ∙ ap (λ (p : PagerView). p.trace) c.in_ok-leaf.ensures.effect.same)
     (kept_so c.self.inside.last c.args.self.now.last c.args.pager.now c.look.new.pager (ap (λ (v : IndexView). v.last) c.self.view_is)
     (keeps_on c.self.inside.last c.args.pager.now c.leaf_of.new.pager c.look.new.pager c.in_ok-leaf.ensures.effect.checked c.in_ok-look.ensures.effect.checked))
 
-pub returns-in_ok-seat_of-in-Beyond-clause-effect : goal.returns-in_ok-seat_of-in-Beyond-clause-effect
-returns-in_ok-seat_of-in-Beyond-clause-effect g c =
-    answered (IsSought c.args.self.now c.args.pager.now.store (Aims c.args.goal.now) (Some c.args.region.now)) c.args.self.now c.args.pager.now c.seat_of.new.pager
-    (Some (c.in-Beyond.from, c.in_ok-seat_of-in-Beyond.field-0))
-    (ap (λ (p : PagerView). p.store) c.in_ok-seat_of-in-Beyond.ensures.effect.same
+pub returns-in_ok-region_holding-in-Beyond-clause-effect : goal.returns-in_ok-region_holding-in-Beyond-clause-effect
+returns-in_ok-region_holding-in-Beyond-clause-effect g c =
+    answered (IsSought c.args.self.now c.args.pager.now.store (Aims c.args.goal.now) (Some c.args.region.now)) c.args.self.now c.args.pager.now c.region_holding.new.pager
+    (Some (c.in-Beyond.from, c.in_ok-region_holding-in-Beyond.field-0))
+    (ap (λ (p : PagerView). p.store) c.in_ok-region_holding-in-Beyond.ensures.effect.same
     ∙ (ap (λ (p : PagerView). p.store) c.in_ok-look.ensures.effect.same ∙ ap (λ (p : PagerView). p.store) c.in_ok-leaf.ensures.effect.same))
-    (ap (λ (p : PagerView). p.trace) c.in_ok-seat_of-in-Beyond.ensures.effect.same
+    (ap (λ (p : PagerView). p.trace) c.in_ok-region_holding-in-Beyond.ensures.effect.same
     ∙ (ap (λ (p : PagerView). p.trace) c.in_ok-look.ensures.effect.same ∙ ap (λ (p : PagerView). p.trace) c.in_ok-leaf.ensures.effect.same))
-    (keeps_on c.args.self.now.last c.args.pager.now c.look.new.pager c.seat_of.new.pager
+    (keeps_on c.args.self.now.last c.args.pager.now c.look.new.pager c.region_holding.new.pager
     (kept_so c.self.inside.last c.args.self.now.last c.args.pager.now c.look.new.pager (ap (λ (v : IndexView). v.last) c.self.view_is)
     (keeps_on c.self.inside.last c.args.pager.now c.leaf_of.new.pager c.look.new.pager c.in_ok-leaf.ensures.effect.checked c.in_ok-look.ensures.effect.checked))
-    c.in_ok-seat_of-in-Beyond.ensures.effect.checked)
+    c.in_ok-region_holding-in-Beyond.ensures.effect.checked)
+
+pub returns-in-Here-clause-small : goal.returns-in-Here-clause-small
+returns-in-Here-clause-small g c = c.region_at.ensures.small
+
+pub returns-in_ok-region_holding-in-Beyond-clause-small : goal.returns-in_ok-region_holding-in-Beyond-clause-small
+returns-in_ok-region_holding-in-Beyond-clause-small g c = c.in_ok-region_holding-in-Beyond.ensures.small
+
+pub returns-in_err-leaf-clause-small : goal.returns-in_err-leaf-clause-small
+returns-in_err-leaf-clause-small g c = none_ok _ c.from_residual.result _ c.from_residual.ensures.1
+
+pub returns-in_err-look-clause-small : goal.returns-in_err-look-clause-small
+returns-in_err-look-clause-small g c = none_ok _ c.from_residual-in_err-look.result _ c.from_residual-in_err-look.ensures.1
+
+pub returns-in_err-region_holding-in-Beyond-clause-small : goal.returns-in_err-region_holding-in-Beyond-clause-small
+returns-in_err-region_holding-in-Beyond-clause-small g c = none_ok _ c.from_residual-in_err-region_holding-in-Beyond.result _ c.from_residual-in_err-region_holding-in-Beyond.ensures.1

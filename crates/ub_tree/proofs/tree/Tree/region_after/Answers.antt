@@ -1,5 +1,5 @@
 use Rattle.std.proofs.Common.{◌<◌, ◌^◌, inl, inr, Option, subst, sym}
-use Rattle.ub_index.specs.declared.seat.Seat.{Seat}
+use Rattle.ub_region.specs.declared.region.Region.{Region as Span}
 use Rattle.ub_tree.proofs.CallFacts.{last_small}
 use Rattle.ub_tree.proofs.EffectFacts.{refused_all}
 use Rattle.ub_tree.proofs.NeighbourFacts.{given_next, next_begins, search_apart}
@@ -7,29 +7,29 @@ use Rattle.ub_tree.proofs.SearchFacts.{search_refused}
 use Rattle.ub_store.specs.Facts.{IsHonest}
 use Rattle.ub_tree.specs.Tree.{tree_view}
 use Rattle.ub_tree.specs.View.{TreeView}
-use Rattle.ub_tree.specs.inner.Change.{IsSeatOf}
+use Rattle.ub_tree.specs.Told.{IsRegionOf}
 use Rattle.ub_writing.specs.Marks.{is_written}
-use Rattle.ub_tree.proofs.tree.Tree.seat_after.Goals as goal
+use Rattle.ub_tree.proofs.tree.Tree.region_after.Goals as goal
 
 pub returns-in_err-next-clause-effect : goal.returns-in_err-next-clause-effect
 returns-in_err-next-clause-effect g c =
     let t = c.self.inside in
     let small = subst (λ n. n < 2 ^ 128) (sym c.self.invariant.last_is) (last_small t.schema.dims t.schema.counts.few_dims) in
-    rw (← c.self.view_is) (search_refused t.schema t.index t.count t.next t.rows (is_written t.mark) t.is_failed t.pager c.after.new.pager _ (Option Seat) c.from_residual.result c.in_err-next.field-0.0 small c.self.invariant.checked
+    rw (← c.self.view_is) (search_refused t.schema t.index t.count t.next t.rows (is_written t.mark) t.is_failed t.pager c.after.new.pager _ (Option Span) c.from_residual.result c.in_err-next.field-0.0 small c.self.invariant.checked
     c.from_residual.ensures.1 c.in_err-next.ensures.effect)
 
 pub returns-else-begins_at-clause-effect : goal.returns-else-begins_at-clause-effect
 returns-else-begins_at-clause-effect g c =
     let t = c.self.inside in
     let v : TreeView = tree_view t.schema t.index t.count t.next t.rows (is_written t.mark) t.is_failed t.pager in
-    let told = subst (λ (x : TreeView). IsSeatOf x c.args.seat.now) (sym c.self.view_is) c.requires in
-    let given = given_next v c.args.seat.now.next c.in-Some.next (rw c.in-Some.is at (c.in_ok-next.ensures.given c.self.invariant.checked)) in
+    let told = subst (λ (x : TreeView). IsRegionOf x c.args.region.now) (sym c.self.view_is) c.requires in
+    let given = given_next v c.args.region.now.next c.in-Some.next (rw c.in-Some.is at (c.in_ok-next.ensures.given c.self.invariant.checked)) in
     let over : ¬ (IsHonest t.pager.store) =
-    elim (next_begins v told.0 given.0 c.args.seat.now c.in-Some.next told.1 given.1 given.2) [
+    elim (next_begins v told.key given.0 c.args.region.now c.in-Some.next told.falls given.1 given.2) [
       | inl same ↦ let no = c.if-begins_at.ensures.1 same in cc
       | inr over ↦ over
     ] in
-    rw (← c.self.view_is) (search_apart t.schema t.index t.count t.next t.rows (is_written t.mark) t.is_failed t.pager c.after.new.pager _ (Option Seat) c.in_ok-next.field-0 c.apart.result
+    rw (← c.self.view_is) (search_apart t.schema t.index t.count t.next t.rows (is_written t.mark) t.is_failed t.pager c.after.new.pager _ (Option Span) c.in_ok-next.field-0 c.apart.result
     c.in_ok-next.ensures.effect c.apart.ensures over)
 
 pub returns-in_err-next-clause-begins : goal.returns-in_err-next-clause-begins
