@@ -4,8 +4,8 @@ use crate::changes::THREE;
 use crate::pages::Sheet;
 use crate::trial::{Answer, DEVICE, Step, Trial};
 use std::alloc::Global;
-use ub_index::Seat;
 use ub_index_page::Key;
+use ub_region::Region;
 
 // Addresses, and the page of the region that holds the first key of each.
 type Pages = &'static [(u128, u32)];
@@ -37,17 +37,21 @@ const FOUR: &[Sheet] = &[
     Sheet::Index(4, &[(0, 0, 7), (20, 0, 8)]),
 ];
 
-// The seat behind which a region comes in full pages, and the one that goes in the index of four levels.
-const LAST: Seat = Seat {
+// The region behind which one comes in full pages, and the one that goes in the index of four levels.
+const LAST: Region = Region {
     first: Key { z: 169, number: 0 },
-    page: 1169,
     next: Some(Key { z: 200, number: 0 }),
+    from: 169,
+    to: 199,
+    page: 1169,
 };
 
-const MIDDLE: Seat = Seat {
+const MIDDLE: Region = Region {
     first: Key { z: 20, number: 0 },
-    page: 101,
     next: Some(Key { z: 40, number: 0 }),
+    from: 20,
+    to: 39,
+    page: 101,
 };
 
 static CASES: &[Case] = &[

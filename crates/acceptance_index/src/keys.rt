@@ -1,7 +1,7 @@
 // What an index is to answer by the flat list of its regions' entries, and whether it does.
 use crate::pages::{Listed, Tried};
 use ub_bigmin::ZBox;
-use ub_index::{Index, IndexFault, Seat};
+use ub_index::{Index, IndexFault};
 use ub_index_page::Key;
 use ub_region::Region;
 use ub_zaddr::{Point, Shape};
@@ -14,8 +14,17 @@ pub(crate) fn first_of(listed: &Listed) -> Key {
     }
 }
 
-// The seat of the region that holds a key, among those that are listed.
-fn seat_in(flat: &[Listed], z: u128, number: u32) -> Option<Seat> {
+// Where a region ends after which this one begins, if there is one.
+fn end_before(next: &Option<Key>) -> u128 {
+    match next {
+        Some(next) if next.number == 0 => next.z.saturating_sub(1),
+        Some(next) => next.z,
+        None => u128::MAX,
+    }
+}
+
+// The region that holds a key, among those that are listed. The last one is shown as if its space had all addresses.
+fn region_in(flat: &[Listed], z: u128, number: u32) -> Option<Region> {
     let key = Key { z, number };
     let mut held = None;
     for i in 0..flat.len() {
@@ -26,21 +35,37 @@ fn seat_in(flat: &[Listed], z: u128, number: u32) -> Option<Seat> {
             } else {
                 None
             };
-            held = Some(Seat {
+            held = Some(Region {
                 first,
-                page: flat[i].2,
                 next,
+                from: first.z,
+                to: end_before(&next),
+                page: flat[i].2,
             });
         }
     }
     held
 }
 
+// Whether a region that was found is this one. Where the last one ends depends on its space.
+fn is_found(found: &Region, listed: &Region) -> bool {
+    let to = if listed.next.is_some() {
+        listed.to
+    } else {
+        found.to
+    };
+    *found == Region { to, ..*listed }
+}
+
 // Whether each key of this address is found in the region that holds it.
 fn finds_at(index: &Index, pager: &mut Tried, flat: &[Listed], z: u128) -> bool {
     for number in 0..7 {
-        if index.seat_of(pager, &Key { z, number }).ok() != seat_in(flat, z, number) {
+        let Some(listed) = region_in(flat, z, number) else {
             return false;
+        };
+        match index.region_holding(pager, &Key { z, number }) {
+            Ok(found) if is_found(&found, &listed) => {}
+            _ => return false,
         }
     }
     true
@@ -56,10 +81,10 @@ fn finds_each(index: &Index, pager: &mut Tried, flat: &[Listed]) -> bool {
     true
 }
 
-// The page of the seat that a call gives, or 0.
-pub(crate) fn page_given(given: Result<Option<Seat>, IndexFault>) -> u32 {
+// The page of the region that a call gives, or 0.
+pub(crate) fn page_given(given: Result<Option<Region>, IndexFault>) -> u32 {
     match given {
-        Ok(Some(seat)) => seat.page,
+        Ok(Some(region)) => region.page,
         _ => 0,
     }
 }
@@ -67,13 +92,13 @@ pub(crate) fn page_given(given: Result<Option<Seat>, IndexFault>) -> u32 {
 // Whether each region has those for neighbours that are listed beside it.
 fn has_neighbours(index: &Index, pager: &mut Tried, flat: &[Listed]) -> bool {
     for i in 0..flat.len() {
-        let Some(seat) = seat_in(flat, flat[i].0, flat[i].1) else {
+        let Some(region) = region_in(flat, flat[i].0, flat[i].1) else {
             return false;
         };
         let before = if i == 0 { 0 } else { flat[i - 1].2 };
         let after = if i + 1 < flat.len() { flat[i + 1].2 } else { 0 };
-        let is_before = page_given(index.before(pager, &seat)) == before;
-        let is_after = page_given(index.after(pager, &seat)) == after;
+        let is_before = page_given(index.before(pager, &region)) == before;
+        let is_after = page_given(index.after(pager, &region)) == after;
         if !(is_before & is_after) {
             return false;
         }
@@ -89,8 +114,8 @@ pub(crate) fn is_list(index: &Index, pager: &mut Tried, flat: &[Listed]) -> bool
 // Whether the least key of each address leads to its page.
 pub(crate) fn leads(index: &Index, pager: &mut Tried, pages: &[(u128, u32)]) -> bool {
     for (z, page) in pages {
-        match index.seat_of(pager, &Key { z: *z, number: 0 }) {
-            Ok(seat) if seat.page == *page => {}
+        match index.region_holding(pager, &Key { z: *z, number: 0 }) {
+            Ok(region) if region.page == *page => {}
             _ => return false,
         }
     }

@@ -121,7 +121,7 @@ static ORDERS: [Order; 3] = [Order::Ascending, Order::Descending, Order::Middle]
 // Whether the index is the flat list of the regions that are left, one bit for each from the lowest: gone through from the first to
 // the last, each has the one before it for a neighbour.
 fn is_left(trial: &mut Trial, left: u32) -> bool {
-    let mut here = trial.answer(&Step::Seat(0, 0));
+    let mut here = trial.answer(&Step::Find(0, 0));
     let mut before = Answer::Told(0);
     let mut rest = left;
     for region in REGIONS {
@@ -178,7 +178,7 @@ fn next_rank(left: u32, order: Order) -> u32 {
 
 // Whether this region is dropped, the root is that of those that are left then, and they are the index.
 fn drops(trial: &mut Trial, region: Listed, left: u32) -> bool {
-    let found = trial.answer(&Step::Seat(region.0, region.1));
+    let found = trial.answer(&Step::Find(region.0, region.1));
     let prepared = trial.answer(&Step::Drop);
     let grown = trial.answer(&Step::Grow);
     let made = trial.answer(&Step::Commit);

@@ -5,9 +5,9 @@ use crate::pages::{Sheet, Tried, fill, page_of};
 use std::alloc::Global;
 use std::num::NonZeroUsize;
 use std::process::Abort;
-use ub_index::{Index, Seat};
+use ub_index::Index;
 use ub_index_page::PageFault;
-use ub_region::ORIGIN;
+use ub_region::{ORIGIN, Region};
 use ub_store::{FaultyStore, MemStore, PageStore, Pager, StoreFault};
 use ub_table::{Name, Schema};
 use ub_upgrade::{Root, UpgradeFault, build_index, copy_pages};
@@ -380,23 +380,23 @@ fn new_store(alloc: Global, due: u64) -> Option<Tried> {
 
 // Whether the flat list of an index is of so many regions, which begin with the addresses from 0 on, on these pages.
 fn are_regions(index: &Index, pager: &mut Tried, regions: u32, places: &Places) -> bool {
-    let mut seat = index.seat_of(pager, &ORIGIN).ok();
+    let mut region = index.region_holding(pager, &ORIGIN).ok();
     for z in 0..regions {
-        let Some(found) = seat else {
+        let Some(found) = region else {
             return false;
         };
         if !is_region(&found, z, places) {
             return false;
         }
-        seat = index.after(pager, &found).unwrap_or(None);
+        region = index.after(pager, &found).unwrap_or(None);
     }
-    seat.is_none()
+    region.is_none()
 }
 
 // Whether a region begins with this address, and has the page that it is to have.
-fn is_region(seat: &Seat, z: u32, places: &Places) -> bool {
+fn is_region(region: &Region, z: u32, places: &Places) -> bool {
     let page = z.wrapping_mul(places.times).wrapping_add(places.from);
-    (seat.first.z == u128::from(z)) & (seat.first.number == 0) & (seat.page == page)
+    (region.first.z == u128::from(z)) & (region.first.number == 0) & (region.page == page)
 }
 
 // What is told of an index that was built.

@@ -3,8 +3,8 @@
 use crate::pages::{Sheet, Tried};
 use crate::searches::THREE;
 use crate::trial::{Answer, DEVICE, NO_PAGE, Run, Step, all_go, whether};
-use ub_index::Seat;
 use ub_index_page::{Key, PageFault};
+use ub_region::Region;
 
 // The page of a root that names the region on page 5, byte by byte: 'I', level 1, one entry, zeros, and at 36 the number of the page.
 const ROOT: [u8; 40] = [
@@ -12,11 +12,13 @@ const ROOT: [u8; 40] = [
     0, 0, 0, 0, 0, 0, 0, 0, 5,
 ];
 
-// The seat of its region.
-const ALL: Seat = Seat {
+// Its region.
+const ALL: Region = Region {
     first: Key { z: 0, number: 0 },
-    page: 5,
     next: None,
+    from: 0,
+    to: u128::MAX,
+    page: 5,
 };
 
 // Whether the page of this number begins with these bytes, and has zeros behind them.
@@ -114,18 +116,18 @@ static RUNS: &[Run] = &[
             (Step::Open(6, 3, 63), Answer::Done),
             (Step::Store(THREE, 2, 4), Answer::Done),
             (Step::Open(6, 3, 63), Answer::Done),
-            (Step::Seat(25, 0), DEVICE),
-            (Step::Seat(25, 0), Answer::Told(104)),
+            (Step::Find(25, 0), DEVICE),
+            (Step::Find(25, 0), Answer::Told(104)),
             (Step::Open(6, 3, 63), Answer::Done),
             (Step::Store(THREE, 3, 4), Answer::Done),
             (Step::Open(6, 3, 63), Answer::Done),
-            (Step::Seat(25, 0), DEVICE),
-            (Step::Seat(25, 0), Answer::Told(104)),
+            (Step::Find(25, 0), DEVICE),
+            (Step::Find(25, 0), Answer::Told(104)),
             (Step::Open(6, 3, 63), Answer::Done),
             (Step::Store(THREE, 4, 4), Answer::Done),
             (Step::Open(6, 3, 63), Answer::Done),
-            (Step::Seat(25, 0), Answer::Told(104)),
-            (Step::Seat(25, 0), Answer::Told(104)),
+            (Step::Find(25, 0), Answer::Told(104)),
+            (Step::Find(25, 0), Answer::Told(104)),
             (Step::Open(6, 3, 63), Answer::Done),
         ],
     },
@@ -135,9 +137,9 @@ static RUNS: &[Run] = &[
             (Step::Store(THREE, 0, 4), Answer::Done),
             (Step::Create(2, u128::MAX), Answer::Done),
             (Step::Begins(2, &ROOT), Answer::Done),
-            (Step::Seat(0, 0), Answer::Told(5)),
+            (Step::Find(0, 0), Answer::Told(5)),
             (Step::Is(ALL), Answer::Done),
-            (Step::Seat(u128::MAX, u32::MAX), Answer::Told(5)),
+            (Step::Find(u128::MAX, u32::MAX), Answer::Told(5)),
             (Step::Is(ALL), Answer::Done),
             (Step::Open(2, 1, u128::MAX), Answer::Done),
             (Step::Store(THREE, 1, 4), Answer::Done),
@@ -148,9 +150,9 @@ static RUNS: &[Run] = &[
             (Step::Store(THREE, 3, 4), Answer::Done),
             (Step::Create(2, u128::MAX), Answer::Done),
             (Step::Begins(2, &ROOT), Answer::Done),
-            (Step::Seat(0, 0), Answer::Told(5)),
+            (Step::Find(0, 0), Answer::Told(5)),
             (Step::Is(ALL), Answer::Done),
-            (Step::Seat(u128::MAX, u32::MAX), Answer::Told(5)),
+            (Step::Find(u128::MAX, u32::MAX), Answer::Told(5)),
             (Step::Is(ALL), Answer::Done),
             (Step::Open(2, 1, u128::MAX), Answer::Done),
         ],

@@ -2,8 +2,8 @@
 // that fails at each call.
 use crate::pages::{Listed, Sheet};
 use crate::trial::{Answer, DEVICE, NO_PAGE, Run, Step, all_go};
-use ub_index::Seat;
 use ub_index_page::{Key, PageFault};
+use ub_region::Region;
 
 // The regions' entries, from left to right.
 const FLAT: &[Listed] = &[
@@ -34,11 +34,13 @@ pub(crate) const THREE: &[Sheet] = &[
     Sheet::Index(3, &[(0, 0, 4), (20, 0, 5)]),
 ];
 
-// The seat of the region that holds the least key of address 25.
-const AT_25: Seat = Seat {
+// The region that holds the least key of address 25.
+const AT_25: Region = Region {
     first: Key { z: 20, number: 5 },
-    page: 104,
     next: Some(Key { z: 31, number: 1 }),
+    from: 20,
+    to: 31,
+    page: 104,
 };
 
 // The pages that don't fit, and where the search goes down: of another level, another first key, a last key that isn't before the
@@ -86,37 +88,37 @@ static RUNS: &[Run] = &[
             (Step::Store(THREE, 0, 4), Answer::Done),
             (Step::Index(6, 3, 63), Answer::Done),
             (Step::Put(6, Sheet::Index(2, &[(0, 0, 4)])), Answer::Done),
-            (Step::Seat(0, 0), Answer::Page(6, PageFault::BadCount)),
+            (Step::Find(0, 0), Answer::Page(6, PageFault::BadCount)),
             (Step::Store(THREE, 0, 4), Answer::Done),
             (Step::Put(4, Sheet::Index(1, &[(0, 0, 1)])), Answer::Done),
-            (Step::Seat(0, 0), Answer::Page(4, PageFault::BadCount)),
+            (Step::Find(0, 0), Answer::Page(4, PageFault::BadCount)),
             (Step::Store(THREE, 0, 4), Answer::Done),
             (Step::Put(2, Sheet::Index(2, &[(9, 2, 1)])), Answer::Done),
-            (Step::Seat(10, 0), Answer::Page(2, PageFault::BadCount)),
+            (Step::Find(10, 0), Answer::Page(2, PageFault::BadCount)),
             (Step::Store(THREE, 0, 4), Answer::Done),
             (Step::Put(6, Sheet::Index(3, &[(0, 1, 4)])), Answer::Done),
-            (Step::Seat(0, 0), Answer::Page(6, PageFault::OutOfRegion)),
+            (Step::Find(0, 0), Answer::Page(6, PageFault::OutOfRegion)),
             (Step::Store(THREE, 0, 4), Answer::Done),
             (Step::Put(5, Sheet::Index(2, &[(20, 1, 3)])), Answer::Done),
-            (Step::Seat(31, 0), Answer::Page(5, PageFault::OutOfRegion)),
+            (Step::Find(31, 0), Answer::Page(5, PageFault::OutOfRegion)),
             (Step::Store(THREE, 0, 4), Answer::Done),
             (Step::Put(2, Sheet::Index(1, &[(9, 1, 102)])), Answer::Done),
-            (Step::Seat(10, 0), Answer::Page(2, PageFault::OutOfRegion)),
+            (Step::Find(10, 0), Answer::Page(2, PageFault::OutOfRegion)),
             (Step::Store(THREE, 0, 4), Answer::Done),
             (
                 Step::Put(1, Sheet::Index(1, &[(0, 0, 100), (9, 2, 101)])),
                 Answer::Done,
             ),
-            (Step::Seat(5, 0), Answer::Page(1, PageFault::OutOfRegion)),
+            (Step::Find(5, 0), Answer::Page(1, PageFault::OutOfRegion)),
             (Step::Store(THREE, 0, 4), Answer::Done),
             (
                 Step::Put(3, Sheet::Index(1, &[(20, 0, 103), (20, 0, 104)])),
                 Answer::Done,
             ),
-            (Step::Seat(63, 0), Answer::Page(3, PageFault::BadOrder)),
+            (Step::Find(63, 0), Answer::Page(3, PageFault::BadOrder)),
             (Step::Store(THREE, 0, 4), Answer::Done),
             (Step::Put(4, Sheet::Index(2, &[(0, 0, 0)])), Answer::Done),
-            (Step::Seat(3, 0), Answer::Page(4, PageFault::BadRow)),
+            (Step::Find(3, 0), Answer::Page(4, PageFault::BadRow)),
         ],
     },
     Run {
@@ -125,7 +127,7 @@ static RUNS: &[Run] = &[
             (Step::Store(THREE, 0, 4), Answer::Done),
             (Step::Index(6, 3, 63), Answer::Done),
             (Step::Put(4, Sheet::Index(2, &[(0, 0, 7)])), Answer::Done),
-            (Step::Seat(3, 0), NO_PAGE),
+            (Step::Find(3, 0), NO_PAGE),
         ],
     },
     Run {
@@ -133,21 +135,21 @@ static RUNS: &[Run] = &[
         steps: &[
             (Step::Store(THREE, 1, 4), Answer::Done),
             (Step::Index(6, 3, 63), Answer::Done),
-            (Step::Seat(25, 0), DEVICE),
-            (Step::Seat(25, 0), Answer::Told(104)),
+            (Step::Find(25, 0), DEVICE),
+            (Step::Find(25, 0), Answer::Told(104)),
             (Step::Is(AT_25), Answer::Done),
             (Step::Store(THREE, 2, 4), Answer::Done),
-            (Step::Seat(25, 0), DEVICE),
-            (Step::Seat(25, 0), Answer::Told(104)),
+            (Step::Find(25, 0), DEVICE),
+            (Step::Find(25, 0), Answer::Told(104)),
             (Step::Is(AT_25), Answer::Done),
             (Step::Store(THREE, 3, 4), Answer::Done),
-            (Step::Seat(25, 0), DEVICE),
-            (Step::Seat(25, 0), Answer::Told(104)),
+            (Step::Find(25, 0), DEVICE),
+            (Step::Find(25, 0), Answer::Told(104)),
             (Step::Is(AT_25), Answer::Done),
             (Step::Store(THREE, 4, 4), Answer::Done),
-            (Step::Seat(25, 0), Answer::Told(104)),
+            (Step::Find(25, 0), Answer::Told(104)),
             (Step::Is(AT_25), Answer::Done),
-            (Step::Seat(25, 0), Answer::Told(104)),
+            (Step::Find(25, 0), Answer::Told(104)),
             (Step::Is(AT_25), Answer::Done),
         ],
     },

@@ -4,7 +4,7 @@ use crate::opening::begins;
 use crate::pages::{Listed, Sheet, Tried, page_of, stored};
 use std::alloc::Global;
 use std::process::Abort;
-use ub_index::{Change, Index, IndexFault, Seat};
+use ub_index::{Change, Index, IndexFault};
 use ub_index_page::{Key, PageFault};
 use ub_region::Region;
 use ub_store::StoreFault;
@@ -22,21 +22,21 @@ pub(crate) enum Step {
     Create(u32, u128),
     // Puts a page in the place of this one.
     Put(u32, Sheet),
-    // Takes the seat of the region that holds a key: its page.
-    Seat(u128, u32),
-    // Takes this seat.
-    Take(Seat),
-    // Whether this is the seat that was taken.
-    Is(Seat),
-    // Takes the seat of the next region, if there is one: its page, or 0.
+    // Takes the region that holds a key: its page.
+    Find(u128, u32),
+    // Takes this region.
+    Take(Region),
+    // Whether this is the region that was taken.
+    Is(Region),
+    // Takes the next region, if there is one: its page, or 0.
     After,
     // The page of the region before, or 0.
     Before,
     // The page of the first region later than another, or of the first of all, whose span ends at an address or later, or 0.
     Seek(u128, Option<Region>),
-    // Prepares that a region comes at a key behind that of the seat: the root from then on, and its level.
+    // Prepares that a region comes at a key behind the one that was taken: the root from then on, and its level.
     Add(u128, u32),
-    // Prepares that the region of the seat goes: the same.
+    // Prepares that the region that was taken goes: the same.
     Drop,
     // The page of the region that the prepared change adds.
     Added,
@@ -79,11 +79,13 @@ pub(crate) const DEVICE: Answer = Answer::Store(StoreFault::Device);
 
 pub(crate) const NO_PAGE: Answer = Answer::Store(StoreFault::NoPage);
 
-// The seat of a region that begins with the least key of all, on no page.
-const NO_SEAT: Seat = Seat {
+// A region that begins with the least key of all, on no page.
+const NO_REGION: Region = Region {
     first: Key { z: 0, number: 0 },
-    page: 0,
     next: None,
+    from: 0,
+    to: 0,
+    page: 0,
 };
 
 // What is tried: what it shows, and steps.
@@ -92,11 +94,11 @@ pub(crate) struct Run {
     pub(crate) steps: &'static [(Step, Answer)],
 }
 
-// An index, the seat that was taken last, and the change that was prepared last.
+// An index, the region that was taken last, and the change that was prepared last.
 #[derive(Drop)]
 struct Held {
     index: Index,
-    seat: Seat,
+    region: Region,
     change: Option<Change>,
 }
 
@@ -133,7 +135,7 @@ impl Trial {
             alloc,
             held: Held {
                 index: Index::new(1, 1, 0),
-                seat: NO_SEAT,
+                region: NO_REGION,
                 change: None,
             },
             pager: None,
@@ -180,11 +182,11 @@ fn ask(alloc: Global, held: &mut Held, pager: &mut Tried, step: &Step) -> Answer
                 Err(fault) => Answer::Store(fault),
             }
         }
-        Step::Take(seat) => {
-            held.seat = *seat;
+        Step::Take(region) => {
+            held.region = *region;
             Answer::Done
         }
-        Step::Is(seat) => whether(held.seat == *seat),
+        Step::Is(region) => whether(held.region == *region),
         Step::Add(z, number) => held.add(
             alloc,
             pager,
@@ -235,38 +237,38 @@ impl Held {
         }
     }
 
-    // Takes the seat that a search gives.
-    fn sit(&mut self, found: Result<Option<Seat>, IndexFault>) -> Answer {
+    // Takes the region that a search gives.
+    fn found(&mut self, found: Result<Option<Region>, IndexFault>) -> Answer {
         match found {
-            Ok(Some(seat)) => {
-                self.seat = seat;
-                Answer::Told(seat.page)
+            Ok(Some(region)) => {
+                self.region = region;
+                Answer::Told(region.page)
             }
             Ok(None) => Answer::Told(0),
             Err(fault) => refused(fault),
         }
     }
 
-    // What a search for a seat answers.
+    // What a search for a region answers.
     fn search(&mut self, pager: &mut Tried, step: &Step) -> Answer {
         match step {
-            Step::Seat(z, number) => {
-                match self.index.seat_of(
+            Step::Find(z, number) => {
+                match self.index.region_holding(
                     pager,
                     &Key {
                         z: *z,
                         number: *number,
                     },
                 ) {
-                    Ok(seat) => self.sit(Ok(Some(seat))),
+                    Ok(region) => self.found(Ok(Some(region))),
                     Err(fault) => refused(fault),
                 }
             }
             Step::After => {
-                let found = self.index.after(pager, &self.seat);
-                self.sit(found)
+                let found = self.index.after(pager, &self.region);
+                self.found(found)
             }
-            Step::Before => Answer::Told(page_given(self.index.before(pager, &self.seat))),
+            Step::Before => Answer::Told(page_given(self.index.before(pager, &self.region))),
             _ => look(&self.index, pager, step),
         }
     }
@@ -283,15 +285,15 @@ impl Held {
         }
     }
 
-    // Prepares that a region comes behind the seat.
+    // Prepares that a region comes behind the one that was taken.
     fn add(&mut self, alloc: Global, pager: &mut Tried, key: &Key) -> Answer {
-        let prepared = self.index.prepare_add(alloc, pager, &self.seat, key);
+        let prepared = self.index.prepare_add(alloc, pager, &self.region, key);
         self.hold(prepared)
     }
 
-    // Prepares that the region of the seat goes.
+    // Prepares that the region that was taken goes.
     fn drop_region(&mut self, alloc: Global, pager: &mut Tried) -> Answer {
-        let prepared = self.index.prepare_drop(alloc, pager, &self.seat);
+        let prepared = self.index.prepare_drop(alloc, pager, &self.region);
         self.hold(prepared)
     }
 
