@@ -179,7 +179,7 @@ region_no_kind schema region is other =
     absurd (omega arith)
 
 -- a pager whose store was read
-pager_read : (old new : PagerView) (s : StoreFacts) → new.store ≡ s → SameTrace old new → new ≡ record old { store = s; cached = new.cached }
+pub pager_read : (old new : PagerView) (s : StoreFacts) → new.store ≡ s → SameTrace old new → new ≡ record old { store = s; cached = new.cached }
 pager_read old new s stores trace =
     ap (λ (x : StoreFacts). record new { store = x }) stores ∙ ap (λ (t : Trace). record { store = s; trace = t; cached = new.cached }) trace
 
@@ -390,3 +390,13 @@ module _ (schema : Schema) (last level : ℕ) (entry : Entry) (end : Option Key)
         checked = keeps_on last old mid new checked (keeps_on last mid now new h.checked k.checked);
         faults = subst (λ (x : IndexFault). IsWalkFault schema last (suc level) entry end old.store from x) (sym is) (below_fault f k.faults);
       }
+
+-- the same answer of another call
+pub walks_by : {T U : Type 0} (schema : Schema) (last : ℕ) (entry : Entry) (end : Option Key) (from : Walk) (old new : PagerView) (r : Result T IndexFault) (e : IndexFault)
+    → IsErrAnd r (λ x. x ≡ e) → Walks {A = U} schema last 0 entry end from old new (Err e) → Walks schema last 0 entry end from old new r
+walks_by schema last entry end from old new (Ok x) e is h = absurd is
+walks_by {T} {U} schema last entry end from old new (Err f) e is h = subst (λ (x : IndexFault). Walks {A = T} schema last 0 entry end from old new (Err x)) (sym is) (record {
+  same = h.same ∙ ap (λ (s : StoreFacts). record old { store = s; cached = new.cached }) (same_read T U e old.store);
+  checked = h.checked;
+  faults = h.faults;
+})

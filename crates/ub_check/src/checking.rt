@@ -11,7 +11,7 @@ use crate::numbers::Numbers;
 use crate::reading::take_region;
 use crate::walk::{Walk, has_met_all, new_walk};
 use std::alloc::Global;
-use ub_index::{IndexFault, entries_at};
+use ub_index::{IndexFault, entries_at, region_at};
 use ub_page::Entry;
 use ub_region::ORIGIN;
 use ub_store::{PageStore, Pager};
@@ -167,16 +167,12 @@ fn check_region<S: PageStore>(
     if walk.left == 0 {
         return Err(miscounted());
     }
-    let number = entry.page;
-    pager.bring(number)?;
-    let page = pager.cached(number);
-    if let Err(fault) = take_region(schema, &entry.first, end, number, page, &mut walk.region) {
-        pager.forget(number);
-        return Err(fault);
-    }
+    pager.bring(entry.page)?;
+    let region = region_at(last, entry, end);
+    take_region(pager, schema, &region, &mut walk.region)?;
     if !put_numbers(walk.region.keys(), &mut walk.numbers) {
         return Err(IndexFault::Page {
-            page: number,
+            page: entry.page,
             fault: PageFault::BadRow,
         });
     }

@@ -1,49 +1,67 @@
 ghost use Rattle.std.specs.Prelude.{◌≡◌, ◌↔◌, IsOk, OnOk, IfErr, IsTrue};
 ghost use Rattle.std.specs.List.{AllByRecursion};
-ghost use Rattle.ub_check.specs.Standing.{IsHeldBy, IsRegionRefused};
+ghost use Rattle.ub_check.specs.Standing.{IsHeldBy, IsRefusedAt, TakesIn};
 ghost use Rattle.ub_page.specs.Region as spec;
 ghost use Rattle.ub_page.specs.Region.{region_page};
 ghost use Rattle.ub_table.specs.Keys.{IsBefore, AreKeysAscending};
-ghost use Rattle.ub_table.specs.Region.{Region, IsRegion, keys_of};
+ghost use Rattle.ub_store.specs.View.{IsCached};
+ghost use Rattle.ub_table.specs.Region.{Region as RegionRows, IsRegion, keys_of};
 
 use ub_index::IndexFault;
 use ub_page::{Page, RegionPage};
-use ub_region::is_equal;
+use ub_region::{Region, is_equal};
+use ub_store::{PageStore, Pager};
 use ub_table::{Key, PageFault, Schema};
 
-/// Takes in the region that stands on the page of this number, where it begins with that key, and
-/// its rows are before the next region's first key, if there is one. After a fault any region may
-/// stand there.
-pub fn take_region(
+/// Takes in what stands on the page of a region, which the pager holds, where it begins with the region's first key, and its
+/// rows are before the next region's, if there is one. A page that is refused isn't held after it, and any region may stand in
+/// `page` then.
+pub fn take_region<S: PageStore>(
+    pager: &mut Pager<S>,
     schema: &Schema,
-    first: &Key,
-    next: Option<Key>,
-    number: u32,
-    page: &Page,
-    region: &mut RegionPage,
+    region: &Region,
+    page: &mut RegionPage,
 ) -> Result<(), IndexFault>
-    ensures dims { OnOk result (region.new.dims ≡ schema.now.dims) }
-    ensures on { OnOk result (region.new.region ≡ spec.region_on schema.now page.now) }
-    ensures found { OnOk result (IsRegion schema.now region.new.region
-        × (page.now ≡ region_page schema.now region.new.region)) }
-    ensures first { OnOk result (region.new.region.first ≡ first.now) }
-    ensures held { OnOk result (IsHeldBy schema.now.dims first.now next region.new.region) }
-    ensures exact { (r : Region) → IsRegion schema.now r
-        → page.now ≡ region_page schema.now r → IsHeldBy schema.now.dims first.now next r
-        → IsOk result × (region.new ≡ record { dims = schema.now.dims; region = r }) }
-    ensures refused { IfErr result (λ fault. (of_page : PageFault)
-        × (fault ≡ IndexFault.Page number of_page)
-        × IsRegionRefused schema.now first.now next page.now of_page) }
+    requires { IsCached pager.old region.now.page }
+    ensures { TakesIn schema.now region.now pager.old pager.new page.new result }
 {
-    region.fill(schema, page).map_err(|fault| IndexFault::Page {
-        page: number,
+    match take_in(schema, region, pager.cached(region.page), page) {
+        Ok(()) => Ok(()),
+        Err(fault) => {
+            pager.forget(region.page);
+            Err(fault)
+        }
+    }
+}
+
+// The same of the bytes of that page.
+fn take_in(
+    schema: &Schema,
+    region: &Region,
+    bytes: &Page,
+    page: &mut RegionPage,
+) -> Result<(), IndexFault>
+    ensures dims { OnOk result (page.new.dims ≡ schema.now.dims) }
+    ensures on { OnOk result (page.new.region ≡ spec.region_on schema.now bytes.now) }
+    ensures found { OnOk result (IsRegion schema.now page.new.region
+        × (bytes.now ≡ region_page schema.now page.new.region)) }
+    ensures held { OnOk result
+        (IsHeldBy schema.now.dims region.now.first region.now.next page.new.region) }
+    ensures exact { (r : RegionRows) → IsRegion schema.now r
+        → bytes.now ≡ region_page schema.now r
+        → IsHeldBy schema.now.dims region.now.first region.now.next r
+        → IsOk result × (page.new ≡ record { dims = schema.now.dims; region = r }) }
+    ensures refused { IfErr result (IsRefusedAt schema.now region.now bytes.now) }
+{
+    page.fill(schema, bytes).map_err(|fault| IndexFault::Page {
+        page: region.page,
         fault,
     })?;
-    if is_held(region, first, next) {
+    if is_held(page, &region.first, region.next) {
         Ok(())
     } else {
         Err(IndexFault::Page {
-            page: number,
+            page: region.page,
             fault: PageFault::OutOfRegion,
         })
     }

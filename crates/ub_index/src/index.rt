@@ -21,7 +21,7 @@ ghost use Rattle.ub_store.specs.Facts.{IsHonest, page_count};
 ghost use Rattle.ub_table.specs.Keys.{IsBefore, origin};
 
 use crate::change::Change;
-use crate::descent::{Found, Leaf, Place, aim, earlier, look, root_place, step_down};
+use crate::descent::{Found, Leaf, aim, earlier, look, root_place, step_down};
 use crate::fault::IndexFault;
 use crate::goal::Goal;
 use crate::making::put_all;
@@ -447,7 +447,10 @@ impl Index {
         let leaf = leaf_of(pager, self.root, self.levels, self.last, &region.first)?;
         match look(pager, self.last, &leaf, &region.first, goal)? {
             Found::Nothing => Ok(None),
-            Found::Here(from, place) => Ok(Some((from, region_at(self.last, &place)))),
+            Found::Here(from, place) => Ok(Some((
+                from,
+                region_at(self.last, &place.entry, place.next),
+            ))),
             Found::Beyond(from, aim) => Ok(Some((from, self.region_holding(pager, &aim)?))),
         }
     }
@@ -471,7 +474,7 @@ fn descend<S: PageStore>(
 {
     let leaf = leaf_of(pager, root, levels, last, key)?;
     let place = step_down(pager, last, 1, &leaf.place, key)?;
-    Ok(region_at(last, &place))
+    Ok(region_at(last, &place.entry, place.next))
 }
 
 // The leaf to which the way down from a root of this level leads.
@@ -523,18 +526,18 @@ fn before_key(key: &Key) -> Option<Key>
     }
 }
 
-// The region of a place, in a space with this last address.
-fn region_at(last: u128, place: &Place) -> Region
-    ensures region { result ≡ region_of last place.now.entry place.now.next }
+/// The region of an entry, up to where the next one begins, in a space with this last address.
+pub fn region_at(last: u128, entry: &Entry, next: Option<Key>) -> Region
+    ensures region { result ≡ region_of last entry.now next }
     ensures small { result.first.number < 2 ^ 32 }
 {
-    let first = place.entry.first;
+    let first = entry.first;
     Region {
         first,
-        next: place.next,
+        next,
         from: first.z,
-        to: end_at(last, &place.next),
-        page: place.entry.page,
+        to: end_at(last, &next),
+        page: entry.page,
     }
 }
 

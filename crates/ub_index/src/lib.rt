@@ -95,4 +95,4 @@ mod turning;
 pub use change::Change;
 pub use entries::entries_at;
 pub use fault::IndexFault;
-pub use index::Index;
+pub use index::{Index, region_at};

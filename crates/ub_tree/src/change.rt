@@ -100,22 +100,9 @@ impl<S: PageStore> Tree<S> {
             → MatchResult result (λ _. page.new.region ≡ r) IsPassing }
         ensures effect { Searches self.old self.new result }
     {
-        let number = region.page;
-        self.pager.bring(number)?;
-        match take_region(
-            &self.schema,
-            &region.first,
-            region.next,
-            number,
-            self.pager.cached(number),
-            page,
-        ) {
-            Ok(()) => Ok(()),
-            Err(fault) => {
-                self.pager.forget(number);
-                Err(TreeFault::from(fault))
-            }
-        }
+        self.pager.bring(region.page)?;
+        take_region(&mut self.pager, &self.schema, region, page)?;
+        Ok(())
     }
 
     // Puts these rows on the page of a region. After a fault the tree has failed.

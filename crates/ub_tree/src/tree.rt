@@ -214,19 +214,7 @@ impl<S: PageStore> Tree<S> {
             return Err(TreeFault::Failed);
         }
         self.pager.bring_region(region.page)?;
-        match take_region(
-            &self.schema,
-            &region.first,
-            region.next,
-            region.page,
-            self.pager.cached(region.page),
-            page,
-        ) {
-            Ok(()) => Ok(()),
-            Err(fault) => {
-                self.pager.forget(region.page);
-                Err(TreeFault::from(fault))
-            }
-        }
+        take_region(&mut self.pager, &self.schema, region, page)?;
+        Ok(())
     }
 }

@@ -2,6 +2,7 @@ use Rattle.std.proofs.Common.{◌≡◌, ◌<◌, ℕ, Bool, List, Ok, Some, ap,
 use Rattle.std.proofs.lemmas.Option.{slice_get_within}
 use Rattle.ub_check.proofs.StandingFacts.{page_still}
 use Rattle.ub_check.specs.Standing.{IsRegionRefused}
+use Rattle.ub_index.specs.Held.{KeepsChecked}
 use Rattle.ub_page.specs.Region.{RegionView, region_page}
 use Rattle.ub_store.specs.Facts.{IsHonest, IsPage, page_count}
 use Rattle.ub_tree.proofs.EffectFacts.{refused_none}
@@ -39,31 +40,31 @@ returns-in_err-bring-clause-effect g c =
           c.in_err-bring.ensures.no_size;
     })
 
-pub returns-in-Err-clause-effect : goal.returns-in-Err-clause-effect
-returns-in-Err-clause-effect g c =
+pub returns-in_err-take_region-clause-effect : goal.returns-in_err-take_region-clause-effect
+returns-in_err-take_region-clause-effect g c =
     let t = c.self.inside in
     let old : TreeView = tree_view t.schema t.index t.count t.next t.rows (is_written t.mark) t.is_failed t.pager in
     let told : IsRegionOf old c.args.region.now = subst (λ (v : TreeView). IsRegionOf v c.args.region.now) (sym c.self.view_is) c.requires in
     rw (← c.self.view_is) (record {
-      same = searched_tree {T = Unit {0}} (Err c.from.result) t.schema t.index t.count t.next t.rows (is_written t.mark) t.is_failed t.pager c.forget.new.self
-          (read_page_by {T = Unit {0}} (IsRegionRefused t.schema c.args.region.now.first c.args.region.now.next c.cached.result.now) (Err c.from.result) (index_fault c.in-Err.fault) c.args.region.now.page t.pager.store c.forget.new.self.store
-          c.from.ensures (told_above (IsRegionRefused t.schema c.args.region.now.first c.args.region.now.next c.cached.result.now) c.args.region.now.page c.in-Err.fault c.in-Err.ensures.refused) (ap (λ (p : PagerView). p.store) c.forget.ensures.same ∙ c.in_ok-bring.ensures.effect.same)) (ap (λ (p : PagerView). p.trace) c.forget.ensures.same ∙ c.in_ok-bring.ensures.trace);
-      faults = page_refused_by {T = Unit {0}} (IsRegionRefused t.schema c.args.region.now.first c.args.region.now.next c.cached.result.now) (Err c.from.result) (index_fault c.in-Err.fault) c.args.region.now.page old
-          c.from.ensures (told_above (IsRegionRefused t.schema c.args.region.now.first c.args.region.now.next c.cached.result.now) c.args.region.now.page c.in-Err.fault c.in-Err.ensures.refused)
+      same = searched_tree {T = Unit {0}} c.from_residual-in_err-take_region.result t.schema t.index t.count t.next t.rows (is_written t.mark) t.is_failed t.pager c.take_region.new.pager
+          (read_page_by {T = Unit {0}} (IsRegionRefused t.schema c.args.region.now.first c.args.region.now.next c.in_err-take_region.ensures.bytes) c.from_residual-in_err-take_region.result (index_fault c.in_err-take_region.field-0.0) c.args.region.now.page t.pager.store c.take_region.new.pager.store
+          c.from_residual-in_err-take_region.ensures.1 (told_above (IsRegionRefused t.schema c.args.region.now.first c.args.region.now.next c.in_err-take_region.ensures.bytes) c.args.region.now.page c.in_err-take_region.field-0.0 c.in_err-take_region.ensures.refused) (ap (λ (p : PagerView). p.store) c.in_err-take_region.ensures.same ∙ c.in_ok-bring.ensures.effect.same)) (ap (λ (p : PagerView). p.trace) c.in_err-take_region.ensures.same ∙ c.in_ok-bring.ensures.trace);
+      faults = page_refused_by {T = Unit {0}} (IsRegionRefused t.schema c.args.region.now.first c.args.region.now.next c.in_err-take_region.ensures.bytes) c.from_residual-in_err-take_region.result (index_fault c.in_err-take_region.field-0.0) c.args.region.now.page old
+          c.from_residual-in_err-take_region.ensures.1 (told_above (IsRegionRefused t.schema c.args.region.now.first c.args.region.now.next c.in_err-take_region.ensures.bytes) c.args.region.now.page c.in_err-take_region.field-0.0 c.in_err-take_region.ensures.refused)
           (λ sound.
           let on = sound_span old c.args.region.now sound told in
-          let at : slice_get t.pager.store.pages c.args.region.now.page ≡ Some c.cached.result.now = (page_still _ _ _ _ _ c.in_ok-bring.ensures.effect c.cached.ensures.page) sound.honest in
+          let at : slice_get t.pager.store.pages c.args.region.now.page ≡ Some c.in_err-take_region.ensures.bytes = (page_still _ _ _ _ _ c.in_ok-bring.ensures.effect c.in_err-take_region.ensures.page_is) sound.honest in
           let spelled : slice_get t.pager.store.pages c.args.region.now.page ≡ Some (region_page t.schema on.0) = on.1.2 sound.honest in
-          let page : c.cached.result.now ≡ region_page t.schema on.0 = cc in
-          (let bad = (c.in-Err.ensures.exact on.0 on.1.0 page on.1.1).0 in cc))
-          (λ f refused. refused_there old c.args.region.now c.cached.result.now f told (page_still _ _ _ _ _ c.in_ok-bring.ensures.effect c.cached.ensures.page) refused);
+          let page : c.in_err-take_region.ensures.bytes ≡ region_page t.schema on.0 = cc in
+          (let bad = (c.in_err-take_region.ensures.exact on.0 on.1.0 page on.1.1).0 in cc))
+          (λ f refused. refused_there old c.args.region.now c.in_err-take_region.ensures.bytes f told (page_still _ _ _ _ _ c.in_ok-bring.ensures.effect c.in_err-take_region.ensures.page_is) refused);
     })
 
-pub returns-in-Ok-clause-rows : goal.returns-in-Ok-clause-rows
-returns-in-Ok-clause-rows g c =
+pub returns-clause-rows : goal.returns-clause-rows
+returns-clause-rows g c =
     let t = c.self.inside in
     rw (← c.self.view_is) (λ i p honest at there.
-    rows_there t.schema t.index t.count t.next t.rows (is_written t.mark) t.is_failed t.pager i c.args.region.now c.cached.result.now c.take_region.new.region.region p honest at there ((page_still _ _ _ _ _ c.in_ok-bring.ensures.effect c.cached.ensures.page) honest) c.in-Ok.ensures.on)
+    rows_there t.schema t.index t.count t.next t.rows (is_written t.mark) t.is_failed t.pager i c.args.region.now c.in_ok-take_region.ensures.bytes c.take_region.new.page.region p honest at there ((page_still _ _ _ _ _ c.in_ok-bring.ensures.effect c.in_ok-take_region.ensures.page_is) honest) c.in_ok-take_region.ensures.on)
 
 pub returns-in_err-bring-clause-read : goal.returns-in_err-bring-clause-read
 returns-in_err-bring-clause-read g c = refused_none _ c.from_residual.result _ c.from_residual.ensures.1
@@ -74,14 +75,14 @@ returns-in_err-bring-clause-there g c = refused_none _ c.from_residual.result _ 
 pub returns-in_err-bring-clause-rows : goal.returns-in_err-bring-clause-rows
 returns-in_err-bring-clause-rows g c = λ i p honest at there. refused_none _ c.from_residual.result _ c.from_residual.ensures.1
 
-pub returns-in-Err-clause-read : goal.returns-in-Err-clause-read
-returns-in-Err-clause-read g c = tt
+pub returns-in_err-take_region-clause-read : goal.returns-in_err-take_region-clause-read
+returns-in_err-take_region-clause-read g c = refused_none _ c.from_residual-in_err-take_region.result _ c.from_residual-in_err-take_region.ensures.1
 
-pub returns-in-Err-clause-there : goal.returns-in-Err-clause-there
-returns-in-Err-clause-there g c = tt
+pub returns-in_err-take_region-clause-there : goal.returns-in_err-take_region-clause-there
+returns-in_err-take_region-clause-there g c = refused_none _ c.from_residual-in_err-take_region.result _ c.from_residual-in_err-take_region.ensures.1
 
-pub returns-in-Err-clause-rows : goal.returns-in-Err-clause-rows
-returns-in-Err-clause-rows g c = λ i p honest at there. tt
+pub returns-in_err-take_region-clause-rows : goal.returns-in_err-take_region-clause-rows
+returns-in_err-take_region-clause-rows g c = λ i p honest at there. refused_none _ c.from_residual-in_err-take_region.result _ c.from_residual-in_err-take_region.ensures.1
 
 pub returns-in_err-bring-clause-taken : goal.returns-in_err-bring-clause-taken
 returns-in_err-bring-clause-taken g c = λ honest r on.
@@ -94,61 +95,65 @@ returns-in_err-bring-clause-taken g c = λ honest r on.
     omega arith)
     c.in_err-bring.ensures.no_size
 
-pub returns-in-Err-clause-taken : goal.returns-in-Err-clause-taken
-returns-in-Err-clause-taken g c = λ honest r on.
+pub returns-in_err-take_region-clause-taken : goal.returns-in_err-take_region-clause-taken
+returns-in_err-take_region-clause-taken g c = λ honest r on.
     let t = c.self.inside in
     let honest_t = subst (λ (v : TreeView). IsHonest v.store) (sym c.self.view_is) honest in
     let on_t = subst (λ (v : TreeView). IsTakenIn v c.args.region.now r) (sym c.self.view_is) on in
-    let at : slice_get t.pager.store.pages c.args.region.now.page ≡ Some c.cached.result.now = (page_still _ _ _ _ _ c.in_ok-bring.ensures.effect c.cached.ensures.page) honest_t in
+    let at : slice_get t.pager.store.pages c.args.region.now.page ≡ Some c.in_err-take_region.ensures.bytes = (page_still _ _ _ _ _ c.in_ok-bring.ensures.effect c.in_err-take_region.ensures.page_is) honest_t in
     let spelled : slice_get t.pager.store.pages c.args.region.now.page ≡ Some (region_page t.schema r) = on_t.2 honest_t in
-    let page : c.cached.result.now ≡ region_page t.schema r = cc in
-    (let bad = (c.in-Err.ensures.exact r on_t.0 page on_t.1).0 in cc)
+    let page : c.in_err-take_region.ensures.bytes ≡ region_page t.schema r = cc in
+    (let bad = (c.in_err-take_region.ensures.exact r on_t.0 page on_t.1).0 in cc)
 
-pub returns-in-Ok-clause-read : goal.returns-in-Ok-clause-read
-returns-in-Ok-clause-read g c =
+pub returns-clause-read : goal.returns-clause-read
+returns-clause-read g c =
     let t = c.self.inside in
     let old : TreeView = tree_view t.schema t.index t.count t.next t.rows (is_written t.mark) t.is_failed t.pager in
-    let read : IsReadAt old c.args.region.now c.take_region.new.region = record {
-      dims = c.in-Ok.ensures.dims;
+    let read : IsReadAt old c.args.region.now c.take_region.new.page = record {
+      dims = c.in_ok-take_region.ensures.dims;
       on = (
-        c.in-Ok.ensures.found.0,
-        c.in-Ok.ensures.held,
-        subst (λ (page : List ℕ). IsPage t.pager.store c.args.region.now.page page) c.in-Ok.ensures.found.1 (page_still _ _ _ _ _ c.in_ok-bring.ensures.effect c.cached.ensures.page),
+        c.in_ok-take_region.ensures.is,
+        c.in_ok-take_region.ensures.stands,
+        subst (λ (page : List ℕ). IsPage t.pager.store c.args.region.now.page page) c.in_ok-take_region.ensures.spelled (page_still _ _ _ _ _ c.in_ok-bring.ensures.effect c.in_ok-take_region.ensures.page_is),
       );
     } in
-    subst (λ (v : TreeView). IsReadAt v c.args.region.now c.take_region.new.region) c.self.view_is read
+    subst (λ (v : TreeView). IsReadAt v c.args.region.now c.take_region.new.page) c.self.view_is read
 
-pub returns-in-Ok-clause-there : goal.returns-in-Ok-clause-there
-returns-in-Ok-clause-there g c = subst (λ (v : TreeView). c.args.region.now.page < page_count v.store) c.self.view_is c.in_ok-bring.ensures.there
+pub returns-clause-there : goal.returns-clause-there
+returns-clause-there g c = subst (λ (v : TreeView). c.args.region.now.page < page_count v.store) c.self.view_is c.in_ok-bring.ensures.there
 
-pub returns-in-Ok-clause-taken : goal.returns-in-Ok-clause-taken
-returns-in-Ok-clause-taken g c = λ honest r on.
+pub returns-clause-taken : goal.returns-clause-taken
+returns-clause-taken g c = λ honest r on.
     let t = c.self.inside in
     let honest_t = subst (λ (v : TreeView). IsHonest v.store) (sym c.self.view_is) honest in
     let on_t = subst (λ (v : TreeView). IsTakenIn v c.args.region.now r) (sym c.self.view_is) on in
-    let at : slice_get t.pager.store.pages c.args.region.now.page ≡ Some c.cached.result.now = (page_still _ _ _ _ _ c.in_ok-bring.ensures.effect c.cached.ensures.page) honest_t in
+    let at : slice_get t.pager.store.pages c.args.region.now.page ≡ Some c.in_ok-take_region.ensures.bytes = (page_still _ _ _ _ _ c.in_ok-bring.ensures.effect c.in_ok-take_region.ensures.page_is) honest_t in
     let spelled : slice_get t.pager.store.pages c.args.region.now.page ≡ Some (region_page t.schema r) = on_t.2 honest_t in
-    let page : c.cached.result.now ≡ region_page t.schema r = cc in
-    ap (λ (v : RegionView). v.region) (c.take_region.ensures.exact r on_t.0 page on_t.1).1
+    let page : c.in_ok-take_region.ensures.bytes ≡ region_page t.schema r = cc in
+    ap (λ (v : RegionView). v.region) (c.in_ok-take_region.ensures.exact r on_t.0 page on_t.1).1
 
-pub returns-in-Ok-clause-effect : goal.returns-in-Ok-clause-effect
-returns-in-Ok-clause-effect g c =
+pub returns-clause-effect : goal.returns-clause-effect
+returns-clause-effect g c =
     let t = c.self.inside in
     rw (← c.self.view_is) (record {
-      same = searched_tree {T = Unit {0}} (Ok tt) t.schema t.index t.count t.next t.rows (is_written t.mark) t.is_failed t.pager c.bring.new.self c.in_ok-bring.ensures.effect.same c.in_ok-bring.ensures.trace;
+      same = searched_tree {T = Unit {0}} (Ok tt) t.schema t.index t.count t.next t.rows (is_written t.mark) t.is_failed t.pager c.take_region.new.pager
+          (ap (λ (p : PagerView). p.store) c.in_ok-take_region.ensures.kept ∙ c.in_ok-bring.ensures.effect.same) (ap (λ (p : PagerView). p.trace) c.in_ok-take_region.ensures.kept ∙ c.in_ok-bring.ensures.trace);
       faults = tt;
     })
 
-pub invariant_of-self-in-Ok : goal.invariant_of-self-in-Ok
-invariant_of-self-in-Ok g c =
+pub invariant_of-self : goal.invariant_of-self
+invariant_of-self g c =
     let t = c.self.inside in
-    tree_kept t.schema t.index t.count t.next t.rows t.mark t.pager c.bring.new.self c.self.invariant
-    (region_checked t.schema t.index.last c.args.region.now.page t.pager c.bring.new.self _ c.in_ok-bring.ensures.effect.same c.in_ok-bring.ensures.others c.take_region.new.region.region c.cached.result.now
-    c.cached.ensures.held c.in-Ok.ensures.found.0 c.in-Ok.ensures.found.1)
+    let taken = c.in_ok-take_region.ensures in
+    tree_kept t.schema t.index t.count t.next t.rows t.mark t.pager c.take_region.new.pager c.self.invariant
+    (subst (λ (p : PagerView). KeepsChecked t.index.last t.pager p) (sym taken.kept)
+    (region_checked t.schema t.index.last c.args.region.now.page t.pager c.bring.new.self _ c.in_ok-bring.ensures.effect.same c.in_ok-bring.ensures.others c.take_region.new.page.region taken.bytes
+    taken.held taken.is taken.spelled))
 
-pub invariant_of-self-in-Err : goal.invariant_of-self-in-Err
-invariant_of-self-in-Err g c =
+pub invariant_of-self-in_err-take_region : goal.invariant_of-self-in_err-take_region
+invariant_of-self-in_err-take_region g c =
     let t = c.self.inside in
-    tree_kept t.schema t.index t.count t.next t.rows t.mark t.pager c.forget.new.self c.self.invariant
-    (region_gone t.index.last c.args.region.now.page t.pager c.bring.new.self _ c.in_ok-bring.ensures.effect.same c.in_ok-bring.ensures.others c.forget.new.self c.forget.ensures.same c.forget.ensures.gone
-    c.forget.ensures.others)
+    let refused = c.in_err-take_region.ensures in
+    tree_kept t.schema t.index t.count t.next t.rows t.mark t.pager c.take_region.new.pager c.self.invariant
+    (region_gone t.index.last c.args.region.now.page t.pager c.bring.new.self _ c.in_ok-bring.ensures.effect.same c.in_ok-bring.ensures.others c.take_region.new.pager refused.same refused.gone
+    refused.others)
