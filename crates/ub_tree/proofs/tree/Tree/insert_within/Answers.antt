@@ -231,7 +231,7 @@ returns-clause-effect g c =
     (then_changed {T = Unit {0}} _ c.args.self.now c.read_at.new.self after (c.in_ok-read_at.ensures.effect.same ∙ c.in_ok-region.ensures.effect.same) c.in_ok-store_with.ensures.effect)
 
 pub read_at-requires : goal.read_at-requires
-read_at-requires g c = subst (λ (v : TreeView). IsRegionOf v c.in_ok-region.region) (sym c.in_ok-region.ensures.effect.same) (c.key-key.result, c.in_ok-region.ensures.falls)
+read_at-requires g c = subst (λ (v : TreeView). IsRegionOf v c.in_ok-region.region) (sym c.in_ok-region.ensures.effect.same) (record { key = c.key-key.result; falls = c.in_ok-region.ensures.falls })
 
 pub returns-in_err-region-clause-refused : goal.returns-in_err-region-clause-refused
 returns-in_err-region-clause-refused g c = λ honest number region into.
@@ -245,7 +245,7 @@ pub store_with-requires-clause-there : goal.store_with-requires-clause-there
 store_with-requires-clause-there g c =
     let span = c.in_ok-region.region in
     let same = c.in_ok-read_at.ensures.effect.same ∙ c.in_ok-region.ensures.effect.same in (
-      subst (λ (v : TreeView). IsRegionOf v span) (sym same) (c.key-key.result, c.in_ok-region.ensures.falls),
+      subst (λ (v : TreeView). IsRegionOf v span) (sym same) (record { key = c.key-key.result; falls = c.in_ok-region.ensures.falls }),
       subst (λ (v : TreeView). span.page < page_count v.store) (sym c.in_ok-read_at.ensures.effect.same) c.in_ok-read_at.ensures.there,
     )
 

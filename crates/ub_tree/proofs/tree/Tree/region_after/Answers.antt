@@ -61,3 +61,10 @@ returns-else-begins_at-clause-last g c = tt
 
 pub returns-else-begins_at-clause-after : goal.returns-else-begins_at-clause-after
 returns-else-begins_at-clause-after g c = λ i stored at. tt
+
+pub returns-then-begins_at-clause-falls : goal.returns-then-begins_at-clause-falls
+returns-then-begins_at-clause-falls g c =
+    let t = c.self.inside in
+    let v : TreeView = tree_view t.schema t.index t.count t.next t.rows (is_written t.mark) t.is_failed t.pager in
+    let given = given_next v c.args.region.now.next c.in-Some.next (rw c.in-Some.is at (c.in_ok-next.ensures.given c.self.invariant.checked)) in
+    subst (λ (x : TreeView). IsRegionOf x c.in-Some.next) c.self.view_is (record { key = given.0; falls = given.2 })

@@ -52,7 +52,7 @@ returns-in_err-region-clause-refused g c =
     unled_removal c.args.self.now c.args.key.now c.from_residual.result c.in_err-region.field-0.0 c.from_residual.ensures.1 c.in_err-region.ensures.led
 
 pub rows_at-requires : goal.rows_at-requires
-rows_at-requires g c = subst (λ (v : TreeView). IsRegionOf v c.in_ok-region.region) (sym c.in_ok-region.ensures.effect.same) (c.args.key.now, c.in_ok-region.ensures.falls)
+rows_at-requires g c = subst (λ (v : TreeView). IsRegionOf v c.in_ok-region.region) (sym c.in_ok-region.ensures.effect.same) (record { key = c.args.key.now; falls = c.in_ok-region.ensures.falls })
 
 pub settle-requires-clause-there : goal.settle-requires-clause-there
 settle-requires-clause-there g c =
