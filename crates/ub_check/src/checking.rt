@@ -168,7 +168,7 @@ fn check_region<S: PageStore>(
         return Err(miscounted());
     }
     pager.bring(entry.page)?;
-    let region = region_at(last, entry, end);
+    let region = region_at(last, *entry, end);
     take_region(pager, schema, &region, &mut walk.region)?;
     if !put_numbers(walk.region.keys(), &mut walk.numbers) {
         return Err(IndexFault::Page {

@@ -449,7 +449,7 @@ impl Index {
             Found::Nothing => Ok(None),
             Found::Here(from, place) => Ok(Some((
                 from,
-                region_at(self.last, &place.entry, place.next),
+                region_at(self.last, place.entry, place.next),
             ))),
             Found::Beyond(from, aim) => Ok(Some((from, self.region_holding(pager, &aim)?))),
         }
@@ -474,7 +474,7 @@ fn descend<S: PageStore>(
 {
     let leaf = leaf_of(pager, root, levels, last, key)?;
     let place = step_down(pager, last, 1, &leaf.place, key)?;
-    Ok(region_at(last, &place.entry, place.next))
+    Ok(region_at(last, place.entry, place.next))
 }
 
 // The leaf to which the way down from a root of this level leads.
@@ -527,8 +527,8 @@ fn before_key(key: &Key) -> Option<Key>
 }
 
 /// The region of an entry, up to where the next one begins, in a space with this last address.
-pub fn region_at(last: u128, entry: &Entry, next: Option<Key>) -> Region
-    ensures region { result ≡ region_of last entry.now next }
+pub fn region_at(last: u128, entry: Entry, next: Option<Key>) -> Region
+    ensures region { result ≡ region_of last entry next }
     ensures small { result.first.number < 2 ^ 32 }
 {
     let first = entry.first;
