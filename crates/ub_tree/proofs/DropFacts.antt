@@ -74,10 +74,10 @@ page_of (x ∷ entries) zero e at = let same : x ≡ e = cc in ap (λ (y : Entry
 page_of (x ∷ entries) (suc i) e at = page_of entries i e at
 
 -- what comes in the place of one stands there
-placed_there : (i : ℕ) (p : Placed) (placed : List Placed) → i < length placed → slice_get (placed_with i (p ∷ []) placed) i ≡ Some p
-placed_there i p [] lt = absurd (omega arith)
-placed_there zero p (q ∷ placed) lt = refl
-placed_there (suc i) p (q ∷ placed) lt = placed_there i p placed (omega arith)
+stands_anew : (i : ℕ) (p : Placed) (placed : List Placed) → i < length placed → slice_get (placed_with i (p ∷ []) placed) i ≡ Some p
+stands_anew i p [] lt = absurd (omega arith)
+stands_anew zero p (q ∷ placed) lt = refl
+stands_anew (suc i) p (q ∷ placed) lt = stands_anew i p placed (omega arith)
 
 no_page : (numbers : List ℕ) → AllByRecursion (λ n. IsOutside n []) numbers
 no_page [] = tt
@@ -135,7 +135,7 @@ module _ (schema : Schema) (index : IndexView) (a mid new : StoreFacts) (placed 
 
   told_mid : IsTold schema mid.pages put
   told_mid =
-      let there : slice_get placed_mid i ≡ Some put = ap (λ (ps : List Placed). slice_get ps i) is_mid ∙ placed_there i put placed (within_placed placed i span at) in
+      let there : slice_get placed_mid i ≡ Some put = ap (λ (ps : List Placed). slice_get ps i) is_mid ∙ stands_anew i put placed (within_placed placed i span at) in
       (all_get (IsSpelled schema mid.pages) placed_mid i put placed_are_mid.spelled there, (region_parts schema put.region (region_page schema put.region) good refl).on)
 
   all_others : (m : ℕ) → m ≢ 0 → m ≢ span.page → slice_get mid.pages m ≡ slice_get a.pages m

@@ -88,8 +88,8 @@ returns-clause-effect g c =
       refused = tt;
     })
 
-pub invariant_of-self : goal.invariant_of-self
-invariant_of-self g c =
+pub invariant_of-self-2 : goal.invariant_of-self-2
+invariant_of-self-2 g c =
     let t = c.self.inside in
     let taken = c.in_ok-take_region.ensures in
     tree_kept t.schema t.index t.count t.next t.rows t.mark t.pager c.take_region.new.pager c.self.invariant
