@@ -113,7 +113,9 @@ impl<S: PageStore> Tree<S> {
         // Their contracts tell the proof how many levels and pages there can be.
         let _root = self.index.root();
         let _pages = self.pager.pages();
-        let change = self.index.prepare_drop(self.alloc, &mut self.pager, region)?;
+        let change = self
+            .index
+            .prepare_drop(self.alloc, &mut self.pager, region)?;
         Ok(change)
     }
 
