@@ -5,4 +5,5 @@ pub mod FoundFacts
 pub mod KeptFacts
 pub mod MadeFacts
 pub mod BeginFacts
-pub mod StepFacts
+pub mod ResultFacts
+pub mod SeenFacts

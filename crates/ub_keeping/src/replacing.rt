@@ -4,7 +4,8 @@ ghost use Rattle.ub_keeping.specs.Kept.{replacing};
 use ub_journal::Tells;
 use ub_store::{MemStore, Page, PageStore};
 
-/// The journal that makes these pages of any table with this first page. The pages are lent: none is copied but to tell it.
+/// The journal that makes these pages of any table with this first page. The pages are lent; the first one alone is copied, to tell
+/// it.
 #[derive(Drop)]
 pub struct Replacing<'a> {
     /// The first page of the table.

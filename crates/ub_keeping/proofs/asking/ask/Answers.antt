@@ -9,7 +9,9 @@ use Rattle.ub_keeping.specs.Found.{IsItsJournal, IsLookedUp}
 use Rattle.ub_keeping.specs.Store.{PlaceView}
 use Rattle.ub_keeping.specs.inner.Fitting.{LeaveFirst}
 use Rattle.ub_overlay.specs.Overlay.{pages_of}
-use Rattle.ub_keeping.proofs.StepFacts.{alone_found, alone_unsized, both_ok, calm_then, more_faults, not_size, pages_calm, quiet_same, quiet_then, seen_calm, told_calm}
+use Rattle.ub_keeping.proofs.CalmFacts.{calm_then, pages_calm, quiet_same, quiet_then, seen_calm, told_calm}
+use Rattle.ub_keeping.proofs.ResultFacts.{both_ok, more_faults, not_size}
+use Rattle.ub_keeping.proofs.SeenFacts.{alone_found, alone_unsized}
 use Rattle.ub_keeping.proofs.asking.ask.Goals as goal
 
 pub returns-then-pages-from-clause-torn : goal.returns-then-pages-from-clause-torn

@@ -4,8 +4,9 @@ use Rattle.ub_store.specs.Facts.{raised}
 use Rattle.ub_journal.specs.Image.{Fits, IsJournal, told}
 use Rattle.ub_journal.specs.Place.{IsHonest}
 use Rattle.ub_journal.specs.declared.journal.Journal.{Journal}
-use Rattle.ub_keeping.proofs.CalmFacts.{calm_look}
-use Rattle.ub_keeping.proofs.StepFacts.{calm_then, empty_fits, looked_is, none_fits, none_seen, pages_calm, told_calm}
+use Rattle.ub_keeping.proofs.CalmFacts.{calm_look, calm_then, pages_calm, told_calm}
+use Rattle.ub_keeping.proofs.ResultFacts.{looked_is}
+use Rattle.ub_keeping.proofs.SeenFacts.{empty_fits, none_fits, none_seen}
 use Rattle.ub_keeping.proofs.asking.look.Goals as goal
 
 pub fits-requires-clause-journal : goal.fits-requires-clause-journal

@@ -4,9 +4,10 @@ use Rattle.ub_journal_page.proofs.LawFacts.{change_others}
 use Rattle.ub_store.specs.Facts.{StoreFacts}
 use Rattle.ub_keeping.specs.Calm.{IsCalm, IsQuiet}
 use Rattle.ub_keeping.specs.Store.{PlaceView, table_pages}
-use Rattle.ub_keeping.proofs.CalmFacts.{calm_step, quiet_step, still}
-use Rattle.ub_keeping.proofs.StepFacts.{err_counted, ok_counted, pages_calm, was_ok, whole_through}
-use Rattle.ub_keeping.proofs.StoreFacts.{pages_honest}
+use Rattle.ub_keeping.proofs.CalmFacts.{calm_step, quiet_step, still, pages_calm}
+use Rattle.ub_keeping.proofs.ResultFacts.{err_counted, ok_counted}
+use Rattle.ub_overlay.proofs.OverlayFacts.{was_ok}
+use Rattle.ub_keeping.proofs.StoreFacts.{pages_honest, whole_through}
 use Rattle.ub_keeping.proofs.asking.read_through.Goals as goal
 
 pub through-requires-clause-others : goal.through-requires-clause-others

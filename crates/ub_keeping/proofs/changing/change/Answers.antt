@@ -7,7 +7,8 @@ use Rattle.ub_keeping.specs.Store.{PlaceView}
 use Rattle.ub_overlay.specs.Overlay.{pages_of}
 use Rattle.ub_keeping.proofs.CalmFacts.{still}
 use Rattle.ub_keeping.proofs.FoundFacts.{unsized_pages}
-use Rattle.ub_keeping.proofs.StepFacts.{finds_as, more_opens, not_open_size, stands_alone, unsized_rest}
+use Rattle.ub_keeping.proofs.ResultFacts.{more_opens, not_open_size}
+use Rattle.ub_keeping.proofs.SeenFacts.{finds_as, stands_alone, unsized_rest}
 use Rattle.ub_keeping.proofs.changing.change.Goals as goal
 
 pub returns-then-pages-from-clause-torn : goal.returns-then-pages-from-clause-torn

@@ -6,9 +6,10 @@ use Rattle.ub_journal.specs.Image.{Finds, Image, IsJournal, told}
 use Rattle.ub_journal.specs.Place.{IsHonest}
 use Rattle.ub_journal.specs.declared.journal.Journal.{Journal}
 use Rattle.ub_keeping.specs.Found.{IsForeign}
-use Rattle.ub_keeping.proofs.CalmFacts.{calm_look, still}
+use Rattle.ub_keeping.proofs.CalmFacts.{calm_look, still, seen_calm, told_calm}
 use Rattle.ub_keeping.proofs.FoundFacts.{finish_joined}
-use Rattle.ub_keeping.proofs.StepFacts.{empty_fits, looked_is, none_found, one_more, quiet_finishes, seen_calm, told_calm}
+use Rattle.ub_keeping.proofs.ResultFacts.{looked_is, one_more}
+use Rattle.ub_keeping.proofs.SeenFacts.{empty_fits, none_found, quiet_finishes}
 use Rattle.ub_keeping.proofs.changing.clear.Goals as goal
 
 pub returns-in-Ok-Some-clause-any_moment : goal.returns-in-Ok-Some-clause-any_moment

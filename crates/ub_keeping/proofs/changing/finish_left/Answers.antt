@@ -6,7 +6,7 @@ use Rattle.ub_journal.proofs.Moments.{weaker}
 use Rattle.ub_journal_page.proofs.LawFacts.{change_others}
 use Rattle.ub_keeping.proofs.CalmFacts.{still}
 use Rattle.ub_keeping.proofs.FoundFacts.{finish_joined, heals_finish, left_after}
-use Rattle.ub_keeping.proofs.StepFacts.{healed_found, quiet_finishes}
+use Rattle.ub_keeping.proofs.SeenFacts.{healed_found, quiet_finishes}
 use Rattle.ub_keeping.proofs.changing.finish_left.Goals as goal
 
 pub heal-requires : goal.heal-requires

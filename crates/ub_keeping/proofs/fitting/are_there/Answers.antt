@@ -2,9 +2,10 @@ use Rattle.std.proofs.Common.{◌≡◌, ◌<◌, ◌∙◌, IsTrue, Some, get_o
 use Rattle.std.proofs.lemmas.Bool.{false≢true}
 use Rattle.ub_journal.specs.Image.{Image}
 use Rattle.ub_journal.specs.declared.journal.Change.{Change}
-use Rattle.ub_keeping.proofs.CalmFacts.{calm_step}
+use Rattle.ub_keeping.proofs.CalmFacts.{calm_step, calm_then, told_calm}
 use Rattle.ub_keeping.proofs.FitFacts.{below_at}
-use Rattle.ub_keeping.proofs.StepFacts.{calm_then, none_all, refused_counts, then_counts, there_more, there_not, told_calm}
+use Rattle.ub_keeping.proofs.ResultFacts.{none_all, refused_counts, then_counts}
+use Rattle.ub_keeping.proofs.SeenFacts.{there_more, there_not}
 use Rattle.ub_keeping.proofs.fitting.are_there.Goals as goal
 
 pub read_page-requires : goal.read_page-requires

@@ -5,9 +5,10 @@ use Rattle.ub_journal.specs.Place.{IsHonest}
 use Rattle.ub_journal.specs.declared.journal.Change.{Change}
 use Rattle.ub_keeping.specs.inner.Fitting.{AreThere, LeaveFirst}
 use Rattle.ub_keeping.proofs.FitFacts.{fits_there, if_ok}
-use Rattle.ub_keeping.proofs.CalmFacts.{calm_step, still}
+use Rattle.ub_keeping.proofs.CalmFacts.{calm_step, still, calm_then, quiet_same, seen_calm}
 use Rattle.ub_keeping.proofs.FitFacts.{same_there}
-use Rattle.ub_keeping.proofs.StepFacts.{calm_then, each_ok, marked_fits, none_all, quiet_same, refused_counts, seen_calm, then_counts, unmarked_unfit}
+use Rattle.ub_keeping.proofs.ResultFacts.{each_ok, none_all, refused_counts, then_counts}
+use Rattle.ub_keeping.proofs.SeenFacts.{marked_fits, unmarked_unfit}
 use Rattle.ub_keeping.proofs.fitting.fits.Goals as goal
 use Rattle.ub_keeping.proofs.fitting.fits.Goals.{then-pages-eq0-via-else-pages-eq0+then-not-leave_first, then-pages-eq0-via-then-pages-eq0, then-rest-ne0-via-else-rest-ne0+then-pages-from, then-rest-ne0-via-then-rest-ne0}
 

@@ -1,7 +1,7 @@
 use Rattle.std.proofs.Common.{IsTrue, inl, subst}
 use Rattle.ub_journal.proofs.Moments.{weaker}
 use Rattle.ub_keeping.proofs.KeptFacts.{ready_of}
-use Rattle.ub_keeping.proofs.StepFacts.{none_of, refused_counts, then_counts}
+use Rattle.ub_keeping.proofs.ResultFacts.{none_of, refused_counts, then_counts}
 use Rattle.ub_keeping.proofs.keeping.commit_last.Goals as goal
 
 pub commit-requires-clause-ready : goal.commit-requires-clause-ready

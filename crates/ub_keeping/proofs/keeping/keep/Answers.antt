@@ -9,7 +9,9 @@ use Rattle.ub_keeping.specs.Store.{PlaceView}
 use Rattle.ub_keeping.specs.inner.Made.{HasPage, IsMadeOf}
 use Rattle.ub_keeping.proofs.KeptFacts.{made_of, made_pages, on_err, seen_at_end}
 use Rattle.ub_keeping.proofs.CalmFacts.{still}
-use Rattle.ub_keeping.proofs.StepFacts.{all_ok, held_of, raises_none, same_keeps, seen_keeps}
+use Rattle.ub_keeping.proofs.ResultFacts.{all_ok, raises_none}
+use Rattle.ub_keeping.proofs.SeenFacts.{same_keeps, seen_keeps}
+use Rattle.ub_keeping.proofs.StoreFacts.{held_of}
 use Rattle.ub_overlay.specs.Journal.{journal_from}
 use Rattle.ub_overlay.specs.Overlay.{pages_of}
 use Rattle.ub_keeping.proofs.keeping.keep.Goals as goal

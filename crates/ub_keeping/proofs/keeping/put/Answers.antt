@@ -1,8 +1,10 @@
 use Rattle.std.proofs.Common.{◌≡◌, ◌≤◌, ◌∙◌, ℕ, None, Some, ap, arith, inl, length, slice_get}
 use Rattle.ub_journal.specs.Place.{IsHonest}
 use Rattle.ub_store.specs.Facts.{raised}
-use Rattle.ub_keeping.proofs.CalmFacts.{calm_step}
-use Rattle.ub_keeping.proofs.StepFacts.{calm_then, err_counted, err_is, kept_seen, made_seen, none_of, ok_counted, quiet_keeps, raises_err, run_seen, seen_calm, some_calm, told_calm, was_ok}
+use Rattle.ub_keeping.proofs.CalmFacts.{calm_step, calm_then, seen_calm, some_calm, told_calm}
+use Rattle.ub_keeping.proofs.ResultFacts.{err_counted, err_is, none_of, ok_counted, raises_err}
+use Rattle.ub_keeping.proofs.SeenFacts.{kept_seen, made_seen, quiet_keeps, run_seen}
+use Rattle.ub_overlay.proofs.OverlayFacts.{was_ok}
 use Rattle.ub_keeping.proofs.keeping.put.Goals as goal
 
 pub returns-in_err-see_none-clause-done : goal.returns-in_err-see_none-clause-done

@@ -4,7 +4,7 @@ use Rattle.ub_journal.specs.Image.{told}
 use Rattle.ub_journal.specs.Place.{IsHonest}
 use Rattle.ub_journal.specs.declared.journal.Journal.{Journal}
 use Rattle.ub_keeping.proofs.CalmFacts.{calm_look}
-use Rattle.ub_keeping.proofs.StepFacts.{looked_raises}
+use Rattle.ub_keeping.proofs.ResultFacts.{looked_raises}
 use Rattle.ub_keeping.proofs.keeping.see_none.Goals as goal
 
 pub returns-in-Ok-None-clause-none : goal.returns-in-Ok-None-clause-none

@@ -3,7 +3,7 @@ use Rattle.std.proofs.lemmas.Result.{on_ok_weaker}
 use Rattle.ub_journal.proofs.Moments.{joined, weaker}
 use Rattle.ub_keeping.proofs.BeginFacts.{one_sized, one_synced, part_joined, zero_lasts}
 use Rattle.ub_keeping.proofs.CalmFacts.{still}
-use Rattle.ub_keeping.proofs.StepFacts.{none_of, refused_counts, then_counts}
+use Rattle.ub_keeping.proofs.ResultFacts.{none_of, refused_counts, then_counts}
 use Rattle.ub_keeping.proofs.making.begin.Goals as goal
 
 pub fill-requires-clause-zero : goal.fill-requires-clause-zero

@@ -4,7 +4,8 @@ use Rattle.ub_journal.proofs.Moments.{stays}
 use Rattle.ub_keeping.proofs.BeginFacts.{back_part, fill_back, fill_head, fill_put, fill_sized, zero_part}
 use Rattle.ub_keeping.proofs.CalmFacts.{still}
 use Rattle.ub_keeping.proofs.KeptFacts.{begun_of}
-use Rattle.ub_keeping.proofs.StepFacts.{none_of, page_there, refused_counts, sized_count, then_counts}
+use Rattle.ub_keeping.proofs.ResultFacts.{none_of, refused_counts, then_counts}
+use Rattle.ub_keeping.proofs.SeenFacts.{page_there, sized_count}
 use Rattle.ub_keeping.proofs.making.fill.Goals as goal
 
 pub returns-in_err-write_page-clause-any_moment : goal.returns-in_err-write_page-clause-any_moment

@@ -5,7 +5,7 @@ use Rattle.ub_keeping.proofs.BeginFacts.{begin_joined, finish_begins, found_none
 use Rattle.ub_keeping.proofs.CalmFacts.{still}
 use Rattle.ub_keeping.proofs.FoundFacts.{found_some}
 use Rattle.ub_keeping.proofs.KeptFacts.{make_joined}
-use Rattle.ub_keeping.proofs.StepFacts.{err_has, none_of, opened_err, same_err}
+use Rattle.ub_keeping.proofs.ResultFacts.{err_has, none_of, opened_err, same_err}
 use Rattle.ub_keeping.proofs.making.make_at.Goals as goal
 
 pub returns-in-Ok-clause-any_moment : goal.returns-in-Ok-clause-any_moment

@@ -4,7 +4,7 @@ use Rattle.ub_keeping.specs.inner.Made.{HasZero}
 use Rattle.ub_keeping.proofs.BeginFacts.{zero_torn}
 use Rattle.ub_keeping.proofs.CalmFacts.{still}
 use Rattle.ub_keeping.proofs.MadeFacts.{puts_next, puts_none}
-use Rattle.ub_keeping.proofs.StepFacts.{none_of, refused_counts, then_counts}
+use Rattle.ub_keeping.proofs.ResultFacts.{none_of, refused_counts, then_counts}
 use Rattle.ub_keeping.proofs.making.put_others.Goals as goal
 
 pub loop-n-init : goal.loop-n-init

@@ -3,10 +3,11 @@ use Rattle.std.proofs.lemmas.Result.{on_ok_weaker}
 use Rattle.ub_journal.specs.Image.{Image}
 use Rattle.ub_journal.specs.Place.{LeavesOnly}
 use Rattle.ub_keeping.specs.Kept.{IsKept, MayKeep}
-use Rattle.ub_keeping.proofs.CalmFacts.{calm_step, quiet_step, still}
+use Rattle.ub_keeping.proofs.CalmFacts.{calm_step, quiet_step, still, seen_calm}
 use Rattle.ub_keeping.proofs.KeptFacts.{keep_joined}
 use Rattle.ub_keeping.proofs.MadeFacts.{makes_pages, replacing_is, replacing_made}
-use Rattle.ub_keeping.proofs.StepFacts.{none_of, quiet_keeps, refused_counts, seen_calm, then_counts}
+use Rattle.ub_keeping.proofs.ResultFacts.{none_of, refused_counts, then_counts}
+use Rattle.ub_keeping.proofs.SeenFacts.{quiet_keeps}
 use Rattle.ub_keeping.proofs.making.write.Goals as goal
 
 pub commit_last-requires-clause-journal : goal.commit_last-requires-clause-journal

@@ -1,5 +1,5 @@
 use Rattle.std.proofs.Common.{◌∙◌, inl, refl, sym}
-use Rattle.ub_keeping.proofs.StepFacts.{table_count, write_store}
+use Rattle.ub_keeping.proofs.StoreFacts.{table_count, write_store}
 use Rattle.ub_keeping.proofs.store.PlaceStorePageStore.extend.Goals as goal
 
 pub returns-then-self-clause-full : goal.returns-then-self-clause-full

@@ -1,5 +1,6 @@
 use Rattle.std.proofs.Common.{arith, refl}
-use Rattle.ub_keeping.proofs.StepFacts.{page_of, past_count, read_store, was_ok, within_count}
+use Rattle.ub_keeping.proofs.StoreFacts.{page_of, past_count, read_store, within_count}
+use Rattle.ub_overlay.proofs.OverlayFacts.{was_ok}
 use Rattle.ub_keeping.proofs.store.PlaceStorePageStore.read_into.Goals as goal
 
 pub read_page-requires : goal.read_page-requires

@@ -1,5 +1,5 @@
 use Rattle.std.proofs.Common.{inl, refl}
-use Rattle.ub_keeping.proofs.StepFacts.{past_count, within_count, write_store}
+use Rattle.ub_keeping.proofs.StoreFacts.{past_count, within_count, write_store}
 use Rattle.ub_keeping.proofs.store.PlaceStorePageStore.write_page.Goals as goal
 
 pub returns-then-n-self-clause-missing : goal.returns-then-n-self-clause-missing
