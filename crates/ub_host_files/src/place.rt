@@ -7,7 +7,7 @@ ghost use Rattle.ub_store.specs.Facts.{raised};
 use crate::opening::TableFile;
 use std::alloc::{AllocError, Global};
 use std::fs::{Metadata, OpenFile, OpenOptions, Permissions};
-use std::io::{self, Write};
+use std::io::{self, BufWriter, Write};
 use std::os::fd::AsFd;
 use std::os::unix::fs::{FileExt, MetadataExt, OpenOptionsExt, PermissionsExt, fchown};
 use std::path::Path;
@@ -40,6 +40,9 @@ struct Names {
 // What stands after a table file's name in that of its journal.
 const JOURNAL: &str = "-journal";
 
+// So many bytes of a draft are written at a time, where there is memory for that.
+const DRAFT_BYTES: usize = 16 * 4096;
+
 /// What a place tells of its calls that were refused.
 pub trait Reasons {
     /// The system's reason for the last call that it refused.
@@ -64,6 +67,7 @@ pub trait Reasons {
 #[derive(Drop)]
 pub struct HostPlace<'r, R: rt::Files> {
     rt: &'r R,
+    alloc: Global,
     file: R::File,
     told: Metadata,
     is_alone: bool,
@@ -115,6 +119,7 @@ where
         let length = told.len();
         Ok(HostPlace {
             rt,
+            alloc,
             file,
             told,
             is_alone,
@@ -202,7 +207,7 @@ where
             return Err(no_names());
         };
         let opened = open_draft(self.rt, names.draft.as_str());
-        match filled(opened, &self.told, journal) {
+        match filled(self.alloc, opened, &self.told, journal) {
             Ok(file) => {
                 self.draft = Some(file);
                 Ok(())
@@ -287,6 +292,7 @@ fn sync_folder<R: rt::Files>(rt: &R, folder: &str) -> io::Result<()> {
 
 // Gives a draft that was opened its rights, and writes a journal.
 fn filled<F: OpenFile + AsFd + Write + Drop, J: Tells>(
+    alloc: Global,
     opened: io::Result<F>,
     told: &Metadata,
     journal: &J,
@@ -295,18 +301,29 @@ fn filled<F: OpenFile + AsFd + Write + Drop, J: Tells>(
 {
     let mut file = opened?;
     give_rights(&file, told)?;
-    write_pages(&mut file, journal)?;
+    write_buffered(alloc, &mut file, journal)?;
     Ok(file)
 }
 
+// Writes the pages of a journal, many at a time, or one by one where memory is refused for that.
+fn write_buffered<F: Write, J: Tells>(alloc: Global, file: &mut F, journal: &J) -> io::Result<()>
+    requires { IsJournal (J.told journal.now) }
+{
+    if let Ok(mut many) = BufWriter::with_capacity(alloc, DRAFT_BYTES, &mut *file) {
+        write_pages(&mut many, journal)?;
+        return many.flush();
+    }
+    write_pages(file, journal)
+}
+
 // Writes the pages of a journal, one after the other.
-fn write_pages<F: Write, J: Tells>(file: &mut F, journal: &J) -> io::Result<()>
+fn write_pages<W: Write, J: Tells>(out: &mut W, journal: &J) -> io::Result<()>
     requires { IsJournal (J.told journal.now) }
 {
     let mut page = [0; 4096];
     for n in 0..page_total(journal) {
         spell_page(journal, n, &mut page);
-        file.write_all(&page)?;
+        out.write_all(&page)?;
     }
     Ok(())
 }
