@@ -259,7 +259,7 @@ pub(crate) fn values(
     ensures { IfOk result (λ values. values.items ≡ spec.values_of source.now insertion.now) }
 {
     let literals = insertion.values.as_slice();
-    let mut values = Vec::new(alloc);
+    let mut values = Vec::with_capacity(alloc, literals.len())?;
     for literal in literals {
         values.push(measure(source, &literal.literal))?;
     }

@@ -16,6 +16,7 @@ use std::alloc::{AllocError, Global};
 use std::marker::Model;
 use ub_lexer::{Token, TokenKind};
 use ub_query::{Items, Operator};
+use ub_table::columns::MAX_COLUMNS;
 
 // What is read past the last token, where the reader of a statement never comes.
 const NO_TOKEN: Token = Token {
@@ -342,7 +343,7 @@ impl<'a> Reader<'a> {
             (λ v. Reads (AreJoined Symbol.Comma IsValue) (Symbol.Comma ∷ []) self.old v.items
             self.new) }
     {
-        let mut values = Vec::new(alloc);
+        let mut values = Vec::with_capacity(alloc, MAX_COLUMNS)?;
         values.push(self.value())?;
         'joined: while self.accept(Symbol::Comma) {
             values.push(self.value())?;

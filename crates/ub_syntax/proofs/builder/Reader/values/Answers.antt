@@ -3,7 +3,7 @@ use Rattle.ub_syntax.proofs.Clauses.{comma_separates}
 use Rattle.ub_syntax.proofs.builder.Reader.values.Goals as goal
 
 pub joined-init : goal.joined-init
-joined-init c = rw (c.in_ok-push.ensures.items, c.new-values.ensures.items) (joined_start _ _ _ _ _ _ _ comma_separates c.value.ensures.reads)
+joined-init c = rw (c.in_ok-push.ensures.items, c.in_ok-values.ensures.items) (joined_start _ _ _ _ _ _ _ comma_separates c.value.ensures.reads)
 
 pub joined-preserved : goal.joined-preserved
 joined-preserved c =
