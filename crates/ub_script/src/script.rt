@@ -19,13 +19,14 @@ ghost use Rattle.ub_script.specs.Script.{AreAsking, IsAsking, IsChange};
 ghost use Rattle.ub_script.specs.Text.{refused_text};
 ghost use Rattle.ub_script.specs.declared.script.Summary.{Summary};
 
+use crate::asking::Script;
 use crate::changing::{delete_rows, insert_row};
 use crate::fault::RunFault;
 use crate::output::{Out, put_all};
 use crate::text::{answer_text, refused_text};
 use std::alloc::Global;
 use ub_exec::execute;
-use ub_lexer::{Token, lex, statements};
+use ub_lexer::Token;
 use ub_load::{LoadFault, load};
 use ub_parser::{Query, SqlFault, Statement, parse};
 use ub_plan::{Plan, explain, plan};
@@ -112,13 +113,11 @@ pub fn run<S: PageStore, W: Out>(
 ) -> Result<Summary, RunFault>
     ensures { IsRun tree.old tree.new script.now result (W.facts out.old) (W.facts out.new) }
 {
-    let tokens = lex(alloc, script)?;
-    let ranges = statements(alloc, &tokens)?;
-    run_statements(alloc, tree, script, &tokens, &ranges, out)
+    Script::read(alloc, script)?.run(alloc, tree, out)
 }
 
 // Runs the statements at these ranges of the tokens of a script.
-fn run_statements<S: PageStore, W: Out>(
+pub(crate) fn run_statements<S: PageStore, W: Out>(
     alloc: Global,
     tree: &mut Tree<S>,
     source: &[u8],

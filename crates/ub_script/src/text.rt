@@ -55,12 +55,16 @@ pub fn answer_text(
     Ok(text)
 }
 
+// As many bytes as the text of an INSERT can have.
+const INSERTED_BYTES: usize = 32;
+
 /// The text of an INSERT: which number its row got. `AllocError` only where memory is refused.
 #[tactic(auto, unfolding(crate::specs::Text::inserted_text))]
 pub fn inserted_text(alloc: Global, number: u32) -> Result<Vec<u8>, AllocError>
     ensures { IfOk result (λ text. text.items ≡ spec.inserted_text number) }
 {
-    let mut text = Vec::from_slice(alloc, b"-- inserted ")?;
+    let mut text = Vec::with_capacity(alloc, INSERTED_BYTES)?;
+    text.extend_from_slice(b"-- inserted ")?;
     push_number(&mut text, u64::from(number))?;
     text.push(b'\n')?;
     Ok(text)

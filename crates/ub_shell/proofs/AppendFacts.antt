@@ -18,7 +18,6 @@ use Rattle.ub_shell.proofs.GoesFacts.{runs_as, runs_same, runs_still, runs_then}
 use Rattle.ub_shell.specs.Appended.{appended_line, AppendsSafely, AppendsStore, HasAppended, HasClosed, HasRows, HoldsAppended, PutsRows, TellsAppended}
 use Rattle.ub_shell.specs.Commands.{ClosesFile, HasRead, IsKept, IsTreeOf, both_ended}
 use Rattle.ub_shell.specs.Ending.{Tells}
-use Rattle.ub_shell.specs.Status.{tree_fault_status, tree_fault_text}
 use Rattle.ub_shell.specs.declared.status.Status.{Status}
 use Rattle.ub_shell.specs.declared.status.Status.TheVariants.{Done}
 use Rattle.ub_shell.specs.inner.Appending.{AppendsRows, AppendsTree, HoldsCount, HoldsMore, HoldsPut, HoldsRows, HoldsText, KeepsCount, KeepsPut}

@@ -12,7 +12,7 @@ use Rattle.ub_files.specs.declared.fault.OpenFault.{OpenFault}
 use Rattle.ub_files.specs.declared.fault.OpenFault.TheVariants as opening
 use Rattle.ub_words.proofs.Laws.{no_help_taken}
 use Rattle.ub_words.specs.CommandLine.{AsksHelp, AsksHelpAlone, AsksNext, AsksNothing}
-use Rattle.ub_shell.specs.Commands.{IsKept, IsUnlent, IsUnopened, IsUnready, MakesTable, OpensFor, RunsFile, RunsScript, TellsMade, TellsRan, both_ended, loaded_line}
+use Rattle.ub_shell.specs.Commands.{IsKept, IsUnlent, IsUnopened, IsUnready, MakesTable, OpensFor, RunsFile, RunsScript, TellsMade, loaded_line}
 use Rattle.ub_shell.proofs.KeptFacts.{says_done, store_not_done, tree_not_done}
 use Rattle.ub_shell.proofs.LeftFacts.{full_stays, run_leaves, run_stays, where_ok}
 use Rattle.ub_shell.specs.Laws.{AreBothInput, AskingLeavesTheTable, AskingQueriesLeaveTheTable, AskingRunsLeaveTheTable, CheckedTablesAreRunAsSound, CheckedTablesAreSound, CheckingLeavesTheTable, CrashesLeaveATable, DescribingLeavesTheTable, FailedQueriesLoseNothing, FailedRunsLoseNothing, FailedScriptsLoseNothing, FullTablesAreLeft, IsClosedTable, IsHeldStill, IsHeldTable, IsOldIfTold, IsOldTable, IsRunOfTable, IsScriptOfTable, IsSoundTable, KeptQueriesLast, KeptRunsLast, KeptScriptsLast, LoadsLoseNoTable, OldTablesAreNotLost, OnlyHelpIsWritten, OnlyQueriesNote, OnlySoundTablesAreUpgraded, SaysKept, SoundTablesPass, TellsBadJournal, TellsPassing, UnchangedTablesAreLeft, UpgradedTablesAreTheSame, UpgradesLoseNoTable, UpgradingLeavesTheOldTable, WhatWasDoneStands, WrongWordsAreTold, row_count}
@@ -33,13 +33,10 @@ use Rattle.ub_exec.proofs.Laws.{sound_trees_stand}
 use Rattle.ub_script.specs.Output.{OutFacts, out_facts}
 use Rattle.ub_script.specs.Script.{OnlyAsks}
 use Rattle.ub_script.specs.declared.fault.RunFault.{RunFault}
-use Rattle.ub_script.specs.declared.fault.RunFault.TheVariants as stop
 use Rattle.ub_script.specs.declared.script.Summary.{Summary}
 use Rattle.ub_table.specs.declared.schema.Schema.{Schema}
 use Rattle.ub_tree.proofs.Laws.{well_pages_are_sound}
-use Rattle.ub_tree.specs.Faults.{tree_fault}
 use Rattle.ub_tree.specs.declared.fault.TreeFault.{TreeFault}
-use Rattle.ub_tree.specs.declared.fault.TreeFault.TheVariants as tree
 use Rattle.ub_tree.specs.declared.fault.TreeFault.TheVariants.{Failed}
 use Rattle.ub_tree.specs.Old.{AreOldPages}
 use Rattle.ub_tree.specs.Opened.{IsPassing}

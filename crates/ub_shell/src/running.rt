@@ -13,7 +13,7 @@ use crate::status::{
 };
 use std::alloc::Global;
 use ub_files::Files;
-use ub_script::{Out, RunFault, Summary, may_change, run};
+use ub_script::{Out, RunFault, Script, Summary};
 use ub_tree::{Tree, TreeFault};
 use ub_words::RunWords;
 
@@ -60,10 +60,13 @@ pub fn run_script<F: Files, W: Out>(
         → Endures path.now (HoldsAsked path.now script.now (F.facts files.old)
         (W.facts out.old) (W.facts out.new) result) (F.facts files.old) (F.clock files.new) }
 {
-    match may_change(alloc, script) {
-        Ok(true) => change_table(alloc, files, path, script, out),
-        Ok(false) => ask_table(alloc, files, path, script, out),
-        Err(_) => tell_memory(out),
+    let Ok(script) = Script::read(alloc, script) else {
+        return tell_memory(out);
+    };
+    if script.may_change() {
+        change_table(alloc, files, path, &script, out)
+    } else {
+        ask_table(alloc, files, path, &script, out)
     }
 }
 
@@ -72,7 +75,7 @@ fn change_table<F: Files, W: Out>(
     alloc: Global,
     files: &mut F,
     path: &str,
-    script: &[u8],
+    script: &Script<'_>,
     out: &mut W,
 ) -> Status
     ensures runs { IsAskedOf true path.now script.now
@@ -97,7 +100,7 @@ fn ask_table<F: Files, W: Out>(
     alloc: Global,
     files: &mut F,
     path: &str,
-    script: &[u8],
+    script: &Script<'_>,
     out: &mut W,
 ) -> Status
     ensures runs { IsAskedOf false path.now script.now
@@ -121,7 +124,7 @@ fn run_store<F: Files, W: Out>(
     path: &str,
     changes: bool,
     store: F::Store,
-    script: &[u8],
+    script: &Script<'_>,
     out: &mut W,
 ) -> Status
     ensures asks { AsksStore changes path.now script.now (F.Store.facts store)
@@ -149,7 +152,7 @@ fn run_tree<F: Files, W: Out>(
     path: &str,
     changes: bool,
     mut tree: Tree<F::Store>,
-    script: &[u8],
+    script: &Script<'_>,
     out: &mut W,
 ) -> Status
     ensures { (left : StoreFacts)
@@ -161,7 +164,7 @@ fn run_tree<F: Files, W: Out>(
         × (IsTrue changes → IsOk (both_ended ran.closing ran.keeping)
         → Lasts path.now left.pages (F.facts files.old) (F.clock files.new)) }
 {
-    let ran = run(alloc, &mut tree, script, out);
+    let ran = script.run(alloc, &mut tree, out);
     let closed = close_table(files, path, changes, tree);
     tell_ran(ran, closed, out)
 }
