@@ -48,25 +48,40 @@ fn four(alloc: Global, limit: Option<u64>) -> Result<Cells, AllocError> {
     Ok(cells)
 }
 
-// As many of them as the limit says, also where it is in the rows that there were.
+// Limits, and the rows that stand then: as many of them as the limit says, also where it is in the rows that there were.
+static LIMITS: [(Option<u64>, &[u8]); 5] = [
+    (None, &[1, 2, 3, 4]),
+    (Some(5), &[1, 2, 3, 4]),
+    (Some(3), &[1, 2, 3]),
+    (Some(1), &[1]),
+    (Some(0), &[]),
+];
+
+// Whether these rows stand then.
+fn are_first(alloc: Global, limit: Option<u64>, numbers: &[u8]) -> Result<bool, AllocError> {
+    Ok(has(&four(alloc, limit)?, numbers))
+}
+
 #[test]
 fn puts_rows_as_far_as_the_limit_goes(rt: HostRuntime) -> Result<(), Fail> {
-    assert!(rt; has(&four(rt.alloc(), None)?, &[1, 2, 3, 4]));
-    assert!(rt; has(&four(rt.alloc(), Some(5))?, &[1, 2, 3, 4]));
-    assert!(rt; has(&four(rt.alloc(), Some(3))?, &[1, 2, 3]));
-    assert!(rt; has(&four(rt.alloc(), Some(1))?, &[1]));
-    assert!(rt; four(rt.alloc(), Some(0))?.is_empty());
+    for (limit, numbers) in &LIMITS {
+        assert!(rt; are_first(rt.alloc(), *limit, numbers)?);
+    }
     Ok(())
 }
 
-// No rows after some, and some after none.
 #[test]
-fn puts_rows_where_one_has_none(rt: HostRuntime) -> Result<(), Fail> {
+fn puts_no_rows_after_some(rt: HostRuntime) -> Result<(), Fail> {
     let mut cells = pair(rt.alloc(), 1, 2)?;
     extend(&mut cells, &Cells::none(rt.alloc()), None)?;
     assert!(rt; has(&cells, &[1, 2]));
-    let mut none = Cells::none(rt.alloc());
-    extend(&mut none, &pair(rt.alloc(), 3, 4)?, Some(3))?;
-    assert!(rt; has(&none, &[3, 4]));
+    Ok(())
+}
+
+#[test]
+fn puts_rows_after_none(rt: HostRuntime) -> Result<(), Fail> {
+    let mut cells = Cells::none(rt.alloc());
+    extend(&mut cells, &pair(rt.alloc(), 3, 4)?, Some(3))?;
+    assert!(rt; has(&cells, &[3, 4]));
     Ok(())
 }

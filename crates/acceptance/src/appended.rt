@@ -76,10 +76,15 @@ fn shows(alloc: Global, tree: &mut Tree<Store>, text: &str) -> bool {
     ended.is_ok() != tree.has_failed() && are(out.into_inner().as_slice(), &[text])
 }
 
+// A table of no rows over a store whose k-th call fails.
+fn made(alloc: Global, k: u64) -> Option<Tree<Store>> {
+    let schema = schema().ok()?;
+    Tree::create(alloc, FaultyStore::new(MemStore::new(alloc), k), &schema).ok()
+}
+
 // What is answered, and whether this stands then, where the k-th call of the store fails.
 fn told(alloc: Global, k: u64, text: &str) -> Option<(Result<(), TreeFault>, bool)> {
-    let schema = schema().ok()?;
-    let mut tree = Tree::create(alloc, FaultyStore::new(MemStore::new(alloc), k), &schema).ok()?;
+    let mut tree = made(alloc, k)?;
     let put = put_five(&mut tree)?;
     Some((put, shows(alloc, &mut tree, text)))
 }

@@ -66,16 +66,26 @@ fn makes_boxes_of_many_cells(rt: HostRuntime) -> Result<(), Fail> {
     Ok(())
 }
 
-// a <= 2 OR b >= 2: beside the first box, (2^32 - 3) * (2^32 - 2) points. The space of four dimensions has 2^128.
-#[test]
-fn adds_points_up(rt: HostRuntime) -> Result<(), Fail> {
-    let corner = either(
-        rt.alloc(),
+// a <= 2 OR b >= 2.
+fn corner(alloc: Global) -> Result<Cond, AllocError> {
+    either(
+        alloc,
         compare(0, Operator::AtMost, 2),
         compare(1, Operator::AtLeast, 2),
-    )?;
-    let cover = boxes(rt.alloc(), Some(&corner), &table(2)?)?;
+    )
+}
+
+// Beside the first box, (2^32 - 3) * (2^32 - 2) points.
+#[test]
+fn adds_points_up(rt: HostRuntime) -> Result<(), Fail> {
+    let cover = boxes(rt.alloc(), Some(&corner(rt.alloc())?), &table(2)?)?;
     assert!(rt; is_total(cover.boxes().get(1..), 18_446_744_052_234_715_142));
+    Ok(())
+}
+
+// The space of four dimensions has 2^128.
+#[test]
+fn counts_no_points_of_a_whole_space(rt: HostRuntime) -> Result<(), Fail> {
     let space = boxes(rt.alloc(), None, &table(4)?)?;
     assert!(rt; total(space.boxes()).is_none() && points(&space).is_none());
     Ok(())

@@ -40,25 +40,37 @@ fn spans(tree: &mut Tree<MemStore>, z: u128, from: u128, to: u128) -> bool {
     }
 }
 
+// The first coordinate whose region begins or ends elsewhere, if there is one.
+fn first_other(tree: &mut Tree<MemStore>) -> Option<u128> {
+    for (z, from, to) in &SPANS {
+        if !spans(tree, *z, *from, *to) {
+            return Some(*z);
+        }
+    }
+    None
+}
+
 #[test]
 fn its_regions_are_of_coordinates(rt: HostRuntime) {
     let mut tree = loaded(rt.alloc()).expect(&rt, "a table");
     assert!(rt; tree.regions() == 2 && tree.schema().signed() == 1);
-    for (z, from, to) in &SPANS {
-        assert!(rt; spans(&mut tree, *z, *from, *to), "{z}");
-    }
+    assert!(rt; first_other(&mut tree).is_none());
 }
 
-// Whether a script over the table, closed and opened again, writes this.
-fn is_kept(alloc: Global) -> Option<bool> {
+// The table, closed and opened again.
+fn reopened(alloc: Global) -> Option<Tree<MemStore>> {
     let store = loaded(alloc)?.close().ok()?;
-    let mut tree = Tree::open(alloc, store).ok()?;
+    Tree::open(alloc, store).ok()
+}
+
+// Whether a script over the table writes this.
+fn is_written(alloc: Global, tree: &mut Tree<MemStore>) -> bool {
     let mut out = Over::new(Vec::new(alloc));
-    let ended = run(alloc, &mut tree, SCRIPT, &mut out);
-    Some(tree.schema().signed() == 1 && ended == DONE && out.into_inner().as_slice() == TEXT)
+    run(alloc, tree, SCRIPT, &mut out) == DONE && out.into_inner().as_slice() == TEXT
 }
 
 #[test]
 fn it_is_signed_still_where_it_is_opened(rt: HostRuntime) {
-    assert!(rt; is_kept(rt.alloc()) == Some(true));
+    let mut tree = reopened(rt.alloc()).expect(&rt, "a table");
+    assert!(rt; tree.schema().signed() == 1 && is_written(rt.alloc(), &mut tree));
 }
