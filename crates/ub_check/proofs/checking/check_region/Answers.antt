@@ -1,4 +1,4 @@
-use Rattle.std.proofs.Common.{◌≡◌, ◌∙◌, ◌-◌, ◌++◌, Bool, Err, List, Ok, Some, ℕ, ap, refl, rules, subst, sym}
+use Rattle.std.proofs.Common.{◌∙◌, ◌-◌, ◌++◌, Bool, Err, List, Ok, Some, ℕ, ap, refl, rules, subst, sym}
 use Rattle.ub_index.specs.Held.{KeepsChecked}
 use Rattle.ub_region.specs.declared.region.Region.{Region as Span}
 use Rattle.ub_store.specs.Facts.{IsHonest}

@@ -1,4 +1,4 @@
-use Rattle.std.proofs.Common.{◌≡◌, ◌<◌, ℕ, Bool, List, Ok, Some, ap, subst, sym, arith, slice_get, ◌∙◌, Err, Result}
+use Rattle.std.proofs.Common.{◌≡◌, ◌<◌, ℕ, Bool, List, Ok, Some, ap, subst, sym, arith, slice_get, ◌∙◌}
 use Rattle.std.proofs.lemmas.Option.{slice_get_within}
 use Rattle.ub_check.proofs.StandingFacts.{page_still}
 use Rattle.ub_check.specs.Standing.{IsRegionRefused}
