@@ -1,5 +1,5 @@
 -- What the index of a tree tells of its regions.
-use Rattle.std.proofs.Common.{◌≡◌, ◌∙◌, ◌++◌, ℕ, zero, suc, List, [], ◌∷◌, Option, Some, map, drop, nat_eq, sym, ap, subst, refl, slice_get}
+use Rattle.std.proofs.Common.{◌≡◌, ◌∙◌, ◌++◌, ℕ, suc, List, Option, Some, map, nat_eq, sym, ap, subst, refl, slice_get}
 use Rattle.std.proofs.lemmas.Option.{slice_get_within}
 use Rattle.std.specs.List.{Contains, IsDistinct}
 use Rattle.ub_bigmin.specs.Box.{Corners, HoldsAny}
