@@ -1,7 +1,6 @@
 -- What the steps of a change of one region do to a tree, and what they need.
 use Rattle.std.specs.Prelude.{IfSome, ◌≡◌, ◌≢◌, ◌+◌, ◌<◌, ◌≤◌, ◌++◌, ◌⊎◌, ℕ, suc, true, false, List, [], ◌∷◌, Option, IsTrue, Result, Err, IfErr, OnOk, length, map, take, drop}
 use Rattle.std.specs.List.{AllByRecursion}
-use Rattle.ub_check.specs.Standing.{IsHeldBy}
 use Rattle.ub_store.specs.Writing.{Grows}
 use Rattle.ub_index.specs.Changed.{Replaces}
 use Rattle.ub_index.specs.Changing.{AreIndexPages, IsOutside}
@@ -13,7 +12,7 @@ use Rattle.ub_index.specs.declared.sheet.Sheet.{Sheet}
 use Rattle.ub_page.specs.Region.{RegionView, region_page}
 use Rattle.ub_region.specs.Regions.{split_region}
 use Rattle.ub_region.specs.Rows.{Halves, split}
-use Rattle.ub_store.specs.Facts.{StoreFacts, IsHonest, IsPage, page_count}
+use Rattle.ub_store.specs.Facts.{StoreFacts, IsHonest, page_count}
 use Rattle.ub_store.specs.declared.fault.StoreFault.TheVariants as store
 use Rattle.ub_table.specs.Keys.{IsBefore, origin}
 use Rattle.ub_table.specs.Region.{Region, IsRegion, keys_of}
