@@ -6,7 +6,10 @@
 A table of 200,000 random rows of three dimensions and two measures is put in by `load`; then scripts of 1, 10,000 and 100,000
 INSERTs run on copies of it, a script that asks once, and a load where no table stands. Each line has the least of the rounds' times of OLD and of NEW in
 milliseconds, without the time inside fsync (by `strace`, which traces nothing else), their ratio, how many calls of fsync each makes, and the most memory of
-each in MB. Keep the machine quiet."""
+each in MB. Keep the machine quiet.
+
+Before each run memory is touched and given back: on a virtual machine whose host takes free memory away, what is new to the machine costs much
+more than what was used a moment ago, so that a program would be timed by what ran before it."""
 import os
 import random
 import re
@@ -18,9 +21,20 @@ import tempfile
 import time
 
 
+# So many bytes are touched: more than a run takes, with the files that it makes in memory.
+TOUCHED = 512 << 20
+
+
 def rows(count, seed):
     rng = random.Random(seed)
     return [[rng.randrange(1 << 32) for _ in range(3)] + [rng.randrange(-1000, 1000) for _ in range(2)] for _ in range(count)]
+
+
+def touch_memory():
+    """Touches memory, and gives it back."""
+    held = bytearray(TOUCHED)
+    for at in range(0, TOUCHED, 4096):
+        held[at] = 1
 
 
 def timed(words, work, text=None):
@@ -75,6 +89,7 @@ def main():
                     if turn == rounds:
                         held[program] = memory([program, *words], work, text)
                         continue
+                    touch_memory()
                     took, syncs[program] = timed([program, *words], work, text)
                     least[program] = min(took, least.get(program, took))
             ratio = least[new] / least[old]
