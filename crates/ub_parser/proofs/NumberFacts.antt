@@ -1,5 +1,5 @@
 -- What std's `parse` says of a text of digits alone.
-use Rattle.std.proofs.Common.{◌≡◌, ◌<◌, ◌≤◌, ℕ, true, List, [], ◌∷◌, length, Result, Ok, Err, refl, arith, rules, tests}
+use Rattle.std.proofs.Common.{◌≡◌, ◌<◌, ◌≤◌, ◌^◌, ℕ, true, List, [], ◌∷◌, length, Result, Ok, Err, refl, arith, rules, tests}
 use Rattle.std.specs.Char.{is_ascii_digit}
 use Rattle.std.specs.Int.{IsInRange}
 use Rattle.std.specs.List.{AllPass}
@@ -9,6 +9,7 @@ use Rattle.std.specs.Str.Parse.{AllDigits, ParsesUnsigned, without_leading_plus,
 use Rattle.std.proofs.lemmas.Bool.Decides.{nat_tests}
 use Rattle.std.proofs.lemmas.List.Elements.{All-head, All-tail}
 use Rattle.std.proofs.lemmas.Str.{digit_value_digit}
+use Rattle.std.proofs.lemmas.Str.Parse.{digits_value_short, numerals_by_value, tells_digits}
 use Rattle.ub_query.specs.Posed.{greatest_number}
 
 in_range : (c : ℕ) → is_ascii_digit c ≡ true → IsInRange 48 57 c
@@ -37,3 +38,10 @@ number_is ds r some all h =
     let plain = without_plus ds all in
     let k = rw plain at h in
     parsed r (digits_value 10 ds) _ k (λ le. ((some, all_digits ds all), omega arith)) (λ p. omega arith)
+
+-- 19 digits write a number that a statement may write, whichever they are
+pub short_fits : (ds : List ℕ) → AllPass is_ascii_digit ds → length ds ≤ 19 → digits_value 10 ds ≤ greatest_number
+short_fits ds all le =
+    let small : digits_value 10 ds < 10 ^ 19 = digits_value_short (numerals_by_value (AllDigits 10) tells_digits) ds 19 (all_digits ds all) le in
+    let power : 10 ^ 19 ≡ 10000000000000000000 = refl in
+    omega arith

@@ -1,5 +1,5 @@
 -- The three misfits of an INSERT, and which of them is the first.
-use Rattle.std.proofs.Common.{◌≡◌, ◌≢◌, ◌↔◌, ◌<◌, ◌≤◌, ◌+◌, ℕ, zero, suc, ℤ, Bool, true, false, IsTrue, List, [], ◌∷◌, ◌++◌, length, map, drop, take, take_all, add-one, get_or, refl, sym, ap, ◌∙◌, subst, arith}
+use Rattle.std.proofs.Common.{◌≡◌, ◌≢◌, ◌↔◌, ◌<◌, ◌≤◌, ◌+◌, ◌⊎◌, inl, inr, Result, Ok, Err, IfErr, OnOk, ℕ, zero, suc, ℤ, Bool, true, false, IsTrue, List, [], ◌∷◌, ◌++◌, length, map, drop, take, add-one, get_or, refl, sym, ap, ◌∙◌, subst, arith}
 use Rattle.std.proofs.Math.Seq.{take-suc}
 use Rattle.std.proofs.lemmas.List.{length-map, map-append}
 use Rattle.std.proofs.lemmas.List.Elements.{All-cons, All-from_get_or, All-get_or, All-head, All-nil, All-tail}
@@ -9,14 +9,13 @@ use Rattle.ub_lexer.specs.Tokens.{text_of}
 use Rattle.ub_lexer.specs.declared.token.Token.{Token}
 use Rattle.ub_syntax.specs.declared.syntax.Insertion.{Insertion}
 use Rattle.ub_syntax.specs.declared.syntax.Value.{Value}
-use Rattle.ub_parser.specs.Refusals.{IsFirst, IsUnfit, IsInsertMisfit, IsFirstInsertMisfit, begins, rank}
+use Rattle.ub_parser.specs.Refusals.{IsFirst, IsUnfit, IsInsertMisfit, IsFirstInsertMisfit, begins, miscounted, rank}
 use Rattle.ub_parser.specs.Sense.{value_of, values_of}
 use Rattle.ub_parser.specs.declared.fault.SqlFault.{SqlFault}
 use Rattle.ub_parser.specs.declared.fault.SqlFault.TheVariants.{BadByte, Syntax, NumberTooLarge, TooDeep, TooMany, UnknownTable, UnknownColumn, NotGrouped, NotSelected, ValueCount, ValueRange, Memory}
 use Rattle.ub_parser.proofs.FirstFacts.{fails, first_at, none_more, none_at_all}
 use Rattle.ub_parser.proofs.GroupFacts.{no_first}
-use Rattle.ub_table.proofs.Laws.{fits_some_measure}
-use Rattle.ub_table.specs.Value.{axes_of, fits, fits_measure}
+use Rattle.ub_table.specs.Value.{fits}
 use Rattle.ub_table.specs.declared.schema.Schema.{Schema}
 
 -- the first of the values after so many
@@ -41,11 +40,6 @@ begins_none n xs vs close same le = subst (λ (ys : List Value). close ≡ begin
 pub more_values : (source : List ℕ) (vs : List Value) (k : ℕ) (xs ys : List ℤ) (x : ℤ) (d : Value) → k < length vs → xs ≡ map (λ v. value_of source v.literal) (take k vs)
     → ys ≡ xs ++ x ∷ [] → x ≡ value_of source (get_or vs k d).literal → ys ≡ map (λ v. value_of source v.literal) (take (k + 1) vs)
 more_values source vs k xs ys x d lt so_far more is = rw (add-one, take-suc vs k d lt, map-append, more, so_far, is) refl
-
--- and of all of them
-pub all_values : (source : List ℕ) (i : Insertion) (vs : List Value) (k : ℕ) (xs : List ℤ) → vs ≡ i.values → length vs ≤ k → xs ≡ map (λ v. value_of source v.literal) (take k vs)
-    → xs ≡ values_of source i
-all_values source i vs k xs same past so_far = so_far ∙ ap (λ (ws : List Value). map (λ v. value_of source v.literal) ws) (take_all k vs past ∙ same)
 
 -- the element at a place, with that place before it
 at_place : {A : Type 0} (xs : List A) (k : ℕ) (d : ℕ × A) → k < length xs → get_or (enumerate_from 0 xs) k d ≡ (k, get_or xs k d.1)
@@ -111,6 +105,18 @@ module _ (source : List ℕ) (schema : Schema) (i : Insertion) where
       → IsFirst (λ x. IsUnfit source schema x) (enumerate_from 0 i.values) (column, v) → IsFirstInsertMisfit source schema i (ValueRange v.first.from)
   first_range table count column v first = (((column, v), first, refl), below 11 (λ lt. table) (λ lt. count) (λ lt. absurd (omega arith)))
 
+  pub first_count : No (λ at. UnknownTable at) → length i.values ≢ length schema.columns → IsFirstInsertMisfit source schema i (ValueCount (miscounted schema i).from)
+  first_count table other = ((other, refl), below 10 (λ lt. table) (λ lt. absurd (omega arith)) (λ lt. absurd (omega arith)))
+
+  -- so is what a search over the values refuses
+  pub refused_range : {T : Type 0} (r : Result T SqlFault) → No (λ at. UnknownTable at) → No (λ at. ValueCount at)
+      → IfErr r (λ fault. (fault ≡ Memory) ⊎ ((v : ℕ × Value) × IsFirst (λ x. IsUnfit source schema x) (enumerate_from 0 i.values) v × (fault ≡ ValueRange v.1.first.from)))
+      → IfErr r (λ fault. (fault ≡ Memory) ⊎ IsFirstInsertMisfit source schema i fault)
+  refused_range (Ok x) table count h = tt
+  refused_range (Err e) table count (inl is) = inl is
+  refused_range (Err e) table count (inr (v, first, is)) =
+      inr (subst (λ (fault : SqlFault). IsFirstInsertMisfit source schema i fault) (sym is) (first_range table count v.0 v.1 first))
+
   rank_small : (fault : SqlFault) → rank fault < 13
   rank_small (BadByte at) = omega arith
   rank_small (Syntax at) = omega arith
@@ -129,6 +135,11 @@ module _ (source : List ℕ) (schema : Schema) (i : Insertion) where
       → (fault : SqlFault) → ¬ IsInsertMisfit source schema i fault
   no_misfit table count all fault =
       below 13 (λ lt. table) (λ lt. count) (λ lt at h. no_first (λ (v : ℕ × Value). IsUnfit source schema v) (enumerate_from 0 i.values) h.0 all h.1) fault (rank_small fault)
+
+  -- what holds where the values are given
+  pub where_given : {T : Type 0} (r : Result T SqlFault) (P Q : Type 0) → (P → Q) → OnOk r P → OnOk r Q
+  where_given (Ok x) P Q so h = so h
+  where_given (Err e) P Q so h = tt
 
   -- where there is none, each column can hold its value
   a_value : Value
@@ -150,21 +161,6 @@ module _ (source : List ℕ) (schema : Schema) (i : Insertion) where
       must : (b : Bool) → ¬ (b ≡ false) → b ≡ true
       must true h = refl
       must false h = absurd (h refl)
-
-  -- so a measure could hold it
-  pub all_measures : All (λ v. fits schema v.0 (value_of source v.1.literal) ≡ true) (enumerate_from 0 i.values)
-      → All (λ v. fits_measure (value_of source v.literal) ≡ true) i.values
-  all_measures fit =
-      All-from_get_or (λ (v : Value). fits_measure (value_of source v.literal) ≡ true) i.values a_value
-      (λ k lt.
-      let d : ℕ × Value = (0, a_value) in
-      let v = get_or i.values k a_value in
-      let at : get_or (enumerate_from 0 i.values) k d ≡ (k, v) = at_place i.values k d lt in
-      let longer : k < length (enumerate_from 0 i.values) = let e = length-enumerate_from 0 i.values in omega arith in
-      let here : fits schema k (value_of source v.literal) ≡ true =
-      subst (λ (x : ℕ × Value). fits schema x.0 (value_of source x.1.literal) ≡ true) at
-      (All-get_or (λ (x : ℕ × Value). fits schema x.0 (value_of source x.1.literal) ≡ true) (enumerate_from 0 i.values) k d longer fit) in
-      fits_some_measure (axes_of schema) k (value_of source v.literal) here)
 
   -- and the numbers may be given
   all_given : All (λ v. fits schema v.0 (value_of source v.1.literal) ≡ true) (enumerate_from 0 i.values)

@@ -15,10 +15,10 @@ ghost use Rattle.ub_parser.specs.declared.fault.SqlFault.{SqlFault};
 
 use crate::check::{misgrouped, unknown_name};
 use crate::fault::SqlFault;
-use crate::sense::{query, values};
+use crate::sense::query;
 use crate::statement::Statement;
 use crate::tokens::{bad_byte, number_too_large};
-use crate::values::misvalued;
+use crate::values::values;
 use std::alloc::Global;
 use ub_lexer::{Token, TokenKind};
 use ub_query::{Items, Query};
@@ -96,10 +96,7 @@ fn sense(
             Ok(statement(syntax.is_explained, query))
         }
         Sentence::Insert(insertion) => {
-            if let Some(fault) = misvalued(source, schema, &insertion) {
-                return Err(fault);
-            }
-            let values = values(alloc, source, &insertion)?;
+            let values = values(alloc, source, schema, &insertion)?;
             Ok(Statement::Insert(Items::new(values)))
         }
         Sentence::Delete(syntax) => {

@@ -14,13 +14,12 @@ ghost use Rattle.ub_parser.specs.Known.{IsAskedOver};
 ghost use Rattle.ub_query.specs.Posed.{IsItemOver, IsOver};
 ghost use Rattle.ub_query.specs.Shape.{asked, shape};
 ghost use Rattle.ub_parser.specs.Spans.{AreWritten, IsNumber};
-ghost use Rattle.ub_table.specs.Value.{fits_measure};
 
 use crate::text::{number, text};
 use std::alloc::{AllocError, Global};
 use ub_lexer::Token;
 use ub_query::{Cond, Item, Items, Query, SortKey};
-use ub_syntax::{Condition, Insertion, Literal, OrderKey, Selection, Syntax};
+use ub_syntax::{Condition, Literal, OrderKey, Selection, Syntax};
 use ub_table::{Name, Schema};
 
 /// The place, from 0, of the first of the names that is this text.
@@ -232,38 +231,6 @@ fn limit(source: &[u8], limit: &Option<Token>) -> Option<u64>
         Some(digits) => number(source, digits),
         None => None,
     }
-}
-
-// The number that a literal writes, where a measure can hold it.
-fn measure(source: &[u8], literal: &Literal) -> i64
-    requires number { IsNumber source.now literal.now.digits }
-    requires fits { fits_measure (spec.value_of source.now literal.now) ≡ true }
-    ensures { result ≡ spec.value_of source.now literal.now }
-{
-    i64::try_from(value(source, literal)).unwrap()
-}
-
-/// The values that an INSERT gives to the columns, in order.
-///
-/// # Errors
-///
-/// `AllocError` where memory runs out.
-pub(crate) fn values(
-    alloc: Global,
-    source: &[u8],
-    insertion: &Insertion,
-) -> Result<Vec<i64>, AllocError>
-    requires numbers { All (λ v. IsNumber source.now v.literal.digits) insertion.now.values }
-    requires fit { All (λ v. fits_measure (spec.value_of source.now v.literal) ≡ true)
-        insertion.now.values }
-    ensures { IfOk result (λ values. values.items ≡ spec.values_of source.now insertion.now) }
-{
-    let literals = insertion.values.as_slice();
-    let mut values = Vec::with_capacity(alloc, literals.len())?;
-    for literal in literals {
-        values.push(measure(source, &literal.literal))?;
-    }
-    Ok(values)
 }
 
 /// What the syntax of a SELECT asks of a table of the schema.

@@ -1,12 +1,12 @@
 -- What was built is the one statement that the tokens are.
-use Rattle.std.proofs.Common.{◌∙◌, ap, inr}
+use Rattle.std.proofs.Common.{◌∙◌, ap}
 use Rattle.std.proofs.lemmas.Result.{IfOk-from_err, err_from_is_err_and}
 use Rattle.ub_syntax.specs.Tree.{select_of, selects, inserts, deletes}
 use Rattle.ub_syntax.specs.declared.syntax.Sentence.TheVariants as sentence
 use Rattle.ub_parser.specs.Outcome.{command, asks, puts, takes}
 use Rattle.ub_query.specs.Shape.{Asked, asked}
 use Rattle.ub_parser.proofs.StatedFacts.{select_written, select_table, delete_written, delete_table, insert_written, select_posed, delete_posed, delete_rows, built_select, built_insert, built_delete, built_one, refused_first, refused_only, refused_one, accepted_so, only_memory, memory_or}
-use Rattle.ub_parser.proofs.ValueFacts.{all_measures, given_values}
+use Rattle.ub_parser.proofs.ValueFacts.{given_values}
 use Rattle.ub_parser.proofs.parser.sense.Goals as goal
 
 pub selected-requires-clause-table : goal.selected-requires-clause-table
@@ -71,37 +71,31 @@ returns-in_err-query-in-Delete-clause-only_fault c =
     let p = err_from_is_err_and c.from_residual-in_err-query-in-Delete.result c.from_residual-in_err-query-in-Delete.ensures.1 in
     rw (p.1, p.2) (refused_one c.args.source.now c.args.schema.now c.args.tokens.now c.requires.bytes c.requires.numbers (deletes (select_of c.in-Delete.syntax)) is one c.in_err-query-in-Delete.field-0.0 c.in_err-query-in-Delete.ensures.refused)
 
-pub misvalued-requires : goal.misvalued-requires
-misvalued-requires c =
+pub values-requires : goal.values-requires
+values-requires c =
     let is = built_insert c.args.source.now c.args.schema.now c.args.tokens.now c.in_ok-sentence.sentence c.in_ok-sentence.ensures c.requires.statement c.in-Insert.insertion c.in-Insert.is in
     insert_written c.args.source.now c.args.schema.now c.args.tokens.now c.requires.spelled c.requires.numbers c.in-Insert.insertion is
 
-pub returns-in-Some-clause-only : goal.returns-in-Some-clause-only
-returns-in-Some-clause-only c =
+pub returns-in_err-values-in-Insert-clause-only : goal.returns-in_err-values-in-Insert-clause-only
+returns-in_err-values-in-Insert-clause-only c =
     let is = built_insert c.args.source.now c.args.schema.now c.args.tokens.now c.in_ok-sentence.sentence c.in_ok-sentence.ensures c.requires.statement c.in-Insert.insertion c.in-Insert.is in
     let one = built_one c.args.source.now c.args.schema.now c.args.tokens.now c.in_ok-sentence.sentence c.in_ok-sentence.ensures c.requires.statement (sentence.Insert c.in-Insert.insertion) c.in-Insert.is in
-    refused_only c.args.source.now c.args.schema.now c.args.tokens.now c.requires.bytes c.requires.numbers (inserts c.in-Insert.insertion) is one c.in-Some.fault (inr c.in-Some.ensures.first)
+    let p = err_from_is_err_and c.from_residual-in_err-values-in-Insert.result c.from_residual-in_err-values-in-Insert.ensures.1 in
+    rw (p.1, p.2) (refused_only c.args.source.now c.args.schema.now c.args.tokens.now c.requires.bytes c.requires.numbers (inserts c.in-Insert.insertion) is one c.in_err-values-in-Insert.field-0.0 c.in_err-values-in-Insert.ensures.refused)
 
-pub returns-in-Some-clause-refused : goal.returns-in-Some-clause-refused
-returns-in-Some-clause-refused c =
+pub returns-in_err-values-in-Insert-clause-refused : goal.returns-in_err-values-in-Insert-clause-refused
+returns-in_err-values-in-Insert-clause-refused c =
     let is = built_insert c.args.source.now c.args.schema.now c.args.tokens.now c.in_ok-sentence.sentence c.in_ok-sentence.ensures c.requires.statement c.in-Insert.insertion c.in-Insert.is in
     let one = built_one c.args.source.now c.args.schema.now c.args.tokens.now c.in_ok-sentence.sentence c.in_ok-sentence.ensures c.requires.statement (sentence.Insert c.in-Insert.insertion) c.in-Insert.is in
-    refused_first c.args.source.now c.args.schema.now c.args.tokens.now c.requires.bytes c.requires.numbers (inserts c.in-Insert.insertion) is one c.in-Some.fault (inr c.in-Some.ensures.first)
+    let p = err_from_is_err_and c.from_residual-in_err-values-in-Insert.result c.from_residual-in_err-values-in-Insert.ensures.1 in
+    rw (p.1, p.2) (refused_first c.args.source.now c.args.schema.now c.args.tokens.now c.requires.bytes c.requires.numbers (inserts c.in-Insert.insertion) is one c.in_err-values-in-Insert.field-0.0 c.in_err-values-in-Insert.ensures.refused)
 
-pub returns-in-Some-clause-only_fault : goal.returns-in-Some-clause-only_fault
-returns-in-Some-clause-only_fault c =
+pub returns-in_err-values-in-Insert-clause-only_fault : goal.returns-in_err-values-in-Insert-clause-only_fault
+returns-in_err-values-in-Insert-clause-only_fault c =
     let is = built_insert c.args.source.now c.args.schema.now c.args.tokens.now c.in_ok-sentence.sentence c.in_ok-sentence.ensures c.requires.statement c.in-Insert.insertion c.in-Insert.is in
     let one = built_one c.args.source.now c.args.schema.now c.args.tokens.now c.in_ok-sentence.sentence c.in_ok-sentence.ensures c.requires.statement (sentence.Insert c.in-Insert.insertion) c.in-Insert.is in
-    refused_one c.args.source.now c.args.schema.now c.args.tokens.now c.requires.bytes c.requires.numbers (inserts c.in-Insert.insertion) is one c.in-Some.fault (inr c.in-Some.ensures.first)
-
-pub values-requires-clause-numbers : goal.values-requires-clause-numbers
-values-requires-clause-numbers c =
-    let is = built_insert c.args.source.now c.args.schema.now c.args.tokens.now c.in_ok-sentence.sentence c.in_ok-sentence.ensures c.requires.statement c.in-Insert.insertion c.in-Insert.is in
-    (insert_written c.args.source.now c.args.schema.now c.args.tokens.now c.requires.spelled c.requires.numbers c.in-Insert.insertion is).numbers_are
-
-pub values-requires-clause-fit : goal.values-requires-clause-fit
-values-requires-clause-fit c =
-    all_measures c.args.source.now c.args.schema.now c.in-Insert.insertion c.in_default.ensures.fit
+    let p = err_from_is_err_and c.from_residual-in_err-values-in-Insert.result c.from_residual-in_err-values-in-Insert.ensures.1 in
+    rw (p.1, p.2) (refused_one c.args.source.now c.args.schema.now c.args.tokens.now c.requires.bytes c.requires.numbers (inserts c.in-Insert.insertion) is one c.in_err-values-in-Insert.field-0.0 c.in_err-values-in-Insert.ensures.refused)
 
 pub returns-in_ok-query-in-Select-clause-accepted : goal.returns-in_ok-query-in-Select-clause-accepted
 returns-in_ok-query-in-Select-clause-accepted c =
@@ -121,11 +115,11 @@ pub returns-in_ok-values-in-Insert-clause-accepted : goal.returns-in_ok-values-i
 returns-in_ok-values-in-Insert-clause-accepted c =
     let is = built_insert c.args.source.now c.args.schema.now c.args.tokens.now c.in_ok-sentence.sentence c.in_ok-sentence.ensures c.requires.statement c.in-Insert.insertion c.in-Insert.is in
     let one = built_one c.args.source.now c.args.schema.now c.args.tokens.now c.in_ok-sentence.sentence c.in_ok-sentence.ensures c.requires.statement (sentence.Insert c.in-Insert.insertion) c.in-Insert.is in
-    accepted_so c.args.source.now c.args.schema.now c.args.tokens.now c.requires.bytes c.requires.numbers (inserts c.in-Insert.insertion) is one c.in_default.ensures.first (puts c.new.result) (ap puts (c.new.ensures ∙ c.in_ok-values-in-Insert.ensures))
+    accepted_so c.args.source.now c.args.schema.now c.args.tokens.now c.requires.bytes c.requires.numbers (inserts c.in-Insert.insertion) is one c.in_ok-values-in-Insert.ensures.fine (puts c.new.result) (ap puts (c.new.ensures ∙ c.in_ok-values-in-Insert.ensures.values))
 
 pub returns-in_ok-values-in-Insert-clause-given : goal.returns-in_ok-values-in-Insert-clause-given
 returns-in_ok-values-in-Insert-clause-given c =
-    given_values c.args.source.now c.args.schema.now c.in-Insert.insertion c.new.result (c.new.ensures ∙ c.in_ok-values-in-Insert.ensures) c.in_default.ensures.count c.in_default.ensures.fit
+    given_values c.args.source.now c.args.schema.now c.in-Insert.insertion c.new.result (c.new.ensures ∙ c.in_ok-values-in-Insert.ensures.values) c.in_ok-values-in-Insert.ensures.count c.in_ok-values-in-Insert.ensures.fit
 
 pub returns-in_ok-query-in-Delete-clause-accepted : goal.returns-in_ok-query-in-Delete-clause-accepted
 returns-in_ok-query-in-Delete-clause-accepted c =
@@ -167,15 +161,6 @@ returns-in_err-values-in-Insert-clause-accepted c = IfOk-from_err c.from_residua
 
 pub returns-in_err-values-in-Insert-clause-given : goal.returns-in_err-values-in-Insert-clause-given
 returns-in_err-values-in-Insert-clause-given c = IfOk-from_err c.from_residual-in_err-values-in-Insert.result _ c.from_residual-in_err-values-in-Insert.ensures.0
-
-pub returns-in_err-values-in-Insert-clause-only : goal.returns-in_err-values-in-Insert-clause-only
-returns-in_err-values-in-Insert-clause-only c = λ d is. only_memory c.from_residual-in_err-values-in-Insert.result _ c.from_residual-in_err-values-in-Insert.ensures.1
-
-pub returns-in_err-values-in-Insert-clause-refused : goal.returns-in_err-values-in-Insert-clause-refused
-returns-in_err-values-in-Insert-clause-refused c = memory_or c.from_residual-in_err-values-in-Insert.result _ c.from_residual-in_err-values-in-Insert.ensures.1
-
-pub returns-in_err-values-in-Insert-clause-only_fault : goal.returns-in_err-values-in-Insert-clause-only_fault
-returns-in_err-values-in-Insert-clause-only_fault c = λ f is. memory_or c.from_residual-in_err-values-in-Insert.result _ c.from_residual-in_err-values-in-Insert.ensures.1
 
 pub returns-in_err-query-in-Delete-clause-accepted : goal.returns-in_err-query-in-Delete-clause-accepted
 returns-in_err-query-in-Delete-clause-accepted c = IfOk-from_err c.from_residual-in_err-query-in-Delete.result _ c.from_residual-in_err-query-in-Delete.ensures.0
