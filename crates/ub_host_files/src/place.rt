@@ -41,7 +41,7 @@ struct Names {
 const JOURNAL: &str = "-journal";
 
 // So many bytes of a draft are written at a time, where there is memory for that.
-const DRAFT_BYTES: usize = 16 * 4096;
+const DRAFT_BYTES: usize = 16 * PAGE_BYTES as usize;
 
 /// What a place tells of its calls that were refused.
 pub trait Reasons {

@@ -86,7 +86,10 @@ impl Changes {
         ensures put { OnOk result (self.new ≡ put_change (change n page.now) self.old) }
         ensures refused { OnErr result (self.new ≡ self.old) }
     {
-        let page = Box::new(self.alloc, *page)?;
+        // By `?` the page that was refused would be handed on, and copied for it.
+        let Ok(page) = Box::new(self.alloc, *page) else {
+            return Err(AllocError);
+        };
         self.pages.insert(n, page)?;
         Ok(())
     }

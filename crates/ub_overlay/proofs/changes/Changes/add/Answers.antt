@@ -5,5 +5,5 @@ use Rattle.ub_overlay.proofs.changes.Changes.add.Goals as goal
 
 pub returns-clause-put : goal.returns-clause-put
 returns-clause-put c = rw (← c.self.view_is) (
-    ap changes_of c.in_ok-insert.ensures.entries ∙ facts.insert_is_put c.args.n c.in_ok-page.page c.self.inside.pages.entries
-    ∙ ap (λ page. put_change (change c.args.n page) (changes_of c.self.inside.pages.entries)) c.in_ok-page.ensures.ok)
+    ap changes_of c.in_ok-insert.ensures.entries ∙ facts.insert_is_put c.args.n c.in-Ok.page c.self.inside.pages.entries
+    ∙ ap (λ page. put_change (change c.args.n page) (changes_of c.self.inside.pages.entries)) c.in-Ok.ensures.ok)
