@@ -11,12 +11,13 @@ use Rattle.ub_table.specs.Name.{is_word}
 -- the words of the language and what each is
 unfoldable pub keywords : List (List ℕ × Symbol)
 keywords =
-    (codes "SELECT", Select) ∷ (codes "EXPLAIN", Explain) ∷ (codes "FROM", From) ∷ (codes "WHERE", Where)
+    (codes "INSERT", Insert) ∷ (codes "INTO", Into) ∷ (codes "VALUES", Values)
+    ∷ (codes "SELECT", Select) ∷ (codes "EXPLAIN", Explain) ∷ (codes "FROM", From) ∷ (codes "WHERE", Where)
     ∷ (codes "AND", And) ∷ (codes "OR", Or) ∷ (codes "NOT", Not) ∷ (codes "BETWEEN", Between)
     ∷ (codes "GROUP", Group) ∷ (codes "ORDER", Order) ∷ (codes "BY", By) ∷ (codes "ASC", Ascending) ∷ (codes "DESC", Descending)
     ∷ (codes "LIMIT", Limit) ∷ (codes "COUNT", Count)
     ∷ (codes "SUM", Aggregate aggregate.Sum) ∷ (codes "MIN", Aggregate aggregate.Min) ∷ (codes "MAX", Aggregate aggregate.Max)
-    ∷ (codes "INSERT", Insert) ∷ (codes "INTO", Into) ∷ (codes "VALUES", Values) ∷ (codes "DELETE", Delete) ∷ []
+    ∷ (codes "DELETE", Delete) ∷ []
 
 -- the symbol of the first of the words that the text is in any mix of cases, else a name
 abbrev pub symbol_among : List (List ℕ × Symbol) → List ℕ → Symbol

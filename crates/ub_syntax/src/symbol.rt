@@ -44,8 +44,11 @@ pub enum Symbol {
     Other,
 }
 
-// The words of the language, and what each is.
+// The words of the language, and what each is. Those of an INSERT come first, since the longest scripts are made of them.
 const KEYWORDS: [(&str, Symbol); 22] = [
+    ("INSERT", Symbol::Insert),
+    ("INTO", Symbol::Into),
+    ("VALUES", Symbol::Values),
     ("SELECT", Symbol::Select),
     ("EXPLAIN", Symbol::Explain),
     ("FROM", Symbol::From),
@@ -64,9 +67,6 @@ const KEYWORDS: [(&str, Symbol); 22] = [
     ("SUM", Symbol::Aggregate(Aggregate::Sum)),
     ("MIN", Symbol::Aggregate(Aggregate::Min)),
     ("MAX", Symbol::Aggregate(Aggregate::Max)),
-    ("INSERT", Symbol::Insert),
-    ("INTO", Symbol::Into),
-    ("VALUES", Symbol::Values),
     ("DELETE", Symbol::Delete),
 ];
 

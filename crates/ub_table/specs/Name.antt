@@ -19,10 +19,10 @@ is_word word text = bytes_eq (map to_ascii_lowercase word) (map to_ascii_lowerca
 -- the words of the language, which no name may be
 unfoldable pub keywords : List (List ℕ)
 keywords =
-    codes "SELECT" ∷ codes "EXPLAIN" ∷ codes "FROM" ∷ codes "WHERE" ∷ codes "AND" ∷ codes "OR" ∷ codes "NOT"
+    codes "INSERT" ∷ codes "INTO" ∷ codes "VALUES"
+    ∷ codes "SELECT" ∷ codes "EXPLAIN" ∷ codes "FROM" ∷ codes "WHERE" ∷ codes "AND" ∷ codes "OR" ∷ codes "NOT"
     ∷ codes "BETWEEN" ∷ codes "GROUP" ∷ codes "ORDER" ∷ codes "BY" ∷ codes "ASC" ∷ codes "DESC" ∷ codes "LIMIT"
-    ∷ codes "COUNT" ∷ codes "SUM" ∷ codes "MIN" ∷ codes "MAX"
-    ∷ codes "INSERT" ∷ codes "INTO" ∷ codes "VALUES" ∷ codes "DELETE" ∷ []
+    ∷ codes "COUNT" ∷ codes "SUM" ∷ codes "MIN" ∷ codes "MAX" ∷ codes "DELETE" ∷ []
 
 -- the text is a keyword, in any mix of cases
 unfoldable pub is_keyword : List ℕ → Bool

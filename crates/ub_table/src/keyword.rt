@@ -2,10 +2,11 @@ ghost use Rattle.std.specs.Prelude.{◌≡◌};
 ghost use Rattle.std.specs.List.{list_any};
 ghost use Rattle.ub_table.specs.Name as spec;
 
-/// The words of the language.
+/// The words of the language. Those of an INSERT come first, since the longest scripts are made of them.
 const KEYWORDS: [&str; 22] = [
-    "SELECT", "EXPLAIN", "FROM", "WHERE", "AND", "OR", "NOT", "BETWEEN", "GROUP", "ORDER", "BY",
-    "ASC", "DESC", "LIMIT", "COUNT", "SUM", "MIN", "MAX", "INSERT", "INTO", "VALUES", "DELETE",
+    "INSERT", "INTO", "VALUES", "SELECT", "EXPLAIN", "FROM", "WHERE", "AND", "OR", "NOT",
+    "BETWEEN", "GROUP", "ORDER", "BY", "ASC", "DESC", "LIMIT", "COUNT", "SUM", "MIN", "MAX",
+    "DELETE",
 ];
 
 /// Whether the text is a word of the language, in any mix of upper and lower case.
