@@ -13,7 +13,7 @@ use ub_files::Files;
 use ub_page::OldHeader;
 use ub_page::header::VERSION;
 use ub_script::Out;
-use ub_store::{Page, PageStore};
+use ub_store::{PageStore, new_page};
 use ub_table::PageFault;
 use ub_tree::{Tree, TreeFault};
 use ub_upgrade::read_head;
@@ -166,9 +166,4 @@ fn header_text(alloc: Global, old: &OldHeader) -> Result<Vec<u8>, AllocError>
         version: old.version,
     };
     text_of(alloc, &header.schema, numbers)
-}
-
-// A page of zeros.
-fn new_page(alloc: Global) -> Result<Box<Page>, AllocError> {
-    Ok(Box::new(alloc, [0; 4096])?)
 }

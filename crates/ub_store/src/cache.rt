@@ -2,7 +2,7 @@ ghost use Rattle.std.specs.Prelude.{◌≡◌, ℕ, [], Some, None, IfOk, IfSome
 ghost use Rattle.std.specs.Option.{is_some, option_copied};
 ghost use Rattle.ub_store.specs.Cache.{page_at, SameBut, NoneMoreBut};
 
-use crate::Page;
+use crate::page::{Page, new_page};
 use lru::LruCache;
 use std::alloc::{AllocError, Global};
 use std::marker::Model;
@@ -24,11 +24,6 @@ impl Model for Cache {
     ghost Value = { List (ℕ × List ℕ) };
 
     ghost view = { λ c. pages_of c.pages.entries };
-}
-
-// A page of zeros in a box. It is a function of its own, since the room of a page is cleared where it is entered.
-fn new_page(alloc: Global) -> Result<Box<Page>, AllocError> {
-    Ok(Box::new(alloc, [0; 4096])?)
 }
 
 impl Cache {

@@ -10,14 +10,13 @@ mod cache;
 pub mod fault;
 pub mod faulty;
 pub mod memory;
+pub mod page;
 pub mod pager;
 pub mod store;
 
 pub use fault::{Rejected, StoreFault};
 pub use faulty::FaultyStore;
 pub use memory::MemStore;
+pub use page::{Page, new_page};
 pub use pager::Pager;
 pub use store::{MAX_PAGES, PageStore};
-
-/// The bytes of a page.
-pub type Page = [u8; 4096];

@@ -21,10 +21,10 @@ ghost use Rattle.ub_zaddr.specs.Address.{last_address};
 use crate::creation::pager_over;
 use crate::fault::TreeFault;
 use crate::tree::Tree;
-use std::alloc::{AllocError, Global};
+use std::alloc::Global;
 use ub_index::Index;
 use ub_page::OldHeader;
-use ub_store::{Page, PageStore, Pager, Rejected};
+use ub_store::{Page, PageStore, Pager, Rejected, new_page};
 use ub_upgrade::{bring_pages, read_head};
 use ub_writing::{Mark, write_mark};
 use ub_zaddr::last;
@@ -195,9 +195,4 @@ fn bring_rest<O: PageStore, S: PageStore>(
     let last = last(head.header.schema.shape());
     let index = Index::open(pager, root.page, root.level, last)?;
     Ok(index)
-}
-
-// A page of zeros.
-fn new_page(alloc: Global) -> Result<Box<Page>, AllocError> {
-    Ok(Box::new(alloc, [0; 4096])?)
 }
