@@ -4,7 +4,7 @@ use crate::changes::THREE;
 use crate::pages::Sheet;
 use crate::trial::{Answer, DEVICE, Step, Trial};
 use std::alloc::Global;
-use ub_index_page::Key;
+use ub_page::Key;
 use ub_region::Region;
 
 // Addresses, and the page of the region that holds the first key of each.

@@ -3,7 +3,7 @@
 use crate::pages::Sheet;
 use crate::searches::THREE;
 use crate::trial::{Answer, DEVICE, Run, Step, all_go};
-use ub_index_page::{Key, PageFault};
+use ub_page::{Key, PageFault};
 use ub_region::Region;
 
 // Leaves whose keys don't ascend: from the second key on, and from the first one, a search goes back.

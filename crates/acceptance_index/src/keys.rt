@@ -2,7 +2,7 @@
 use crate::pages::{Listed, Tried};
 use ub_bigmin::ZBox;
 use ub_index::{Index, IndexFault};
-use ub_index_page::Key;
+use ub_page::Key;
 use ub_region::Region;
 use ub_zaddr::{Point, Shape};
 

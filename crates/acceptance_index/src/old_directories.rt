@@ -6,7 +6,7 @@ use std::alloc::Global;
 use std::num::NonZeroUsize;
 use std::process::Abort;
 use ub_index::Index;
-use ub_index_page::PageFault;
+use ub_page::PageFault;
 use ub_region::{ORIGIN, Region};
 use ub_store::{FaultyStore, MemStore, PageStore, Pager, StoreFault};
 use ub_table::{Name, Schema};

@@ -3,7 +3,7 @@
 use crate::pages::{Sheet, Tried};
 use crate::searches::THREE;
 use crate::trial::{Answer, DEVICE, NO_PAGE, Run, Step, all_go, whether};
-use ub_index_page::{Key, PageFault};
+use ub_page::{Key, PageFault};
 use ub_region::Region;
 
 // The page of a root that names the region on page 5, byte by byte: 'I', level 1, one entry, zeros, and at 36 the number of the page.

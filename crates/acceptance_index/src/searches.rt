@@ -2,7 +2,7 @@
 // that fails at each call.
 use crate::pages::{Listed, Sheet};
 use crate::trial::{Answer, DEVICE, NO_PAGE, Run, Step, all_go};
-use ub_index_page::{Key, PageFault};
+use ub_page::{Key, PageFault};
 use ub_region::Region;
 
 // The regions' entries, from left to right.

@@ -5,7 +5,7 @@ use crate::pages::{Listed, Sheet, Tried, page_of, stored};
 use std::alloc::Global;
 use std::process::Abort;
 use ub_index::{Change, Index, IndexFault};
-use ub_index_page::{Key, PageFault};
+use ub_page::{Key, PageFault};
 use ub_region::Region;
 use ub_store::StoreFault;
 

@@ -26,6 +26,8 @@ mod samples;
 #[cfg(test)]
 mod store;
 #[cfg(test)]
+mod surface;
+#[cfg(test)]
 mod table;
 #[cfg(test)]
 mod zaddr;

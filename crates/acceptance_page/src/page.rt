@@ -1,10 +1,10 @@
 // Headers, directories and pages of an index that are written and read, and pages that are refused.
 use crate::samples::{is_plane, page_of, plane};
 use std::process::Abort;
-use ub_index_page::{
-    Head, check_index, entry_at, first_at, read_head, read_index, slot_in, write_index,
+use ub_page::{
+    Draft, Entry, Head, Page, check_index, entry_at, first_at, read_directory, read_head,
+    read_header, read_index, slot_in, write_directory, write_header, write_index,
 };
-use ub_page::{Draft, Entry, Page, read_directory, read_header, write_directory, write_header};
 use ub_table::{Key, PageFault, Schema};
 
 // The bytes of a header of a table of five rows in three regions, whose index has its root on

@@ -6,21 +6,21 @@ use Rattle.ub_index.specs.Descending.{IsStepFault, Steps}
 use Rattle.ub_index.specs.Index.{NamesFitting, entries_of, first_or}
 use Rattle.ub_index.specs.declared.fault.IndexFault.{IndexFault}
 use Rattle.ub_index.specs.declared.fault.IndexFault.TheVariants.{Full, Page, Store}
-use Rattle.ub_page.specs.declared.entries.Entry.{Entry}
+use Rattle.ub_region.specs.declared.entry.Entry.{Entry}
 use Rattle.ub_page.proofs.PageLaws.{region_parts}
-use Rattle.ub_page.specs.Region.{region_page}
+use Rattle.ub_region.specs.RegionPage.{region_page}
 use Rattle.ub_index.proofs.HeldFacts.{keeps_but, keeps_gone, keeps_less, keeps_on}
 use Rattle.ub_index.proofs.SearchFacts.{same_store as same_read}
 use Rattle.ub_index.proofs.StepFacts.{held_once, honest_back}
 use Rattle.ub_index.specs.Held.{KeepsChecked}
-use Rattle.ub_index_page.specs.Index.{IsIndexKind}
+use Rattle.ub_page.specs.Index.{IsIndexKind}
 use Rattle.ub_region.specs.Regions.{rows_of}
 use Rattle.ub_store.specs.Cache.{NoneMore, NoneMoreBut, SameBut, page_at}
 use Rattle.ub_store.specs.Facts.{StoreFacts, IsHonest, IsPage, page_count, counted as counted_there}
 use Rattle.ub_store.specs.View.{PagerView, SameTrace, Trace}
 use Rattle.ub_store.specs.declared.fault.StoreFault.{StoreFault}
 use Rattle.ub_store.specs.declared.fault.StoreFault.TheVariants as store
-use Rattle.ub_table.specs.Region.{Region, IsRegion, keys_of}
+use Rattle.ub_table.specs.Region.{RegionRows, IsRegion, keys_of}
 use Rattle.ub_table.specs.declared.fault.PageFault.TheVariants.{BadRow}
 use Rattle.ub_table.specs.declared.fault.PageFault.{PageFault}
 use Rattle.ub_table.specs.declared.row.Key.{Key}
@@ -172,7 +172,7 @@ module _ (schema : Schema) (last level : ℕ) (entries : List Entry) (end : Opti
       so_far.3 n fault (subst (λ (es : List Entry). StopsEach (TakesAll asked level) (StopsIn asked level) es end so_far.0 n fault) (sym (drop_at entries i e at)) (inl here))
 
 -- the page of a region doesn't begin as one of an index does
-region_no_kind : (schema : Schema) (region : Region) → IsRegion schema region → ¬ (IsIndexKind (region_page schema region))
+region_no_kind : (schema : Schema) (region : RegionRows) → IsRegion schema region → ¬ (IsIndexKind (region_page schema region))
 region_no_kind schema region is other =
     let kind = (region_parts schema region (region_page schema region) is refl).kind in
     let e = sym kind ∙ other in
@@ -261,13 +261,13 @@ module _ (schema : Schema) (last : ℕ) (entry : Entry) (end : Option Key) (from
       })
 
   -- its page is taken, and held
-  pub region_checked : (region : Region) (page : List ℕ) (new : PagerView) → IsRegion schema region → page ≡ region_page schema region → new.store ≡ old.store
+  pub region_checked : (region : RegionRows) (page : List ℕ) (new : PagerView) → IsRegion schema region → page ≡ region_page schema region → new.store ≡ old.store
       → NoneMoreBut entry.page old.cached new.cached → page_at new.cached entry.page ≡ Some page → KeepsChecked last old new
   region_checked region page new is page_is stores less held =
       keeps_but last old new entry.page (λ honest. subst (λ (s : StoreFacts). IsHonest s) stores honest) less
       (λ honest other there. inr (subst (λ (p : List ℕ). ¬ (IsIndexKind p)) (sym page_is ∙ held_once new.cached entry.page page other held there) (region_no_kind schema region is)))
 
-  module _ (region : Region) (stands : (count : ℕ) → IsHonest old.store → StandsHere (asked_by schema last count from old.store) entry end region) where
+  module _ (region : RegionRows) (stands : (count : ℕ) → IsHonest old.store → StandsHere (asked_by schema last count from old.store) entry end region) where
     -- one of its rows has a number that isn't new
     pub region_not_new : ((met : List ℕ) → HasJust from.numbers met → ¬ (AreNew from.numbers.bound met (numbers_of region.rows)))
         → IsWalkFault schema last 0 entry end old.store from (Page entry.page BadRow)

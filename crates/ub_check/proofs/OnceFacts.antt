@@ -5,11 +5,11 @@ use Rattle.std.proofs.lemmas.Option.{slice_get_within}
 use Rattle.ub_index.proofs.WayFacts.{named_not_refused}
 use Rattle.ub_index.specs.Fitting.{IsNotTaken, IsUnfit}
 use Rattle.ub_index.specs.Index.{entries_of, first_or, page_in, top, IsIndexPage}
-use Rattle.ub_index_page.proofs.Laws.{node_not_refused}
-use Rattle.ub_index_page.specs.Index.{IsIndexFault, node_on}
-use Rattle.ub_page.proofs.RegionFacts.{not_refused}
-use Rattle.ub_page.specs.Region.{IsRegionFault, region_page}
-use Rattle.ub_page.specs.declared.entries.Entry.{Entry}
+use Rattle.ub_page.proofs.IndexLaws.{node_not_refused}
+use Rattle.ub_page.specs.Index.{IsIndexFault, node_on}
+use Rattle.ub_region.proofs.RegionFacts.{not_refused}
+use Rattle.ub_region.specs.RegionPage.{IsRegionFault, region_page}
+use Rattle.ub_region.specs.declared.entry.Entry.{Entry}
 use Rattle.ub_region.specs.Regions.{rows_of}
 use Rattle.ub_store.specs.declared.fault.StoreFault.TheVariants as store
 use Rattle.ub_table.specs.Keys.{origin}

@@ -3,9 +3,9 @@ use Rattle.std.proofs.Common.{◌≡◌, ◌++◌, ℕ, List, [], Option, Some, 
 use Rattle.std.proofs.lemmas.List.{map-append}
 use Rattle.ub_check.specs.Placed.{Placed, placed_of}
 use Rattle.ub_page.proofs.PageLaws.{region_parts}
-use Rattle.ub_page.specs.Region.{region_on, region_page}
-use Rattle.ub_page.specs.declared.entries.Entry.{Entry}
-use Rattle.ub_table.specs.Region.{Region, IsRegion}
+use Rattle.ub_region.specs.RegionPage.{region_on, region_page}
+use Rattle.ub_region.specs.declared.entry.Entry.{Entry}
+use Rattle.ub_table.specs.Region.{RegionRows, IsRegion}
 use Rattle.ub_table.specs.declared.schema.Schema.{Schema}
 
 -- the region of an entry, with the rows of its page
@@ -20,7 +20,7 @@ some_one o x y a b = cc
 
 module _ (schema : Schema) (pages : List (List ℕ)) where
   -- what stands on one page is one region
-  pub one_region : (n : ℕ) (a b : Region) → slice_get pages n ≡ Some (region_page schema a) → IsRegion schema a → slice_get pages n ≡ Some (region_page schema b) → IsRegion schema b → a ≡ b
+  pub one_region : (n : ℕ) (a b : RegionRows) → slice_get pages n ≡ Some (region_page schema a) → IsRegion schema a → slice_get pages n ≡ Some (region_page schema b) → IsRegion schema b → a ≡ b
   one_region n a b at_a is_a at_b is_b =
       sym (region_parts schema a (region_page schema a) is_a refl).on
       ∙ (region_parts schema b (region_page schema a) is_b (some_one (slice_get pages n) (region_page schema a) (region_page schema b) at_a at_b)).on

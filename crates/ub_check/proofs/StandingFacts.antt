@@ -7,7 +7,7 @@ use Rattle.ub_store.specs.Facts.{StoreFacts, IsPage, Reads}
 use Rattle.ub_store.specs.declared.fault.StoreFault.{StoreFault}
 use Rattle.ub_table.proofs.Laws.{before_of, precedes_of, before_trans}
 use Rattle.ub_table.specs.Keys.{IsBefore, AreKeysAscending, precedes}
-use Rattle.ub_table.specs.Region.{Region, key_of, keys_of}
+use Rattle.ub_table.specs.Region.{RegionRows, key_of, keys_of}
 use Rattle.ub_table.specs.declared.row.Key.{Key}
 use Rattle.ub_table.specs.declared.row.Row.{Row}
 
@@ -44,6 +44,6 @@ last_tells key end dims len rows b up is some at tells =
     (λ t. all.0 (before_of end key (sym tells ∙ t)), λ h. tells ∙ precedes_of end key (all.1 h))
 
 -- a region whose rows are before the next one's first key
-pub held_before : (dims : ℕ) (first next : Key) (region : Region) (b : Bool) → region.first ≡ first
+pub held_before : (dims : ℕ) (first next : Key) (region : RegionRows) (b : Bool) → region.first ≡ first
     → (b ≡ true) ↔ AllByRecursion (λ k. IsBefore k next) (keys_of dims region.rows) → (b ≡ true) ↔ IsHeldBy dims first (Some next) region
 held_before dims first next region b same tells = (λ t. (same, tells.0 t), λ h. tells.1 h.1)

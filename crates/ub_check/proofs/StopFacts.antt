@@ -5,8 +5,8 @@ use Rattle.ub_index.proofs.WayFacts.{named_not_refused}
 use Rattle.ub_index.specs.Fitting.{IsNotTaken}
 use Rattle.ub_index.specs.Index.{entries_of, first_or, page_in, EachTo, IsUnder, under}
 use Rattle.ub_page.specs.Entries.{IsEntry}
-use Rattle.ub_page.specs.Region.{region_page}
-use Rattle.ub_page.specs.declared.entries.Entry.{Entry}
+use Rattle.ub_region.specs.RegionPage.{region_page}
+use Rattle.ub_region.specs.declared.entry.Entry.{Entry}
 use Rattle.ub_region.proofs.Laws.{all_left, all_right}
 use Rattle.ub_table.specs.Keys.{origin}
 use Rattle.ub_table.specs.declared.fault.PageFault.{PageFault}

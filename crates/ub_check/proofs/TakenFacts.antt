@@ -11,13 +11,13 @@ use Rattle.ub_index.proofs.OrderFacts.{first_more, under_first}
 use Rattle.ub_index.proofs.WayFacts.{named_not_refused}
 use Rattle.ub_index.specs.Index.{entries_of, first_or, EachTo, IsUnder, under}
 use Rattle.ub_page.proofs.PageLaws.{region_parts}
-use Rattle.ub_page.proofs.RegionFacts.{not_refused}
-use Rattle.ub_page.specs.Region.{region_on, region_page}
-use Rattle.ub_page.specs.declared.entries.Entry.{Entry}
+use Rattle.ub_region.proofs.RegionFacts.{not_refused}
+use Rattle.ub_region.specs.RegionPage.{region_on, region_page}
+use Rattle.ub_region.specs.declared.entry.Entry.{Entry}
 use Rattle.ub_region.proofs.Laws.{all_append, all_both, all_left, all_more, all_right}
 use Rattle.ub_region.specs.Regions.{rows_of}
 use Rattle.ub_table.specs.Keys.{origin}
-use Rattle.ub_table.specs.Region.{Region}
+use Rattle.ub_table.specs.Region.{RegionRows}
 use Rattle.ub_table.specs.declared.fault.PageFault.{PageFault}
 use Rattle.ub_table.specs.declared.row.Key.{Key}
 use Rattle.ub_table.specs.declared.row.Row.{Row}
@@ -75,7 +75,7 @@ regions_join ps qs = map-append (λ p. p.region) ps qs
 
 pub numbers_join : (ps qs : List Placed) → numbers_in (ps ++ qs) ≡ numbers_in ps ++ numbers_in qs
 numbers_join ps qs =
-    ap (λ (rs : List Region). numbers_of (rows_of rs)) (regions_join ps qs)
+    ap (λ (rs : List RegionRows). numbers_of (rows_of rs)) (regions_join ps qs)
     ∙ (ap (λ (rows : List Row). numbers_of rows) (flat_map-append (λ r. r.rows) (regions_in ps) (regions_in qs))
     ∙ map-append (λ row. row.number) (rows_of (regions_in ps)) (rows_of (regions_in qs)))
 
@@ -88,12 +88,12 @@ pub record IsTaken (asked : Asked) (entries : List Entry) (end : Option Key) (be
 
 module _ (asked : Asked) where
   -- the region that stands where an entry tells is the one that its page tells of
-  pub told_is : (e : Entry) (end : Option Key) (region : Region) → StandsHere asked e end region → (placed_at asked.schema asked.pages e).region ≡ region
+  pub told_is : (e : Entry) (end : Option Key) (region : RegionRows) → StandsHere asked e end region → (placed_at asked.schema asked.pages e).region ≡ region
   told_is e end region h =
       let page : slice_index_or asked.pages e.page [] ≡ region_page asked.schema region = get_or_from_slice_get asked.pages e.page (region_page asked.schema region) [] h.spelled in
       let on : region_on asked.schema (slice_index_or asked.pages e.page []) ≡ region =
       ap (λ (p : List ℕ). region_on asked.schema p) page ∙ (region_parts asked.schema region (region_page asked.schema region) h.is refl).on in
-      ap (λ (r : Region). record { first = e.first; rows = r.rows }) on ∙ ap (λ (k : Key). record { first = k; rows = region.rows }) (sym h.held.0)
+      ap (λ (r : RegionRows). record { first = e.first; rows = r.rows }) on ∙ ap (λ (k : Key). record { first = k; rows = region.rows }) (sym h.held.0)
 
   pub taken_none : (end : Option Key) (before : List Placed) → IsTaken asked [] end before before
   taken_none end before = record { stands = tt; new = tt; after_is = sym (append-nil before) }
@@ -102,10 +102,10 @@ module _ (asked : Asked) where
   taken_one e end before after h =
       let same = told_is e end h.region h.stands in
       record {
-        stands = (subst (λ (r : Region). StandsHere asked e end r) (sym same) h.stands, tt);
-        new = subst (λ (r : Region). AreNew asked.next (numbers_in before) (numbers_in (record { page = e.page; region = r } ∷ []))) (sym same)
+        stands = (subst (λ (r : RegionRows). StandsHere asked e end r) (sym same) h.stands, tt);
+        new = subst (λ (r : RegionRows). AreNew asked.next (numbers_in before) (numbers_in (record { page = e.page; region = r } ∷ []))) (sym same)
             (subst (λ (rows : List Row). AreNew asked.next (numbers_in before) (numbers_of rows)) (sym (append-nil h.region.rows)) h.new);
-        after_is = h.after_is ∙ ap (λ (r : Region). before ++ record { page = e.page; region = r } ∷ []) (sym same);
+        after_is = h.after_is ∙ ap (λ (r : RegionRows). before ++ record { page = e.page; region = r } ∷ []) (sym same);
       }
 
   pub taken_join : (xs ys : List Entry) (end : Option Key) (before between after : List Placed) → IsTaken asked xs (first_or ys end) before between → IsTaken asked ys end between after
@@ -178,14 +178,14 @@ module _ (asked : Asked) where
       ((h.0, each.0), each.1)
 
   -- and where that stands a check doesn't stop
-  pub region_good : (e : Entry) (end : Option Key) (region : Region) (page : List ℕ) (fault : PageFault) → StandsHere asked e end region
+  pub region_good : (e : Entry) (end : Option Key) (region : RegionRows) (page : List ℕ) (fault : PageFault) → StandsHere asked e end region
       → slice_get asked.pages e.page ≡ Some page → ¬ (IsRegionRefused asked.schema e.first end page fault)
   region_good e end region page fault h at (inl refused) =
       let same : page ≡ region_page asked.schema region = (let spelled = h.spelled in cc) in
       not_refused asked.schema region page h.is same fault refused
   region_good e end region page fault h at (inr (is, other, is_other, spelled, not_held)) =
       let same = one_region asked.schema asked.pages e.page region other h.spelled h.is (at ∙ ap (λ (p : List ℕ). Some p) spelled) is_other in
-      not_held (subst (λ (r : Region). IsHeldBy asked.schema.dims e.first end r) same h.held)
+      not_held (subst (λ (r : RegionRows). IsHeldBy asked.schema.dims e.first end r) same h.held)
 
   one_more : (before : List Placed) (p : Placed) → length (before ++ p ∷ []) ≡ length before + 1
   one_more before p = length-append before (p ∷ [])
@@ -203,7 +203,7 @@ module _ (asked : Asked) where
       region_good e end (placed_at asked.schema asked.pages e).region page of_page h.stands.0 at refused
   never_at e end before after n fault h few (inr (less, is, inr (inr (fault_is, region, stands, old)))) =
       let same = told_is e end region stands in
-      old (subst (λ (r : Region). AreNew asked.next (numbers_in before) (numbers_of r.rows)) same
+      old (subst (λ (r : RegionRows). AreNew asked.next (numbers_in before) (numbers_of r.rows)) same
       (subst (λ (rows : List Row). AreNew asked.next (numbers_in before) (numbers_of rows)) (append-nil (placed_at asked.schema asked.pages e).region.rows) h.new))
 
   module _ (small : asked.last < 2 ^ 128) where

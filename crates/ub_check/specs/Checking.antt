@@ -8,11 +8,11 @@ use Rattle.ub_index.specs.Fitting.{IsNotTaken}
 use Rattle.ub_index.specs.Index.{NamesFitting, entries_of, first_or, top}
 use Rattle.ub_index.specs.declared.fault.IndexFault.{IndexFault}
 use Rattle.ub_index.specs.declared.fault.IndexFault.TheVariants.{Page, Store}
-use Rattle.ub_page.specs.Region.{region_page}
-use Rattle.ub_page.specs.declared.entries.Entry.{Entry}
+use Rattle.ub_region.specs.RegionPage.{region_page}
+use Rattle.ub_region.specs.declared.entry.Entry.{Entry}
 use Rattle.ub_region.specs.Regions.{rows_of}
 use Rattle.ub_store.specs.declared.fault.StoreFault.TheVariants as store
-use Rattle.ub_table.specs.Region.{Region, IsRegion}
+use Rattle.ub_table.specs.Region.{RegionRows, IsRegion}
 use Rattle.ub_table.specs.declared.fault.PageFault.TheVariants.{BadCount, BadRow}
 use Rattle.ub_table.specs.declared.fault.PageFault.{PageFault}
 use Rattle.ub_table.specs.declared.row.Key.{Key}
@@ -39,7 +39,7 @@ abbrev pub numbers_in : List Placed → List ℕ
 numbers_in placed = numbers_of (rows_of (regions_in placed))
 
 -- a region stands where an entry tells, up to where the next one begins
-pub record StandsHere (asked : Asked) (entry : Entry) (end : Option Key) (region : Region) : Type 0 where
+pub record StandsHere (asked : Asked) (entry : Entry) (end : Option Key) (region : RegionRows) : Type 0 where
   pub is : IsRegion asked.schema region
   pub spelled : slice_get asked.pages entry.page ≡ Some (region_page asked.schema region)
   pub held : IsHeldBy asked.schema.dims entry.first end region
@@ -48,7 +48,7 @@ pub record StandsHere (asked : Asked) (entry : Entry) (end : Option Key) (region
 -- the next, and new
 pub record TakesRegion (asked : Asked) (entry : Entry) (end : Option Key) (before after : List Placed) : Type 0 where
   pub counted : length before < asked.count
-  pub region : Region
+  pub region : RegionRows
   pub stands : StandsHere asked entry end region
   pub new : AreNew asked.next (numbers_in before) (numbers_of region.rows)
   pub after_is : after ≡ before ++ record { page = entry.page; region = region } ∷ []
@@ -62,7 +62,7 @@ StopsAtRegion asked entry end before n fault =
     × (((fault ≡ None) × (length asked.pages ≤ entry.page))
     ⊎ ((page : List ℕ) × (slice_get asked.pages entry.page ≡ Some page)
     × (of_page : PageFault) × (fault ≡ Some of_page) × IsRegionRefused asked.schema entry.first end page of_page)
-    ⊎ ((fault ≡ Some BadRow) × (region : Region) × StandsHere asked entry end region
+    ⊎ ((fault ≡ Some BadRow) × (region : RegionRows) × StandsHere asked entry end region
     × (¬ (AreNew asked.next (numbers_in before) (numbers_of region.rows))))))
 
 -- what is done entry by entry, each up to where the next one begins

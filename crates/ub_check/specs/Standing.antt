@@ -3,20 +3,20 @@ use Rattle.std.specs.Prelude.{◌≡◌, ◌<◌, ◌⊎◌, ℕ, List, Option, 
 use Rattle.std.specs.List.{AllByRecursion}
 use Rattle.ub_index.specs.declared.fault.IndexFault.{IndexFault}
 use Rattle.ub_index.specs.declared.fault.IndexFault.TheVariants.{Page}
-use Rattle.ub_page.specs.Region.{IsRegionFault, RegionView, region_on, region_page}
-use Rattle.ub_region.specs.declared.region.Region.{Region as Span}
+use Rattle.ub_region.specs.RegionPage.{IsRegionFault, RegionView, region_on, region_page}
+use Rattle.ub_region.specs.declared.region.Region.{Region}
 use Rattle.ub_store.specs.Cache.{SameBut, page_at}
 use Rattle.ub_store.specs.Facts.{IsPage, page_count}
 use Rattle.ub_store.specs.View.{Holds, PagerView}
 use Rattle.ub_table.specs.Keys.{IsBefore}
-use Rattle.ub_table.specs.Region.{Region, IsRegion, keys_of}
+use Rattle.ub_table.specs.Region.{RegionRows, IsRegion, keys_of}
 use Rattle.ub_table.specs.declared.fault.PageFault.{PageFault}
 use Rattle.ub_table.specs.declared.fault.PageFault.TheVariants.{OutOfRegion}
 use Rattle.ub_table.specs.declared.row.Key.{Key}
 use Rattle.ub_table.specs.declared.schema.Schema.{Schema}
 
 -- the region begins with this first key, and its rows are before the next region's, where there is one
-abbrev pub IsHeldBy : ℕ → Key → Option Key → Region → Type 0
+abbrev pub IsHeldBy : ℕ → Key → Option Key → RegionRows → Type 0
 IsHeldBy dims first next region =
     (region.first ≡ first)
     × IfSome next (λ end. AllByRecursion (λ key. IsBefore key end) (keys_of dims region.rows))
@@ -26,18 +26,18 @@ IsHeldBy dims first next region =
 abbrev pub IsRegionRefused : Schema → Key → Option Key → List ℕ → PageFault → Type 0
 IsRegionRefused schema first next page fault =
     IsRegionFault schema page fault
-    ⊎ ((fault ≡ OutOfRegion) × (region : Region) × IsRegion schema region × (page ≡ region_page schema region)
+    ⊎ ((fault ≡ OutOfRegion) × (region : RegionRows) × IsRegion schema region × (page ≡ region_page schema region)
     × (¬ (IsHeldBy schema.dims first next region)))
 
 -- the page of a region is refused where that is due
-abbrev pub IsRefusedAt : Schema → Span → List ℕ → IndexFault → Type 0
+abbrev pub IsRefusedAt : Schema → Region → List ℕ → IndexFault → Type 0
 IsRefusedAt schema span bytes fault =
     (of_page : PageFault) × (fault ≡ Page span.page of_page) × IsRegionRefused schema span.first span.next bytes of_page
 
 -- what stands on the page of a region is taken in with this result. The pager holds these bytes of that page: they spell what is
 -- taken in, which stands where the region is due, and whatever they spell that stands there is taken in; and nothing else has
 -- changed. Or the page is refused, and is held no more
-pub record TakesIn {A : Type 0} (schema : Schema) (span : Span) (old new : PagerView) (page : RegionView) (result : Result A IndexFault) : Type 0 where
+pub record TakesIn {A : Type 0} (schema : Schema) (span : Region) (old new : PagerView) (page : RegionView) (result : Result A IndexFault) : Type 0 where
   pub bytes : List ℕ
   pub held : Holds old span.page bytes
   pub there : span.page < page_count old.store
@@ -47,7 +47,7 @@ pub record TakesIn {A : Type 0} (schema : Schema) (span : Span) (old new : Pager
   pub is : OnOk result (IsRegion schema page.region)
   pub spelled : OnOk result (bytes ≡ region_page schema page.region)
   pub stands : OnOk result (IsHeldBy schema.dims span.first span.next page.region)
-  pub exact : (r : Region) → IsRegion schema r → bytes ≡ region_page schema r → IsHeldBy schema.dims span.first span.next r
+  pub exact : (r : RegionRows) → IsRegion schema r → bytes ≡ region_page schema r → IsHeldBy schema.dims span.first span.next r
       → IsOk result × (page ≡ record { dims = schema.dims; region = r })
   pub refused : IfErr result (IsRefusedAt schema span bytes)
   pub kept : OnOk result (new ≡ old)

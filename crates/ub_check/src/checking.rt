@@ -5,7 +5,7 @@ ghost use Rattle.ub_check.specs.Calls.{Checks};
 ghost use Rattle.ub_check.specs.Numbers.{AreNew, HasJust};
 ghost use Rattle.ub_check.specs.inner.Checking.{HasTaken, TakesOn, Walks};
 ghost use Rattle.ub_index.specs.Index.{first_or, top};
-ghost use Rattle.ub_index_page.specs.declared.index.TheConstants.{MAX_LEVEL};
+ghost use Rattle.ub_page.specs.declared.header.TheConstants.{MAX_LEVEL};
 
 use crate::numbers::Numbers;
 use crate::reading::take_region;

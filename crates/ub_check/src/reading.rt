@@ -1,11 +1,11 @@
 ghost use Rattle.std.specs.Prelude.{◌≡◌, ◌↔◌, IsOk, OnOk, IfErr, IsTrue};
 ghost use Rattle.std.specs.List.{AllByRecursion};
 ghost use Rattle.ub_check.specs.Standing.{IsHeldBy, IsRefusedAt, TakesIn};
-ghost use Rattle.ub_page.specs.Region as spec;
-ghost use Rattle.ub_page.specs.Region.{region_page};
+ghost use Rattle.ub_region.specs.RegionPage as spec;
+ghost use Rattle.ub_region.specs.RegionPage.{region_page};
 ghost use Rattle.ub_table.specs.Keys.{IsBefore, AreKeysAscending};
 ghost use Rattle.ub_store.specs.View.{IsCached};
-ghost use Rattle.ub_table.specs.Region.{Region as RegionRows, IsRegion, keys_of};
+ghost use Rattle.ub_table.specs.Region.{RegionRows, IsRegion, keys_of};
 
 use ub_index::IndexFault;
 use ub_page::{Page, RegionPage};

@@ -15,7 +15,7 @@ use Rattle.ub_planning.specs.Plan.{PlanView}
 use Rattle.ub_planning.specs.Visits as plan
 use Rattle.ub_planning.specs.Visits.{AreSweepVisits, AreVisits, AreVisitsBy, Event}
 use Rattle.ub_region.specs.Those.{AreThose}
-use Rattle.ub_table.specs.Region.{Region}
+use Rattle.ub_table.specs.Region.{RegionRows}
 use Rattle.ub_table.specs.declared.row.Row.{Row}
 use Rattle.ub_tetris.proofs.Laws.{placed_of}
 use Rattle.ub_tetris.specs.Machine.{regions_at}
@@ -23,7 +23,7 @@ use Rattle.ub_tetris.specs.Sweep.{AreNoted}
 use Rattle.ub_tree.specs.Placed.{Placed}
 use Rattle.ub_store.specs.View.{Trace}
 use Rattle.ub_tree.specs.Effects.{HasNoted}
-use Rattle.ub_tree.specs.Spans.{First, IsLater, Meets, Region as Span}
+use Rattle.ub_tree.specs.Spans.{First, IsLater, Meets, Region}
 use Rattle.ub_tree.specs.View.{TreeView, IsSound, KeepsTrace, regions, spans_of}
 
 pub on_err : {T E : Type 0} (r : Result T E) (P : Type 0) → P → OnErr r P
@@ -107,7 +107,7 @@ all_fetched p t new fetched = (
 -- ---- a walk
 
 -- a turn in which the region that was found was asked for, and its page noted, or not even that
-pub asked_some : (t mid new : TreeView) (boxes : List Corners) (after : Option Span) (span : Span) → IsSound t
+pub asked_some : (t mid new : TreeView) (boxes : List Corners) (after : Option Region) (span : Region) → IsSound t
     → First (λ s. IsLater after s × Meets boxes s) (spans_of t) (Some span) → Keeps t mid → KeepsTrace t mid → KeepsTrace mid new ⊎ HasNoted span.page mid new → HasTurnedSome boxes after t new
 asked_some t mid new boxes after span sound first kept untraced (inl still) = inl (still ∙ untraced)
 asked_some t mid new boxes after span sound first kept untraced (inr noted) =
@@ -120,7 +120,7 @@ asked_some t mid new boxes after span sound first kept untraced (inr noted) =
     )
 
 -- where a walk has come it has read the first of the regions that meet the boxes
-pub come_first : (boxes : List Corners) (start now new : TreeView) (rows : List Row) (after : Option Span) → IsSound start → HasCome boxes start now rows after → KeepsTrace now new
+pub come_first : (boxes : List Corners) (start now new : TreeView) (rows : List Row) (after : Option Region) → IsSound start → HasCome boxes start now rows after → KeepsTrace now new
     → HasWalkedFirst boxes start new
 come_first boxes start now new rows after sound come kept =
     let (all, are) = meeting_there start sound boxes in
@@ -134,7 +134,7 @@ come_first boxes start now new rows after sound come kept =
     }
 
 -- also where a turn was ended by a fault
-pub turned_first : (boxes : List Corners) (start now new : TreeView) (sound : IsSound start) (kept : Keeps start now) (after copied : Option Span) (rows : List Row)
+pub turned_first : (boxes : List Corners) (start now new : TreeView) (sound : IsSound start) (kept : Keeps start now) (after copied : Option Region) (rows : List Row)
     → HasCome boxes start now rows after → copied ≡ after → HasTurnedSome boxes copied now new → HasWalkedFirst boxes start new
 turned_first boxes start now new sound kept after copied rows come same (inl still) = come_first boxes start now new rows after sound come still
 turned_first boxes start now new sound kept after copied rows come same (inr (span, more, turn)) =
@@ -146,7 +146,7 @@ walked_first p t new ready apart walk =
     let (visits, are, same) = visits_of t ready.sound p.covering.boxes (walk.visited ++ walk.left) walk.visits in
     let long = length-append walk.visited walk.left in
     let lengths = length-map (walk.visited ++ walk.left) (λ (x : Placed). x.region) in
-    let all = ap (λ (rs : List Region). length rs) same in
+    let all = ap (λ (rs : List RegionRows). length rs) same in
     let count = length-map visits (λ (s : plan.Span). s.region) in (
       length walk.visited,
       record {
@@ -187,4 +187,4 @@ swept_first p start t front later placed noted fetches visits = (
   where
     spans_at : (events : List Event) → regions_at events ≡ map (λ span. span.region) (map (λ (event : Event). event.span) events)
     spans_at [] = refl
-    spans_at (event ∷ events) = ap (λ (rs : List Region). event.span.region ∷ rs) (spans_at events)
+    spans_at (event ∷ events) = ap (λ (rs : List RegionRows). event.span.region ∷ rs) (spans_at events)

@@ -17,7 +17,7 @@ use Rattle.ub_query.specs.Order.{IsAhead}
 use Rattle.ub_query.specs.Shape.{Asked}
 use Rattle.ub_query.specs.declared.query.Item.TheVariants.{Column}
 use Rattle.ub_region.specs.Regions.{AreTableRows, rows_of}
-use Rattle.ub_table.specs.Region.{Region}
+use Rattle.ub_table.specs.Region.{RegionRows}
 use Rattle.ub_table.specs.Table.{IsInOrder}
 use Rattle.ub_table.specs.declared.row.Row.{Row}
 use Rattle.ub_table.specs.declared.schema.Schema.{Schema}
@@ -31,7 +31,7 @@ abbrev pub at : ℕ → Row → ℕ
 at dim row = slice_index row.dims dim
 
 -- all rows given lie before those still to be given, and these are the groups of the ones given
-pub record AreGivenGroups (schema : Schema) (q : Asked) (dim : ℕ) (is_descending : Bool) (regions : List Region) (given rest : List Row) (groups : List Group) : Type 0 where
+pub record AreGivenGroups (schema : Schema) (q : Asked) (dim : ℕ) (is_descending : Bool) (regions : List RegionRows) (given rest : List Row) (groups : List Group) : Type 0 where
   pub is_given : Row → Bool
   pub taken : AllByRecursion (λ row. is_given row ≡ true) given
   pub left : AllByRecursion (λ row. is_given row ≡ false) rest
@@ -112,7 +112,7 @@ nothing schema q some =
     none [] all = refl
     none (g ∷ groups) all = absurd all.0
 
-pub AreGivenGroups-none : (schema : Schema) (q : Asked) (dim : ℕ) (is_descending : Bool) (regions : List Region) (rest : List Row) → q.group ≢ []
+pub AreGivenGroups-none : (schema : Schema) (q : Asked) (dim : ℕ) (is_descending : Bool) (regions : List RegionRows) (rest : List Row) → q.group ≢ []
     → AreGivenGroups schema q dim is_descending regions [] rest []
 AreGivenGroups-none schema q dim is_descending regions rest some = record {
   is_given = λ row. false;
@@ -124,7 +124,7 @@ AreGivenGroups-none schema q dim is_descending regions rest some = record {
 
 -- ---- the rows given and those to come
 
-module _ (schema : Schema) (q : Asked) (dim : ℕ) (is_descending : Bool) (regions : List Region) (given rest : List Row) (groups : List Group)
+module _ (schema : Schema) (q : Asked) (dim : ℕ) (is_descending : Bool) (regions : List RegionRows) (given rest : List Row) (groups : List Group)
     (same : IsPermutation (filter (is_selected schema q.filter) (rows_of regions)) (given ++ rest)) (so_far : AreGivenGroups schema q dim is_descending regions given rest groups) where
   in_parts : (table : List Row) → AreTableRows regions table → (row : Row) → Contains (chosen schema q table) row → Contains (given ++ rest) row
   in_parts table are row there =

@@ -19,21 +19,21 @@ use Rattle.ub_query.specs.Meaning.{limited}
 use Rattle.ub_query.specs.Shape.{Asked}
 use Rattle.ub_query.specs.declared.cell.Cell.{Cell}
 use Rattle.ub_region.specs.Regions.{rows_of}
-use Rattle.ub_table.specs.Region.{Region}
+use Rattle.ub_table.specs.Region.{RegionRows}
 use Rattle.ub_table.specs.Table.{IsInOrder}
 use Rattle.ub_table.specs.declared.row.Row.{Row}
 use Rattle.ub_table.specs.declared.schema.Schema.{Schema}
 
 -- the groups given so far, of which this many rows of cells stand in the answer; no region was fetched whose event value is past a
 -- row to come, and where the limit is filled, none that is past its last group, and no other is left
-pub record HasGrouped (schema : Schema) (plan : PlanView) (dim : ℕ) (is_descending : Bool) (regions : List Region) (given rest : List Row) (fetched unread : List Event) (cells : List (List Cell)) : Type 0 where
+pub record HasGrouped (schema : Schema) (plan : PlanView) (dim : ℕ) (is_descending : Bool) (regions : List RegionRows) (given rest : List Row) (fetched unread : List Event) (cells : List (List Cell)) : Type 0 where
   pub groups : List Group
   pub so_far : AreGivenGroups schema plan.asked dim is_descending regions given rest groups
   pub cells_are : cells ≡ group_lines schema plan.asked (limited plan.asked.limit groups)
   pub behind : AllByRecursion (λ row. AreUpTo is_descending fetched (at dim row)) rest
   pub stops : (n : ℕ) → plan.asked.limit ≡ Some n → 1 ≤ n → n ≤ length groups → StopsAt is_descending (map (lead_coordinate dim) (take n groups)) fetched unread
 
-pub HasGrouped-none : (schema : Schema) (plan : PlanView) (dim : ℕ) (is_descending : Bool) (regions : List Region) (rest : List Row) (unread : List Event) → plan.asked.group ≢ []
+pub HasGrouped-none : (schema : Schema) (plan : PlanView) (dim : ℕ) (is_descending : Bool) (regions : List RegionRows) (rest : List Row) (unread : List Event) → plan.asked.group ≢ []
     → HasGrouped schema plan dim is_descending regions [] rest [] unread []
 HasGrouped-none schema plan dim is_descending regions rest unread some = record {
   groups = [];
@@ -114,7 +114,7 @@ lines_short schema q (Some n) groups cells is short =
 
 -- ---- a step to the next value
 
-module _ (schema : Schema) (plan : PlanView) (dim : ℕ) (is_descending : Bool) (regions : List Region) (given rest : List Row) (fetched unread : List Event) (cells : List (List Cell))
+module _ (schema : Schema) (plan : PlanView) (dim : ℕ) (is_descending : Bool) (regions : List RegionRows) (given rest : List Row) (fetched unread : List Event) (cells : List (List Cell))
     (grouped : HasGrouped schema plan dim is_descending regions given rest fetched unread cells) (led : IsLedBy schema plan.asked dim is_descending)
     (short : IfSome plan.asked.limit (λ n. length cells < n)) where
   pub is_short : IfSome plan.asked.limit (λ n. length grouped.groups < n)

@@ -31,7 +31,7 @@ use Rattle.ub_query.specs.Shape.{Asked}
 use Rattle.ub_query.specs.declared.cell.Cell.{Cell}
 use Rattle.ub_query.specs.Cells.{Group}
 use Rattle.ub_region.specs.Regions.{rows_of}
-use Rattle.ub_table.specs.Region.{Region}
+use Rattle.ub_table.specs.Region.{RegionRows}
 use Rattle.ub_table.specs.Table.{IsInOrder}
 use Rattle.ub_table.specs.declared.row.Row.{Row}
 use Rattle.ub_table.specs.declared.schema.Schema.{Schema}
@@ -42,7 +42,7 @@ use Rattle.ub_tree.specs.Placed.{Placed, regions_in}
 use Rattle.ub_tree.specs.View.{TreeView, IsSound, regions}
 
 -- the visits of a sweep of groups are the plan's
-pub group_visits : (plan : PlanView) (dim : ℕ) (is_descending : Bool) (schema : Schema) (regions : List Region) (visits : List spec.Span) → plan.kind ≡ Sweep dim is_descending → plan.asked.group ≢ []
+pub group_visits : (plan : PlanView) (dim : ℕ) (is_descending : Bool) (schema : Schema) (regions : List RegionRows) (visits : List spec.Span) → plan.kind ≡ Sweep dim is_descending → plan.asked.group ≢ []
     → AreGroupVisits schema plan dim is_descending regions visits → AreVisits schema plan regions visits
 group_visits plan dim is_descending schema regions visits kind some are =
     subst (λ (kind : Kind). AreVisitsBy kind schema plan regions visits) (sym kind) (by_group plan.asked.group some are)

@@ -15,7 +15,7 @@ use Rattle.ub_query.specs.Meaning.{IsMeaning, limited}
 use Rattle.ub_query.specs.Shape.{Asked}
 use Rattle.ub_query.specs.declared.cell.Cell.{Cell}
 use Rattle.ub_region.specs.Regions.{AreTableRows, rows_of}
-use Rattle.ub_table.specs.Region.{Region}
+use Rattle.ub_table.specs.Region.{RegionRows}
 use Rattle.ub_table.specs.declared.row.Row.{Row}
 use Rattle.ub_table.specs.declared.schema.Schema.{Schema}
 
@@ -28,7 +28,7 @@ meant : (schema : Schema) (q : Asked) (table : List Row) (arranged : List Group)
     → cells ≡ group_lines schema q (limited q.limit arranged) → IsMeaning (record { schema = schema; rows = table }) q cells
 meant schema q table arranged cells some are is = inl (inl some, record { groups = are.groups; arranged = arranged; grouped = are.grouped; ordered = are.ordered; cells = is })
 
-module _ (schema : Schema) (plan : PlanView) (dim : ℕ) (is_descending : Bool) (regions : List Region) (given rest : List Row) (groups : List Group)
+module _ (schema : Schema) (plan : PlanView) (dim : ℕ) (is_descending : Bool) (regions : List RegionRows) (given rest : List Row) (groups : List Group)
     (same : IsPermutation (filter (is_selected schema plan.asked.filter) (rows_of regions)) (given ++ rest))
     (so_far : AreGivenGroups schema plan.asked dim is_descending regions given rest groups)
     (follow : GroupsFollowTheLead) (led : IsLedBy schema plan.asked dim is_descending) (table : List Row) (are : AreTableRows regions table) where

@@ -10,7 +10,7 @@ use Rattle.ub_query.proofs.Laws.{Rising, Rising-filter, Rising-one, all_at, all_
 use Rattle.ub_query.specs.Groups.{is_selected}
 use Rattle.ub_region.proofs.Laws.{insertion_adds_the_row, insertion_keeps_regions, removal_keeps_regions, removal_takes_the_row}
 use Rattle.ub_region.specs.Regions.{AreRegions, AreTableRows, rows_of}
-use Rattle.ub_table.specs.Region.{Region, key_of}
+use Rattle.ub_table.specs.Region.{RegionRows, key_of}
 use Rattle.ub_table.specs.declared.row.Row.{Row}
 use Rattle.ub_table.specs.declared.schema.Schema.{Schema}
 use Rattle.ub_tree.specs.View.{regions}
@@ -27,7 +27,7 @@ parts : (a b : Stand) → a.table.schema ≡ b.table.schema → a.table.rows ≡
 parts a b schema rows places next =
     ap (λ (x : Schema). record { table = record { schema = x; rows = a.table.rows }; regions = a.regions; next = a.next }) schema
     ∙ ap (λ (x : List Row). record { table = record { schema = b.table.schema; rows = x }; regions = a.regions; next = a.next }) rows
-    ∙ ap (λ (x : List Region). record { table = b.table; regions = x; next = a.next }) places
+    ∙ ap (λ (x : List RegionRows). record { table = b.table; regions = x; next = a.next }) places
     ∙ ap (λ (x : ℕ). record { table = b.table; regions = b.regions; next = x }) next
 
 pub stands_are_one : StandsAreOne
@@ -39,8 +39,8 @@ pub trees_stand_soundly : TreesStandSoundly
 trees_stand_soundly t s stand = record {
   regions_are = subst (λ (x : Schema). AreRegions x s.next s.regions) (sym stand.schema_is)
       (subst (λ (x : ℕ). AreRegions t.schema x s.regions) (sym stand.next_is)
-      (subst (λ (x : List Region). AreRegions t.schema t.next x) (sym stand.regions_are) stand.sound.regions_are));
-  rows_are = subst (λ (x : List Region). AreTableRows x s.table.rows) (sym stand.regions_are) stand.rows_are;
+      (subst (λ (x : List RegionRows). AreRegions t.schema t.next x) (sym stand.regions_are) stand.sound.regions_are));
+  rows_are = subst (λ (x : List RegionRows). AreTableRows x s.table.rows) (sym stand.regions_are) stand.rows_are;
 }
 
 pub insertion_keeps_stands : InsertionKeepsStands

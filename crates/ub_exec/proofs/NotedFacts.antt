@@ -11,7 +11,7 @@ use Rattle.ub_planning.specs.Plan.{PlanView}
 use Rattle.ub_planning.specs.declared.planned.Kind.{Kind}
 use Rattle.ub_planning.specs.declared.planned.Kind.TheVariants.{Empty, Scan, Sweep}
 use Rattle.ub_query.proofs.Laws.{all_weaker}
-use Rattle.ub_table.specs.Region.{Region}
+use Rattle.ub_table.specs.Region.{RegionRows}
 use Rattle.ub_tetris.specs.Effects.{Sweeps, fetches_then}
 use Rattle.ub_tetris.specs.Sweep.{AreItsRegions, AwaitedRegion, IsSweepOf, SweepView}
 use Rattle.ub_tetris.specs.declared.fault.SweepFault.{SweepFault}
@@ -19,7 +19,7 @@ use Rattle.ub_tree.proofs.Laws.{HasAnswers, HasAnswers-none, HasAnswers-more, Is
 use Rattle.ub_store.specs.View.{Trace}
 use Rattle.ub_tree.specs.Effects.{HasNoted, IsTakenIn}
 use Rattle.ub_tree.specs.Handing.{AreMetBy}
-use Rattle.ub_tree.specs.Spans.{Region as Span}
+use Rattle.ub_tree.specs.Spans.{Region}
 use Rattle.ub_tree.specs.Told.{GivesNext, IsRegionOf}
 use Rattle.ub_tree.specs.View.{TreeView, KeepsTrace}
 use Rattle.ub_tree.specs.declared.read_fault.ReadFault.{ReadFault}
@@ -96,7 +96,7 @@ notes_one (Err e) P old mid new page is kept (inr noted) = record {
 
 -- ---- a turn of a scan
 
-pub next_notes : (boxes : List Corners) (after : Option Span) (old new : TreeView) (found : Option Span) → HasReadNext boxes after old new found → NotesPages old new (Ok found)
+pub next_notes : (boxes : List Corners) (after : Option Region) (old new : TreeView) (found : Option Region) → HasReadNext boxes after old new found → NotesPages old new (Ok found)
 next_notes boxes after old new None next = notes_none (Ok None) old new next.1
 next_notes boxes after old new (Some span) next = record {
   noted = span.page ∷ [];
@@ -106,7 +106,7 @@ next_notes boxes after old new (Some span) next = record {
 }
 
 -- the region that the tree told was read
-pub read_next : (boxes of_plan : List Corners) (after : Option Span) (old mid new : TreeView) (span : Span) (region : Region) → boxes ≡ of_plan → mid ≡ old
+pub read_next : (boxes of_plan : List Corners) (after : Option Region) (old mid new : TreeView) (span : Region) (region : RegionRows) → boxes ≡ of_plan → mid ≡ old
     → GivesNext boxes old after (Some span) → HasNoted span.page mid new → IsTakenIn mid span region → HasReadNext of_plan after old new (Some span)
 read_next boxes of_plan after old mid new span region alike same gives noted taken = (
   subst (λ (bs : List Corners). GivesNext bs old after (Some span)) alike gives,
@@ -116,8 +116,8 @@ read_next boxes of_plan after old mid new span region alike same gives noted tak
 
 -- ---- so far as a scan has come, over any tree
 
-pub record HasReadUpTo (boxes : List Corners) (start now : TreeView) (after : Option Span) : Type 0 where
-  pub spans : List Span
+pub record HasReadUpTo (boxes : List Corners) (start now : TreeView) (after : Option Region) : Type 0 where
+  pub spans : List Region
   pub answers : HasAnswers boxes start spans after
   pub there : AllByRecursion (IsRegionOf start) spans
   pub taken : AllByRecursion (IsIn start) spans
@@ -140,17 +140,17 @@ HasReadUpTo-begun boxes t = (
 pub HasReadUpTo-none : (boxes : List Corners) (t : TreeView) → HasReadUpTo boxes t t None
 HasReadUpTo-none boxes t = (HasReadUpTo-begun boxes t).0
 
-read_each : (t : TreeView) (spans : List Span) → AllByRecursion (IsRegionOf t) spans → AllByRecursion (IsIn t) spans → AllByRecursion (IsRead t) (map (λ (span : Span). span.page) spans)
+read_each : (t : TreeView) (spans : List Region) → AllByRecursion (IsRegionOf t) spans → AllByRecursion (IsIn t) spans → AllByRecursion (IsRead t) (map (λ (span : Region). span.page) spans)
 read_each t [] there taken = tt
 read_each t (span ∷ spans) there taken = ((span, there.0, refl, taken.0), read_each t spans there.1 taken.1)
 
-module _ (boxes : List Corners) (start now new : TreeView) (traced : IsTraced start now) (after : Option Span) (come : HasReadUpTo boxes start now after) where
+module _ (boxes : List Corners) (start now new : TreeView) (traced : IsTraced start now) (after : Option Region) (come : HasReadUpTo boxes start now after) where
   -- the pages noted so far
   pub come_notes : {A : Type 0} (x : A) → NotesPages start now (Ok x)
   come_notes x = record {
-    noted = map (λ (span : Span). span.page) come.spans;
+    noted = map (λ (span : Region). span.page) come.spans;
     trace_is = come.trace_is;
-    fetches_are = come.fetches_are ∙ ap (fetches_then start.trace.fetches) (sym (length-map come.spans (λ (span : Span). span.page)));
+    fetches_are = come.fetches_are ∙ ap (fetches_then start.trace.fetches) (sym (length-map come.spans (λ (span : Region). span.page)));
     read = read_each start come.spans come.there come.taken;
   }
 
@@ -163,23 +163,23 @@ module _ (boxes : List Corners) (start now new : TreeView) (traced : IsTraced st
     trace_is = ap (λ (t : Trace). t.pages) kept ∙ come.trace_is;
   }
 
-  given_at_start : (found copied : Option Span) → copied ≡ after → GivesNext boxes now copied found → GivesNext boxes start after found
-  given_at_start found copied same gives = traced_gives start now traced boxes after found (subst (λ (o : Option Span). GivesNext boxes now o found) same gives)
+  given_at_start : (found copied : Option Region) → copied ≡ after → GivesNext boxes now copied found → GivesNext boxes start after found
+  given_at_start found copied same gives = traced_gives start now traced boxes after found (subst (λ (o : Option Region). GivesNext boxes now o found) same gives)
 
   -- as they are where the tree gives no more
-  pub all_told : (copied : Option Span) → copied ≡ after → HasReadNext boxes copied now new None → AreMetBy boxes start come.spans
+  pub all_told : (copied : Option Region) → copied ≡ after → HasReadNext boxes copied now new None → AreMetBy boxes start come.spans
   all_told copied same next = answers_ended boxes start come.spans after come.answers (given_at_start None copied same next.0)
 
-  pub whole_by : (found copied : Option Span) → copied ≡ after → ((span : Span) → found ≡ Some span → ⊥) → HasReadNext boxes copied now new found → HasReadAll boxes start new
+  pub whole_by : (found copied : Option Region) → copied ≡ after → ((span : Region) → found ≡ Some span → ⊥) → HasReadNext boxes copied now new found → HasReadAll boxes start new
   whole_by None copied same none next = whole next.1 (all_told copied same next)
   whole_by (Some span) copied same none next = absurd (none span refl)
 
   -- with each region that it gives fewer are left
-  pub come_down : (span : Span) (copied : Option Span) → copied ≡ after → HasReadNext boxes copied now new (Some span) → left_after start (Some span) < left_after start after
+  pub come_down : (span : Region) (copied : Option Region) → copied ≡ after → HasReadNext boxes copied now new (Some span) → left_after start (Some span) < left_after start after
   come_down span copied same next = left_less boxes start after span (given_at_start (Some span) copied same next.0)
 
   -- else it has come one region further
-  come_further : (span : Span) → GivesNext boxes start after (Some span) → HasNoted span.page now new → IsIn start span
+  come_further : (span : Region) → GivesNext boxes start after (Some span) → HasNoted span.page now new → IsIn start span
       → (next : HasReadUpTo boxes start new (Some span)) × (next.spans ≡ come.spans ++ span ∷ [])
   come_further span gives noted taken = (
     record {
@@ -187,8 +187,8 @@ module _ (boxes : List Corners) (start now new : TreeView) (traced : IsTraced st
       answers = HasAnswers-more boxes start come.spans after come.answers span gives;
       there = all_joined (IsRegionOf start) come.spans (span ∷ []) come.there ((next_is_later start boxes after span gives).0, tt);
       taken = all_joined (IsIn start) come.spans (span ∷ []) come.taken (taken, tt);
-      trace_is = noted.pages_are ∙ ap (λ (trace : List ℕ). trace ++ span.page ∷ []) come.trace_is ∙ append_assoc start.trace.pages (map (λ (s : Span). s.page) come.spans) (span.page ∷ [])
-          ∙ ap (λ (pages : List ℕ). start.trace.pages ++ pages) (sym (map-append (λ (s : Span). s.page) come.spans (span ∷ [])));
+      trace_is = noted.pages_are ∙ ap (λ (trace : List ℕ). trace ++ span.page ∷ []) come.trace_is ∙ append_assoc start.trace.pages (map (λ (s : Region). s.page) come.spans) (span.page ∷ [])
+          ∙ ap (λ (pages : List ℕ). start.trace.pages ++ pages) (sym (map-append (λ (s : Region). s.page) come.spans (span ∷ [])));
       fetches_are = noted.fetches_are ∙ ap (λ (f : ℕ). fetches_then f 1) come.fetches_are ∙ noted_sum start.trace.fetches (length come.spans) 1
           ∙ ap (fetches_then start.trace.fetches) (sym (length-append come.spans (span ∷ [])));
     },
@@ -196,11 +196,11 @@ module _ (boxes : List Corners) (start now new : TreeView) (traced : IsTraced st
   )
 
   -- the spans are those before, and that one
-  pub come_with : (span : Span) (copied : Option Span) → copied ≡ after → HasReadNext boxes copied now new (Some span)
+  pub come_with : (span : Region) (copied : Option Region) → copied ≡ after → HasReadNext boxes copied now new (Some span)
       → (next : HasReadUpTo boxes start new (Some span)) × (next.spans ≡ come.spans ++ span ∷ [])
   come_with span copied same (gives, noted, taken) = come_further span (given_at_start (Some span) copied same gives) noted (subst (λ (t : TreeView). IsIn t span) traced taken)
 
-  pub come_on : (span : Span) (copied : Option Span) → copied ≡ after → HasReadNext boxes copied now new (Some span) → HasReadUpTo boxes start new (Some span)
+  pub come_on : (span : Region) (copied : Option Region) → copied ≡ after → HasReadNext boxes copied now new (Some span) → HasReadUpTo boxes start new (Some span)
   come_on span copied same next = (come_with span copied same next).0
 
 -- ---- carrying out

@@ -21,11 +21,11 @@ use Rattle.ub_table.specs.Region.{IsRow, measures_of}
 use Rattle.ub_table.specs.Table.{Table, IsInOrder}
 use Rattle.ub_table.specs.declared.row.Row.{Row}
 use Rattle.ub_table.specs.declared.schema.Schema.{Schema}
-use Rattle.ub_tree.specs.Spans.{Region as Span}
+use Rattle.ub_tree.specs.Spans.{Region}
 use Rattle.ub_tree.specs.View.{TreeView}
 
 -- each of these rows has a number that there is
-small_number : (t : TreeView) (spans : List Span) (rows : List Row) → AreRowsIn t spans rows → (row : Row) → Contains rows row → row.number ≤ 16777215
+small_number : (t : TreeView) (spans : List Region) (rows : List Row) → AreRowsIn t spans rows → (row : Row) → Contains rows row → row.number ≤ 16777215
 small_number t [] rows none row there = absurd (contains_none row (subst (λ (rs : List Row). Contains rs row) none there))
 small_number t (span ∷ spans) rows (region, more, taken, rest, is) row there =
     elim (Contains-append_cases region.rows more row (subst (λ (rs : List Row). Contains rs row) is there)) [

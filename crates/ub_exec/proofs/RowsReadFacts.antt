@@ -15,17 +15,17 @@ use Rattle.ub_query.proofs.Laws.{contains_here, contains_later}
 use Rattle.ub_query.specs.Groups.{is_selected}
 use Rattle.ub_query.specs.Shape.{Asked}
 use Rattle.ub_store.specs.View.{Trace}
-use Rattle.ub_table.specs.Region.{Region, IsRegion}
+use Rattle.ub_table.specs.Region.{RegionRows, IsRegion}
 use Rattle.ub_table.specs.declared.row.Row.{Row}
 use Rattle.ub_table.specs.declared.schema.Schema.{Schema}
 use Rattle.ub_tree.proofs.Laws.{IsTraced}
 use Rattle.ub_tree.specs.Effects.{IsTakenIn}
-use Rattle.ub_tree.specs.Spans.{Region as Span}
+use Rattle.ub_tree.specs.Spans.{Region}
 use Rattle.ub_tree.specs.View.{TreeView, KeepsTrace}
 
 -- ---- one region more
 
-rows_in_more : (t : TreeView) (spans : List Span) (rows : List Row) (span : Span) (region : Region) → AreRowsIn t spans rows → IsTakenIn t span region
+rows_in_more : (t : TreeView) (spans : List Region) (rows : List Row) (span : Region) (region : RegionRows) → AreRowsIn t spans rows → IsTakenIn t span region
     → AreRowsIn t (spans ++ span ∷ []) (rows ++ region.rows)
 rows_in_more t [] rows span region none taken = (region, [], taken, refl, ap (λ (rs : List Row). rs ++ region.rows) none ∙ sym (append-nil region.rows))
 rows_in_more t (first ∷ spans) rows span region (front, more, held, rest, is) taken = (
@@ -37,26 +37,26 @@ rows_in_more t (first ∷ spans) rows span region (front, more, held, rest, is) 
 )
 
 -- so far as a walk has come, these are the rows
-pub record HasRowsUpTo (boxes : List Corners) (start now : TreeView) (after : Option Span) (rows : List Row) : Type 0 where
+pub record HasRowsUpTo (boxes : List Corners) (start now : TreeView) (after : Option Region) (rows : List Row) : Type 0 where
   pub read : HasReadUpTo boxes start now after
   pub rows_are : AreRowsIn start read.spans rows
 
 pub HasRowsUpTo-none : (boxes : List Corners) (t : TreeView) → HasRowsUpTo boxes t t None []
-HasRowsUpTo-none boxes t = record { read = (HasReadUpTo-begun boxes t).0; rows_are = subst (λ (spans : List Span). AreRowsIn t spans []) (sym (HasReadUpTo-begun boxes t).1) refl }
+HasRowsUpTo-none boxes t = record { read = (HasReadUpTo-begun boxes t).0; rows_are = subst (λ (spans : List Region). AreRowsIn t spans []) (sym (HasReadUpTo-begun boxes t).1) refl }
 
-module _ (boxes : List Corners) (start now new : TreeView) (traced : IsTraced start now) (after : Option Span) (rows more : List Row) (come : HasRowsUpTo boxes start now after rows) where
-  pub rows_on : (span : Span) (copied : Option Span) → copied ≡ after → HasReadNext boxes copied now new (Some span) → AreRowsOfNext now (Some span) more
+module _ (boxes : List Corners) (start now new : TreeView) (traced : IsTraced start now) (after : Option Region) (rows more : List Row) (come : HasRowsUpTo boxes start now after rows) where
+  pub rows_on : (span : Region) (copied : Option Region) → copied ≡ after → HasReadNext boxes copied now new (Some span) → AreRowsOfNext now (Some span) more
       → HasRowsUpTo boxes start new (Some span) (rows ++ more)
   rows_on span copied same next (region, taken, is) =
       let (read, spans) = come_with boxes start now new traced after come.read span copied same next in
       let all = rows_in_more start come.read.spans rows span region come.rows_are (subst (λ (t : TreeView). IsTakenIn t span region) traced taken) in
       record {
         read = read;
-        rows_are = subst (λ (ss : List Span). AreRowsIn start ss (rows ++ more)) (sym spans)
+        rows_are = subst (λ (ss : List Region). AreRowsIn start ss (rows ++ more)) (sym spans)
             (subst (λ (rs : List Row). AreRowsIn start (come.read.spans ++ span ∷ []) (rows ++ rs)) (sym is) all);
       }
 
-  pub rows_whole : (found copied : Option Span) → copied ≡ after → ((span : Span) → found ≡ Some span → ⊥) → HasReadNext boxes copied now new found → AreRowsOfNext now found more
+  pub rows_whole : (found copied : Option Region) → copied ≡ after → ((span : Region) → found ≡ Some span → ⊥) → HasReadNext boxes copied now new found → AreRowsOfNext now found more
       → HasReadRows boxes start new (rows ++ more)
   rows_whole None copied same none next is = record {
     spans = come.read.spans;
@@ -69,7 +69,7 @@ module _ (boxes : List Corners) (start now new : TreeView) (traced : IsTraced st
 -- ---- which of them a choice takes
 
 -- of the rows of a region each choice takes the selected ones, whatever stands beside it
-told_alike : (choice : Choice) (schema : Schema) (q : Asked) (region : Region) → q.limit ≢ Some 0 → IsRegion schema region → (row : Row) → Contains region.rows row
+told_alike : (choice : Choice) (schema : Schema) (q : Asked) (region : RegionRows) → q.limit ≢ Some 0 → IsRegion schema region → (row : Row) → Contains region.rows row
     → is_chosen choice schema (plan_of schema q) row ≡ is_selected schema q.filter row
 told_alike Boxes schema q region some is row there =
     row_is_told schema q row some (rows_are_points schema (region ∷ []) row (is, tt, tt) (Contains-append_left region.rows [] row there))
@@ -82,7 +82,7 @@ filter_alike f g (row ∷ rows) alike =
     let first = alike row (contains_here row rows) in
     rw (first, rest) refl
 
-chosen_in : (choice : Choice) (q : Asked) (t : TreeView) (spans : List Span) (rows : List Row) → q.limit ≢ Some 0 → AreRowsIn t spans rows
+chosen_in : (choice : Choice) (q : Asked) (t : TreeView) (spans : List Region) (rows : List Row) → q.limit ≢ Some 0 → AreRowsIn t spans rows
     → filter (is_chosen choice t.schema (plan_of t.schema q)) rows ≡ filter (is_selected t.schema q.filter) rows
 chosen_in choice q t [] rows some are = rw are refl
 chosen_in choice q t (span ∷ spans) rows some (region, more, taken, rest, is) =

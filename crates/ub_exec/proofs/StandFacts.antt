@@ -11,7 +11,7 @@ use Rattle.ub_region.specs.Regions.{AreTableRows, remove, without_number}
 use Rattle.ub_region.specs.Rows.{has_key}
 use Rattle.ub_store.specs.declared.fault.StoreFault.TheVariants as store
 use Rattle.ub_table.specs.Keys.{is_same}
-use Rattle.ub_table.specs.Region.{Region, key_of, keys_of}
+use Rattle.ub_table.specs.Region.{RegionRows, key_of, keys_of}
 use Rattle.ub_table.specs.Table.{IsInOrder}
 use Rattle.ub_table.specs.declared.row.Key.{Key}
 use Rattle.ub_table.specs.declared.row.Row.{Row}
@@ -79,7 +79,7 @@ row_out old new s row stand removed = record {
   schema_is = stand.schema_is ∙ sym removed.schema;
   rows_are = removed.table s.table.rows stand.rows_are;
   regions_are = sym (removed.regions_are ∙ ap (λ (schema : Schema). remove schema.dims schema.page_rows (key_of schema.dims row) (regions old)) (sym stand.schema_is)
-      ∙ ap (λ (rs : List Region). remove s.table.schema.dims s.table.schema.page_rows (key_of s.table.schema.dims row) rs) (sym stand.regions_are));
+      ∙ ap (λ (rs : List RegionRows). remove s.table.schema.dims s.table.schema.page_rows (key_of s.table.schema.dims row) rs) (sym stand.regions_are));
   next_is = stand.next_is ∙ sym removed.next;
 }
 

@@ -21,7 +21,7 @@ use Rattle.ub_query.specs.Meaning.{IsMeaning}
 use Rattle.ub_query.specs.Shape.{Asked}
 use Rattle.ub_query.specs.declared.cell.Cell.{Cell}
 use Rattle.ub_region.specs.Regions.{AreTableRows}
-use Rattle.ub_table.specs.Region.{Region}
+use Rattle.ub_table.specs.Region.{RegionRows}
 use Rattle.ub_table.specs.declared.row.Row.{Row}
 use Rattle.ub_table.specs.declared.schema.Schema.{Schema}
 use Rattle.ub_tetris.proofs.Laws.{IsSweepOver, stops, runs_out, stops_with_the_meaning, runs_out_with_the_meaning}
@@ -111,7 +111,7 @@ HasSwept-more plan t new s new_s rows more row swept gives same is =
 -- ---- when it stops
 
 -- the visits of a sweep of rows are the plan's
-pub row_visits : (plan : PlanView) (dim : ℕ) (is_descending : Bool) (schema : Schema) (regions : List Region) (visits : List spec.Span) → plan.kind ≡ Sweep dim is_descending → plan.asked.group ≡ []
+pub row_visits : (plan : PlanView) (dim : ℕ) (is_descending : Bool) (schema : Schema) (regions : List RegionRows) (visits : List spec.Span) → plan.kind ≡ Sweep dim is_descending → plan.asked.group ≡ []
     → AreSweepVisits schema plan dim is_descending regions visits → AreVisits schema plan regions visits
 row_visits plan dim is_descending schema regions visits kind plain are =
     subst (λ (kind : Kind). AreVisitsBy kind schema plan regions visits) (sym kind)
@@ -142,7 +142,7 @@ visits_fetched plan start t fetched kept noted fetches visits =
   where
     spans_at : (events : List Event) → regions_at events ≡ map (λ span. span.region) (map (λ (event : Event). event.span) events)
     spans_at [] = refl
-    spans_at (event ∷ events) = ap (λ (rs : List Region). event.span.region ∷ rs) (spans_at events)
+    spans_at (event ∷ events) = ap (λ (rs : List RegionRows). event.span.region ∷ rs) (spans_at events)
 
 pub over : (plan : PlanView) (t : TreeView) (s : SweepView) (given rest : List Row) (fetched unread : List Event) → IsSweeping plan t s given rest fetched unread
     → IsSweepOver t.schema plan s.dim s.is_descending t.next (regions t)

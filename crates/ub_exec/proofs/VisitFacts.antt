@@ -13,7 +13,7 @@ use Rattle.ub_query.proofs.Laws.{all_weaker, contains_here, contains_later}
 use Rattle.ub_region.specs.Regions.{firsts_of}
 use Rattle.ub_region.specs.Spans.{span_end}
 use Rattle.ub_tree.specs.Placed.{Placed, regions_in, entry_of}
-use Rattle.ub_tree.specs.Spans.{Meets, regions_of, Region as Span}
+use Rattle.ub_tree.specs.Spans.{Meets, regions_of, Region}
 use Rattle.ub_tree.specs.View.{TreeView, IsSound, regions, spans_of}
 use Rattle.ub_zaddr.specs.Address.{last_address}
 
@@ -49,7 +49,7 @@ spans_long last (p ∷ placed) = ap suc (spans_long last placed)
 
 -- the span of a tree's region is that of the region in the list
 span_is : (last : ℕ) (placed : List Placed) (k : ℕ) (p : Placed) (span : plan.Span) → slice_get placed k ≡ Some p → slice_get (spans_up_to last (regions_in placed)) k ≡ Some span
-    → (own : Span) × (slice_get (regions_of last (map entry_of placed)) k ≡ Some own) × (own.first ≡ p.region.first) × (own.from ≡ span.from) × (own.to ≡ span.to) × (p.region ≡ span.region)
+    → (own : Region) × (slice_get (regions_of last (map entry_of placed)) k ≡ Some own) × (own.first ≡ p.region.first) × (own.from ≡ span.from) × (own.to ≡ span.to) × (p.region ≡ span.region)
 span_is last [] k p span at there = cc
 span_is last (q ∷ placed) zero p span at there =
     let same : q ≡ p = cc in
@@ -70,7 +70,7 @@ alike t sound boxes k p span at there =
     let (own, own_at, begins, from, to, region) = span_is (last_address t.schema.dims) t.placed k p span at there in (
       (
         λ meets. let same = one_span t sound k own meets.0 own_at meets.1 (begins ∙ sym meets.2) in
-            rw (from, to) at (subst (λ (s : Span). Meets boxes s) (sym same) meets.3),
+            rw (from, to) at (subst (λ (s : Region). Meets boxes s) (sym same) meets.3),
         λ meets. (own, contains_at (spans_of t) k own own_at, begins, rw (from, to) meets),
       ),
       region,

@@ -14,7 +14,7 @@ use Rattle.ub_region.specs.Regions.{firsts_of, rows_of}
 use Rattle.ub_store.specs.Facts.{raised}
 use Rattle.ub_table.proofs.Laws.{before_of, not_before_self, ascending_get}
 use Rattle.ub_table.specs.Keys.{IsBefore, are_ascending}
-use Rattle.ub_table.specs.Region.{Region}
+use Rattle.ub_table.specs.Region.{RegionRows}
 use Rattle.ub_table.specs.declared.row.Key.{Key}
 use Rattle.ub_table.specs.declared.row.Row.{Row}
 use Rattle.ub_table.specs.declared.schema.Schema.{Schema}
@@ -22,18 +22,18 @@ use Rattle.ub_tree.specs.Calls.{StandsAt}
 use Rattle.ub_store.specs.View.{Trace}
 use Rattle.ub_tree.specs.Effects.{HasNoted}
 use Rattle.ub_tree.specs.Placed.{Placed, regions_in, entry_of}
-use Rattle.ub_tree.specs.Spans.{first_keys, regions_of, IsLater, Meets, First, Region as Span}
+use Rattle.ub_tree.specs.Spans.{first_keys, regions_of, IsLater, Meets, First, Region}
 use Rattle.ub_tree.specs.View.{TreeView, IsSound, KeepsTrace, regions, spans_in, spans_of}
 use Rattle.ub_zaddr.specs.Address.{last_address}
 
 -- the spans of regions that stand on pages, and their keys
 pub span_at : (last : ℕ) (placed : List Placed) (k : ℕ) (p : Placed) → slice_get placed k ≡ Some p
-    → (span : Span) × (slice_get (regions_of last (map entry_of placed)) k ≡ Some span) × (span.first ≡ p.region.first)
+    → (span : Region) × (slice_get (regions_of last (map entry_of placed)) k ≡ Some span) × (span.first ≡ p.region.first)
 span_at last [] k p at = cc
 span_at last (q ∷ placed) zero p at = let same : q ≡ p = cc in (_, refl, ap (λ (x : Placed). x.region.first) same)
 span_at last (q ∷ placed) (suc k) p at = span_at last placed k p at
 
-placed_at : (last : ℕ) (placed : List Placed) (k : ℕ) (span : Span) → slice_get (regions_of last (map entry_of placed)) k ≡ Some span
+placed_at : (last : ℕ) (placed : List Placed) (k : ℕ) (span : Region) → slice_get (regions_of last (map entry_of placed)) k ≡ Some span
     → (p : Placed) × (slice_get placed k ≡ Some p) × (p.region.first ≡ span.first)
 placed_at last [] k span at = cc
 placed_at last (q ∷ placed) zero span at = (q, refl, cc)
@@ -45,7 +45,7 @@ key_at (q ∷ placed) zero p at = let same : q ≡ p = cc in ap (λ (x : Placed)
 key_at (q ∷ placed) (suc k) p at = key_at placed k p at
 
 -- the first keys of a sound tree's regions ascend
-in_order : (t : TreeView) → IsSound t → (i j : ℕ) (a b : Span) → i < j → slice_get (spans_of t) i ≡ Some a → slice_get (spans_of t) j ≡ Some b → IsBefore a.first b.first
+in_order : (t : TreeView) → IsSound t → (i j : ℕ) (a b : Region) → i < j → slice_get (spans_of t) i ≡ Some a → slice_get (spans_of t) j ≡ Some b → IsBefore a.first b.first
 in_order t sound i j a b lt at_i at_j = spans_ascend t i j a b sound lt at_i at_j
 
 -- the region that begins with a key stands at one place
@@ -71,7 +71,7 @@ same_spans old new kept =
     ap (λ (schema : Schema). spans_in schema new.placed) kept.regions.schema ∙ ap (spans_in old.schema) kept.regions.placed
 
 -- the span that begins with a key stands at one place
-pub one_span : (t : TreeView) → IsSound t → (k : ℕ) (own span : Span) → slice_get (spans_of t) k ≡ Some own → Contains (spans_of t) span → own.first ≡ span.first → own ≡ span
+pub one_span : (t : TreeView) → IsSound t → (k : ℕ) (own span : Region) → slice_get (spans_of t) k ≡ Some own → Contains (spans_of t) span → own.first ≡ span.first → own ≡ span
 one_span t sound k own span at there e =
     let span_at = contained_at (spans_of t) span there in
     elim (cases_lt k there.0) [
@@ -91,15 +91,15 @@ module _ (t : TreeView) (sound : IsSound t) (boxes : List Corners) (place : ℕ)
 
   -- a region that meets the boxes, later than those asked for
   later_that_meets : (m : ℕ) (p : Placed) → place ≤ m → slice_get t.placed m ≡ Some p → MeetsIn t boxes p
-      → (span : Span) × Contains (spans_of t) span × (IsLater (before place (spans_of t)) span × Meets boxes span) × (span.first ≡ p.region.first)
+      → (span : Region) × Contains (spans_of t) span × (IsLater (before place (spans_of t)) span × Meets boxes span) × (span.first ≡ p.region.first)
   later_that_meets m p from at meets =
       let (span, there, begins, some) = meets in
       let (own, own_at, own_begins) = span_at (last_address t.schema.dims) t.placed m p at in
       let later = is_later (spans_of t) (in_order t sound) place m own from own_at in
-      let moved : (o : Option Span) → IsLater o own → IsLater o span = by_other own span (own_begins ∙ sym begins) in
+      let moved : (o : Option Region) → IsLater o own → IsLater o span = by_other own span (own_begins ∙ sym begins) in
       (span, there, (moved (before place (spans_of t)) later, some), begins)
     where
-      by_other : (a b : Span) → a.first ≡ b.first → (o : Option Span) → IsLater o a → IsLater o b
+      by_other : (a b : Region) → a.first ≡ b.first → (o : Option Region) → IsLater o a → IsLater o b
       by_other a b e None h = tt
       by_other a b e (Some other) h = subst (λ (key : Key). IsBefore other.first key) e h
 
@@ -110,13 +110,13 @@ module _ (t : TreeView) (sound : IsSound t) (boxes : List Corners) (place : ℕ)
       subst (λ (placed : List Placed). AreThose (MeetsIn t boxes) placed visited) (take_all (length t.placed) t.placed (omega arith)) all
 
   -- the place of the region that is answered
-  pub record IsNext (span : Span) (p : Placed) (i : ℕ) : Type 0 where
+  pub record IsNext (span : Region) (p : Placed) (i : ℕ) : Type 0 where
     pub from : place ≤ i
     pub at : slice_get t.placed i ≡ Some p
     pub span_is : slice_get (spans_of t) i ≡ Some span
     pub those : AreThose (MeetsIn t boxes) (take (suc i) t.placed) (visited ++ p ∷ [])
 
-  pub next_found : (span : Span) (p : Placed) → First (λ s. IsLater (before place (spans_of t)) s × Meets boxes s) (spans_of t) (Some span)
+  pub next_found : (span : Region) (p : Placed) → First (λ s. IsLater (before place (spans_of t)) s × Meets boxes s) (spans_of t) (Some span)
       → Contains t.placed p → p.region.first ≡ span.first → (i : ℕ) × IsNext span p i
   next_found span p first there begins =
       let i = first.0.0 in
@@ -141,7 +141,7 @@ module _ (t : TreeView) (sound : IsSound t) (boxes : List Corners) (place : ℕ)
       )
 
 -- so far as a walk has come: the regions before a place that meet the boxes have been read
-pub record HasCome (boxes : List Corners) (start now : TreeView) (rows : List Row) (after : Option Span) : Type 0 where
+pub record HasCome (boxes : List Corners) (start now : TreeView) (rows : List Row) (after : Option Region) : Type 0 where
   pub place : ℕ
   pub visited : List Placed
   pub far : place ≤ length start.placed
@@ -171,12 +171,12 @@ fetched_next : (fetches n : ℕ) → raised (fetches_then fetches n) 1 ≡ fetch
 fetched_next fetches zero = refl
 fetched_next fetches (suc n) = omega arith
 
-module _ (boxes : List Corners) (start now new : TreeView) (sound : IsSound start) (kept : Keeps start now) (after : Option Span) (rows more : List Row) (come : HasCome boxes start now rows after) where
-  first_is : (found : Option Span) → First (λ s. IsLater after s × Meets boxes s) (spans_of now) found
+module _ (boxes : List Corners) (start now new : TreeView) (sound : IsSound start) (kept : Keeps start now) (after : Option Region) (rows more : List Row) (come : HasCome boxes start now rows after) where
+  first_is : (found : Option Region) → First (λ s. IsLater after s × Meets boxes s) (spans_of now) found
       → First (λ s. IsLater (before come.place (spans_of start)) s × Meets boxes s) (spans_of start) found
   first_is found first =
-      subst (λ (o : Option Span). First (λ s. IsLater o s × Meets boxes s) (spans_of start) found) come.after_is
-      (subst (λ (spans : List Span). First (λ s. IsLater after s × Meets boxes s) spans found) (same_spans start now kept) first)
+      subst (λ (o : Option Region). First (λ s. IsLater o s × Meets boxes s) (spans_of start) found) come.after_is
+      (subst (λ (spans : List Region). First (λ s. IsLater after s × Meets boxes s) spans found) (same_spans start now kept) first)
 
   pub ended : HasTurned boxes after now new None more → HasWalked boxes start new (rows ++ more)
   ended (first, untraced, none) = record {
@@ -187,7 +187,7 @@ module _ (boxes : List Corners) (start now new : TreeView) (sound : IsSound star
     fetches_are = ap (λ (t : Trace). t.fetches) untraced ∙ come.fetches_are;
   }
 
-  pub turned : (span : Span) → HasTurned boxes after now new (Some span) more → HasCome boxes start new (rows ++ more) (Some span)
+  pub turned : (span : Region) → HasTurned boxes after now new (Some span) more → HasCome boxes start new (rows ++ more) (Some span)
   turned span (first, visit) =
       let p = visit.region in
       let there : Contains start.placed p = subst (λ (placed : List Placed). Contains placed p) kept.regions.placed visit.there in
@@ -211,31 +211,31 @@ module _ (boxes : List Corners) (start now new : TreeView) (sound : IsSound star
       one_more placed p = omega (arith, length-append placed (p ∷ []))
 
   -- the same, whatever a turn answers
-  pub ended_by : (found copied : Option Span) → copied ≡ after → ((span : Span) → found ≡ Some span → ⊥) → HasTurned boxes copied now new found more → HasWalked boxes start new (rows ++ more)
-  ended_by None copied same none turn = ended (subst (λ (o : Option Span). HasTurned boxes o now new None more) same turn)
+  pub ended_by : (found copied : Option Region) → copied ≡ after → ((span : Region) → found ≡ Some span → ⊥) → HasTurned boxes copied now new found more → HasWalked boxes start new (rows ++ more)
+  ended_by None copied same none turn = ended (subst (λ (o : Option Region). HasTurned boxes o now new None more) same turn)
   ended_by (Some span) copied same none turn = absurd (none span refl)
 
-  pub turned_to : (span : Span) (copied : Option Span) → copied ≡ after → HasTurned boxes copied now new (Some span) more → HasCome boxes start new (rows ++ more) (Some span)
-  turned_to span copied same turn = turned span (subst (λ (o : Option Span). HasTurned boxes o now new (Some span) more) same turn)
+  pub turned_to : (span : Region) (copied : Option Region) → copied ≡ after → HasTurned boxes copied now new (Some span) more → HasCome boxes start new (rows ++ more) (Some span)
+  turned_to span copied same turn = turned span (subst (λ (o : Option Region). HasTurned boxes o now new (Some span) more) same turn)
 
 -- a turn that read the region that was found
-pub visited_by : (t mid new : TreeView) (boxes : List Corners) (after : Option Span) (span : Span) (region : Region) (rows : List Row) → IsSound t
+pub visited_by : (t mid new : TreeView) (boxes : List Corners) (after : Option Region) (span : Region) (region : RegionRows) (rows : List Row) → IsSound t
     → First (λ s. IsLater after s × Meets boxes s) (spans_of t) (Some span) → Keeps t mid → KeepsTrace t mid
     → (IsSound mid → Contains (spans_of mid) span → StandsAt mid.placed span.page region) → region.first ≡ span.first → HasNoted span.page mid new → rows ≡ region.rows
     → HasTurned boxes after t new (Some span) rows
 visited_by t mid new boxes after span region rows sound first kept untraced stands begins noted rows_are =
-    let (p, there, page, is) = stands (kept.sound sound) (subst (λ (spans : List Span). Contains spans span) (sym (same_spans t mid kept)) first.0) in (
+    let (p, there, page, is) = stands (kept.sound sound) (subst (λ (spans : List Region). Contains spans span) (sym (same_spans t mid kept)) first.0) in (
       first,
       record {
         region = p;
         there = subst (λ (placed : List Placed). Contains placed p) kept.regions.placed there;
-        begins = ap (λ (r : Region). r.first) is ∙ begins;
+        begins = ap (λ (r : RegionRows). r.first) is ∙ begins;
         noted = record {
           pages_are = noted.pages_are ∙ ap (λ (trace : Trace). trace.pages ++ span.page ∷ []) untraced ∙ ap (λ (n : ℕ). t.trace.pages ++ n ∷ []) (sym page);
           fetches_are = noted.fetches_are ∙ ap (λ (trace : Trace). raised trace.fetches 1) untraced;
           room = subst (λ (trace : Trace). trace.capacity ≤ new.trace.capacity) untraced noted.room;
         };
-        rows_are = rows_are ∙ ap (λ (r : Region). r.rows) (sym is);
+        rows_are = rows_are ∙ ap (λ (r : RegionRows). r.rows) (sym is);
       },
     )
 

@@ -19,7 +19,7 @@ use Rattle.ub_query.specs.Meaning.{IsMeaning}
 use Rattle.ub_query.specs.Shape.{Asked, Shape}
 use Rattle.ub_query.specs.declared.cell.Cell.{Cell}
 use Rattle.ub_region.specs.Regions.{AreRegions, AreTableRows, rows_of}
-use Rattle.ub_table.specs.Region.{Region}
+use Rattle.ub_table.specs.Region.{RegionRows}
 use Rattle.ub_table.specs.Table.{Table, IsInOrder}
 use Rattle.ub_table.specs.declared.row.Row.{Row}
 use Rattle.ub_table.specs.declared.schema.Schema.{Schema}
@@ -42,7 +42,7 @@ rows_at [] = refl
 rows_at (event ∷ events) = ap (λ (rows : List Row). event.span.region.rows ++ rows) (rows_at events)
 
 -- the selected rows of the regions that it comes to are those of the table
-events_hold : (schema : Schema) (plan : PlanView) (dim : ℕ) (is_descending : Bool) (next : ℕ) (regions : List Region) (rows : List Row) (events : List Event) → plan ≡ plan_of schema plan.asked
+events_hold : (schema : Schema) (plan : PlanView) (dim : ℕ) (is_descending : Bool) (next : ℕ) (regions : List RegionRows) (rows : List Row) (events : List Event) → plan ≡ plan_of schema plan.asked
     → plan.asked.limit ≢ Some 0 → AreRegions schema next regions → AreTableRows regions rows → AreEvents schema plan.covering.boxes dim is_descending regions events
     → IsPermutation (selected (record { schema = schema; rows = rows }) plan.asked.filter) (selected_rows schema plan (regions_at events))
 events_hold schema plan dim is_descending next regions rows events planned limit are table those =

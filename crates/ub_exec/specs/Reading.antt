@@ -4,25 +4,25 @@ use Rattle.std.specs.List.{AllByRecursion}
 use Rattle.ub_bigmin.specs.Box.{Corners}
 use Rattle.ub_exec.specs.Answers.{IsSwept}
 use Rattle.ub_planning.specs.Plan.{PlanView}
-use Rattle.ub_table.specs.Region.{Region}
+use Rattle.ub_table.specs.Region.{RegionRows}
 use Rattle.ub_table.specs.declared.row.Row.{Row}
 use Rattle.ub_tetris.specs.Awaited.{AreMetAlong}
 use Rattle.ub_tetris.specs.Effects.{fetches_then}
 use Rattle.ub_tetris.specs.Sweep.{AwaitedRegion, IsSweepOf}
 use Rattle.ub_tree.specs.Effects.{HasNoted, IsTakenIn}
 use Rattle.ub_tree.specs.Handing.{AreMetBy}
-use Rattle.ub_tree.specs.Spans.{Region as Span}
+use Rattle.ub_tree.specs.Spans.{Region}
 use Rattle.ub_tree.specs.Told.{GivesNext, IsRegionOf}
 use Rattle.ub_tree.specs.View.{TreeView, KeepsTrace}
 use Rattle.ub_tree.specs.declared.read_fault.ReadFault.{ReadFault}
 
 -- the page spells the region of this span
-abbrev pub IsIn : TreeView → Span → Type 0
-IsIn t span = (region : Region) × IsTakenIn t span region
+abbrev pub IsIn : TreeView → Region → Type 0
+IsIn t span = (region : RegionRows) × IsTakenIn t span region
 
 -- the page is that of a region that the tree tells of, which was taken in
 abbrev pub IsRead : TreeView → ℕ → Type 0
-IsRead t page = (span : Span) × IsRegionOf t span × (span.page ≡ page) × IsIn t span
+IsRead t page = (span : Region) × IsRegionOf t span × (span.page ≡ page) × IsIn t span
 
 -- pages were noted after those that stood in the trace, and the fetches rose by their number; where the call answers, each is
 -- the page of a region that the tree tells of, which was taken in
@@ -35,20 +35,20 @@ pub record NotesPages {A : Type 0} (old new : TreeView) (result : Result A ReadF
 -- no region that meets the boxes was passed over: these are all that the tree tells of; each was taken in, and their pages were
 -- noted, in this order, and no others
 pub record HasReadAll (boxes : List Corners) (old new : TreeView) : Type 0 where
-  pub spans : List Span
+  pub spans : List Region
   pub all : AreMetBy boxes old spans
   pub taken : AllByRecursion (IsIn old) spans
   pub trace_is : new.trace.pages ≡ old.trace.pages ++ map (λ span. span.page) spans
 
 -- these are the rows of the regions of these spans, one region after the other: each region is the one that its page spells
-abbrev pub AreRowsIn : TreeView → List Span → List Row → Type 0
+abbrev pub AreRowsIn : TreeView → List Region → List Row → Type 0
 AreRowsIn t [] rows = rows ≡ []
 AreRowsIn t (span ∷ spans) rows =
-    (region : Region) × (more : List Row) × IsTakenIn t span region × AreRowsIn t spans more × (rows ≡ region.rows ++ more)
+    (region : RegionRows) × (more : List Row) × IsTakenIn t span region × AreRowsIn t spans more × (rows ≡ region.rows ++ more)
 
 -- no region that meets the boxes was passed over, and these are the rows of those that were taken in, one region after the other
 pub record HasReadRows (boxes : List Corners) (old new : TreeView) (rows : List Row) : Type 0 where
-  pub spans : List Span
+  pub spans : List Region
   pub all : AreMetBy boxes old spans
   pub rows_are : AreRowsIn old spans rows
   pub trace_is : new.trace.pages ≡ old.trace.pages ++ map (λ span. span.page) spans
@@ -96,11 +96,11 @@ pub record CarriesOut {A : Type 0} (p : PlanView) (old new : TreeView) (rows : A
   pub sweeps : ReadsSwept p old new rows result
 
 -- the region that the tree gives next was taken in, and its page noted; or it gives none
-abbrev pub HasReadNext : List Corners → Option Span → TreeView → TreeView → Option Span → Type 0
+abbrev pub HasReadNext : List Corners → Option Region → TreeView → TreeView → Option Region → Type 0
 HasReadNext boxes after old new None = GivesNext boxes old after None × KeepsTrace old new
 HasReadNext boxes after old new (Some span) = GivesNext boxes old after (Some span) × HasNoted span.page old new × IsIn old span
 
 -- these are the rows of that region, or none
-abbrev pub AreRowsOfNext : TreeView → Option Span → List Row → Type 0
+abbrev pub AreRowsOfNext : TreeView → Option Region → List Row → Type 0
 AreRowsOfNext t None rows = rows ≡ []
-AreRowsOfNext t (Some span) rows = (region : Region) × IsTakenIn t span region × (rows ≡ region.rows)
+AreRowsOfNext t (Some span) rows = (region : RegionRows) × IsTakenIn t span region × (rows ≡ region.rows)

@@ -3,7 +3,7 @@ use Rattle.std.specs.Prelude.{◌≡◌, ◌+◌, ◌++◌, ◌∷◌, [], ℕ, 
 use Rattle.ub_query.specs.Groups.{selected}
 use Rattle.ub_query.specs.Shape.{Asked}
 use Rattle.ub_region.specs.Regions.{AreRegions, AreTableRows, insert, remove, without_number}
-use Rattle.ub_table.specs.Region.{Region, key_of}
+use Rattle.ub_table.specs.Region.{RegionRows, key_of}
 use Rattle.ub_table.specs.Table.{Table}
 use Rattle.ub_table.specs.declared.row.Row.{Row}
 use Rattle.ub_tree.specs.View.{TreeView, IsSound, regions}
@@ -11,7 +11,7 @@ use Rattle.ub_tree.specs.View.{TreeView, IsSound, regions}
 -- where a table stands: the table, the regions in which its rows are, and the number that the next row gets
 pub record Stand : Type 0 where
   pub table : Table
-  pub regions : List Region
+  pub regions : List RegionRows
   pub next : ℕ
 
 -- the tree is sound, and its table stands so

@@ -11,7 +11,7 @@ use Rattle.ub_table.specs.declared.row.Row.{Row}
 pub use Rattle.ub_tetris.specs.Effects.{fetches_then}
 use Rattle.ub_tree.specs.Effects.{HasNoted}
 use Rattle.ub_tree.specs.Placed.{Placed, regions_in}
-use Rattle.ub_tree.specs.Spans.{IsLater, Meets, First, Region as Span}
+use Rattle.ub_tree.specs.Spans.{IsLater, Meets, First, Region}
 use Rattle.ub_tree.specs.View.{TreeView, KeepsTrace, regions, spans_of}
 
 -- the regions that a plan visits were fetched, each once, in the order of the visits, and no others: their pages stand in the
@@ -46,7 +46,7 @@ Hands {K = K} HasTaken chosen old new Are = (before : K) (taken : List Row) → 
 
 -- a region of the tree meets the boxes: some address of the span that begins with its first key lies in one of them
 abbrev pub MeetsIn : TreeView → List Corners → Placed → Type 0
-MeetsIn t boxes p = (span : Span) × Contains (spans_of t) span × (span.first ≡ p.region.first) × Meets boxes span
+MeetsIn t boxes p = (span : Region) × Contains (spans_of t) span × (span.first ≡ p.region.first) × Meets boxes span
 
 -- the regions of the tree that meet the boxes, in the order of their keys
 abbrev pub AreMeeting : List Corners → TreeView → List Placed → Type 0
@@ -69,7 +69,7 @@ pub record HasWalkedFirst (boxes : List Corners) (old new : TreeView) : Type 0 w
   pub fetches_are : new.trace.fetches ≡ fetches_then old.trace.fetches (length visited)
 
 -- the region of this span was read; these are its rows
-pub record HasVisited (span : Span) (old new : TreeView) (rows : List Row) : Type 0 where
+pub record HasVisited (span : Region) (old new : TreeView) (rows : List Row) : Type 0 where
   pub region : Placed
   pub there : Contains old.placed region
   pub begins : region.region.first ≡ span.first
@@ -77,13 +77,13 @@ pub record HasVisited (span : Span) (old new : TreeView) (rows : List Row) : Typ
   pub rows_are : rows ≡ region.region.rows
 
 -- the first region later than one that meets the boxes was read, or there is none
-abbrev pub HasTurned : List Corners → Option Span → TreeView → TreeView → Option Span → List Row → Type 0
+abbrev pub HasTurned : List Corners → Option Region → TreeView → TreeView → Option Region → List Row → Type 0
 HasTurned boxes after old new None rows =
     First (λ s. IsLater after s × Meets boxes s) (spans_of old) None × KeepsTrace old new × (rows ≡ [])
 HasTurned boxes after old new (Some span) rows =
     First (λ s. IsLater after s × Meets boxes s) (spans_of old) (Some span) × HasVisited span old new rows
 
 -- a turn was ended by a fault: no region was read, or the first region later than one that meets the boxes
-abbrev pub HasTurnedSome : List Corners → Option Span → TreeView → TreeView → Type 0
+abbrev pub HasTurnedSome : List Corners → Option Region → TreeView → TreeView → Type 0
 HasTurnedSome boxes after old new =
-    KeepsTrace old new ⊎ ((span : Span) × (rows : List Row) × HasTurned boxes after old new (Some span) rows)
+    KeepsTrace old new ⊎ ((span : Region) × (rows : List Row) × HasTurned boxes after old new (Some span) rows)

@@ -20,7 +20,7 @@ use Rattle.ub_query.specs.Groups.{is_selected}
 use Rattle.ub_query.specs.Shape.{Asked, Shape}
 use Rattle.ub_region.proofs.Laws.{chain_of}
 use Rattle.ub_region.specs.Regions.{AreRegions, rows_of}
-use Rattle.ub_table.specs.Region.{Region}
+use Rattle.ub_table.specs.Region.{RegionRows}
 use Rattle.ub_table.specs.declared.row.Row.{Row}
 use Rattle.ub_table.specs.declared.schema.Schema.{Schema}
 
@@ -182,13 +182,13 @@ filter_same f g (row ∷ rows) alike =
     let first = alike row (contains_here row rows) in
     rw (first, rest) refl
 
-one_is_selected : (choice : Choice) (schema : Schema) (q : Asked) (next : ℕ) (regions : List Region) → q.limit ≢ Some 0 → AreRegions schema next regions
+one_is_selected : (choice : Choice) (schema : Schema) (q : Asked) (next : ℕ) (regions : List RegionRows) → q.limit ≢ Some 0 → AreRegions schema next regions
     → (row : Row) → Contains (rows_of regions) row → is_chosen choice schema (plan_of schema q) row ≡ is_selected schema q.filter row
 one_is_selected Boxes schema q next regions some are row there =
     row_is_told schema q row some (rows_are_points schema regions row (chain_of schema regions are.each are.ascending are.apart) there)
 one_is_selected Condition schema q next regions some are row there = refl
 
-pub chosen_selected : (choice : Choice) (schema : Schema) (q : Asked) (next : ℕ) (regions : List Region) (rows : List Row) → q.limit ≢ Some 0 → AreRegions schema next regions
+pub chosen_selected : (choice : Choice) (schema : Schema) (q : Asked) (next : ℕ) (regions : List RegionRows) (rows : List Row) → q.limit ≢ Some 0 → AreRegions schema next regions
     → ((row : Row) → Contains rows row → Contains (rows_of regions) row) → filter (is_chosen choice schema (plan_of schema q)) rows ≡ filter (is_selected schema q.filter) rows
 chosen_selected choice schema q next regions rows some are among =
     filter_same (is_chosen choice schema (plan_of schema q)) (is_selected schema q.filter) rows (λ row there. one_is_selected choice schema q next regions some are row (among row there))

@@ -1,8 +1,8 @@
 -- How a search goes down to a leaf, and what it finds there behind a region.
 use Rattle.std.proofs.Common.{◌≡◌, ◌<◌, ◌-◌, ◌↔◌, ◌⊎◌, inl, inr, ℕ, List, [], ◌∷◌, Option, Some, None, IfSome, ◌∙◌, sym, ap, subst, refl, arith}
 use Rattle.ub_region.specs.declared.region.Region.{Region}
-use Rattle.ub_index_page.specs.Index.{node_on}
-use Rattle.ub_page.specs.declared.entries.Entry.{Entry}
+use Rattle.ub_page.specs.Index.{node_on}
+use Rattle.ub_region.specs.declared.entry.Entry.{Entry}
 use Rattle.ub_store.specs.Facts.{StoreFacts, IsHonest}
 use Rattle.ub_table.proofs.Laws.{not_before_origin, not_before_self, not_both_before}
 use Rattle.ub_table.specs.Keys.{IsBefore, origin}

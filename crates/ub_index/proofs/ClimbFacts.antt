@@ -2,7 +2,7 @@
 use Rattle.std.proofs.Common.{inl, inr, [], ◌∷◌, ◌++◌, ◌+◌, ◌≤◌, length, IfErr, ◌≡◌, ◌<◌, ◌-◌, ℕ, zero, suc, List, Option, Some, None, Result, Ok, Err, IfOk, ◌∙◌, sym, ap, subst, refl, arith}
 use Rattle.std.proofs.lemmas.Bool.{cases_lt}
 use Rattle.std.specs.Result.{IsErrAnd}
-use Rattle.ub_page.specs.declared.entries.Entry.{Entry}
+use Rattle.ub_region.specs.declared.entry.Entry.{Entry}
 use Rattle.ub_store.specs.Facts.{StoreFacts, IsHonest}
 use Rattle.ub_store.specs.View.{PagerView}
 use Rattle.ub_store.specs.declared.fault.StoreFault.TheVariants as store

@@ -1,12 +1,12 @@
 -- What the bytes of a page tell of its entries: which of them a key falls to, and whether the page fits.
 use Rattle.std.proofs.Common.{◌≡◌, ◌≤◌, ◌<◌, ◌+◌, ◌-◌, ◌++◌, ◌⊎◌, inl, inr, ℕ, zero, suc, List, [], ◌∷◌, Option, Some, None, IfSome, length, take, drop, slice_get, ◌∙◌, sym, ap, subst, refl, arith}
 use Rattle.std.proofs.lemmas.Bool.{cases_lt}
-use Rattle.ub_index_page.proofs.Laws.{length-node_on, node_get}
-use Rattle.ub_index_page.specs.Index.{IsNode, index_page, node_on}
-use Rattle.ub_index_page.specs.Slots.{IsSlot, entry_in, first_in}
-use Rattle.ub_page.specs.Bytes.{number_at}
+use Rattle.ub_page.proofs.IndexLaws.{length-node_on, node_get}
+use Rattle.ub_page.specs.Index.{IsNode, index_page, node_on}
+use Rattle.ub_page.specs.Slots.{IsSlot, entry_in, first_in}
+use Rattle.ub_bytes.specs.Bytes.{number_at}
 use Rattle.ub_page.specs.Entries.{AreAscending}
-use Rattle.ub_page.specs.declared.entries.Entry.{Entry}
+use Rattle.ub_region.specs.declared.entry.Entry.{Entry}
 use Rattle.ub_table.specs.Keys.{IsBefore}
 use Rattle.ub_table.specs.declared.row.Key.{Key}
 use Rattle.ub_index.specs.Changing.{OpensTo}

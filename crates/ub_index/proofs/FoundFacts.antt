@@ -7,7 +7,7 @@ use Rattle.ub_bigmin.specs.Extremes.{LeastFrom}
 use Rattle.ub_index.proofs.Laws.{next_meets, no_address, none_of, region_first, region_is, region_with, seek_first, with_span}
 use Rattle.ub_index.specs.Spans.{first_keys, regions_of, First, IsLater, Meets}
 use Rattle.ub_region.specs.declared.region.Region.{Region}
-use Rattle.ub_page.specs.declared.entries.Entry.{Entry}
+use Rattle.ub_region.specs.declared.entry.Entry.{Entry}
 use Rattle.ub_region.specs.Regions.{index_holding}
 use Rattle.ub_region.specs.Spans.{span_end}
 use Rattle.ub_store.specs.Facts.{StoreFacts}

@@ -1,6 +1,6 @@
 -- Full pages on the way to a key: which pages a change takes.
 use Rattle.std.proofs.Common.{◌≡◌, ◌≤◌, ◌<◌, ◌+◌, ◌++◌, ◌⊎◌, inl, inr, ℕ, zero, suc, List, [], ◌∷◌, Option, Some, None, IfSome, length, ◌∙◌, sym, ap, subst, refl, arith}
-use Rattle.ub_page.specs.declared.entries.Entry.{Entry}
+use Rattle.ub_region.specs.declared.entry.Entry.{Entry}
 use Rattle.ub_store.specs.Facts.{StoreFacts, page_count}
 use Rattle.ub_table.proofs.Laws.{before_trans}
 use Rattle.ub_table.specs.Keys.{IsBefore}

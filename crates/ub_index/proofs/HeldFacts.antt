@@ -2,10 +2,10 @@
 use Rattle.std.proofs.Common.{◌≡◌, ◌<◌, ◌^◌, ◌⊎◌, inl, inr, ℕ, List, Option, Some, None, Result, Ok, Err, IfOk, IfErr, sym, subst, refl, arith}
 use Rattle.std.proofs.lemmas.Bool.{cases_eq}
 use Rattle.std.specs.Result.{IsErrAnd}
-use Rattle.ub_index_page.proofs.Laws.{length-node_on, node_parts}
-use Rattle.ub_index_page.specs.Index.{node_on, HasHead, IsIndexKind}
-use Rattle.ub_page.specs.Bytes.{number_at}
-use Rattle.ub_page.specs.declared.entries.Entry.{Entry}
+use Rattle.ub_page.proofs.IndexLaws.{length-node_on, node_parts}
+use Rattle.ub_page.specs.Index.{node_on, HasHead, IsIndexKind}
+use Rattle.ub_bytes.specs.Bytes.{number_at}
+use Rattle.ub_region.specs.declared.entry.Entry.{Entry}
 use Rattle.ub_store.specs.Cache.{NoneMore, NoneMoreBut, page_at}
 use Rattle.ub_store.specs.Facts.{IsHonest}
 use Rattle.ub_store.specs.View.{PagerView}

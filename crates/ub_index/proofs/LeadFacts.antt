@@ -4,10 +4,10 @@ use Rattle.std.proofs.lemmas.Bool.{cases_Bool, cases_lt}
 use Rattle.std.proofs.lemmas.List.{length-append}
 use Rattle.std.proofs.lemmas.Option.{slice_get_within}
 use Rattle.ub_index.specs.Spans.{first_keys}
-use Rattle.ub_page.specs.Bytes.{number_at}
+use Rattle.ub_bytes.specs.Bytes.{number_at}
 use Rattle.std.specs.List.{AllByRecursion}
 use Rattle.ub_page.specs.Entries.{IsEntry}
-use Rattle.ub_page.specs.declared.entries.Entry.{Entry}
+use Rattle.ub_region.specs.declared.entry.Entry.{Entry}
 use Rattle.ub_region.specs.Regions.{index_holding}
 use Rattle.ub_store.specs.Facts.{StoreFacts, IsHonest, zero_page}
 use Rattle.ub_table.proofs.Laws.{before_of, not_before_origin, not_before_self, precedes_of}

@@ -4,7 +4,7 @@ use Rattle.ub_page.specs.Entries.{entries_on}
 use Rattle.ub_index.specs.Index.{page_in}
 use Rattle.ub_index.specs.Lowering.{Lowers, entries_then, sole_page, spelled_or, spelled_page}
 use Rattle.ub_index.specs.declared.sheet.Sheet.{Sheet}
-use Rattle.ub_index_page.specs.Index.{node_on}
+use Rattle.ub_page.specs.Index.{node_on}
 use Rattle.ub_index.proofs.FitFacts.{page_is}
 
 pub sole_none : (n : ℕ) (page : List ℕ) → n ≢ 1 → None ≡ sole_page (entries_on 16 n page)

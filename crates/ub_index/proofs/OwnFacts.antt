@@ -5,7 +5,7 @@ use Rattle.std.proofs.lemmas.List.{length-append}
 use Rattle.std.proofs.lemmas.Option.{slice_get_within}
 use Rattle.std.specs.List.{AllByRecursion, IsDistinct}
 use Rattle.ub_index.specs.Spans.{ArePlaces, first_keys}
-use Rattle.ub_page.specs.declared.entries.Entry.{Entry}
+use Rattle.ub_region.specs.declared.entry.Entry.{Entry}
 use Rattle.ub_region.proofs.Laws.{all_more}
 use Rattle.ub_store.specs.Facts.{StoreFacts, page_count}
 use Rattle.ub_table.specs.declared.row.Key.{Key}

@@ -6,7 +6,7 @@ use Rattle.std.specs.List.{All, AllByRecursion, flat_map}
 use Rattle.ub_index.specs.Spans.{first_keys}
 use Rattle.ub_index.proofs.Laws.{first_at}
 use Rattle.ub_page.specs.Entries.{IsEntry}
-use Rattle.ub_page.specs.declared.entries.Entry.{Entry}
+use Rattle.ub_region.specs.declared.entry.Entry.{Entry}
 use Rattle.ub_region.specs.Regions.{index_holding}
 use Rattle.ub_store.specs.Facts.{StoreFacts}
 use Rattle.ub_table.proofs.Laws.{ascending_get, before_from, before_of, before_parts, not_before_self, precedes_of, precedes_trans}

@@ -1,7 +1,7 @@
 -- What searches leave, one after the other.
 use Rattle.std.proofs.Common.{◌≡◌, ◌≤◌, ◌<◌, IsTrue, ℕ, List, Option, Some, None, Result, Ok, Err, ◌∙◌, sym, ap, subst, refl}
 use Rattle.std.specs.Result.{IsErrAnd}
-use Rattle.ub_page.specs.declared.entries.Entry.{Entry}
+use Rattle.ub_region.specs.declared.entry.Entry.{Entry}
 use Rattle.ub_store.specs.Facts.{StoreFacts, IsHonest, page_count}
 use Rattle.ub_store.specs.View.{PagerView, Trace}
 use Rattle.ub_store.specs.declared.fault.StoreFault.TheVariants as store

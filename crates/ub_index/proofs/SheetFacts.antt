@@ -3,10 +3,10 @@ use Rattle.std.proofs.Common.{◌≡◌, ◌≤◌, ◌<◌, ◌^◌, ◌++◌, 
 use Rattle.std.proofs.lemmas.List.{append-nil, length-drop, length-take-le}
 use Rattle.std.proofs.lemmas.Option.{slice_get_within}
 use Rattle.std.specs.List.{AllByRecursion}
-use Rattle.ub_index_page.proofs.Laws.{node_parts}
-use Rattle.ub_index_page.specs.Index.{Node, IsNode, index_page, node_on}
+use Rattle.ub_page.proofs.IndexLaws.{node_parts}
+use Rattle.ub_page.specs.Index.{Node, IsNode, index_page, node_on}
 use Rattle.ub_page.specs.Entries.{IsEntry}
-use Rattle.ub_page.specs.declared.entries.Entry.{Entry}
+use Rattle.ub_region.specs.declared.entry.Entry.{Entry}
 use Rattle.ub_region.proofs.Laws.{all_append, all_left, all_right}
 use Rattle.ub_store.specs.Facts.{StoreFacts, page_count}
 use Rattle.ub_table.proofs.Laws.{not_before_origin, not_before_self}

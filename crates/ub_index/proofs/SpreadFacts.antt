@@ -3,10 +3,10 @@ use Rattle.std.proofs.Common.{nat_eq, ◌≡◌, ◌≢◌, ◌≤◌, ◌<◌, 
 use Rattle.std.proofs.lemmas.List.{append-nil, length-drop, length-take-le}
 use Rattle.std.proofs.lemmas.Grind.{flat_map-append}
 use Rattle.std.specs.List.{AllByRecursion, IsDistinct, flat_map}
-use Rattle.ub_index_page.proofs.Laws.{node_parts}
-use Rattle.ub_index_page.specs.Index.{Node, IsNode, index_page}
+use Rattle.ub_page.proofs.IndexLaws.{node_parts}
+use Rattle.ub_page.specs.Index.{Node, IsNode, index_page}
 use Rattle.ub_page.specs.Entries.{AreAscending, IsEntry}
-use Rattle.ub_page.specs.declared.entries.Entry.{Entry}
+use Rattle.ub_region.specs.declared.entry.Entry.{Entry}
 use Rattle.ub_region.proofs.Laws.{all_left, all_right}
 use Rattle.ub_table.specs.declared.row.Key.{Key}
 use Rattle.ub_index.specs.Changed.{IsTold, StandOn}

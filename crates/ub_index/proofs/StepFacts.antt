@@ -2,7 +2,7 @@
 use Rattle.std.proofs.Common.{◌≡◌, ◌≤◌, ℕ, Bool, List, [], Option, Some, None, Result, slice_get, Ok, Err, IfOk, IfErr, IsTrue, length, ◌∙◌, sym, ap, subst, refl, arith}
 use Rattle.std.proofs.lemmas.Option.{slice_get_within}
 use Rattle.std.specs.Result.{IsErrAnd, IsErrOf}
-use Rattle.ub_page.specs.declared.entries.Entry.{Entry}
+use Rattle.ub_region.specs.declared.entry.Entry.{Entry}
 use Rattle.ub_store.specs.Cache.{NoneMore, NoneMoreBut, page_at}
 use Rattle.ub_store.specs.Facts.{StoreFacts, IsHonest, IsPage, Reads, counted, page_count}
 use Rattle.ub_store.specs.View.{PagerView, Trace}
@@ -19,8 +19,8 @@ use Rattle.ub_index.specs.Searching.{GoesDown, store_after}
 use Rattle.ub_index.specs.View.{IndexView}
 use Rattle.ub_index.specs.declared.fault.IndexFault.{IndexFault}
 use Rattle.ub_index.specs.declared.fault.IndexFault.TheVariants.{Full, Page, Store}
-use Rattle.ub_index_page.specs.Index.{node_on}
-use Rattle.ub_index_page.specs.declared.index.Head.{Head}
+use Rattle.ub_page.specs.Index.{node_on}
+use Rattle.ub_page.specs.declared.index.Head.{Head}
 use Rattle.ub_index.proofs.FitFacts.{is_refused, page_is}
 use Rattle.ub_index.proofs.HeldFacts.{keeps_less}
 use Rattle.ub_index.proofs.SearchFacts.{err_is, pager_with, same_store}

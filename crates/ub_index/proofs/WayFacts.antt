@@ -3,11 +3,11 @@ use Rattle.std.proofs.Common.{◌≡◌, ◌≤◌, ◌<◌, ◌-◌, ◌^◌, �
 use Rattle.std.proofs.lemmas.Bool.{cases_Bool}
 use Rattle.std.proofs.lemmas.Grind.{flat_map-append}
 use Rattle.std.proofs.lemmas.Option.{slice_get_within}
-use Rattle.ub_index_page.proofs.Laws.{node_not_refused}
-use Rattle.ub_index_page.specs.Index.{IsIndexFault, node_on}
+use Rattle.ub_page.proofs.IndexLaws.{node_not_refused}
+use Rattle.ub_page.specs.Index.{IsIndexFault, node_on}
 use Rattle.std.specs.List.{flat_map}
 use Rattle.ub_index.specs.Spans.{first_keys}
-use Rattle.ub_page.specs.declared.entries.Entry.{Entry}
+use Rattle.ub_region.specs.declared.entry.Entry.{Entry}
 use Rattle.ub_region.specs.Regions.{index_holding}
 use Rattle.ub_store.specs.Facts.{StoreFacts}
 use Rattle.ub_table.proofs.Laws.{before_of, before_trans, not_before_origin, precedes_of}

@@ -7,9 +7,9 @@ use Rattle.ub_index.specs.Index.{Fits, NamesFitting}
 use Rattle.ub_index.specs.Searching.{store_after}
 use Rattle.ub_index.specs.declared.fault.IndexFault.{IndexFault}
 use Rattle.ub_index.specs.declared.fault.IndexFault.TheVariants.{Full, Page, Store}
-use Rattle.ub_index_page.specs.Index.{head_on}
-use Rattle.ub_index_page.specs.declared.index.Head.{Head}
-use Rattle.ub_page.specs.declared.entries.Entry.{Entry}
+use Rattle.ub_page.specs.Index.{head_on}
+use Rattle.ub_page.specs.declared.index.Head.{Head}
+use Rattle.ub_region.specs.declared.entry.Entry.{Entry}
 use Rattle.ub_store.specs.Cache.{NoneMoreBut}
 use Rattle.ub_store.specs.Facts.{StoreFacts, IsHonest, IsPage, page_count}
 use Rattle.ub_store.specs.View.{Holds, IsCached, PagerView}

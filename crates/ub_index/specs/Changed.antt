@@ -2,8 +2,8 @@
 use Rattle.std.specs.Prelude.{◌≡◌, ◌⊎◌, ◌++◌, ℕ, zero, suc, List, [], ◌∷◌, Option, Some, None, IfSome, length, take, drop, slice_get}
 use Rattle.std.specs.List.{AllByRecursion, flat_map}
 use Rattle.ub_index.specs.Index.{first_or, page_in, entries_of, AscendTo, EachTo, IsIndexPage, IsUnder, pages_under}
-use Rattle.ub_index_page.specs.Index.{node_on}
-use Rattle.ub_page.specs.declared.entries.Entry.{Entry}
+use Rattle.ub_page.specs.Index.{node_on}
+use Rattle.ub_region.specs.declared.entry.Entry.{Entry}
 use Rattle.ub_table.specs.Keys.{IsBefore}
 use Rattle.ub_table.specs.declared.row.Key.{Key}
 

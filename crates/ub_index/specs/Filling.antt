@@ -6,7 +6,7 @@ use Rattle.ub_index.specs.Index.{entries_of, top}
 use Rattle.ub_index.specs.Making.{changed}
 use Rattle.ub_index.specs.Preparing.{ChangeView, pages_of_index}
 use Rattle.ub_index.specs.View.{IndexView}
-use Rattle.ub_page.specs.declared.entries.Entry.{Entry}
+use Rattle.ub_region.specs.declared.entry.Entry.{Entry}
 use Rattle.ub_store.specs.Facts.{StoreFacts}
 
 -- the page that an entry of this level names has half of the entries at least that a page can have, and so has each page below it

@@ -1,9 +1,9 @@
 -- Whether a page of an index is taken where an entry names it, and why it is refused.
 use Rattle.std.specs.Prelude.{◌≡◌, ◌≢◌, ◌≤◌, ◌-◌, ◌⊎◌, ◌++◌, ℕ, List, [], ◌∷◌, Option, Some, None, IfSome, length, slice_get}
 use Rattle.ub_index.specs.Index.{first_or, page_in, Fits, IsIndexPage}
-use Rattle.ub_index_page.specs.Index.{head_on, node_on, HasHead, IsHeadFault, IsIndexFault, IsIndexKind}
-use Rattle.ub_index_page.specs.Slots.{first_in}
-use Rattle.ub_page.specs.declared.entries.Entry.{Entry}
+use Rattle.ub_page.specs.Index.{head_on, node_on, HasHead, IsHeadFault, IsIndexFault, IsIndexKind}
+use Rattle.ub_page.specs.Slots.{first_in}
+use Rattle.ub_region.specs.declared.entry.Entry.{Entry}
 use Rattle.ub_table.specs.Keys.{IsBefore}
 use Rattle.ub_table.specs.declared.fault.PageFault.TheVariants.{BadCount, OutOfRegion}
 use Rattle.ub_table.specs.declared.fault.PageFault.{PageFault}

@@ -1,7 +1,7 @@
 -- What is known of the pages that a pager holds.
 use Rattle.std.specs.Prelude.{◌≡◌, ◌⊎◌, ℕ, Bool, false, List, Some}
 use Rattle.ub_index.specs.Index.{IsIndexPage}
-use Rattle.ub_index_page.specs.Index.{IsIndexKind}
+use Rattle.ub_page.specs.Index.{IsIndexKind}
 use Rattle.ub_store.specs.Cache.{page_at}
 use Rattle.ub_store.specs.Facts.{IsHonest}
 use Rattle.ub_store.specs.View.{PagerView}

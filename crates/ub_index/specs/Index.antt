@@ -2,8 +2,8 @@
 -- itself the entry of a region.
 use Rattle.std.specs.Prelude.{◌≡◌, ℕ, zero, suc, List, [], ◌∷◌, Option, Some, None, IfSome, slice_get, slice_index_or}
 use Rattle.std.specs.List.{flat_map}
-use Rattle.ub_index_page.specs.Index.{IsNode, index_page, node_on}
-use Rattle.ub_page.specs.declared.entries.Entry.{Entry}
+use Rattle.ub_page.specs.Index.{IsNode, index_page, node_on}
+use Rattle.ub_region.specs.declared.entry.Entry.{Entry}
 use Rattle.ub_table.specs.Keys.{IsBefore, origin}
 use Rattle.ub_table.specs.declared.row.Key.{Key}
 

@@ -18,9 +18,9 @@ use Rattle.ub_region.specs.declared.region.Region.{Region}
 use Rattle.ub_index.specs.declared.sheet.Sheet.{Sheet}
 use Rattle.ub_index.specs.declared.told.Told.{Told}
 use Rattle.ub_index.specs.declared.told.Told.TheVariants.{Two}
-use Rattle.ub_index_page.specs.declared.index.TheConstants.{MAX_LEVEL}
+use Rattle.ub_page.specs.declared.header.TheConstants.{MAX_LEVEL}
 use Rattle.ub_page.specs.Entries.{IsEntry}
-use Rattle.ub_page.specs.declared.entries.Entry.{Entry}
+use Rattle.ub_region.specs.declared.entry.Entry.{Entry}
 use Rattle.ub_region.specs.Regions.{index_holding}
 use Rattle.ub_store.specs.Facts.{StoreFacts, IsHonest, page_count, zero_page}
 use Rattle.ub_store.specs.declared.fault.StoreFault.TheVariants as store

@@ -5,7 +5,7 @@ use Rattle.ub_index.specs.Changing.{IsOutside, IsUnspelled}
 use Rattle.ub_index.specs.Preparing.{ChangeView, IsForeign, IsReachedOnce, pages_of_index}
 use Rattle.ub_index.specs.View.{IndexView, IsIndexOn, entries_in}
 use Rattle.ub_index.specs.declared.sheet.Sheet.{Sheet}
-use Rattle.ub_page.specs.declared.entries.Entry.{Entry}
+use Rattle.ub_region.specs.declared.entry.Entry.{Entry}
 use Rattle.ub_store.specs.Facts.{StoreFacts, IsHonest, page_count}
 use Rattle.ub_store.specs.declared.fault.StoreFault.{StoreFault}
 use Rattle.ub_store.specs.declared.fault.StoreFault.TheVariants as store

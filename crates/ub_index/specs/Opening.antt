@@ -8,7 +8,7 @@ use Rattle.ub_index.specs.Searching.{store_after}
 use Rattle.ub_index.specs.View.{IndexView, IsIndexOn, entries_in}
 use Rattle.ub_index.specs.declared.fault.IndexFault.{IndexFault}
 use Rattle.ub_index.specs.declared.fault.IndexFault.TheVariants.{Store}
-use Rattle.ub_index_page.specs.Index.{index_page}
+use Rattle.ub_page.specs.Index.{index_page}
 use Rattle.ub_store.specs.Cache.{NoneMoreBut}
 use Rattle.ub_store.specs.Facts.{StoreFacts, page_count}
 use Rattle.ub_store.specs.View.{Holds, PagerView}

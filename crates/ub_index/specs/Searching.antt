@@ -10,7 +10,7 @@ use Rattle.ub_index.specs.declared.fault.IndexFault.{IndexFault}
 use Rattle.ub_index.specs.declared.fault.IndexFault.TheVariants.{Full, Page, Store}
 use Rattle.ub_index.specs.declared.goal.Goal.{Goal}
 use Rattle.ub_index.specs.declared.goal.Goal.TheVariants.{Address, Boxes}
-use Rattle.ub_page.specs.declared.entries.Entry.{Entry}
+use Rattle.ub_region.specs.declared.entry.Entry.{Entry}
 use Rattle.ub_region.specs.Spans.{address_before}
 use Rattle.ub_store.specs.Facts.{StoreFacts, IsHonest, page_count, raised}
 use Rattle.ub_store.specs.View.{PagerView}

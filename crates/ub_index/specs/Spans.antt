@@ -1,8 +1,8 @@
 -- Where the regions of a table stand: entries in the order of their first keys; and the span of each.
-use Rattle.std.specs.Prelude.{◌≡◌, ◌≤◌, ◌<◌, ℕ, suc, List, [], ◌∷◌, map, Option, Some, IfSome, All, IsTrue, length, slice_get}
+use Rattle.std.specs.Prelude.{◌≡◌, ◌≤◌, ℕ, List, [], ◌∷◌, map, Option, Some, IfSome, All, IsTrue, slice_get}
 use Rattle.ub_bigmin.specs.Box.{Corners, HoldsAny}
 use Rattle.ub_region.specs.declared.region.Region.{Region}
-use Rattle.ub_page.specs.declared.entries.Entry.{Entry}
+use Rattle.ub_region.specs.declared.entry.Entry.{Entry}
 use Rattle.ub_region.specs.Spans.{span_end}
 use Rattle.ub_region.specs.Those.{FirstBy}
 use Rattle.ub_table.specs.Keys.{IsBefore, origin, are_ascending}

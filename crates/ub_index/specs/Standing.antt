@@ -5,7 +5,7 @@ use Rattle.ub_index.specs.Changing.{IsOutside}
 use Rattle.ub_index.specs.Index.{IsIndexPage}
 use Rattle.ub_index.specs.Preparing.{IsReachedOnce, pages_of_index}
 use Rattle.ub_index.specs.View.{IndexView, IsIndexOn, entries_in}
-use Rattle.ub_page.specs.declared.entries.Entry.{Entry}
+use Rattle.ub_region.specs.declared.entry.Entry.{Entry}
 use Rattle.ub_store.specs.Facts.{StoreFacts, page_count}
 
 -- the pages that there were are as they were, but for those of these numbers; others may stand after them

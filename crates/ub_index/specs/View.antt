@@ -4,7 +4,7 @@ use Rattle.ub_index.specs.Spans.{first_keys}
 use Rattle.ub_index.specs.Index.{IsUnder, top, under}
 use Rattle.ub_index.specs.Way.{LeadsTo, StopsAt}
 use Rattle.ub_region.specs.declared.region.Region.{Region}
-use Rattle.ub_page.specs.declared.entries.Entry.{Entry}
+use Rattle.ub_region.specs.declared.entry.Entry.{Entry}
 use Rattle.ub_store.specs.Facts.{StoreFacts, IsHonest}
 use Rattle.ub_table.specs.declared.fault.PageFault.{PageFault}
 use Rattle.ub_table.specs.declared.row.Key.{Key}

@@ -2,7 +2,7 @@
 use Rattle.std.specs.Prelude.{length, ◌≡◌, ◌⊎◌, ℕ, zero, suc, List, Option, IfSome}
 use Rattle.ub_index.specs.Fitting.{FallsTo, IsNotTaken}
 use Rattle.ub_index.specs.Index.{entries_of, NamesFitting}
-use Rattle.ub_page.specs.declared.entries.Entry.{Entry}
+use Rattle.ub_region.specs.declared.entry.Entry.{Entry}
 use Rattle.ub_table.specs.Keys.{IsBefore}
 use Rattle.ub_table.specs.declared.fault.PageFault.{PageFault}
 use Rattle.ub_table.specs.declared.row.Key.{Key}

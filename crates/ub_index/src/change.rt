@@ -5,13 +5,13 @@ ghost use Rattle.ub_index.specs.Changing.{IsAtMostOne, IsNoGrowth};
 ghost use Rattle.ub_index.specs.Descending.{IsForgotten, Steps};
 ghost use Rattle.ub_index.specs.Index.{top};
 ghost use Rattle.ub_index.specs.Lowering.{LowersTo, ReadsRoots, entries_then, sole_page, spelled_page, unless_first};
-ghost use Rattle.ub_index_page.specs.Index.{node_on};
+ghost use Rattle.ub_page.specs.Index.{node_on};
 ghost use Rattle.ub_store.specs.Facts.{IsHonest, page_count};
 ghost use Rattle.ub_store.specs.View.{SameTrace};
 ghost use Rattle.ub_index.specs.Making.{IsGrowFault};
 ghost use Rattle.ub_index.specs.Preparing.{Settles, IsSettleFault, TakesFew};
 ghost use Rattle.ub_index.specs.declared.told.Told.TheVariants.{Two};
-ghost use Rattle.ub_index_page.specs.declared.index.TheConstants.{MAX_LEVEL};
+ghost use Rattle.ub_page.specs.declared.header.TheConstants.{MAX_LEVEL};
 
 use crate::descent::bring_root;
 use crate::fault::IndexFault;
@@ -20,9 +20,8 @@ use crate::sheet::Sheet;
 use crate::sheets::Sheets;
 use crate::told::Told;
 use std::marker::Model;
-use ub_index_page::{MAX_LEVEL, entry_at};
-use ub_page::page::u16_at;
-use ub_page::{Entry, Page};
+use ub_bytes::page::u16_at;
+use ub_page::{Entry, MAX_LEVEL, Page, entry_at};
 use ub_store::{PageStore, Pager, StoreFault};
 use ub_table::PageFault;
 
@@ -38,7 +37,7 @@ pub struct Change {
 impl Model for Change {
     ghost use Rattle.std.specs.Prelude.{◌≤◌};
     ghost use Rattle.ub_index.specs.Preparing.{ChangeView, change_view};
-    ghost use Rattle.ub_index_page.specs.declared.index.TheConstants.{MAX_LEVEL};
+    ghost use Rattle.ub_page.specs.declared.header.TheConstants.{MAX_LEVEL};
 
     ghost Value = { ChangeView };
 

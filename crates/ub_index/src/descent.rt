@@ -7,16 +7,17 @@ ghost use Rattle.ub_index.specs.Held.{AreChecked, WasChecked};
 ghost use Rattle.ub_index.specs.Index.{Fits, NamesFitting, first_or, top};
 ghost use Rattle.ub_index.specs.Opening.{IsPassing};
 ghost use Rattle.ub_index.specs.Searching.{Aims, IsAim, IsAimless, at_least};
-ghost use Rattle.ub_index_page.specs.Index.{head_on, node_on};
-ghost use Rattle.ub_index_page.specs.Slots.{IsSlot};
+ghost use Rattle.ub_page.specs.Index.{head_on, node_on};
+ghost use Rattle.ub_page.specs.Slots.{IsSlot};
 ghost use Rattle.ub_index.specs.Way.{HoldsKey};
 ghost use Rattle.ub_store.specs.Facts.{IsHonest};
 ghost use Rattle.ub_table.specs.Keys.{IsBefore};
 
 use crate::fault::IndexFault;
 use crate::goal::{Goal, aimed_at};
-use ub_index_page::{Head, MAX_ENTRIES, check_index, entry_at, first_at, read_head, slot_in};
-use ub_page::{Entry, Page};
+use ub_page::{
+    Entry, Head, MAX_ENTRIES, Page, check_index, entry_at, first_at, read_head, slot_in,
+};
 use ub_region::{ORIGIN, is_equal};
 use ub_store::{PageStore, Pager};
 use ub_table::{Key, PageFault};

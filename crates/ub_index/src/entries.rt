@@ -2,16 +2,15 @@
 ghost use Rattle.std.specs.Prelude.{◌≡◌, ◌≤◌, [], IfErr, IfOk, length, take};
 ghost use Rattle.ub_index.specs.Descending.{IsForgotten, Steps};
 ghost use Rattle.ub_index.specs.Index.{NamesFitting, entries_of};
-ghost use Rattle.ub_index_page.specs.Index.{head_on, node_on};
+ghost use Rattle.ub_page.specs.Index.{head_on, node_on};
 ghost use Rattle.ub_page.specs.declared.entries.TheConstants.{MAX_ENTRIES};
 ghost use Rattle.ub_store.specs.Facts.{IsHonest};
 
 use crate::descent::{Place, bring_fitting};
 use crate::fault::IndexFault;
 use std::alloc::{AllocError, Global};
-use ub_index_page::MAX_ENTRIES;
 use ub_page::entries::read_entries;
-use ub_page::{Entry, Page};
+use ub_page::{Entry, MAX_ENTRIES, Page};
 use ub_store::{PageStore, Pager};
 use ub_table::Key;
 

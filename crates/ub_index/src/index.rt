@@ -15,7 +15,7 @@ ghost use Rattle.ub_index.specs.Descending.{FindsAfter, HoldsLeaf, IsForgotten, 
 ghost use Rattle.ub_index.specs.Held.{AreChecked, KeepsChecked};
 ghost use Rattle.ub_index.specs.Searching.{Aims, Gives, GivesAny, GivesAfter, IsSought, GoesDown, end_before, key_before, region_of};
 ghost use Rattle.ub_index.specs.View.{IsIndexOn, IsRegionAt, Leads, IsNextRegion, IsPreviousRegion, entries_in, index_view, entry_at};
-ghost use Rattle.ub_index_page.specs.declared.index.TheConstants.{MAX_LEVEL};
+ghost use Rattle.ub_page.specs.declared.header.TheConstants.{MAX_LEVEL};
 ghost use Rattle.ub_region.specs.Regions.{index_holding};
 ghost use Rattle.ub_store.specs.Facts.{IsHonest, page_count};
 ghost use Rattle.ub_table.specs.Keys.{IsBefore, origin};
@@ -47,7 +47,7 @@ pub struct Index {
 impl Model for Index {
     ghost use Rattle.std.specs.Prelude.{◌≤◌, ◌<◌, ◌^◌};
     ghost use Rattle.ub_index.specs.View.{IndexView, index_view};
-    ghost use Rattle.ub_index_page.specs.declared.index.TheConstants.{MAX_LEVEL};
+    ghost use Rattle.ub_page.specs.declared.header.TheConstants.{MAX_LEVEL};
 
     ghost Value = { IndexView };
 

@@ -9,7 +9,7 @@
 //                    |     |     |        |      |
 //     regions        R     R     R        R      R
 //
-// A page, as `ub_index_page` spells it: 'I', the level, the count of entries, zeros, and the entries, 24 bytes each: a key, and
+// A page, as `ub_page` spells it: 'I', the level, the count of entries, zeros, and the entries, 24 bytes each: a key, and
 // the number of a page of the level below, or at level 1 of a region's page. A page of level 1 is a leaf.
 //
 //  - Levels are counted from below: 1 to 16. Each page that a page of level n names is of level n - 1; the root's level is told
@@ -72,7 +72,7 @@
 // caller; then the pages are put, a new one before any that names it; and the root is taken over last, when all of them stand
 // (`making`). A failure in between leaves the old root, and pages of which some may be those of the change.
 //
-// What belongs here is the way through several pages. How one page is spelled and searched (`ub_index_page`), and how pages are
+// What belongs here is the way through several pages. How one page is spelled and searched (`ub_page`), and how pages are
 // kept (`ub_store`), stands below; which pages are a table's, above. The functions of `law` ensure what holds of every index,
 // and what a change of one entry does to the whole.
 

@@ -4,14 +4,14 @@ ghost use Rattle.ub_index.specs.Descending.{IsForgotten};
 ghost use Rattle.ub_index.specs.Held.{KeepsChecked};
 ghost use Rattle.ub_index.specs.Opening.{HoldsRoot, IsAlone, IsPassing, IsRootFault, IsRooted, Opens, root_page};
 ghost use Rattle.ub_index.specs.View.{index_view};
-ghost use Rattle.ub_index_page.specs.declared.index.TheConstants.{MAX_LEVEL};
+ghost use Rattle.ub_page.specs.declared.header.TheConstants.{MAX_LEVEL};
 ghost use Rattle.ub_store.specs.Facts.{IsHonest, WritesAt, page_count};
 ghost use Rattle.ub_store.specs.View.{SameTrace};
 
 use crate::descent::{bring_root, root_place};
 use crate::fault::IndexFault;
 use crate::index::Index;
-use ub_index_page::{Draft, write_index};
+use ub_page::{Draft, write_index};
 use ub_store::{PageStore, Pager, StoreFault};
 
 impl Index {

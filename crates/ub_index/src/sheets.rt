@@ -2,7 +2,7 @@
 ghost use Rattle.std.specs.Prelude.{◌≡◌, ◌+◌, ◌<◌, ◌≤◌, ◌++◌, ◌∷◌, [], length, IfOk, IfErr, OnOk, option_copied};
 ghost use Rattle.ub_index.specs.Changing.{IsNamedBy, IsAtMostOne, NeedsNoGrowth, Mends, Spreads, IsSpreadFault, named_as, sheet_of, so_far};
 ghost use Rattle.ub_index.specs.Lowering.{spelled_page};
-ghost use Rattle.ub_index_page.specs.declared.index.TheConstants.{MAX_LEVEL};
+ghost use Rattle.ub_page.specs.declared.header.TheConstants.{MAX_LEVEL};
 ghost use Rattle.ub_page.specs.declared.entries.TheConstants.{MAX_ENTRIES};
 
 use crate::fault::IndexFault;
@@ -10,8 +10,7 @@ use crate::sheet::Sheet;
 use crate::told::{Told, is_unchanged};
 use std::alloc::{AllocError, Global};
 use std::marker::Model;
-use ub_index_page::{MAX_ENTRIES, write_index};
-use ub_page::{Draft, Entry, Page};
+use ub_page::{Draft, Entry, MAX_ENTRIES, Page, write_index};
 use ub_region::is_equal;
 use ub_store::StoreFault;
 

@@ -3,8 +3,8 @@ ghost use Rattle.std.specs.Prelude.{◌≡◌, ◌+◌, ◌<◌, ◌≤◌, ℕ,
 ghost use Rattle.ub_index.specs.Changing.{NeedsNoGrowth, OpensTo, Prepares, Turns};
 ghost use Rattle.ub_index.specs.Descending.{IsForgotten, Steps};
 ghost use Rattle.ub_index.specs.Fitting.{FallsTo};
-ghost use Rattle.ub_index_page.specs.Index.{head_on, node_on};
-ghost use Rattle.ub_index_page.specs.declared.index.TheConstants.{MAX_LEVEL};
+ghost use Rattle.ub_page.specs.Index.{head_on, node_on};
+ghost use Rattle.ub_page.specs.declared.header.TheConstants.{MAX_LEVEL};
 ghost use Rattle.ub_page.specs.declared.entries.TheConstants.{MAX_ENTRIES};
 ghost use Rattle.ub_store.specs.Facts.{IsHonest};
 
@@ -13,9 +13,8 @@ use crate::fault::IndexFault;
 use crate::sheets::Sheets;
 use crate::told::{Told, with_added};
 use std::alloc::{AllocError, Global};
-use ub_index_page::{MAX_ENTRIES, entry_at, slot_in};
 use ub_page::entries::read_entries;
-use ub_page::{Entry, Page};
+use ub_page::{Entry, MAX_ENTRIES, Page, entry_at, slot_in};
 use ub_store::{PageStore, Pager};
 use ub_table::Key;
 

@@ -29,7 +29,7 @@ use Rattle.ub_load.proofs.RefusalFacts.{enumerate_from-append, first-here, first
 use Rattle.ub_region.proofs.Laws.{insertion_adds_the_row}
 use Rattle.ub_region.specs.Regions.{insert}
 use Rattle.ub_table.specs.Keys.{origin}
-use Rattle.ub_table.specs.Region.{Region, IsRow, measures_of}
+use Rattle.ub_table.specs.Region.{RegionRows, IsRow, measures_of}
 use Rattle.ub_table.specs.Value.{axes_of}
 use Rattle.ub_table.specs.declared.axes.Axes.{Axes}
 use Rattle.ub_table.specs.declared.row.Row.{Row}
@@ -54,7 +54,7 @@ pub rows_of-none : (axes : Axes) → rows_of axes [] ≡ []
 unfolding rows_of
 rows_of-none axes = refl
 
-insert_all-more : (dims c : ℕ) (rows : List Row) (row : Row) (regions : List Region) → insert_all dims c (rows ++ row ∷ []) regions ≡ insert dims c row (insert_all dims c rows regions)
+insert_all-more : (dims c : ℕ) (rows : List Row) (row : Row) (regions : List RegionRows) → insert_all dims c (rows ++ row ∷ []) regions ≡ insert dims c row (insert_all dims c rows regions)
 insert_all-more dims c [] row regions = refl
 insert_all-more dims c (first ∷ rows) row regions = insert_all-more dims c rows row (insert dims c first regions)
 

@@ -3,18 +3,18 @@ use Rattle.std.specs.Prelude.{◌≡◌, ◌≤◌, ◌+◌, ℕ, List, [], ◌�
 use Rattle.ub_load.specs.LoadedTable.{IsLoaded}
 use Rattle.ub_region.specs.Regions.{AreTableRows, insert}
 use Rattle.ub_table.specs.Keys.{origin}
-use Rattle.ub_table.specs.Region.{Region}
+use Rattle.ub_table.specs.Region.{RegionRows}
 use Rattle.ub_table.specs.declared.axes.Axes.{Axes}
 use Rattle.ub_table.specs.declared.row.Row.{Row}
 use Rattle.ub_tree.specs.View.{TreeView, IsSound, region_count, regions}
 
 -- rows put in one after the other, where a page holds c
-abbrev pub insert_all : ℕ → ℕ → List Row → List Region → List Region
+abbrev pub insert_all : ℕ → ℕ → List Row → List RegionRows → List RegionRows
 insert_all dims c [] regions = regions
 insert_all dims c (row ∷ rows) regions = insert_all dims c rows (insert dims c row regions)
 
 -- the regions of a table whose rows were put in one after the other
-abbrev pub loaded_regions : ℕ → ℕ → List Row → List Region
+abbrev pub loaded_regions : ℕ → ℕ → List Row → List RegionRows
 loaded_regions dims c rows = insert_all dims c rows (record { first = origin; rows = [] } ∷ [])
 
 -- the tree is sound, and its table is the one that the text holds; it has no more regions than the first one and one for each row

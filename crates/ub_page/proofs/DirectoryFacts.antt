@@ -1,11 +1,12 @@
 -- What a page of the directory reads as.
 use Rattle.std.proofs.Common.{◌≡◌, ◌≢◌, ◌≤◌, ◌<◌, ◌^◌, ℕ, List, length, refl, sym, ap, arith, ◌∙◌}
 use Rattle.ub_zaddr.specs.Address.{last_address}
-use Rattle.ub_page.specs.Bytes.{number_at}
+use Rattle.ub_bytes.specs.Bytes.{number_at}
 use Rattle.ub_page.specs.Directory.{Listing, IsListing, directory_page, listing_on, IsDirectoryKind, HasCount, HasEntries, IsDirectoryFault}
 use Rattle.ub_page.specs.Entries.{AreAscending, entries_page}
-use Rattle.ub_page.specs.declared.entries.Entry.{Entry}
-use Rattle.ub_page.proofs.EntryFacts.{small_address, fields_read, length-entries_on}
+use Rattle.ub_region.specs.declared.entry.Entry.{Entry}
+use Rattle.ub_page.proofs.EntryFacts.{fields_read, length-entries_on}
+use Rattle.ub_region.proofs.AddressFacts.{small_address}
 use Rattle.ub_table.specs.declared.fault.PageFault.TheVariants.{WrongKind, OldFormat, Unclean, BadCount, BadName, BadRow, BadOrder, OutOfRegion, BadPadding}
 use Rattle.ub_table.specs.declared.fault.PageFault.{PageFault}
 

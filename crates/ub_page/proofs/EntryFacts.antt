@@ -2,23 +2,13 @@
 use Rattle.std.proofs.Common.{◌≡◌, ◌≤◌, ◌<◌, ◌+◌, ◌-◌, ◌*◌, ◌^◌, ℕ, zero, suc, List, [], ◌∷◌, ◌++◌, length, drop, get_or, replicate, ◌↔◌, refl, sym, ap, arith, ◌∙◌, append_assoc}
 use Rattle.std.proofs.lemmas.List.{length-append}
 use Rattle.std.specs.List.{flat_map, AllByRecursion}
-use Rattle.ub_zaddr.specs.Address.{last_address}
-use Rattle.ub_page.specs.Bytes.{number_bytes, number_at, layout, padded}
+use Rattle.ub_bytes.specs.Bytes.{number_bytes, number_at, layout, padded}
 use Rattle.ub_page.specs.Entries.{AreAscending, IsEntry, entry_fields, entry_bytes, page_fields, entries_page, entry_on, entries_on}
-use Rattle.ub_page.specs.declared.entries.Entry.{Entry}
+use Rattle.ub_region.specs.declared.entry.Entry.{Entry}
 use Rattle.ub_page.specs.declared.entries.TheConstants.{MAX_ENTRIES}
-use Rattle.ub_page.proofs.BytesFacts.{layout_read, length-layout, AllFit}
-use Rattle.ub_page.proofs.DraftFacts.{of_front, same_count}
+use Rattle.ub_bytes.proofs.BytesFacts.{layout_read, length-layout, AllFit}
+use Rattle.ub_bytes.proofs.DraftFacts.{of_front, same_count}
 use Rattle.ub_table.specs.Keys.{IsBefore}
-
--- an address of a space of at most four dimensions takes 16 bytes
-pub small_address : (d z : ℕ) → d ≤ 4 → z ≤ last_address d → z < 256 ^ 16
-small_address zero z few le = omega arith
-small_address (suc zero) z few le = omega arith
-small_address (suc (suc zero)) z few le = omega arith
-small_address (suc (suc (suc zero))) z few le = omega arith
-small_address (suc (suc (suc (suc zero)))) z few le = omega arith
-small_address (suc (suc (suc (suc (suc d))))) z few le = absurd (omega arith)
 
 -- an entry is read where it was written, in a space that ends with an address of 16 bytes
 entry_read : (entry : Entry) (page front rest : List ℕ) (offset last : ℕ) → last < 256 ^ 16 → offset ≡ length front → IsEntry last entry

@@ -6,15 +6,15 @@ use Rattle.std.proofs.lemmas.Bool.{cases_Bool, lt-ltb, ltb-true}
 use Rattle.std.proofs.lemmas.List.{length-append, length-replicate, length-drop}
 use Rattle.std.specs.List.{flat_map, AllByRecursion}
 use Rattle.std.specs.Result.{IfOk, IsErrAnd}
-use Rattle.ub_page.specs.Bytes.{number_bytes, number_at, layout, padded}
+use Rattle.ub_bytes.specs.Bytes.{number_bytes, number_at, layout, padded}
 use Rattle.ub_page.specs.Header.{numbers_of, names_of, number_fields, name_bytes, page_of, header_page, header_page_of, IsHeader, IsHeaderOf, IsOldHeader, IsOldVersion, AreInRangeOf, AreLevels, AreSame, IsOfVersion, IsHeaderKind, IsFaultOf, IsHeaderFault, IsOldHeaderFault, directory_pages, version_on, HasNames, columns_on, numbers_on, name_on, names_on, IsNameOn, AreNamesOn}
 use Rattle.ub_page.specs.declared.entries.TheConstants.{MAX_ENTRIES}
 use Rattle.ub_page.specs.declared.header.Header.{Header}
 use Rattle.ub_page.specs.declared.header.Numbers.{Numbers}
 use Rattle.ub_page.specs.declared.header.OldHeader.{OldHeader}
 use Rattle.ub_page.specs.declared.header.TheConstants.{FIRST_INDEXED, FIRST_SIGNED, MAX_LEVEL, VERSION}
-use Rattle.ub_page.proofs.BytesFacts.{length-number_bytes, read_at, layout_read, length-layout, AllFit}
-use Rattle.ub_page.proofs.DraftFacts.{of_front}
+use Rattle.ub_bytes.proofs.BytesFacts.{length-number_bytes, read_at, layout_read, length-layout, AllFit}
+use Rattle.ub_bytes.proofs.DraftFacts.{of_front}
 use Rattle.ub_table.proofs.Laws.{name_block, length-name}
 use Rattle.ub_table.proofs.Laws.{few}
 use Rattle.ub_table.specs.Block.{IsNameBlock}

@@ -3,22 +3,23 @@
 use Rattle.std.proofs.Common.{◌≡◌, ◌≢◌, ◌<◌, ◌^◌, ℕ, ◌≤◌, List, true, false, arith}
 use Rattle.ub_page.proofs.DirectoryFacts as directory
 use Rattle.ub_page.proofs.HeaderFacts as headers
-use Rattle.ub_page.proofs.RegionFacts as regions
+use Rattle.ub_region.proofs.RegionFacts as regions
 use Rattle.ub_page.specs.Directory.{Listing, IsListing, IsDirectoryFault, directory_page}
 use Rattle.ub_page.specs.Header.{AreSame, IsHeader, IsHeaderFault, IsOldHeader, IsOldHeaderFault, header_page, header_page_of, numbers_of}
-use Rattle.ub_page.specs.Region.{region_page}
+use Rattle.ub_region.specs.RegionPage.{region_page}
 use Rattle.ub_page.specs.declared.header.Header.{Header}
 use Rattle.ub_page.specs.declared.header.OldHeader.{OldHeader}
 use Rattle.ub_page.specs.declared.header.TheConstants.{MAX_LEVEL, VERSION}
-use Rattle.ub_table.specs.Region.{Region, IsRegion}
+use Rattle.ub_table.specs.Region.{RegionRows, IsRegion}
 use Rattle.ub_table.specs.declared.fault.PageFault.TheVariants.{Unclean}
 use Rattle.ub_table.specs.declared.fault.PageFault.{PageFault}
 use Rattle.ub_table.specs.declared.schema.Schema.{Schema}
 pub use Rattle.ub_page.proofs.DirectoryFacts.{HasListing}
-pub use Rattle.ub_page.proofs.EntryFacts.{HasFields, small_address, fields_read, length-entries_on, entries_next, short_ascending}
+pub use Rattle.ub_page.proofs.EntryFacts.{HasFields, fields_read, length-entries_on, entries_next, short_ascending}
+pub use Rattle.ub_region.proofs.AddressFacts.{small_address}
 pub use Rattle.ub_page.proofs.HeaderFacts.{HasParts, HasPartsOf}
-pub use Rattle.ub_page.proofs.RegionFacts.{HasRegion, number_lt}
-pub use Rattle.ub_page.proofs.SpelledFacts.{layout_back, joined}
+pub use Rattle.ub_region.proofs.RegionFacts.{HasRegion, number_lt}
+pub use Rattle.ub_region.proofs.SpelledFacts.{layout_back, joined}
 
 pub listing_parts : (listing : Listing) (page : List ℕ) (d : ℕ) → d ≤ 4 → IsListing d listing → page ≡ directory_page listing → HasListing listing page
 listing_parts = directory.parts
@@ -54,5 +55,5 @@ old_unsigned old is = is.header.unsigned is.version.1
 pub same_header : (a b : Header) → numbers_of a ≡ numbers_of b → a.schema.name ≡ b.schema.name → a.schema.columns ≡ b.schema.columns → a.unclean ≡ b.unclean → AreSame a b
 same_header = headers.same
 
-pub region_parts : (schema : Schema) (region : Region) (page : List ℕ) → IsRegion schema region → page ≡ region_page schema region → HasRegion schema region page
+pub region_parts : (schema : Schema) (region : RegionRows) (page : List ℕ) → IsRegion schema region → page ≡ region_page schema region → HasRegion schema region page
 region_parts = regions.parts

@@ -1,8 +1,8 @@
 -- Entries, as they stand on the pages of a directory and of an index.
 use Rattle.std.specs.Prelude.{◌≤◌, ◌<◌, ◌+◌, ◌^◌, ◌++◌, ℕ, zero, suc, List, [], ◌∷◌, length}
 use Rattle.std.specs.List.{flat_map}
-use Rattle.ub_page.specs.Bytes.{number_at, layout, padded}
-use Rattle.ub_page.specs.declared.entries.Entry.{Entry}
+use Rattle.ub_bytes.specs.Bytes.{number_at, layout, padded}
+use Rattle.ub_region.specs.declared.entry.Entry.{Entry}
 use Rattle.ub_table.specs.Keys.{IsBefore}
 use Rattle.ub_table.specs.declared.row.Key.{Key}
 use Rattle.ub_table.specs.declared.row.TheConstants.{MAX_ROW_NUMBER}

@@ -2,7 +2,7 @@
 use Rattle.std.specs.Prelude.{◌≡◌, ◌≢◌, ◌≤◌, ◌<◌, ◌+◌, ◌-◌, ◌/◌, ◌^◌, ◌++◌, ℕ, zero, suc, nat_lt, List, [], ◌∷◌, length, take, drop, replicate, if◌then◌else◌}
 use Rattle.std.specs.Bool.{MatchBool}
 use Rattle.std.specs.List.{flat_map, AllByRecursion}
-use Rattle.ub_page.specs.Bytes.{number_bytes, number_at, layout, padded}
+use Rattle.ub_bytes.specs.Bytes.{number_bytes, number_at, layout, padded}
 use Rattle.ub_page.specs.declared.entries.TheConstants.{MAX_ENTRIES}
 use Rattle.ub_page.specs.declared.header.Header.{Header}
 use Rattle.ub_page.specs.declared.header.Numbers.{Numbers}

@@ -1,9 +1,6 @@
-pub mod Bytes
-pub mod Columns
 pub mod Directory
-pub mod Draft
 pub mod Entries
 pub mod Header
-pub mod Held
-pub mod Lanes
-pub mod Region
+pub mod Index
+pub mod Named
+pub mod Slots

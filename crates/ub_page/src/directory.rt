@@ -1,14 +1,15 @@
 ghost use Rattle.std.specs.Prelude.{ℕ, ◌≡◌, ◌+◌, ◌*◌, ◌<◌, ◌≤◌, ◌↔◌, [], ◌∷◌, ◌++◌, Ok, length, IsTrue, IfOk, IfErr};
 ghost use Rattle.std.specs.List.{AllByRecursion};
 ghost use Rattle.ub_zaddr.specs.Address.{last_address};
-ghost use Rattle.ub_page.specs.Bytes.{number_at, padded};
+ghost use Rattle.ub_bytes.specs.Bytes.{number_at, padded};
 ghost use Rattle.ub_page.specs.Directory.{Listing, IsListing, directory_page, listing_on, IsDirectoryKind, HasCount, HasEntries, IsDirectoryFault};
 ghost use Rattle.ub_page.specs.Entries.{AreAscending, IsEntry};
 
-use crate::draft::Draft;
-use crate::entries::{Entries, Entry, MAX_ENTRIES, is_in_range, read_entries, write_entries};
-use crate::page::{Page, is_same, u8_at, u16_at, u32_at};
+use crate::entries::{Entries, MAX_ENTRIES, is_in_range, read_entries, write_entries};
 use std::marker::Model;
+use ub_bytes::page::{is_same, u8_at, u16_at, u32_at};
+use ub_bytes::{Draft, Page};
+use ub_region::Entry;
 use ub_table::{PageFault, Schema};
 use ub_zaddr::last;
 

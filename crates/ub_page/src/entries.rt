@@ -1,26 +1,17 @@
 // Entries, as they stand on pages: where a region begins, or what a page of an index leads to, and the page that holds it.
 ghost use Rattle.std.specs.Prelude.{◌≡◌, ◌+◌, ◌*◌, ◌<◌, ◌≤◌, ◌↔◌, [], ◌∷◌, ◌++◌, length, IsTrue};
 ghost use Rattle.std.specs.List.{flat_map};
-ghost use Rattle.ub_page.specs.Bytes.{number_at, padded};
+ghost use Rattle.ub_bytes.specs.Bytes.{number_at, padded};
 ghost use Rattle.ub_page.specs.Entries.{IsEntry, entry_bytes, entries_page, key_on, entry_on, entries_on};
 
-use crate::draft::Draft;
-use crate::page::{Page, u32_at, u128_at};
 use std::marker::Model;
+use ub_bytes::page::{u32_at, u128_at};
+use ub_bytes::{Draft, Page};
+use ub_region::Entry;
 use ub_table::{Key, MAX_ROW_NUMBER};
 
 /// The most entries that a page has.
 pub const MAX_ENTRIES: usize = 170;
-
-/// Where a region begins, and the page that holds it. In an index above its lowest level: where the first of the regions
-/// begins to which a page of the level below leads, and that page.
-#[derive(Clone, Copy, PartialEq, Eq, Debug)]
-pub struct Entry {
-    /// The first key of the region: no row of it is before.
-    pub first: Key,
-    /// The region's page: at least 1.
-    pub page: u32,
-}
 
 /// Up to 170 entries that were read of a page.
 #[derive(Drop)]
@@ -31,7 +22,7 @@ pub struct Entries {
 
 impl Model for Entries {
     ghost use Rattle.std.specs.Prelude.{◌≤◌, List, take};
-    ghost use Rattle.ub_page.specs.declared.entries.Entry.{Entry};
+    ghost use Rattle.ub_region.specs.declared.entry.Entry.{Entry};
     ghost use Rattle.ub_page.specs.declared.entries.TheConstants.{MAX_ENTRIES};
 
     ghost Value = { List Entry };

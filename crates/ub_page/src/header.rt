@@ -1,14 +1,14 @@
 ghost use Rattle.std.specs.Prelude.{ℕ, ◌≡◌, ◌≢◌, ◌+◌, ◌-◌, ◌*◌, ◌≤◌, ◌<◌, ◌^◌, ◌↔◌, ◌++◌, false, if◌then◌else◌, length, replicate, IsTrue, IsOk, IfOk, IfErr};
 ghost use Rattle.std.specs.List.{AllByRecursion, flat_map};
-ghost use Rattle.ub_page.specs.Bytes.{number_bytes, padded};
+ghost use Rattle.ub_bytes.specs.Bytes.{number_bytes, padded};
 ghost use Rattle.ub_page.specs.Header.{numbers_of, names_of, numbers_on, mask_on, columns_on, name_bytes, name_on, names_on, header_page, header_page_of, directory_pages, AreInRange, AreInRangeOf, AreLevels, IsHeader, IsHeaderOf, IsOldHeader, AreSame, IsOfVersion, IsFaultOf, IsHeaderFault, IsOldHeaderFault, IsNameOn, AreNamesOn, HasNames};
 ghost use Rattle.ub_page.specs.declared.header.OldHeader as spec;
 ghost use Rattle.ub_table.specs.Name.{IsName};
 ghost use Rattle.ub_table.specs.Schema.{AreNumbers};
 
-use crate::draft::Draft;
 use crate::entries::MAX_ENTRIES;
-use crate::page::{Page, are_equal, is_same, u8_at, u32_at};
+use ub_bytes::page::{are_equal, is_same, u8_at, u32_at};
+use ub_bytes::{Draft, Page};
 use ub_table::name::MAX_NAME_LEN;
 use ub_table::schema::is_mask;
 use ub_table::{Columns, MAX_ROW_NUMBER, Name, PageFault, Schema};

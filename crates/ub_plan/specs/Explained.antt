@@ -10,7 +10,7 @@ use Rattle.ub_planning.specs.declared.planned.Kind.{Kind}
 use Rattle.ub_planning.specs.declared.planned.Kind.TheVariants.{Empty, Scan, Sweep}
 use Rattle.ub_query.specs.Cells.{name_of}
 use Rattle.ub_query.specs.Shape.{Shape}
-use Rattle.ub_table.specs.Region.{Region}
+use Rattle.ub_table.specs.Region.{RegionRows}
 use Rattle.ub_table.specs.Value.{value}
 use Rattle.ub_table.specs.declared.schema.Schema.{Schema}
 
@@ -64,11 +64,11 @@ explain_text schema plan met regions =
     ++ line (codes "regions " ++ decimal met ++ codes " of " ++ decimal regions)
 
 -- how many regions meet some boxes
-abbrev pub AreMet : Schema → List Corners → List Region → ℕ → Type 0
+abbrev pub AreMet : Schema → List Corners → List RegionRows → ℕ → Type 0
 AreMet schema boxes regions met = (meeting : List Span) × AreMeeting schema boxes regions meeting × (met ≡ length meeting)
 
 -- the text of an EXPLAIN of a plan on the regions of a table
-pub record IsExplained (schema : Schema) (plan : PlanView) (regions : List Region) (text : List ℕ) : Type 0 where
+pub record IsExplained (schema : Schema) (plan : PlanView) (regions : List RegionRows) (text : List ℕ) : Type 0 where
   pub met : ℕ
   pub met_are : AreMet schema plan.covering.boxes regions met
   pub text_is : text ≡ explain_text schema plan met (length regions)

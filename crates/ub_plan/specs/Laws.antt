@@ -4,17 +4,17 @@ use Rattle.ub_bigmin.specs.Box.{Corners}
 use Rattle.ub_plan.specs.Explained.{IsExplained, sides}
 use Rattle.ub_planning.specs.Plan.{PlanView, plan_of}
 use Rattle.ub_query.specs.Shape.{Asked}
-use Rattle.ub_table.specs.Region.{Region}
+use Rattle.ub_table.specs.Region.{RegionRows}
 use Rattle.ub_table.specs.declared.schema.Schema.{Schema}
 
 -- an EXPLAIN of a plan has a text
 abbrev pub ExplainsHaveAText : Type 0
-ExplainsHaveAText = (schema : Schema) (plan : PlanView) (regions : List Region)
+ExplainsHaveAText = (schema : Schema) (plan : PlanView) (regions : List RegionRows)
     → (text : List ℕ) × IsExplained schema plan regions text
 
 -- an EXPLAIN of a plan has no two texts
 abbrev pub ExplainsHaveOneText : Type 0
-ExplainsHaveOneText = (schema : Schema) (plan : PlanView) (regions : List Region) (first second : List ℕ)
+ExplainsHaveOneText = (schema : Schema) (plan : PlanView) (regions : List RegionRows) (first second : List ℕ)
     → IsExplained schema plan regions first → IsExplained schema plan regions second → first ≡ second
 
 -- where the plan is a query's, it names every dimension of each box

@@ -13,7 +13,7 @@ use Rattle.ub_query.proofs.Laws.{Rising, Rising-map, Rising-both, Rising-from_ad
 use Rattle.ub_region.specs.Regions.{AreRegions, firsts_of}
 use Rattle.ub_table.proofs.Laws.{before_trans, not_before_self}
 use Rattle.ub_table.specs.Keys.{IsBefore, AreKeysAscending}
-use Rattle.ub_table.specs.Region.{Region}
+use Rattle.ub_table.specs.Region.{RegionRows}
 use Rattle.ub_table.specs.declared.schema.Schema.{Schema}
 use Rattle.ub_zaddr.specs.Address.{last_address}
 
@@ -65,14 +65,14 @@ events-sides t a b up = elim (along-sides t a.value b.value) [
 
 -- ---- the regions that meet, each with its value
 
-all_after : (last : ℕ) (first : Span) (regions : List Region) → AreKeysAscending (first.region.first ∷ firsts_of regions)
+all_after : (last : ℕ) (first : Span) (regions : List RegionRows) → AreKeysAscending (first.region.first ∷ firsts_of regions)
     → AllByRecursion (λ (span : Span). IsBefore first.region.first span.region.first) (spans_up_to last regions)
 all_after last first [] up = tt
 all_after last first (region ∷ []) up = (up.0, tt)
 all_after last first (region ∷ next ∷ regions) up =
     (up.0, all_after last first (next ∷ regions) (before_trans first.region.first region.first next.first up.0 up.1.0, up.1.1))
 
-spans-rising : (last : ℕ) (regions : List Region) → AreKeysAscending (firsts_of regions)
+spans-rising : (last : ℕ) (regions : List RegionRows) → AreKeysAscending (firsts_of regions)
     → Rising (λ (a b : Span). IsBefore a.region.first b.region.first) (spans_up_to last regions)
 spans-rising last [] up = tt
 spans-rising last (region ∷ []) up = (tt, tt)
@@ -94,7 +94,7 @@ valued boxes dim t (span ∷ spans) all =
       record { spans_are = ap (λ (ss : List Span). span ∷ ss) are.spans_are; values = (is, are.values) },
     )
 
-pub events_of : (schema : Schema) (boxes : List Corners) (dim : ℕ) (t : Bool) (next : ℕ) (regions : List Region) → AreRegions schema next regions
+pub events_of : (schema : Schema) (boxes : List Corners) (dim : ℕ) (t : Bool) (next : ℕ) (regions : List RegionRows) → AreRegions schema next regions
     → (events : List Event) × AreEvents schema boxes dim t regions events
 events_of schema boxes dim t next regions are =
     let (meeting, those) = meeting_of schema boxes regions in
@@ -126,7 +126,7 @@ same_event a b values spans =
     ap (λ (v : ℕ). record { value = v; span = a.span }) values ∙ ap (λ (s : Span). record { value = b.value; span = s }) spans
 
 -- an event of one order is one of the other
-event_there : (schema : Schema) (boxes : List Corners) (dim : ℕ) (t : Bool) (regions : List Region) (first second : List Event)
+event_there : (schema : Schema) (boxes : List Corners) (dim : ℕ) (t : Bool) (regions : List RegionRows) (first second : List Event)
     → AreEvents schema boxes dim t regions first → AreEvents schema boxes dim t regions second → (event : Event) → Contains first event → Contains second event
 event_there schema boxes dim t regions first second a b event here =
     let meets : a.meeting ≡ b.meeting = those_one (λ (span : Span). Meets boxes span.from span.to) (spans_of schema regions) a.meeting b.meeting a.meeting_are b.meeting_are in
@@ -143,7 +143,7 @@ event_there schema boxes dim t regions first second a b event here =
     one_value boxes dim t event.span other.value event.value (subst (λ (span : Span). IsEventValue boxes dim t span other.value) same its) mine in
     subst (λ (e : Event). Contains second e) (same_event other event value same) is
 
-pub events_one : (schema : Schema) (boxes : List Corners) (dim : ℕ) (t : Bool) (regions : List Region) (first second : List Event)
+pub events_one : (schema : Schema) (boxes : List Corners) (dim : ℕ) (t : Bool) (regions : List RegionRows) (first second : List Event)
     → AreEvents schema boxes dim t regions first → AreEvents schema boxes dim t regions second → first ≡ second
 events_one schema boxes dim t regions first second a b =
     Rising-one (IsEventBefore t) (events-never t) (events-chain t) first second

@@ -6,7 +6,7 @@ use Rattle.ub_planning.proofs.InsideFacts.{at_each}
 use Rattle.ub_planning.specs.Visits.{Span, Meets, AreMeeting, spans_of}
 use Rattle.ub_region.specs.Those.{AreThose}
 use Rattle.ub_query.proofs.Laws.{contains_here, contains_later, contains_cases, contains_none}
-use Rattle.ub_table.specs.Region.{Region}
+use Rattle.ub_table.specs.Region.{RegionRows}
 use Rattle.ub_table.specs.declared.schema.Schema.{Schema}
 use Rattle.ub_zaddr.specs.Address.{IsAtMost, address}
 
@@ -146,6 +146,6 @@ those_of P decide (x ∷ xs) =
       | inr out ↦ (those, inr (out, are))
     ]
 
-pub meeting_of : (schema : Schema) (boxes : List Corners) (regions : List Region) → (meeting : List Span) × AreMeeting schema boxes regions meeting
+pub meeting_of : (schema : Schema) (boxes : List Corners) (regions : List RegionRows) → (meeting : List Span) × AreMeeting schema boxes regions meeting
 meeting_of schema boxes regions =
     those_of (λ (span : Span). Meets boxes span.from span.to) (λ span. meets_or_not boxes span.from span.to) (spans_of schema regions)

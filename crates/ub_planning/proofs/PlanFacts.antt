@@ -18,7 +18,7 @@ use Rattle.ub_query.specs.Meaning.{IsMeaning}
 use Rattle.ub_query.specs.Shape.{Asked}
 use Rattle.ub_query.specs.declared.cell.Cell.{Cell}
 use Rattle.ub_region.specs.Regions.{AreRegions, AreTableRows}
-use Rattle.ub_table.specs.Region.{Region}
+use Rattle.ub_table.specs.Region.{RegionRows}
 use Rattle.ub_table.specs.declared.row.Row.{Row}
 use Rattle.ub_table.specs.declared.schema.Schema.{Schema}
 
@@ -36,7 +36,7 @@ zero_has_no_boxes schema q zero =
 
 -- ---- where the limit isn't 0, the selected rows are chosen
 
-some_mean : (schema : Schema) (q : Asked) (next : ℕ) (regions : List Region) (rows : List Row) (cells : List (List Cell)) → q.limit ≢ Some 0
+some_mean : (schema : Schema) (q : Asked) (next : ℕ) (regions : List RegionRows) (rows : List Row) (cells : List (List Cell)) → q.limit ≢ Some 0
     → AreRegions schema next regions → AreTableRows regions rows → IsPlanMeaning schema (plan_of schema q) regions cells → IsMeaning (table_of schema rows) q cells
 some_mean schema q next regions rows cells limit are table h =
     let all = selected (table_of schema rows) q.filter in
@@ -48,7 +48,7 @@ some_mean schema q next regions rows cells limit are table h =
     (λ row c. Contains-permutation taken h.rows row h.chosen.taken (Contains-permutation all taken row (IsPermutation-sym taken all perm) c)) in
     same_meaning schema q None q.filter h.rows rows cells (all_selected schema h.rows ∙ same) h.means
 
-some_meant : (schema : Schema) (q : Asked) (next : ℕ) (regions : List Region) (rows : List Row) (cells : List (List Cell)) → q.limit ≢ Some 0
+some_meant : (schema : Schema) (q : Asked) (next : ℕ) (regions : List RegionRows) (rows : List Row) (cells : List (List Cell)) → q.limit ≢ Some 0
     → AreRegions schema next regions → AreTableRows regions rows → IsMeaning (table_of schema rows) q cells → IsPlanMeaning schema (plan_of schema q) regions cells
 some_meant schema q next regions rows cells limit are table m =
     let (meeting, meets) = meeting_of schema (plan_of schema q).covering.boxes regions in
@@ -65,13 +65,13 @@ some_meant schema q next regions rows cells limit are table m =
 
 -- ---- where it is 0, there is nothing in the result
 
-none_mean : (schema : Schema) (q : Asked) (regions : List Region) (rows : List Row) (cells : List (List Cell)) → q.limit ≡ Some 0
+none_mean : (schema : Schema) (q : Asked) (regions : List RegionRows) (rows : List Row) (cells : List (List Cell)) → q.limit ≡ Some 0
     → AreTableRows regions rows → IsPlanMeaning schema (plan_of schema q) regions cells → IsMeaning (table_of schema rows) q cells
 none_mean schema q regions rows cells zero table h =
     let nothing : cells ≡ [] = zero_means_none (table_of schema h.rows) (with_filter q None) cells zero h.means in
     subst (λ (cs : List (List Cell)). IsMeaning (table_of schema rows) q cs) (sym nothing) (none_means_zero (table_of schema rows) q table.ascending zero)
 
-none_meant : (schema : Schema) (q : Asked) (regions : List Region) (rows : List Row) (cells : List (List Cell)) → q.limit ≡ Some 0
+none_meant : (schema : Schema) (q : Asked) (regions : List RegionRows) (rows : List Row) (cells : List (List Cell)) → q.limit ≡ Some 0
     → IsMeaning (table_of schema rows) q cells → IsPlanMeaning schema (plan_of schema q) regions cells
 none_meant schema q regions rows cells zero m =
     let nothing : cells ≡ [] = zero_means_none (table_of schema rows) q cells zero m in

@@ -10,7 +10,7 @@ use Rattle.ub_region.specs.Regions.{firsts_of, rows_of}
 use Rattle.ub_region.specs.Spans.{address_before, span_end}
 use Rattle.ub_table.proofs.Laws.{before_from, before_parts}
 use Rattle.ub_table.specs.Keys.{IsBefore}
-use Rattle.ub_table.specs.Region.{Region, IsRow, key_of, measures_of}
+use Rattle.ub_table.specs.Region.{RegionRows, IsRow, key_of, measures_of}
 use Rattle.ub_table.specs.declared.row.Key.{Key}
 use Rattle.ub_table.specs.declared.row.Row.{Row}
 use Rattle.ub_table.specs.declared.schema.Schema.{Schema}
@@ -32,7 +32,7 @@ from_address a b h = elim (cases_lt a.z b.z) [
   | inr ge ↦ ge
 ]
 
-up_to_end : (schema : Schema) (last : ℕ) (region : Region) (regions : List Region) (row : Row) → last ≡ last_address schema.dims → IsRow schema.dims (measures_of schema) row
+up_to_end : (schema : Schema) (last : ℕ) (region : RegionRows) (regions : List RegionRows) (row : Row) → last ≡ last_address schema.dims → IsRow schema.dims (measures_of schema) row
     → IsBelow schema.dims region regions → Contains region.rows row → (key_of schema.dims row).z ≤ span_end last (firsts_of regions)
 up_to_end schema last region [] row is good below here =
     let most = (row_first schema.dims (measures_of schema) row schema.counts.few_dims good).0 in omega arith
@@ -47,7 +47,7 @@ pub record IsOf (z : ℕ) (row : Row) (span : Span) : Type 0 where
   pub has : Contains span.region.rows row
 
 -- a span that is the first, or one of the others
-pub of_span : (schema : Schema) (last : ℕ) (regions : List Region) (span : Span) (row : Row) → last ≡ last_address schema.dims → IsChain schema regions
+pub of_span : (schema : Schema) (last : ℕ) (regions : List RegionRows) (span : Span) (row : Row) → last ≡ last_address schema.dims → IsChain schema regions
     → Contains (spans_up_to last regions) span → Contains span.region.rows row → IsOf (key_of schema.dims row).z row span
 of_span schema last [] span row is chain there has = absurd (contains_none span there)
 of_span schema last (region ∷ regions) span row is chain there has = elim (contains_cases _ (spans_up_to last regions) span there) [
@@ -62,7 +62,7 @@ of_span schema last (region ∷ regions) span row is chain there has = elim (con
 ]
 
 -- each row of the regions is one of some span's region
-pub in_some_span : (last : ℕ) (regions : List Region) (row : Row) → Contains (rows_of regions) row → (span : Span) × Contains (spans_up_to last regions) span × Contains span.region.rows row
+pub in_some_span : (last : ℕ) (regions : List RegionRows) (row : Row) → Contains (rows_of regions) row → (span : Span) × Contains (spans_up_to last regions) span × Contains span.region.rows row
 in_some_span last [] row c = absurd (contains_none row c)
 in_some_span last (region ∷ regions) row c = elim (Contains-append_cases region.rows (rows_of regions) row c) [
   | inl here ↦ (record { region = region; from = region.first.z; to = span_end last (firsts_of regions) }, contains_here _ (spans_up_to last regions), here)
@@ -70,7 +70,7 @@ in_some_span last (region ∷ regions) row c = elim (Contains-append_cases regio
 ]
 
 -- a row of a span's region is a row of the regions
-pub of_some_span : (last : ℕ) (regions : List Region) (span : Span) (row : Row) → Contains (spans_up_to last regions) span → Contains span.region.rows row → Contains (rows_of regions) row
+pub of_some_span : (last : ℕ) (regions : List RegionRows) (span : Span) (row : Row) → Contains (spans_up_to last regions) span → Contains span.region.rows row → Contains (rows_of regions) row
 of_some_span last [] span row there has = absurd (contains_none span there)
 of_some_span last (region ∷ regions) span row there has = elim (contains_cases _ (spans_up_to last regions) span there) [
   | inl same ↦ Contains-append_left region.rows (rows_of regions) row (subst (λ (s : Span). Contains s.region.rows row) (sym same) has)
@@ -83,7 +83,7 @@ point_is dims measures row few good =
     let four = good.dims_rest.0 in
     (length-take-le dims row.dims (omega arith), All-take (λ x. x < 2 ^ 32) dims row.dims good.dims_words)
 
-pub rows_are_points : (schema : Schema) (regions : List Region) (row : Row) → IsChain schema regions → Contains (rows_of regions) row → IsPoint schema.dims (take schema.dims row.dims)
+pub rows_are_points : (schema : Schema) (regions : List RegionRows) (row : Row) → IsChain schema regions → Contains (rows_of regions) row → IsPoint schema.dims (take schema.dims row.dims)
 rows_are_points schema [] row chain c = absurd (contains_none row c)
 rows_are_points schema (region ∷ regions) row chain c = elim (Contains-append_cases region.rows (rows_of regions) row c) [
   | inl here ↦ point_is schema.dims (measures_of schema) row schema.counts.few_dims (all_at (IsRow schema.dims (measures_of schema)) region.rows row chain.0.rows here)

@@ -21,7 +21,7 @@ use Rattle.ub_query.specs.declared.query.Item.{Item}
 use Rattle.ub_query.specs.declared.query.Item.TheVariants.{Column, Count, Aggregate}
 use Rattle.ub_query.specs.declared.query.SortKey.{SortKey}
 use Rattle.ub_region.specs.Regions.{AreRegions, rows_of}
-use Rattle.ub_table.specs.Region.{Region}
+use Rattle.ub_table.specs.Region.{RegionRows}
 use Rattle.ub_table.specs.declared.row.Row.{Row}
 use Rattle.ub_table.specs.declared.schema.Schema.{Schema}
 
@@ -43,7 +43,7 @@ rows_arranged schema keys rows differ =
     rows (all_from_contains (λ (row : Row). Unit {0}) rows (λ row c. tt)) differ)
 
 -- the selected rows have the order in which a sweep gives them
-pub arranged_of : (schema : Schema) (plan : PlanView) (next : ℕ) (regions : List Region) → AreRegions schema next regions
+pub arranged_of : (schema : Schema) (plan : PlanView) (next : ℕ) (regions : List RegionRows) → AreRegions schema next regions
     → (arranged : List Row) × AreArranged schema plan (selected_rows schema plan regions) arranged
 arranged_of schema plan next regions are =
     rows_arranged schema (swept_order plan.asked.group plan.asked.order) (selected_rows schema plan regions)
@@ -63,7 +63,7 @@ groups_in_one_order schema q rows first second a b =
 
 -- ---- there are visits
 
-pub sweep_visits_of : (schema : Schema) (plan : PlanView) (dim : ℕ) (t : Bool) (next : ℕ) (regions : List Region) → AreRegions schema next regions
+pub sweep_visits_of : (schema : Schema) (plan : PlanView) (dim : ℕ) (t : Bool) (next : ℕ) (regions : List RegionRows) → AreRegions schema next regions
     → (visits : List Span) × AreSweepVisits schema plan dim t regions visits
 sweep_visits_of schema plan dim t next regions are =
     let (events, events_are) = events_of schema plan.covering.boxes dim t next regions are in
@@ -72,7 +72,7 @@ sweep_visits_of schema plan dim t next regions are =
       record { events = events; events_are = events_are; arranged = arranged; arranged_are = arranged_are; visits_are = refl },
     )
 
-pub group_visits_of : (schema : Schema) (plan : PlanView) (dim : ℕ) (t : Bool) (next : ℕ) (regions : List Region) → AreRegions schema next regions
+pub group_visits_of : (schema : Schema) (plan : PlanView) (dim : ℕ) (t : Bool) (next : ℕ) (regions : List RegionRows) → AreRegions schema next regions
     → (visits : List Span) × AreGroupVisits schema plan dim t regions visits
 group_visits_of schema plan dim t next regions are =
     let (events, events_are) = events_of schema plan.covering.boxes dim t next regions are in
@@ -90,12 +90,12 @@ group_visits_of schema plan dim t next regions are =
       },
     )
 
-swept_visits_of : (group : List ℕ) (schema : Schema) (plan : PlanView) (dim : ℕ) (t : Bool) (next : ℕ) (regions : List Region)
+swept_visits_of : (group : List ℕ) (schema : Schema) (plan : PlanView) (dim : ℕ) (t : Bool) (next : ℕ) (regions : List RegionRows)
     → AreRegions schema next regions → (visits : List Span) × AreSweptVisits group schema plan dim t regions visits
 swept_visits_of [] schema plan dim t next regions are = sweep_visits_of schema plan dim t next regions are
 swept_visits_of (column ∷ group) schema plan dim t next regions are = group_visits_of schema plan dim t next regions are
 
-pub visits_of : (kind : Kind) (schema : Schema) (plan : PlanView) (next : ℕ) (regions : List Region) → AreRegions schema next regions
+pub visits_of : (kind : Kind) (schema : Schema) (plan : PlanView) (next : ℕ) (regions : List RegionRows) → AreRegions schema next regions
     → (visits : List Span) × AreVisitsBy kind schema plan regions visits
 visits_of Empty schema plan next regions are = ([], refl)
 visits_of Scan schema plan next regions are = meeting_of schema plan.covering.boxes regions
@@ -103,7 +103,7 @@ visits_of (Sweep dim t) schema plan next regions are = swept_visits_of plan.aske
 
 -- ---- and only one list of them
 
-sweep_visits_one : (schema : Schema) (plan : PlanView) (dim : ℕ) (t : Bool) (regions : List Region) (first second : List Span)
+sweep_visits_one : (schema : Schema) (plan : PlanView) (dim : ℕ) (t : Bool) (regions : List RegionRows) (first second : List Span)
     → AreSweepVisits schema plan dim t regions first → AreSweepVisits schema plan dim t regions second → first ≡ second
 sweep_visits_one schema plan dim t regions first second a b =
     let events : a.events ≡ b.events = events_one schema plan.covering.boxes dim t regions a.events b.events a.events_are b.events_are in
@@ -114,7 +114,7 @@ sweep_visits_one schema plan dim t regions first second a b =
     ∙ ap (λ (rs : List Row). map (λ event. event.span) (reached t plan.asked.limit (coordinates dim (limited plan.asked.limit rs)) b.events)) rows
     ∙ sym b.visits_are
 
-group_visits_one : (schema : Schema) (plan : PlanView) (dim : ℕ) (t : Bool) (regions : List Region) (first second : List Span)
+group_visits_one : (schema : Schema) (plan : PlanView) (dim : ℕ) (t : Bool) (regions : List RegionRows) (first second : List Span)
     → AreGroupVisits schema plan dim t regions first → AreGroupVisits schema plan dim t regions second → first ≡ second
 group_visits_one schema plan dim t regions first second a b =
     let events : a.events ≡ b.events = events_one schema plan.covering.boxes dim t regions a.events b.events a.events_are b.events_are in
@@ -127,12 +127,12 @@ group_visits_one schema plan dim t regions first second a b =
     ∙ ap (λ (gs : List Group). map (λ event. event.span) (reached t plan.asked.limit (map (lead_coordinate dim) (limited plan.asked.limit gs)) b.events)) groups
     ∙ sym b.visits_are
 
-swept_visits_one : (group : List ℕ) (schema : Schema) (plan : PlanView) (dim : ℕ) (t : Bool) (regions : List Region) (first second : List Span)
+swept_visits_one : (group : List ℕ) (schema : Schema) (plan : PlanView) (dim : ℕ) (t : Bool) (regions : List RegionRows) (first second : List Span)
     → AreSweptVisits group schema plan dim t regions first → AreSweptVisits group schema plan dim t regions second → first ≡ second
 swept_visits_one [] schema plan dim t regions first second a b = sweep_visits_one schema plan dim t regions first second a b
 swept_visits_one (column ∷ group) schema plan dim t regions first second a b = group_visits_one schema plan dim t regions first second a b
 
-pub visits_one : (kind : Kind) (schema : Schema) (plan : PlanView) (regions : List Region) (first second : List Span)
+pub visits_one : (kind : Kind) (schema : Schema) (plan : PlanView) (regions : List RegionRows) (first second : List Span)
     → AreVisitsBy kind schema plan regions first → AreVisitsBy kind schema plan regions second → first ≡ second
 visits_one Empty schema plan regions first second a b = a ∙ sym b
 visits_one Scan schema plan regions first second a b =

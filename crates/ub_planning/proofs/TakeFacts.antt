@@ -16,7 +16,7 @@ use Rattle.ub_query.proofs.Laws.{contains_none}
 use Rattle.ub_query.specs.Groups.{is_selected}
 use Rattle.ub_query.specs.Shape.{Shape, Asked}
 use Rattle.ub_region.proofs.Laws.{IsChain}
-use Rattle.ub_table.specs.Region.{Region}
+use Rattle.ub_table.specs.Region.{RegionRows}
 use Rattle.ub_table.specs.declared.row.Row.{Row}
 use Rattle.ub_table.specs.declared.schema.Schema.{Schema}
 use Rattle.ub_zaddr.specs.Address.{IsPoint, address, last_address}
@@ -89,7 +89,7 @@ takes_selected schema q row point read =
     ap (λ (b : Bool). b && is_told schema (plan_of schema q) row) read ∙ told_selected schema q row point read
 
 -- the span of a row's region meets the boxes where the row's point lies in one
-pub meets : (schema : Schema) (boxes : List Corners) (regions : List Region) (span : Span) (row : Row) → IsChain schema regions
+pub meets : (schema : Schema) (boxes : List Corners) (regions : List RegionRows) (span : Span) (row : Row) → IsChain schema regions
     → Contains (spans_of schema regions) span → Contains span.region.rows row → IsInSome boxes (take schema.dims row.dims) → Meets boxes span.from span.to
 meets schema boxes regions span row chain there has (b, here, is) =
     let of = of_span schema (last_address schema.dims) regions span row refl chain there has in
@@ -101,7 +101,7 @@ read_boxes Scan covering read = refl
 read_boxes (Sweep dim is_descending) covering read = refl
 
 -- the span of a selected row meets the boxes of a plan that reads regions
-pub selected_meets : (schema : Schema) (q : Asked) (regions : List Region) (span : Span) (row : Row) → IsChain schema regions
+pub selected_meets : (schema : Schema) (q : Asked) (regions : List RegionRows) (span : Span) (row : Row) → IsChain schema regions
     → Contains (spans_of schema regions) span → Contains span.region.rows row → reads (planned_kind schema q) ≡ true → is_selected schema q.filter row ≡ true
     → Meets (plan_of schema q).covering.boxes span.from span.to
 selected_meets schema q regions span row chain there has read t =
@@ -124,7 +124,7 @@ read_where schema q row limit point t = elim (kind_cases schema q) [
   ]
 ]
 
-pub row_meets : (schema : Schema) (q : Asked) (regions : List Region) (span : Span) (row : Row) → q.limit ≢ Some 0 → IsChain schema regions
+pub row_meets : (schema : Schema) (q : Asked) (regions : List RegionRows) (span : Span) (row : Row) → q.limit ≢ Some 0 → IsChain schema regions
     → Contains (spans_of schema regions) span → Contains span.region.rows row → is_selected schema q.filter row ≡ true → Meets (plan_of schema q).covering.boxes span.from span.to
 row_meets schema q regions span row limit chain there has t =
     let point = rows_are_points schema regions row chain (of_some_span (last_address schema.dims) regions span row there has) in

@@ -15,7 +15,7 @@ use Rattle.ub_query.specs.Groups.{is_selected, selected}
 use Rattle.ub_query.specs.Shape.{Asked}
 use Rattle.ub_region.proofs.Laws.{chain_of}
 use Rattle.ub_region.specs.Regions.{AreRegions, AreTableRows, rows_of}
-use Rattle.ub_table.specs.Region.{Region}
+use Rattle.ub_table.specs.Region.{RegionRows}
 use Rattle.ub_table.specs.Table.{IsInOrder}
 use Rattle.ub_table.specs.declared.row.Row.{Row}
 use Rattle.ub_table.specs.declared.schema.Schema.{Schema}
@@ -52,12 +52,12 @@ permuted xs ys differ up there back =
     (λ row c. Contains-permutation xs zs row arranged.same (back row c)) in
     subst (λ (rows : List Row). IsPermutation xs rows) same arranged.same
 
-rows_in_spans : (last : ℕ) (regions : List Region) → fetched_rows (spans_up_to last regions) ≡ rows_of regions
+rows_in_spans : (last : ℕ) (regions : List RegionRows) → fetched_rows (spans_up_to last regions) ≡ rows_of regions
 rows_in_spans last [] = refl
 rows_in_spans last (region ∷ regions) = ap (λ (rows : List Row). region.rows ++ rows) (rows_in_spans last regions)
 
 -- the selected rows of the regions that meet are those of all regions, in the same order
-held_same : (schema : Schema) (q : Asked) (next : ℕ) (regions : List Region) (meeting : List Span) → q.limit ≢ Some 0
+held_same : (schema : Schema) (q : Asked) (next : ℕ) (regions : List RegionRows) (meeting : List Span) → q.limit ≢ Some 0
     → AreRegions schema next regions → AreMeeting schema (plan_of schema q).covering.boxes regions meeting
     → filter (is_selected schema q.filter) (fetched_rows meeting) ≡ selected_rows schema (plan_of schema q) regions
 held_same schema q next regions meeting limit are those =
@@ -66,14 +66,14 @@ held_same schema q next regions meeting limit are those =
     (λ span there out. filter_none (is_selected schema q.filter) span.region.rows (λ row has t. out (row_meets schema q regions span row limit chain there has t)))
     ∙ ap (λ (rs : List Row). filter (is_selected schema q.filter) rs) (rows_in_spans (last_address schema.dims) regions)
 
-pub meeting_hold : (schema : Schema) (q : Asked) (next : ℕ) (regions : List Region) (meeting : List Span) → q.limit ≢ Some 0
+pub meeting_hold : (schema : Schema) (q : Asked) (next : ℕ) (regions : List RegionRows) (meeting : List Span) → q.limit ≢ Some 0
     → AreRegions schema next regions → AreMeeting schema (plan_of schema q).covering.boxes regions meeting
     → IsPermutation (filter (is_selected schema q.filter) (fetched_rows meeting)) (selected_rows schema (plan_of schema q) regions)
 meeting_hold schema q next regions meeting limit are those =
     subst (λ (rs : List Row). IsPermutation rs (selected_rows schema (plan_of schema q) regions)) (sym (held_same schema q next regions meeting limit are those))
     (IsPermutation-refl (selected_rows schema (plan_of schema q) regions))
 
-pub meeting_hold_tables : (schema : Schema) (q : Asked) (next : ℕ) (regions : List Region) (rows : List Row) (meeting : List Span) → q.limit ≢ Some 0
+pub meeting_hold_tables : (schema : Schema) (q : Asked) (next : ℕ) (regions : List RegionRows) (rows : List Row) (meeting : List Span) → q.limit ≢ Some 0
     → AreRegions schema next regions → AreTableRows regions rows → AreMeeting schema (plan_of schema q).covering.boxes regions meeting
     → IsPermutation (filter (is_selected schema q.filter) (fetched_rows meeting)) (selected (table_of schema rows) q.filter)
 meeting_hold_tables schema q next regions rows meeting limit are table those =
@@ -85,13 +85,13 @@ meeting_hold_tables schema q next regions rows meeting limit are table those =
     (λ row c. let k = contains_from_filter (is_selected schema q.filter) rows row c in contains_filter (is_selected schema q.filter) (rows_of regions) row ((table.same row).0 k.0) k.1))
 
 -- the rows of the regions that meet are rows of the regions
-fetched_among : (schema : Schema) (boxes : List Corners) (regions : List Region) (meeting : List Span) (row : Row) → AreMeeting schema boxes regions meeting → Contains (fetched_rows meeting) row → Contains (rows_of regions) row
+fetched_among : (schema : Schema) (boxes : List Corners) (regions : List RegionRows) (meeting : List Span) (row : Row) → AreMeeting schema boxes regions meeting → Contains (fetched_rows meeting) row → Contains (rows_of regions) row
 fetched_among schema boxes regions meeting row those c =
     subst (λ (rs : List Row). Contains rs row) (rows_in_spans (last_address schema.dims) regions)
     (parts_among (λ (span : Span). Meets boxes span.from span.to) (λ (span : Span). span.region.rows) row (spans_of schema regions) meeting those c)
 
 -- and the plan takes the selected ones of them
-pub meeting_taken : (schema : Schema) (q : Asked) (next : ℕ) (regions : List Region) (rows : List Row) (meeting : List Span) → q.limit ≢ Some 0
+pub meeting_taken : (schema : Schema) (q : Asked) (next : ℕ) (regions : List RegionRows) (rows : List Row) (meeting : List Span) → q.limit ≢ Some 0
     → AreRegions schema next regions → AreTableRows regions rows → AreMeeting schema (plan_of schema q).covering.boxes regions meeting
     → IsPermutation (filter (takes schema (plan_of schema q)) (fetched_rows meeting)) (selected (table_of schema rows) q.filter)
 meeting_taken schema q next regions rows meeting limit are table those =
@@ -101,7 +101,7 @@ meeting_taken schema q next regions rows meeting limit are table those =
     (λ row c. row_is_taken schema q row limit (rows_are_points schema regions row chain (fetched_among schema (plan_of schema q).covering.boxes regions meeting row those c))) in
     subst (λ (rs : List Row). IsPermutation rs (selected (table_of schema rows) q.filter)) (sym same) (meeting_hold_tables schema q next regions rows meeting limit are table those)
 
-pub row_is_met : (schema : Schema) (q : Asked) (next : ℕ) (regions : List Region) (meeting : List Span) (row : Row) → q.limit ≢ Some 0
+pub row_is_met : (schema : Schema) (q : Asked) (next : ℕ) (regions : List RegionRows) (meeting : List Span) (row : Row) → q.limit ≢ Some 0
     → AreRegions schema next regions → AreMeeting schema (plan_of schema q).covering.boxes regions meeting → Contains (rows_of regions) row → is_selected schema q.filter row ≡ true
     → Contains (fetched_rows meeting) row
 row_is_met schema q next regions meeting row limit are those c t =

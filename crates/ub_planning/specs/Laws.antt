@@ -16,7 +16,7 @@ use Rattle.ub_query.specs.Shape.{Asked}
 use Rattle.ub_query.specs.declared.cell.Cell.{Cell}
 use Rattle.ub_query.specs.declared.query.Item.TheVariants.{Column}
 use Rattle.ub_region.specs.Regions.{AreRegions, AreTableRows, rows_of}
-use Rattle.ub_table.specs.Region.{Region}
+use Rattle.ub_table.specs.Region.{RegionRows}
 use Rattle.ub_table.specs.Table.{Table, IsInOrder}
 use Rattle.ub_table.specs.declared.row.Row.{Row}
 use Rattle.ub_table.specs.declared.schema.Schema.{Schema}
@@ -37,30 +37,30 @@ SweepsAreLed = (schema : Schema) (q : Asked) (dim : ℕ) (is_descending : Bool) 
 
 -- the regions of a table have its rows, in ascending order of number
 abbrev pub RegionsHaveATable : Type 0
-RegionsHaveATable = (schema : Schema) (next : ℕ) (regions : List Region) → AreRegions schema next regions
+RegionsHaveATable = (schema : Schema) (next : ℕ) (regions : List RegionRows) → AreRegions schema next regions
     → (rows : List Row) × AreTableRows regions rows
 
 -- the regions of a table have no two tables
 abbrev pub RegionsHaveOneTable : Type 0
-RegionsHaveOneTable = (regions : List Region) (first second : List Row)
+RegionsHaveOneTable = (regions : List RegionRows) (first second : List Row)
     → AreTableRows regions first → AreTableRows regions second → first ≡ second
 
 -- unless the limit is 0, each selected row stands in a region that meets the plan's boxes
 abbrev pub SelectedRowsAreMet : Type 0
-SelectedRowsAreMet = (schema : Schema) (q : Asked) (next : ℕ) (regions : List Region) (meeting : List Span) (row : Row)
+SelectedRowsAreMet = (schema : Schema) (q : Asked) (next : ℕ) (regions : List RegionRows) (meeting : List Span) (row : Row)
     → q.limit ≢ Some 0 → AreRegions schema next regions
     → AreMeeting schema (plan_of schema q).covering.boxes regions meeting
     → Contains (rows_of regions) row → IsTrue (is_selected schema q.filter row) → Contains (fetched_rows meeting) row
 
 -- unless the limit is 0, a plan takes of the rows of the regions those that the query selects
 abbrev pub PlansTakeTheSelected : Type 0
-PlansTakeTheSelected = (schema : Schema) (q : Asked) (next : ℕ) (regions : List Region) (row : Row) → q.limit ≢ Some 0
+PlansTakeTheSelected = (schema : Schema) (q : Asked) (next : ℕ) (regions : List RegionRows) (row : Row) → q.limit ≢ Some 0
     → AreRegions schema next regions → Contains (rows_of regions) row
     → takes schema (plan_of schema q) row ≡ is_selected schema q.filter row
 
 -- unless the limit is 0, the selected rows of the regions that meet the plan's boxes are those of all regions, each as often
 abbrev pub MeetingHoldTheSelected : Type 0
-MeetingHoldTheSelected = (schema : Schema) (q : Asked) (next : ℕ) (regions : List Region) (meeting : List Span)
+MeetingHoldTheSelected = (schema : Schema) (q : Asked) (next : ℕ) (regions : List RegionRows) (meeting : List Span)
     → q.limit ≢ Some 0 → AreRegions schema next regions
     → AreMeeting schema (plan_of schema q).covering.boxes regions meeting
     → IsPermutation (filter (is_selected schema q.filter) (fetched_rows meeting))
@@ -68,7 +68,7 @@ MeetingHoldTheSelected = (schema : Schema) (q : Asked) (next : ℕ) (regions : L
 
 -- unless the limit is 0, the selected rows of the regions that meet the plan's boxes are those of the table, each as often
 abbrev pub MeetingHoldTheTables : Type 0
-MeetingHoldTheTables = (schema : Schema) (q : Asked) (next : ℕ) (regions : List Region) (rows : List Row) (meeting : List Span)
+MeetingHoldTheTables = (schema : Schema) (q : Asked) (next : ℕ) (regions : List RegionRows) (rows : List Row) (meeting : List Span)
     → q.limit ≢ Some 0 → AreRegions schema next regions → AreTableRows regions rows
     → AreMeeting schema (plan_of schema q).covering.boxes regions meeting
     → IsPermutation (filter (is_selected schema q.filter) (fetched_rows meeting))
@@ -81,23 +81,23 @@ LimitOfZeroMeansNothing = (table : Table) (q : Asked) (cells : List (List Cell))
 
 -- the regions that meet some boxes are one list
 abbrev pub MeetingAreOne : Type 0
-MeetingAreOne = (schema : Schema) (boxes : List Corners) (regions : List Region) (first second : List Span)
+MeetingAreOne = (schema : Schema) (boxes : List Corners) (regions : List RegionRows) (first second : List Span)
     → AreMeeting schema boxes regions first → AreMeeting schema boxes regions second → first ≡ second
 
 -- a sweep comes to them in one order
 abbrev pub EventsAreOne : Type 0
-EventsAreOne = (schema : Schema) (boxes : List Corners) (dim : ℕ) (is_descending : Bool) (next : ℕ) (regions : List Region)
+EventsAreOne = (schema : Schema) (boxes : List Corners) (dim : ℕ) (is_descending : Bool) (next : ℕ) (regions : List RegionRows)
     (first second : List Event) → AreRegions schema next regions
     → AreEvents schema boxes dim is_descending regions first → AreEvents schema boxes dim is_descending regions second
     → first ≡ second
 
 -- each plan of a query has visits on the regions of each table
 abbrev pub PlansHaveVisits : Type 0
-PlansHaveVisits = (schema : Schema) (q : Asked) (next : ℕ) (regions : List Region) → AreRegions schema next regions
+PlansHaveVisits = (schema : Schema) (q : Asked) (next : ℕ) (regions : List RegionRows) → AreRegions schema next regions
     → (visits : List Span) × AreVisits schema (plan_of schema q) regions visits
 
 -- each plan of a query has one list of visits on the regions of a table, and no other
 abbrev pub VisitsAreOne : Type 0
-VisitsAreOne = (schema : Schema) (q : Asked) (next : ℕ) (regions : List Region) (first second : List Span)
+VisitsAreOne = (schema : Schema) (q : Asked) (next : ℕ) (regions : List RegionRows) (first second : List Span)
     → AreRegions schema next regions → AreVisits schema (plan_of schema q) regions first
     → AreVisits schema (plan_of schema q) regions second → first ≡ second

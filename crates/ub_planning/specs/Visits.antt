@@ -17,25 +17,25 @@ use Rattle.ub_region.specs.Regions.{AreTableRows, firsts_of, rows_of}
 use Rattle.ub_region.specs.Those.{AreThose}
 use Rattle.ub_region.specs.Spans.{span_end}
 use Rattle.ub_table.specs.Keys.{IsBefore}
-use Rattle.ub_table.specs.Region.{Region}
+use Rattle.ub_table.specs.Region.{RegionRows}
 use Rattle.ub_table.specs.declared.row.Row.{Row}
 use Rattle.ub_table.specs.declared.schema.Schema.{Schema}
 use Rattle.ub_zaddr.specs.Address.{last_address}
 
 -- a region and its span, which ends where the next region begins
 pub record Span : Type 0 where
-  pub region : Region
+  pub region : RegionRows
   pub from : ℕ
   pub to : ℕ
 
 -- the spans of some regions in order, in a space that ends with this address
-abbrev pub spans_up_to : ℕ → List Region → List Span
+abbrev pub spans_up_to : ℕ → List RegionRows → List Span
 spans_up_to last [] = []
 spans_up_to last (region ∷ regions) =
     record { region = region; from = region.first.z; to = span_end last (firsts_of regions) } ∷ spans_up_to last regions
 
 -- the spans of a table's regions
-abbrev pub spans_of : Schema → List Region → List Span
+abbrev pub spans_of : Schema → List RegionRows → List Span
 spans_of schema regions = spans_up_to (last_address schema.dims) regions
 
 -- some address from one to another lies in one of the boxes
@@ -43,7 +43,7 @@ abbrev pub Meets : List Corners → ℕ → ℕ → Type 0
 Meets boxes from to = (z : ℕ) × HoldsAny boxes z × (from ≤ z) × (z ≤ to)
 
 -- the regions that meet some boxes, in the order of their first keys, each once
-abbrev pub AreMeeting : Schema → List Corners → List Region → List Span → Type 0
+abbrev pub AreMeeting : Schema → List Corners → List RegionRows → List Span → Type 0
 AreMeeting schema boxes regions meeting = AreThose (λ span. Meets boxes span.from span.to) (spans_of schema regions) meeting
 
 -- the rows of some spans' regions, one region after the other
@@ -74,7 +74,7 @@ IsEventBefore is_descending a b =
     ⊎ ((a.value ≡ b.value) × IsBefore a.span.region.first b.span.region.first)
 
 -- the regions that meet some boxes, each with its event value, in the order in which a sweep comes to them
-pub record AreEvents (schema : Schema) (boxes : List Corners) (dim : ℕ) (is_descending : Bool) (regions : List Region) (events : List Event) : Type 0 where
+pub record AreEvents (schema : Schema) (boxes : List Corners) (dim : ℕ) (is_descending : Bool) (regions : List RegionRows) (events : List Event) : Type 0 where
   pub meeting : List Span
   pub meeting_are : AreMeeting schema boxes regions meeting
   pub same : IsPermutation meeting (map (λ event. event.span) events)
@@ -84,7 +84,7 @@ pub record AreEvents (schema : Schema) (boxes : List Corners) (dim : ℕ) (is_de
 -- ---- how far a sweep goes
 
 -- the selected rows of some regions
-abbrev pub selected_rows : Schema → PlanView → List Region → List Row
+abbrev pub selected_rows : Schema → PlanView → List RegionRows → List Row
 selected_rows schema plan regions = filter (is_selected schema plan.asked.filter) (rows_of regions)
 
 -- these rows, in the order in which a sweep gives them
@@ -121,7 +121,7 @@ abbrev pub coordinates : ℕ → List Row → List ℕ
 coordinates dim rows = map (λ row. slice_index row.dims dim) rows
 
 -- the visits of a sweep of rows: the regions that it comes to, where it gives the rows that the query asks for
-pub record AreSweepVisits (schema : Schema) (plan : PlanView) (dim : ℕ) (is_descending : Bool) (regions : List Region) (visits : List Span) : Type 0 where
+pub record AreSweepVisits (schema : Schema) (plan : PlanView) (dim : ℕ) (is_descending : Bool) (regions : List RegionRows) (visits : List Span) : Type 0 where
   pub events : List Event
   pub events_are : AreEvents schema plan.covering.boxes dim is_descending regions events
   pub arranged : List Row
@@ -134,7 +134,7 @@ abbrev pub lead_coordinate : ℕ → Group → ℕ
 lead_coordinate dim group = last_of (coordinates dim group.rows)
 
 -- the visits of a sweep of groups: the regions that it comes to, where it gives the groups that the query asks for
-pub record AreGroupVisits (schema : Schema) (plan : PlanView) (dim : ℕ) (is_descending : Bool) (regions : List Region) (visits : List Span) : Type 0 where
+pub record AreGroupVisits (schema : Schema) (plan : PlanView) (dim : ℕ) (is_descending : Bool) (regions : List RegionRows) (visits : List Span) : Type 0 where
   pub events : List Event
   pub events_are : AreEvents schema plan.covering.boxes dim is_descending regions events
   pub rows : List Row
@@ -146,18 +146,18 @@ pub record AreGroupVisits (schema : Schema) (plan : PlanView) (dim : ℕ) (is_de
       (reached is_descending plan.asked.limit (map (lead_coordinate dim) (limited plan.asked.limit arranged)) events)
 
 -- the visits of a sweep, by the columns of GROUP BY: of rows where there is none, else of groups
-abbrev pub AreSweptVisits : List ℕ → Schema → PlanView → ℕ → Bool → List Region → List Span → Type 0
+abbrev pub AreSweptVisits : List ℕ → Schema → PlanView → ℕ → Bool → List RegionRows → List Span → Type 0
 AreSweptVisits [] schema plan dim is_descending regions visits = AreSweepVisits schema plan dim is_descending regions visits
 AreSweptVisits (column ∷ group) schema plan dim is_descending regions visits =
     AreGroupVisits schema plan dim is_descending regions visits
 
 -- the visits of a plan: none of an empty one; of a scan the regions that meet its boxes, in the order of their first keys; of
 -- a sweep those that it comes to, in the order in which it comes to them; each once
-abbrev pub AreVisitsBy : Kind → Schema → PlanView → List Region → List Span → Type 0
+abbrev pub AreVisitsBy : Kind → Schema → PlanView → List RegionRows → List Span → Type 0
 AreVisitsBy Empty schema plan regions visits = visits ≡ []
 AreVisitsBy Scan schema plan regions visits = AreMeeting schema plan.covering.boxes regions visits
 AreVisitsBy (Sweep dim is_descending) schema plan regions visits =
     AreSweptVisits plan.asked.group schema plan dim is_descending regions visits
 
-abbrev pub AreVisits : Schema → PlanView → List Region → List Span → Type 0
+abbrev pub AreVisits : Schema → PlanView → List RegionRows → List Span → Type 0
 AreVisits schema plan regions visits = AreVisitsBy plan.kind schema plan regions visits

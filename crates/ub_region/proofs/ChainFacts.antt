@@ -3,7 +3,7 @@ use Rattle.std.proofs.Common.{◌≡◌, ◌<◌, ◌≤◌, ℕ, zero, suc, Lis
 use Rattle.std.proofs.lemmas.List.{length-take-le}
 use Rattle.std.specs.List.{AllByRecursion}
 use Rattle.ub_table.specs.Keys.{IsBefore, AreKeysAscending}
-use Rattle.ub_table.specs.Region.{Region, IsRegion, IsRow, IsFirst, key_of, keys_of}
+use Rattle.ub_table.specs.Region.{RegionRows, IsRegion, IsRow, IsFirst, key_of, keys_of}
 use Rattle.ub_table.specs.declared.row.Key.{Key}
 use Rattle.ub_table.specs.declared.row.Row.{Row}
 use Rattle.ub_table.specs.declared.schema.Schema.{Schema}
@@ -11,38 +11,38 @@ use Rattle.ub_zaddr.proofs.Laws.{address-le}
 use Rattle.ub_region.specs.Regions.{firsts_of, rows_of, AreApart}
 
 -- a region is before those that follow, if there are any
-abbrev pub IsBelow : ℕ → Region → List Region → Type 0
+abbrev pub IsBelow : ℕ → RegionRows → List RegionRows → Type 0
 IsBelow dims region [] = Unit {0}
 IsBelow dims region (next ∷ regions) = IsBefore region.first next.first × AllByRecursion (λ key. IsBefore key next.first) (keys_of dims region.rows)
 
-abbrev pub IsChain : Schema → List Region → Type 0
+abbrev pub IsChain : Schema → List RegionRows → Type 0
 IsChain schema [] = Unit {0}
 IsChain schema (region ∷ regions) = IsRegion schema region × IsBelow schema.dims region regions × IsChain schema regions
 
-pub chain_of : (schema : Schema) (regions : List Region) → AllByRecursion (IsRegion schema) regions → AreKeysAscending (firsts_of regions) → AreApart schema.dims regions → IsChain schema regions
+pub chain_of : (schema : Schema) (regions : List RegionRows) → AllByRecursion (IsRegion schema) regions → AreKeysAscending (firsts_of regions) → AreApart schema.dims regions → IsChain schema regions
 chain_of schema [] each up apart = tt
 chain_of schema (a ∷ []) each up apart = (each.0, tt, tt)
 chain_of schema (a ∷ b ∷ regions) each up apart = (each.0, (up.0, apart.0), chain_of schema (b ∷ regions) each.1 up.1 apart.1)
 
-pub each_of : (schema : Schema) (regions : List Region) → IsChain schema regions → AllByRecursion (IsRegion schema) regions
+pub each_of : (schema : Schema) (regions : List RegionRows) → IsChain schema regions → AllByRecursion (IsRegion schema) regions
 each_of schema [] h = tt
 each_of schema (region ∷ regions) h = (h.0, each_of schema regions h.2)
 
-pub firsts_up : (schema : Schema) (regions : List Region) → IsChain schema regions → AreKeysAscending (firsts_of regions)
+pub firsts_up : (schema : Schema) (regions : List RegionRows) → IsChain schema regions → AreKeysAscending (firsts_of regions)
 firsts_up schema [] h = tt
 firsts_up schema (a ∷ []) h = tt
 firsts_up schema (a ∷ b ∷ regions) h = (h.1.0, firsts_up schema (b ∷ regions) h.2)
 
-pub apart_of : (schema : Schema) (regions : List Region) → IsChain schema regions → AreApart schema.dims regions
+pub apart_of : (schema : Schema) (regions : List RegionRows) → IsChain schema regions → AreApart schema.dims regions
 apart_of schema [] h = tt
 apart_of schema (a ∷ []) h = tt
 apart_of schema (a ∷ b ∷ regions) h = (h.1.1, apart_of schema (b ∷ regions) h.2)
 
 -- the first region begins with this key
-abbrev pub BeginsWith : Key → List Region → Type 0
+abbrev pub BeginsWith : Key → List RegionRows → Type 0
 BeginsWith key regions = slice_get (firsts_of regions) 0 ≡ Some key
 
-pub below_same : (dims : ℕ) (region : Region) (first : Key) (xs ys : List Region) → BeginsWith first xs → BeginsWith first ys → IsBelow dims region xs → IsBelow dims region ys
+pub below_same : (dims : ℕ) (region : RegionRows) (first : Key) (xs ys : List RegionRows) → BeginsWith first xs → BeginsWith first ys → IsBelow dims region xs → IsBelow dims region ys
 below_same dims region first [] ys bx by h = cc
 below_same dims region first (x ∷ xs) [] bx by h = tt
 below_same dims region first (x ∷ xs) (y ∷ ys) bx by h =
@@ -82,6 +82,6 @@ pub keys_append : (dims : ℕ) (xs ys : List Row) → keys_of dims (xs ++ ys) �
 keys_append dims [] ys = refl
 keys_append dims (x ∷ xs) ys = ap (λ (ks : List Key). key_of dims x ∷ ks) (keys_append dims xs ys)
 
-pub rows_append : (xs ys : List Region) → rows_of (xs ++ ys) ≡ rows_of xs ++ rows_of ys
+pub rows_append : (xs ys : List RegionRows) → rows_of (xs ++ ys) ≡ rows_of xs ++ rows_of ys
 rows_append [] ys = refl
 rows_append (x ∷ xs) ys = ap (λ (rows : List Row). x.rows ++ rows) (rows_append xs ys) ∙ sym (append_assoc x.rows (rows_of xs) (rows_of ys))

@@ -9,7 +9,7 @@ use Rattle.std.specs.List.{AllByRecursion}
 use Rattle.std.specs.List.Sorted.{IsPermutation}
 use Rattle.ub_table.proofs.Laws.{before_from, before_parts, before_of, precedes_of, not_before_self, not_before_origin}
 use Rattle.ub_table.specs.Keys.{IsBefore, AreKeysAscending, origin, precedes}
-use Rattle.ub_table.specs.Region.{Region, IsRegion, IsRow, IsFirst, AreFrom, key_of, keys_of, measures_of}
+use Rattle.ub_table.specs.Region.{RegionRows, IsRegion, IsRow, IsFirst, AreFrom, key_of, keys_of, measures_of}
 use Rattle.ub_table.specs.declared.row.Key.{Key}
 use Rattle.ub_table.specs.declared.row.Row.{Row}
 use Rattle.ub_table.specs.declared.schema.Schema.{Schema}
@@ -33,7 +33,7 @@ separator_is dims left right before range = elim (cases_lt left.z right.z) [
     ]
 
 -- a region with a row too many, perhaps
-pub record IsFilled (schema : Schema) (region : Region) : Type 0 where
+pub record IsFilled (schema : Schema) (region : RegionRows) : Type 0 where
   pub most : length region.rows ≤ schema.page_rows + 1
   pub first : IsFirst schema.dims region.first
   pub rows : AllByRecursion (IsRow schema.dims (measures_of schema)) region.rows
@@ -41,7 +41,7 @@ pub record IsFilled (schema : Schema) (region : Region) : Type 0 where
   pub within : AreFrom region.first (keys_of schema.dims region.rows)
 
 -- a cut after suc n rows makes two regions
-module _ (schema : Schema) (region : Region) (filled : IsFilled schema region) (n : ℕ) (within : suc n < length region.rows) (left_fits : suc n ≤ schema.page_rows)
+module _ (schema : Schema) (region : RegionRows) (filled : IsFilled schema region) (n : ℕ) (within : suc n < length region.rows) (left_fits : suc n ≤ schema.page_rows)
     (right_fits : length region.rows ≤ schema.page_rows + suc n) where
   abbrev dims : ℕ
   dims = schema.dims
@@ -93,7 +93,7 @@ module _ (schema : Schema) (region : Region) (filled : IsFilled schema region) (
   left_below = rw (keys_take dims (suc n) region.rows) (all_more (λ (key : Key). ¬ (IsBefore left_key key)) (λ (key : Key). IsBefore key first)
       (λ key lower. upto_before key left_key first lower parted.0) (take (suc n) keys) the_cut.lower)
 
-  right_below : (regions : List Region) → IsBelow dims region regions → IsBelow dims (record { first = first; rows = drop (suc n) region.rows }) regions
+  right_below : (regions : List RegionRows) → IsBelow dims region regions → IsBelow dims (record { first = first; rows = drop (suc n) region.rows }) regions
   right_below [] h = tt
   right_below (next ∷ regions) h =
       let in_range : suc n < length keys = (let long = length-keys_of dims region.rows in omega arith) in (
@@ -101,12 +101,12 @@ module _ (schema : Schema) (region : Region) (filled : IsFilled schema region) (
         rw (keys_drop dims (suc n) region.rows) (all_drop (λ (key : Key). IsBefore key next.first) (suc n) keys h.1),
       )
 
-  pub two_chain : (regions : List Region) → IsBelow dims region regions → IsChain schema regions
+  pub two_chain : (regions : List RegionRows) → IsBelow dims region regions → IsChain schema regions
       → IsChain schema (record { first = region.first; rows = take (suc n) region.rows } ∷ record { first = first; rows = drop (suc n) region.rows } ∷ regions)
   two_chain regions below chain = (left_region, (first_before, left_below), (right_region, right_below regions below, chain))
 
 -- a region that is filled, split where it holds a row too many
-split_chain : (schema : Schema) (region : Region) (regions : List Region) → IsFilled schema region → IsBelow schema.dims region regions → IsChain schema regions
+split_chain : (schema : Schema) (region : RegionRows) (regions : List RegionRows) → IsFilled schema region → IsBelow schema.dims region regions → IsChain schema regions
     → IsChain schema (split_region schema.dims schema.page_rows region ++ regions)
 split_chain schema region regions filled below chain = elim (cases_Bool (nat_le (length region.rows) schema.page_rows)) [
   | inl t ↦
@@ -126,13 +126,13 @@ split_chain schema region regions filled below chain = elim (cases_Bool (nat_le 
         let same : suc n - 1 ≡ n = omega arith in
         rw same (two_chain schema region filled n lt left right regions below chain)
 
-split_begins : (dims c : ℕ) (region : Region) (regions : List Region) → BeginsWith region.first (split_region dims c region ++ regions)
+split_begins : (dims c : ℕ) (region : RegionRows) (regions : List RegionRows) → BeginsWith region.first (split_region dims c region ++ regions)
 split_begins dims c region regions = elim (cases_Bool (nat_le (length region.rows) c)) [
   | inl t ↦ rw t refl
   | inr f ↦ rw f refl
 ]
 
-split_rows : (dims c : ℕ) (region : Region) → rows_of (split_region dims c region) ≡ region.rows
+split_rows : (dims c : ℕ) (region : RegionRows) → rows_of (split_region dims c region) ≡ region.rows
 split_rows dims c region = elim (cases_Bool (nat_le (length region.rows) c)) [
   | inl t ↦ rw t (append-nil region.rows)
   | inr f ↦ rw f (ap (λ (rest : List Row). take ((c + 2) / 2) region.rows ++ rest) (append-nil (drop ((c + 2) / 2) region.rows)) ∙ take-append-drop ((c + 2) / 2) region.rows)
@@ -142,7 +142,7 @@ module _ (schema : Schema) (row : Row) (good : IsRow schema.dims (measures_of sc
   abbrev key : Key
   key = key_of schema.dims row
 
-  filled_insert : (region : Region) → IsRegion schema region → ¬ (IsBefore key region.first) → AllByRecursion (λ other. other.number < row.number) region.rows
+  filled_insert : (region : RegionRows) → IsRegion schema region → ¬ (IsBefore key region.first) → AllByRecursion (λ other. other.number < row.number) region.rows
       → IsFilled schema (record { first = region.first; rows = insert_row schema.dims row region.rows })
   filled_insert region h upto numbers =
       let few = h.few in
@@ -155,7 +155,7 @@ module _ (schema : Schema) (row : Row) (good : IsRow schema.dims (measures_of sc
             (all_insert schema.dims row (λ other. ¬ (IsBefore (key_of schema.dims other) region.first)) region.rows (all_of_keys schema.dims (λ k. ¬ (IsBefore k region.first)) region.rows h.within) upto);
       }
 
-  below_insert : (region : Region) (regions : List Region) → IsBelow schema.dims region regions → IsBeforeNext key (firsts_of regions)
+  below_insert : (region : RegionRows) (regions : List RegionRows) → IsBelow schema.dims region regions → IsBeforeNext key (firsts_of regions)
       → IsBelow schema.dims (record { first = region.first; rows = insert_row schema.dims row region.rows }) regions
   below_insert region [] h before = tt
   below_insert region (next ∷ regions) h before = (
@@ -165,16 +165,16 @@ module _ (schema : Schema) (row : Row) (good : IsRow schema.dims (measures_of sc
   )
 
   -- what insertion does to regions of which the first begins with a key
-  pub record IsInserted (first : Key) (old new : List Region) : Type 0 where
+  pub record IsInserted (first : Key) (old new : List RegionRows) : Type 0 where
     pub chain : IsChain schema new
     pub begins : BeginsWith first new
     pub rows : IsPermutation (row ∷ rows_of old) (rows_of new)
 
-  insert_here : (region : Region) (regions : List Region) → IsChain schema (region ∷ regions) → ¬ (IsBefore key region.first) → AllByRecursion (λ other. other.number < row.number) (rows_of (region ∷ regions))
+  insert_here : (region : RegionRows) (regions : List RegionRows) → IsChain schema (region ∷ regions) → ¬ (IsBefore key region.first) → AllByRecursion (λ other. other.number < row.number) (rows_of (region ∷ regions))
       → IsBeforeNext key (firsts_of regions) → IsInserted region.first (region ∷ regions) (insert_first schema.dims schema.page_rows row (region ∷ regions))
   insert_here region regions chain upto numbers before =
       let filled = filled_insert region chain.0 upto (all_left (λ other. other.number < row.number) region.rows (rows_of regions) numbers) in
-      let whole : Region = record { first = region.first; rows = insert_row schema.dims row region.rows } in
+      let whole : RegionRows = record { first = region.first; rows = insert_row schema.dims row region.rows } in
       let same : rows_of (split_region schema.dims schema.page_rows whole ++ regions) ≡ insert_row schema.dims row region.rows ++ rows_of regions =
       rows_append (split_region schema.dims schema.page_rows whole) regions ∙ ap (λ (rows : List Row). rows ++ rows_of regions) (split_rows schema.dims schema.page_rows whole) in
       record {
@@ -184,7 +184,7 @@ module _ (schema : Schema) (row : Row) (good : IsRow schema.dims (measures_of sc
             (IsPermutation-append_left (rows_of regions) (row ∷ region.rows) (insert_row schema.dims row region.rows) (moved_insert schema.dims row region.rows));
       }
 
-  pub inserted : (region : Region) (regions : List Region) → IsChain schema (region ∷ regions) → ¬ (IsBefore key region.first) → AllByRecursion (λ other. other.number < row.number) (rows_of (region ∷ regions))
+  pub inserted : (region : RegionRows) (regions : List RegionRows) → IsChain schema (region ∷ regions) → ¬ (IsBefore key region.first) → AllByRecursion (λ other. other.number < row.number) (rows_of (region ∷ regions))
       → IsInserted region.first (region ∷ regions) (insert schema.dims schema.page_rows row (region ∷ regions))
   inserted region [] chain upto numbers = insert_here region [] chain upto numbers tt
   inserted region (next ∷ regions) chain upto numbers = elim (cases_Bool (precedes key next.first)) [
@@ -213,7 +213,7 @@ nat_eq_flips a b = elim (cases_eq a b) [
 ]
 
 -- insertion of the next row of a table keeps its regions
-pub insert_keeps : (schema : Schema) (next : ℕ) (row : Row) (regions : List Region) → AreRegions schema next regions → IsRow schema.dims (measures_of schema) row → row.number ≡ next
+pub insert_keeps : (schema : Schema) (next : ℕ) (row : Row) (regions : List RegionRows) → AreRegions schema next regions → IsRow schema.dims (measures_of schema) row → row.number ≡ next
     → AreRegions schema (next + 1) (insert schema.dims schema.page_rows row regions) × IsPermutation (row ∷ rows_of regions) (rows_of (insert schema.dims schema.page_rows row regions))
 insert_keeps schema next row [] h good is = let none = h.begins in cc
 insert_keeps schema next row (region ∷ regions) h good is =

@@ -5,7 +5,7 @@ use Rattle.ub_region.proofs.SpanFacts.{rows_within_at, within_one}
 use Rattle.ub_region.specs.Laws.{FirstKeysAscend, EachAddressHasASpan, RowsLieInTheirSpans, InsertionKeepsRegions, InsertionAddsTheRow, RemovalKeepsRegions, RemovalTakesTheRow}
 use Rattle.ub_region.specs.Regions.{firsts_of}
 use Rattle.ub_table.proofs.Laws.{ascending_get}
-use Rattle.ub_table.specs.Region.{Region, key_of}
+use Rattle.ub_table.specs.Region.{RegionRows, key_of}
 use Rattle.ub_table.specs.declared.row.Key.{Key}
 use Rattle.ub_table.specs.declared.row.Row.{Row}
 use Rattle.ub_zaddr.specs.Address.{last_address}
@@ -17,9 +17,9 @@ pub use Rattle.ub_region.proofs.RowFacts.{all_insert, all_keys, all_of_keys, all
 pub use Rattle.ub_region.proofs.SpanFacts.{IsWithin, rows_within}
 pub use Rattle.ub_region.proofs.TableFacts.{insert_table, remove_table}
 
-first_at : (regions : List Region) (i : ℕ) (region : Region) → slice_get regions i ≡ Some region → slice_get (firsts_of regions) i ≡ Some region.first
+first_at : (regions : List RegionRows) (i : ℕ) (region : RegionRows) → slice_get regions i ≡ Some region → slice_get (firsts_of regions) i ≡ Some region.first
 first_at [] i region at = cc
-first_at (r ∷ regions) zero region at = let same : r ≡ region = cc in ap (λ (x : Region). Some x.first) same
+first_at (r ∷ regions) zero region at = let same : r ≡ region = cc in ap (λ (x : RegionRows). Some x.first) same
 first_at (r ∷ regions) (suc i) region at = first_at regions i region at
 
 pub first_keys_ascend : FirstKeysAscend

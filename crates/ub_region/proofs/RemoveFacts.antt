@@ -9,7 +9,7 @@ use Rattle.std.specs.List.{AllByRecursion}
 use Rattle.std.specs.List.Sorted.{IsPermutation}
 use Rattle.ub_table.proofs.Laws.{before_of, precedes_of, before_trans}
 use Rattle.ub_table.specs.Keys.{IsBefore, precedes, is_same}
-use Rattle.ub_table.specs.Region.{Region, IsRegion, IsRow, key_of, keys_of, measures_of}
+use Rattle.ub_table.specs.Region.{RegionRows, IsRegion, IsRow, key_of, keys_of, measures_of}
 use Rattle.ub_table.specs.declared.row.Key.{Key}
 use Rattle.ub_table.specs.declared.row.Row.{Row}
 use Rattle.ub_table.specs.declared.schema.Schema.{Schema}
@@ -21,25 +21,25 @@ use Rattle.ub_region.proofs.ChainFacts.{IsBelow, IsChain, chain_of, each_of, fir
 use Rattle.ub_region.proofs.InsertFacts.{nat_eq_flips}
 
 -- regions in order, of which the first begins as that of the old ones
-pub record IsChanged (schema : Schema) (old new : List Region) : Type 0 where
+pub record IsChanged (schema : Schema) (old new : List RegionRows) : Type 0 where
   pub chain : IsChain schema new
   pub begins : slice_get (firsts_of new) 0 ≡ slice_get (firsts_of old) 0
 
-below_changed : (dims : ℕ) (region : Region) (old new : List Region) → slice_get (firsts_of new) 0 ≡ slice_get (firsts_of old) 0 → IsBelow dims region old → IsBelow dims region new
+below_changed : (dims : ℕ) (region : RegionRows) (old new : List RegionRows) → slice_get (firsts_of new) 0 ≡ slice_get (firsts_of old) 0 → IsBelow dims region old → IsBelow dims region new
 below_changed dims region [] [] same h = tt
 below_changed dims region [] (x ∷ new) same h = cc
 below_changed dims region (next ∷ old) new same h = below_same dims region next.first (next ∷ old) new refl same h
 
 -- a region put before regions that are changed
-changed_after : (schema : Schema) (region : Region) (old new : List Region) → IsChain schema (region ∷ old) → IsChanged schema old new → IsChanged schema (region ∷ old) (region ∷ new)
+changed_after : (schema : Schema) (region : RegionRows) (old new : List RegionRows) → IsChain schema (region ∷ old) → IsChanged schema old new → IsChanged schema (region ∷ old) (region ∷ new)
 changed_after schema region old new chain h =
     record { chain = (chain.0, below_changed schema.dims region old new h.begins chain.1, h.chain); begins = refl }
 
-changed_twice : (schema : Schema) (a b c : List Region) → IsChanged schema a b → IsChanged schema b c → IsChanged schema a c
+changed_twice : (schema : Schema) (a b c : List RegionRows) → IsChanged schema a b → IsChanged schema b c → IsChanged schema a c
 changed_twice schema a b c h k = record { chain = k.chain; begins = k.begins ∙ h.begins }
 
 -- a row less in the region at an index
-without_row : (schema : Schema) (key : Key) (index : ℕ) (regions : List Region) → IsChain schema regions → IsChanged schema regions (change_from index (remove_first schema.dims key) regions)
+without_row : (schema : Schema) (key : Key) (index : ℕ) (regions : List RegionRows) → IsChain schema regions → IsChanged schema regions (change_from index (remove_first schema.dims key) regions)
 without_row schema key zero [] chain = record { chain = tt; begins = refl }
 without_row schema key (suc index) [] chain = record { chain = tt; begins = refl }
 without_row schema key zero (region ∷ regions) chain = record {
@@ -57,7 +57,7 @@ without_row schema key zero (region ∷ regions) chain = record {
           (all_remove schema.dims key (λ other. ¬ (IsBefore (key_of schema.dims other) region.first)) region.rows (all_of_keys schema.dims (λ k. ¬ (IsBefore k region.first)) region.rows chain.0.within));
     }
 
-    below_without : (regions : List Region) → IsBelow schema.dims region regions → IsBelow schema.dims (record { first = region.first; rows = remove_row schema.dims key region.rows }) regions
+    below_without : (regions : List RegionRows) → IsBelow schema.dims region regions → IsBelow schema.dims (record { first = region.first; rows = remove_row schema.dims key region.rows }) regions
     below_without [] h = tt
     below_without (next ∷ regions) h = (
       h.0,
@@ -68,7 +68,7 @@ without_row schema key (suc index) (region ∷ regions) chain =
     changed_after schema region regions (change_from index (remove_first schema.dims key) regions) chain (without_row schema key index regions chain.2)
 
 -- the region at an index joined with the next
-joined : (schema : Schema) (index : ℕ) (regions : List Region) → IsChain schema regions → fits_next schema.page_rows (drop index regions) ≡ true
+joined : (schema : Schema) (index : ℕ) (regions : List RegionRows) → IsChain schema regions → fits_next schema.page_rows (drop index regions) ≡ true
     → IsChanged schema regions (change_from index join_first regions)
 joined schema zero [] chain fits = cc
 joined schema (suc index) [] chain fits = cc
@@ -90,7 +90,7 @@ joined schema zero (a ∷ b ∷ regions) chain fits = record {
       within = rw (keys_append schema.dims a.rows b.rows) (all_append (λ key. ¬ (IsBefore key a.first)) (keys_of schema.dims a.rows) (keys_of schema.dims b.rows) chain.0.within b_within);
     }
 
-    below_joined : (regions : List Region) → IsBelow schema.dims b regions → IsBelow schema.dims (record { first = a.first; rows = a.rows ++ b.rows }) regions
+    below_joined : (regions : List RegionRows) → IsBelow schema.dims b regions → IsBelow schema.dims (record { first = a.first; rows = a.rows ++ b.rows }) regions
     below_joined [] h = tt
     below_joined (next ∷ regions) h = (
       before_trans a.first b.first next.first chain.1.0 h.0,
@@ -100,7 +100,7 @@ joined schema zero (a ∷ b ∷ regions) chain fits = record {
 joined schema (suc index) (region ∷ regions) chain fits =
     changed_after schema region regions (change_from index join_first regions) chain (joined schema index regions chain.2 fits)
 
-joined_rows : (index : ℕ) (regions : List Region) → rows_of (change_from index join_first regions) ≡ rows_of regions
+joined_rows : (index : ℕ) (regions : List RegionRows) → rows_of (change_from index join_first regions) ≡ rows_of regions
 joined_rows zero [] = refl
 joined_rows (suc index) [] = refl
 joined_rows zero (a ∷ []) = refl
@@ -108,25 +108,25 @@ joined_rows zero (a ∷ b ∷ regions) = append_assoc a.rows b.rows (rows_of reg
 joined_rows (suc index) (region ∷ regions) = ap (λ (rows : List Row). region.rows ++ rows) (joined_rows index regions)
 
 -- a region with few rows finds another, or stays
-pub record IsSettled (schema : Schema) (old new : List Region) : Type 0 where
+pub record IsSettled (schema : Schema) (old new : List RegionRows) : Type 0 where
   pub changed : IsChanged schema old new
   pub rows : rows_of new ≡ rows_of old
 
-settled_none : (schema : Schema) (regions : List Region) → IsChain schema regions → IsSettled schema regions regions
+settled_none : (schema : Schema) (regions : List RegionRows) → IsChain schema regions → IsSettled schema regions regions
 settled_none schema regions chain = record { changed = record { chain = chain; begins = refl }; rows = refl }
 
-settled_join : (schema : Schema) (index : ℕ) (regions : List Region) → IsChain schema regions → fits_next schema.page_rows (drop index regions) ≡ true
+settled_join : (schema : Schema) (index : ℕ) (regions : List RegionRows) → IsChain schema regions → fits_next schema.page_rows (drop index regions) ≡ true
     → IsSettled schema regions (change_from index join_first regions)
 settled_join schema index regions chain fits = record { changed = joined schema index regions chain fits; rows = joined_rows index regions }
 
-settled_before : (schema : Schema) (index : ℕ) (regions : List Region) → IsChain schema regions → IsSettled schema regions (join_before schema.page_rows index regions)
+settled_before : (schema : Schema) (index : ℕ) (regions : List RegionRows) → IsChain schema regions → IsSettled schema regions (join_before schema.page_rows index regions)
 settled_before schema zero regions chain = settled_none schema regions chain
 settled_before schema (suc index) regions chain = elim (cases_Bool (fits_next schema.page_rows (drop index regions))) [
   | inl t ↦ rw t (settled_join schema index regions chain t)
   | inr f ↦ rw f (settled_none schema regions chain)
 ]
 
-pub settled : (schema : Schema) (index : ℕ) (regions : List Region) → IsChain schema regions → IsSettled schema regions (settle schema.page_rows index regions)
+pub settled : (schema : Schema) (index : ℕ) (regions : List RegionRows) → IsChain schema regions → IsSettled schema regions (settle schema.page_rows index regions)
 settled schema index regions chain = elim (cases_Bool (is_small schema.page_rows (drop index regions))) [
   | inl small ↦ elim (cases_Bool (fits_next schema.page_rows (drop index regions))) [
     | inl t ↦ rw (small, t) (settled_join schema index regions chain t)
@@ -136,7 +136,7 @@ settled schema index regions chain = elim (cases_Bool (is_small schema.page_rows
 ]
 
 -- no row of regions in order is before the first key
-pub all_from : (schema : Schema) (region : Region) (regions : List Region) → IsChain schema (region ∷ regions)
+pub all_from : (schema : Schema) (region : RegionRows) (regions : List RegionRows) → IsChain schema (region ∷ regions)
     → AllByRecursion (λ row. ¬ (IsBefore (key_of schema.dims row) region.first)) (rows_of (region ∷ regions))
 all_from schema region [] chain =
     all_append (λ row. ¬ (IsBefore (key_of schema.dims row) region.first)) region.rows [] (all_of_keys schema.dims (λ k. ¬ (IsBefore k region.first)) region.rows chain.0.within) tt
@@ -172,7 +172,7 @@ module _ (schema : Schema) (key : Key) where
     pub key_is : key_of schema.dims row ≡ key
     pub rows : IsPermutation old (row ∷ new)
 
-  taken_here : (region : Region) (others : List Row) → has_key schema.dims key region.rows ≡ true → IsTaken (region.rows ++ others) (remove_row schema.dims key region.rows ++ others)
+  taken_here : (region : RegionRows) (others : List Row) → has_key schema.dims key region.rows ≡ true → IsTaken (region.rows ++ others) (remove_row schema.dims key region.rows ++ others)
   taken_here region others has =
       let found = moved_remove schema.dims key region.rows has in
       record {
@@ -181,7 +181,7 @@ module _ (schema : Schema) (key : Key) where
         rows = IsPermutation-append_left others region.rows (found.0 ∷ remove_row schema.dims key region.rows) found.2;
       }
 
-  taken : (region : Region) (regions : List Region) → IsChain schema (region ∷ regions) → has_key schema.dims key (rows_of (region ∷ regions)) ≡ true
+  taken : (region : RegionRows) (regions : List RegionRows) → IsChain schema (region ∷ regions) → has_key schema.dims key (rows_of (region ∷ regions)) ≡ true
       → IsTaken (rows_of (region ∷ regions)) (rows_of (change_from (index_holding key (firsts_of (region ∷ regions))) (remove_first schema.dims key) (region ∷ regions)))
   taken region [] chain has = taken_here region [] (left_true (has_key schema.dims key region.rows) false (sym (has_append schema.dims key region.rows []) ∙ has) refl)
   taken region (next ∷ regions) chain has =
@@ -208,10 +208,10 @@ module _ (schema : Schema) (key : Key) where
       ]
 
 -- removal keeps the regions of a table
-pub remove_none : (dims c : ℕ) (key : Key) (regions : List Region) → has_key dims key (rows_of regions) ≡ false → remove dims c key regions ≡ regions
+pub remove_none : (dims c : ℕ) (key : Key) (regions : List RegionRows) → has_key dims key (rows_of regions) ≡ false → remove dims c key regions ≡ regions
 remove_none dims c key regions f = rw f refl
 
-pub remove_rows : (schema : Schema) (next : ℕ) (key : Key) (regions : List Region) → AreRegions schema next regions → has_key schema.dims key (rows_of regions) ≡ true
+pub remove_rows : (schema : Schema) (next : ℕ) (key : Key) (regions : List RegionRows) → AreRegions schema next regions → has_key schema.dims key (rows_of regions) ≡ true
     → IsChanged schema regions (remove schema.dims schema.page_rows key regions) × IsTaken schema key (rows_of regions) (rows_of (remove schema.dims schema.page_rows key regions))
 remove_rows schema next key [] h t = cc
 remove_rows schema next key (region ∷ regions) h t =
@@ -230,7 +230,7 @@ remove_rows schema next key (region ∷ regions) h t =
       },
     )
 
-pub remove_keeps : (schema : Schema) (next : ℕ) (key : Key) (regions : List Region) → AreRegions schema next regions → AreRegions schema next (remove schema.dims schema.page_rows key regions)
+pub remove_keeps : (schema : Schema) (next : ℕ) (key : Key) (regions : List RegionRows) → AreRegions schema next regions → AreRegions schema next (remove schema.dims schema.page_rows key regions)
 remove_keeps schema next key regions h = elim (cases_Bool (has_key schema.dims key (rows_of regions))) [
   | inl t ↦
       let new = remove schema.dims schema.page_rows key regions in
@@ -249,5 +249,5 @@ remove_keeps schema next key regions h = elim (cases_Bool (has_key schema.dims k
         numbered = (recursion_from_All (λ (r : Row). r.number < next) (taken.row ∷ rows_of new)
             (All-permutation (λ (r : Row). r.number < next) (rows_of regions) (taken.row ∷ rows_of new) taken.rows (All-from_recursion (λ (r : Row). r.number < next) (rows_of regions) h.numbered))).1;
       }
-  | inr f ↦ subst (λ (rs : List Region). AreRegions schema next rs) (sym (remove_none schema.dims schema.page_rows key regions f)) h
+  | inr f ↦ subst (λ (rs : List RegionRows). AreRegions schema next rs) (sym (remove_none schema.dims schema.page_rows key regions f)) h
 ]

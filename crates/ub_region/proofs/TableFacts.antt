@@ -10,7 +10,7 @@ use Rattle.std.proofs.Math.Seq.{get_or-append_seam}
 use Rattle.std.specs.List.{All, AllByRecursion, Contains}
 use Rattle.std.specs.List.Sorted.{IsStrictlyIncreasing}
 use Rattle.ub_bigmin.proofs.BoxLaws.{contains_one, one_contains}
-use Rattle.ub_table.specs.Region.{Region, IsRow, measures_of}
+use Rattle.ub_table.specs.Region.{RegionRows, IsRow, measures_of}
 use Rattle.ub_table.specs.declared.row.Key.{Key}
 use Rattle.ub_table.specs.declared.row.Row.{Row}
 use Rattle.ub_table.specs.declared.schema.Schema.{Schema}
@@ -52,7 +52,7 @@ numbers_below n rows others inner below =
         default (x ∷ rows) (suc k) d e lt = default rows k d e (omega arith)
 
 -- the table has its new row at the end
-pub insert_table : (schema : Schema) (next : ℕ) (row : Row) (regions : List Region) (rows : List Row) → AreRegions schema next regions → AreTableRows regions rows
+pub insert_table : (schema : Schema) (next : ℕ) (row : Row) (regions : List RegionRows) (rows : List Row) → AreRegions schema next regions → AreTableRows regions rows
     → IsRow schema.dims (measures_of schema) row → row.number ≡ next → AreTableRows (insert schema.dims schema.page_rows row regions) (rows ++ row ∷ [])
 insert_table schema next row regions rows h table good is =
     let new = rows_of (insert schema.dims schema.page_rows row regions) in
@@ -103,7 +103,7 @@ map_filter p (row ∷ rows) = elim (cases_Bool (p row.number)) [
 ]
 
 -- the table has all rows but the one of the key
-pub remove_table : (schema : Schema) (next : ℕ) (key : Key) (regions : List Region) (rows : List Row) → AreRegions schema next regions → AreTableRows regions rows
+pub remove_table : (schema : Schema) (next : ℕ) (key : Key) (regions : List RegionRows) (rows : List Row) → AreRegions schema next regions → AreTableRows regions rows
     → has_key schema.dims key (rows_of regions) ≡ true → AreTableRows (remove schema.dims schema.page_rows key regions) (without_number key.number rows)
 remove_table schema next key regions rows h table has =
     let new = rows_of (remove schema.dims schema.page_rows key regions) in

@@ -1,5 +1,9 @@
+pub mod Columns
+pub mod Held
 pub mod Joins
+pub mod Lanes
 pub mod Laws
+pub mod RegionPage
 pub mod Regions
 pub mod Rows
 pub mod Spans

@@ -1,17 +1,25 @@
 // The regions of a UB-tree (Bayer 1997), without a store: which keys a region holds, where a row goes in, how a region is split
 // and joined (the definitions stand in specs/: `Regions`, `Rows`, `Joins`, `Spans`; the functions of `law` ensure their laws);
-// what those that look for a region are told of it (`Region`), and the rows of one region in memory.
+// what those that look for a region are told of it (`Region`), and what an entry of an index says (`Entry`); the rows of one region
+// in memory; and the page of one (`RegionPage`), which has one spelling (`RegionPage` in specs/): a reader takes what the writer
+// spells and refuses all else.
 //
-// What belongs here is what is true of regions as lists. Where a region's page is, and how it is read and written, stands
-// above; what names, rows and keys are, below. Nothing in this crate takes memory.
+// What belongs here is one region, or regions as lists. Where a region's page is, and where pages are kept, stands above; what names,
+// rows and keys are, and the bytes of a page, below. Nothing in this crate takes memory.
 
 #![tactic(auto)]
 
+mod columns;
+pub mod entry;
 pub mod keys;
 pub mod law;
+pub mod masks;
 pub mod region;
+pub mod region_page;
 pub mod rows;
 
+pub use entry::Entry;
 pub use keys::{first_between, index_in, is_equal, is_key_of};
 pub use region::{ORIGIN, Region};
+pub use region_page::{RegionPage, write_region};
 pub use rows::{Halves, Rows};

@@ -28,7 +28,7 @@ use Rattle.ub_script.specs.Text.{deleted_text, inserted_text, reply}
 use Rattle.ub_script.specs.declared.fault.RunFault.TheVariants as run
 use Rattle.ub_store.specs.declared.fault.StoreFault.TheVariants as store
 use Rattle.ub_table.proofs.Laws.{fitting_coordinate}
-use Rattle.ub_table.specs.Region.{Region, key_of}
+use Rattle.ub_table.specs.Region.{RegionRows, key_of}
 use Rattle.ub_table.specs.Value.{axes_of, coordinate, fits}
 use Rattle.ub_table.specs.declared.row.Row.{Row}
 use Rattle.ub_table.specs.declared.row.TheConstants.{MAX_ROW_NUMBER}
@@ -217,7 +217,7 @@ stand_row old new s row is inserted = record {
   schema_is = is.schema_is ∙ sym inserted.schema;
   rows_are = inserted.table s.table.rows is.rows_are;
   regions_are = sym (inserted.regions_are ∙ ap (λ (x : Schema). insert x.dims x.page_rows row (regions old)) (sym is.schema_is)
-      ∙ ap (λ (rs : List Region). insert s.table.schema.dims s.table.schema.page_rows row rs) (sym is.regions_are));
+      ∙ ap (λ (rs : List RegionRows). insert s.table.schema.dims s.table.schema.page_rows row rs) (sym is.regions_are));
   next_is = ap (λ (n : ℕ). n + 1) is.next_is ∙ sym inserted.next;
 }
 

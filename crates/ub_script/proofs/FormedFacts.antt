@@ -18,7 +18,7 @@ use Rattle.ub_script.specs.Loop.{Makes}
 use Rattle.ub_script.specs.Text.{answer_text}
 use Rattle.ub_table.specs.declared.schema.Schema.{Schema}
 use Rattle.ub_tree.proofs.Laws.{traced_gives}
-use Rattle.ub_tree.specs.Spans.{Region as Span}
+use Rattle.ub_tree.specs.Spans.{Region}
 use Rattle.ub_tree.specs.Told.{AreAnswers}
 use Rattle.ub_tree.specs.View.{TreeView, IsSound, region_count, regions}
 use Rattle.ub_tree.specs.declared.read_fault.ReadFault.{ReadFault}
@@ -33,7 +33,7 @@ works seen old x fault same refuses =
     ]
 
 -- what one tree tells the other one tells
-answers_seen : (seen t : TreeView) (p : PlanView) (after : Option Span) (met : List Span) → IsSameBut seen t → AreAnswers p.covering.boxes t after met → AreAnswers p.covering.boxes seen after met
+answers_seen : (seen t : TreeView) (p : PlanView) (after : Option Region) (met : List Region) → IsSameBut seen t → AreAnswers p.covering.boxes t after met → AreAnswers p.covering.boxes seen after met
 answers_seen seen t p after [] same are = traced_gives seen t same p.covering.boxes after None are
 answers_seen seen t p after (found ∷ more) same are =
     (traced_gives seen t same p.covering.boxes after (Some found) are.0, answers_seen seen t p (Some found) more same are.1)

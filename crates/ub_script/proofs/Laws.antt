@@ -27,7 +27,7 @@ use Rattle.ub_script.specs.Run.{IsAnswer, IsEnded, AreAnswers, FirstAt, FirstOve
 use Rattle.ub_script.specs.Laws.{IsUnchanged, QueriesFetchOneNumberOfPages, OutcomesHaveOneReply, StatementsHaveOneReplyEach, ScriptsHaveOneEnd, ScriptsHaveOneSummary, CutTextsAreAFront, StoppedTextsAreAFront, StoppedTextsAreWhole, UnchangedTablesStay, FullTablesStay}
 use Rattle.ub_script.specs.Script.{IsTheOutcome, Outcome}
 use Rattle.ub_script.specs.Text.{Reply, reply, answer_text, changed_by, deleted_text, IsExplainReply, IsQueryReply, IsTableReply, texts_of, pages_of, refused_in}
-use Rattle.ub_table.specs.Region.{Region}
+use Rattle.ub_table.specs.Region.{RegionRows}
 use Rattle.ub_table.specs.Table.{Table}
 use Rattle.ub_table.specs.declared.row.Row.{Row}
 use Rattle.ub_table.specs.declared.schema.Schema.{Schema}
@@ -51,7 +51,7 @@ same_reply a b text pages refused changed = whole a.text b.text a.pages b.pages 
     whole : (s t : List ℕ) (m n : ℕ) (x y : Bool) (c d : ℕ) → s ≡ t → m ≡ n → x ≡ y → c ≡ d → reply s m x c ≡ reply t n y d
     whole s t m n x y c d e f g h = rw (e, f, g, h) refl
 
-one_answer : (table : Table) (next : ℕ) (regions : List Region) (q : Asked) (first second : Reply) → AreRegions table.schema next regions → first.changed ≡ second.changed
+one_answer : (table : Table) (next : ℕ) (regions : List RegionRows) (q : Asked) (first second : Reply) → AreRegions table.schema next regions → first.changed ≡ second.changed
     → IsQueryReply table regions q first → IsQueryReply table regions q second → first ≡ second
 one_answer table next regions q first second are changed h k =
     let pages : first.pages ≡ second.pages = queries_fetch_one_number_of_pages table.schema next regions q first.pages second.pages are h.pages_are k.pages_are in
@@ -60,13 +60,13 @@ one_answer table next regions q first second are changed h k =
     ∙ ap (λ (n : ℕ). answer_text table.schema q k.rows n) pages ∙ sym k.text_is)
     pages (h.accepted ∙ sym k.accepted) changed
 
-one_explained : (table : Table) (regions : List Region) (q : Asked) (first second : Reply) → first.changed ≡ second.changed → IsExplainReply table regions q first
+one_explained : (table : Table) (regions : List RegionRows) (q : Asked) (first second : Reply) → first.changed ≡ second.changed → IsExplainReply table regions q first
     → IsExplainReply table regions q second → first ≡ second
 one_explained table regions q first second changed h k =
     same_reply first second (explains_have_one_text table.schema (plan_of table.schema q) regions first.text second.text h.explained k.explained)
     (h.pages_are ∙ sym k.pages_are) (h.accepted ∙ sym k.accepted) changed
 
-one_asked : (is_explained : Bool) (table : Table) (next : ℕ) (regions : List Region) (q : Asked) (first second : Reply) → AreRegions table.schema next regions → first.changed ≡ second.changed
+one_asked : (is_explained : Bool) (table : Table) (next : ℕ) (regions : List RegionRows) (q : Asked) (first second : Reply) → AreRegions table.schema next regions → first.changed ≡ second.changed
     → IsTableReply is_explained table regions q first → IsTableReply is_explained table regions q second → first ≡ second
 one_asked true table next regions q first second are changed h k = one_explained table regions q first second changed h k
 one_asked false table next regions q first second are changed h k = one_answer table next regions q first second are changed h k

@@ -20,7 +20,7 @@ use Rattle.ub_script.specs.Text.{ArePages, Reply, IsTableReply, answer_text}
 use Rattle.ub_script.specs.declared.fault.RunFault.{RunFault}
 use Rattle.ub_script.specs.declared.fault.RunFault.TheVariants.{Memory, Write, Tree}
 use Rattle.ub_script.specs.declared.script.Summary.{Summary}
-use Rattle.ub_table.specs.Region.{Region}
+use Rattle.ub_table.specs.Region.{RegionRows}
 use Rattle.ub_table.specs.declared.axes.Axes.{Axes}
 use Rattle.ub_table.specs.declared.schema.Schema.{Schema}
 use Rattle.ub_tree.specs.Placed.{Placed}
@@ -31,13 +31,13 @@ use Rattle.ub_tree.specs.declared.fault.TreeFault.{TreeFault}
 pages_of : (p : PlanView) (old new : TreeView) (h : IsFetchedBy p (begun old) new) → length new.trace.pages ≡ length h.visits
 pages_of p old new h =
     ap (λ (ns : List ℕ). length ns) h.trace_is ∙ length-map h.visited (λ (region : Placed). region.page) ∙ sym (length-map h.visited (λ (region : Placed). region.region))
-    ∙ ap (λ (rs : List Region). length rs) h.regions_are ∙ length-map h.visits (λ (span : Span). span.region)
+    ∙ ap (λ (rs : List RegionRows). length rs) h.regions_are ∙ length-map h.visits (λ (span : Span). span.region)
 
 -- the visits of a plan over a tree are those over the regions in which its table stands
 pub pages_on : (t : TreeView) (s : Stand) (p : PlanView) (q : Asked) (visits : List Span) (n : ℕ) → IsStandOf t s → p ≡ plan_of t.schema q
     → AreVisits t.schema p (regions t) visits → n ≡ length visits → ArePages s.table.schema s.regions q n
 pages_on t s p q visits n is planned are pages =
-    subst (λ (x : Schema). ArePages x s.regions q n) (sym is.schema_is) (subst (λ (rs : List Region). ArePages t.schema rs q n) (sym is.regions_are) (record {
+    subst (λ (x : Schema). ArePages x s.regions q n) (sym is.schema_is) (subst (λ (rs : List RegionRows). ArePages t.schema rs q n) (sym is.regions_are) (record {
       visits = visits;
       visits_are = subst (λ (plan : PlanView). AreVisits t.schema plan (regions t) visits) planned are;
       pages_are = pages;
@@ -67,7 +67,7 @@ reply_of_explain t s p q text after is planned kept explained = (
   0,
   record {
     explained = subst (λ (x : Schema). IsExplained x (plan_of x q) s.regions text) (sym is.schema_is)
-        (subst (λ (rs : List Region). IsExplained t.schema (plan_of t.schema q) rs text) (sym is.regions_are) (rw planned at explained));
+        (subst (λ (rs : List RegionRows). IsExplained t.schema (plan_of t.schema q) rs text) (sym is.regions_are) (rw planned at explained));
     pages_are = refl;
     accepted = refl;
   },

@@ -20,7 +20,7 @@ use Rattle.ub_script.specs.declared.fault.RunFault.{RunFault}
 use Rattle.ub_script.specs.declared.fault.RunFault.TheVariants.{Tree}
 use Rattle.ub_script.specs.declared.script.Summary.{Summary}
 use Rattle.ub_table.specs.Name.{IsName}
-use Rattle.ub_table.specs.Region.{Region, IsRow, measures_of}
+use Rattle.ub_table.specs.Region.{RegionRows, IsRow, measures_of}
 use Rattle.ub_table.specs.Table.{Table, IsInOrder}
 use Rattle.ub_table.specs.Value.{axes_of}
 use Rattle.ub_table.specs.declared.row.Row.{Row}
@@ -30,7 +30,7 @@ use Rattle.ub_tree.specs.declared.fault.TreeFault.TheVariants.{Full}
 
 -- no two numbers of pages are fetched for the same query
 abbrev pub QueriesFetchOneNumberOfPages : Type 0
-QueriesFetchOneNumberOfPages = (schema : Schema) (next : ℕ) (regions : List Region) (q : Asked) (first second : ℕ)
+QueriesFetchOneNumberOfPages = (schema : Schema) (next : ℕ) (regions : List RegionRows) (q : Asked) (first second : ℕ)
     → AreRegions schema next regions
     → ArePages schema regions q first → ArePages schema regions q second → first ≡ second
 

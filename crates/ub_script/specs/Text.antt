@@ -11,7 +11,7 @@ use Rattle.ub_query.specs.Meaning.{IsMeaning, titles}
 use Rattle.ub_query.specs.Shape.{Asked}
 use Rattle.ub_query.specs.declared.cell.Cell.{Cell}
 use Rattle.ub_query.specs.declared.cell.Cell.TheVariants.{Number, Null}
-use Rattle.ub_table.specs.Region.{Region}
+use Rattle.ub_table.specs.Region.{RegionRows}
 use Rattle.ub_table.specs.Table.{Table}
 use Rattle.ub_table.specs.declared.schema.Schema.{Schema}
 
@@ -73,13 +73,13 @@ abbrev pub reply : List ℕ → ℕ → Bool → ℕ → Reply
 reply text pages is_refused changed = record { text = text; pages = pages; is_refused = is_refused; changed = changed }
 
 -- so many regions of a table are visited by the plan of a query, and so many pages are fetched for it
-pub record ArePages (schema : Schema) (regions : List Region) (q : Asked) (pages : ℕ) : Type 0 where
+pub record ArePages (schema : Schema) (regions : List RegionRows) (q : Asked) (pages : ℕ) : Type 0 where
   pub visits : List Span
   pub visits_are : AreVisits schema (plan_of schema q) regions visits
   pub pages_are : pages ≡ length visits
 
 -- the reply to a query on a table in these regions: the rows of cells that it means, and how many pages are fetched for it
-pub record IsQueryReply (table : Table) (regions : List Region) (q : Asked) (r : Reply) : Type 0 where
+pub record IsQueryReply (table : Table) (regions : List RegionRows) (q : Asked) (r : Reply) : Type 0 where
   pub rows : List (List Cell)
   pub meant : IsMeaning table q rows
   pub pages_are : ArePages table.schema regions q r.pages
@@ -87,13 +87,13 @@ pub record IsQueryReply (table : Table) (regions : List Region) (q : Asked) (r :
   pub accepted : r.is_refused ≡ false
 
 -- the reply to an EXPLAIN of a query: how its plan reads the regions, of which none is fetched
-pub record IsExplainReply (table : Table) (regions : List Region) (q : Asked) (r : Reply) : Type 0 where
+pub record IsExplainReply (table : Table) (regions : List RegionRows) (q : Asked) (r : Reply) : Type 0 where
   pub explained : IsExplained table.schema (plan_of table.schema q) regions r.text
   pub pages_are : r.pages ≡ 0
   pub accepted : r.is_refused ≡ false
 
 -- the reply to a query that is explained, or answered
-abbrev pub IsTableReply : Bool → Table → List Region → Asked → Reply → Type 0
+abbrev pub IsTableReply : Bool → Table → List RegionRows → Asked → Reply → Type 0
 IsTableReply true table regions q r = IsExplainReply table regions q r
 IsTableReply false table regions q r = IsQueryReply table regions q r
 

@@ -42,7 +42,7 @@ use Rattle.ub_tree.specs.Old.{AreOldPages}
 use Rattle.ub_tree.specs.Opened.{IsPassing}
 use Rattle.ub_tree.specs.Placed.{Placed, regions_in}
 use Rattle.ub_tree.specs.Stored.{AreSoundPages}
-use Rattle.ub_table.specs.Region.{Region}
+use Rattle.ub_table.specs.Region.{RegionRows}
 
 no_next : (words : List (List ℕ)) (lo hi z : List ℕ) → AsksHelpAlone words → AsksNext words lo hi z → ⊥
 no_next words lo hi z alone (inl by_clap) = no_help_taken words by_clap.1.0 alone
@@ -257,7 +257,7 @@ module _ (version next : ℕ) (schema : Schema) (placed : List Placed) where
   old_pages torn from stored is = absurd is
 
 -- a table file that holds the pages of a closed table is told so
-closed_table : (held : Held) (left : List (List ℕ)) (schema : Schema) (placed : List Placed) (regions : List Region) (next : ℕ) → HasPages held left
+closed_table : (held : Held) (left : List (List ℕ)) (schema : Schema) (placed : List Placed) (regions : List RegionRows) (next : ℕ) → HasPages held left
     → AreSoundPages left schema placed next → regions_in placed ≡ regions → IsClosedTable held schema regions next
 closed_table untold left schema placed regions next holds sound same = tt
 closed_table (pages all) left schema placed regions next holds sound same =

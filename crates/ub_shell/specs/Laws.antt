@@ -17,7 +17,7 @@ use Rattle.ub_script.specs.declared.script.Summary.{Summary}
 use Rattle.ub_store.specs.Facts.{StoreFacts, IsHonest}
 use Rattle.ub_table.specs.declared.axes.Axes.{Axes}
 use Rattle.ub_table.specs.declared.schema.Schema.{Schema}
-use Rattle.ub_table.specs.Region.{Region}
+use Rattle.ub_table.specs.Region.{RegionRows}
 use Rattle.ub_table.specs.declared.row.Row.{Row}
 use Rattle.ub_tree.specs.Old.{AreOldPages}
 use Rattle.ub_tree.specs.Placed.{Placed, regions_in}
@@ -106,7 +106,7 @@ UpgradingLeavesTheOldTable = (source table : List ℕ) (old new : FilesFacts) (o
     → UpgradesFile source table old new out out_now status → IsHeldStill (old.holds source) (new.holds source)
 
 -- where it is told what a path holds, it is the pages of a closed table of this schema, with these regions and this next number
-abbrev pub IsClosedTable : Held → Schema → List Region → ℕ → Type 0
+abbrev pub IsClosedTable : Held → Schema → List RegionRows → ℕ → Type 0
 IsClosedTable untold schema regions next = Unit {0}
 IsClosedTable (pages all) schema regions next = (placed : List Placed) × AreSoundPages all schema placed next × (regions_in placed ≡ regions)
 IsClosedTable _ schema regions next = ⊥

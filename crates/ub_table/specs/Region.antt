@@ -10,7 +10,7 @@ use Rattle.ub_table.specs.declared.schema.Schema.{Schema}
 use Rattle.ub_zaddr.specs.Address.{address, last_address}
 
 -- a first key, and rows
-pub record Region : Type 0 where
+pub record RegionRows : Type 0 where
   pub first : Key
   pub rows : List Row
 
@@ -50,7 +50,7 @@ abbrev pub AreFrom : Key → List Key → Type 0
 AreFrom first keys = AllByRecursion (λ key. ¬ (IsBefore key first)) keys
 
 -- what a region of a table with this schema is
-pub record IsRegion (schema : Schema) (region : Region) : Type 0 where
+pub record IsRegion (schema : Schema) (region : RegionRows) : Type 0 where
   pub few : length region.rows ≤ schema.page_rows
   pub first : IsFirst schema.dims region.first
   pub rows : AllByRecursion (IsRow schema.dims (measures_of schema)) region.rows

@@ -24,19 +24,19 @@ use Rattle.ub_tetris.specs.declared.state.State.{State}
 use Rattle.ub_tetris.specs.inner.Kept.{TakesFirst}
 use Rattle.ub_tetris.specs.inner.Turns.{HasAskedNext, IsDue, awaited_of, is_due_by, view_by, view_of}
 use Rattle.ub_tree.specs.Placed.{Placed, entry_of}
-use Rattle.ub_tree.specs.Spans.{regions_of, Region as Span}
+use Rattle.ub_tree.specs.Spans.{regions_of, Region}
 use Rattle.ub_tree.specs.View.{TreeView, regions, spans_of}
 use Rattle.ub_zaddr.specs.Address.{last_address}
 
 -- the page that a region of a tree stands on
-pub placed_of : (t : TreeView) (span : Span) → Contains (spans_of t) span → (p : Placed) × Contains t.placed p × (p.page ≡ span.page) × (p.region.first ≡ span.first)
+pub placed_of : (t : TreeView) (span : Region) → Contains (spans_of t) span → (p : Placed) × Contains t.placed p × (p.page ≡ span.page) × (p.region.first ≡ span.first)
 placed_of t span there = among (last_address t.schema.dims) t.placed span there
   where
-    among : (last : ℕ) (placed : List Placed) (span : Span) → Contains (regions_of last (map entry_of placed)) span
+    among : (last : ℕ) (placed : List Placed) (span : Region) → Contains (regions_of last (map entry_of placed)) span
         → (p : Placed) × Contains placed p × (p.page ≡ span.page) × (p.region.first ≡ span.first)
     among last [] span there = absurd (contains_none span there)
     among last (p ∷ placed) span there = elim (contains_cases _ (regions_of last (map entry_of placed)) span there) [
-      | inl same ↦ (p, contains_here p placed, ap (λ (s : Span). s.page) same, ap (λ (s : Span). s.first) same)
+      | inl same ↦ (p, contains_here p placed, ap (λ (s : Region). s.page) same, ap (λ (s : Region). s.first) same)
       | inr later ↦ let (q, here, page, first) = among last placed span later in (q, contains_later p placed q here, page, first)
     ]
 

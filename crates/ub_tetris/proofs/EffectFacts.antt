@@ -9,7 +9,7 @@ use Rattle.ub_query.proofs.Laws.{all_weaker, contains_here}
 use Rattle.ub_store.specs.Facts.{raised}
 use Rattle.ub_store.specs.View.{Trace, IsFull}
 use Rattle.ub_store.specs.declared.fault.StoreFault.TheVariants as store
-use Rattle.ub_table.specs.Region.{Region}
+use Rattle.ub_table.specs.Region.{RegionRows}
 use Rattle.ub_tetris.specs.Effects.{AreAsked, AreTakenIn, Sweeps, IsSweepFault, IsAwaitedFault, as_reading, fetches_then, of_read}
 use Rattle.ub_tetris.specs.Sweep.{AwaitedRegion, SweepView, AreItsRegions}
 use Rattle.ub_tetris.specs.declared.fault.SweepFault.{SweepFault}
@@ -19,7 +19,7 @@ use Rattle.ub_tree.specs.Effects.{IsReadFault, IsSpanFault, IsTakenIn, HasNoted,
 use Rattle.ub_tree.specs.Reading.{fault_of_tree, read_store}
 use Rattle.ub_tree.specs.Told.{IsRegionOf}
 use Rattle.ub_tree.specs.View.{TreeView, KeepsTrace}
-use Rattle.ub_tree.specs.Spans.{Region as Span}
+use Rattle.ub_tree.specs.Spans.{Region}
 use Rattle.ub_tree.specs.declared.fault.TreeFault.{TreeFault}
 use Rattle.ub_tree.specs.declared.fault.TreeFault.TheVariants.{Full, Page, Store, Failed as HasFailed, Memory}
 use Rattle.ub_tree.specs.declared.read_fault.ReadFault.TheVariants as read
@@ -32,7 +32,7 @@ sweep_fault_before failed a b sweep.Failed h is = is
 
 -- ---- calls that fetch a region
 
-span_fault_before : (span : Span) (a b : TreeView) (fault : TreeFault) → IsTraced a b → IsSpanFault span b fault → IsSpanFault span a fault
+span_fault_before : (span : Region) (a b : TreeView) (fault : TreeFault) → IsTraced a b → IsSpanFault span b fault → IsSpanFault span a fault
 span_fault_before span a b Full h is = is
 span_fault_before span a b HasFailed h is = subst (λ (t : TreeView). IsSpanFault span t HasFailed) h is
 span_fault_before span a b Memory h is = tt
@@ -91,7 +91,7 @@ module _ {T : Type 0} (r : Result T SweepFault) (s new_s : SweepView) (a : Await
 
 -- the region was read
 pub read_swept : {T : Type 0} (x : T) (s new_s : SweepView) (a : AwaitedRegion) (old new : TreeView) → s.awaited ≡ a ∷ new_s.awaited
-    → new ≡ record old { trace = new.trace } → HasNoted a.region.page old new → (region : Region) → IsTakenIn old a.region region → Sweeps s new_s old new (Ok x)
+    → new ≡ record old { trace = new.trace } → HasNoted a.region.page old new → (region : RegionRows) → IsTakenIn old a.region region → Sweeps s new_s old new (Ok x)
 read_swept x s new_s a old new one same noted region taken =
     swept_one (Ok x) s new_s a old new one same (a.region.page ∷ []) (noted_own old new a noted) (refl, ((region, taken), tt)) tt (λ all. tt)
 
@@ -195,7 +195,7 @@ taken_more (Ok x) t m xs ys pages more traced first second =
     let of_t : AreTakenIn t ys more = subst (λ (v : TreeView). AreTakenIn v ys more) traced second in (
       ap (λ (front : List ℕ). front ++ more) first.0 ∙ ap (λ (rest : List ℕ). map (λ (a : AwaitedRegion). a.region.page) xs ++ rest) of_t.0
           ∙ sym (map-append (λ (a : AwaitedRegion). a.region.page) xs ys),
-      all_joined (λ a. (region : Region) × IsTakenIn t a.region region) xs ys first.1 of_t.1,
+      all_joined (λ a. (region : RegionRows) × IsTakenIn t a.region region) xs ys first.1 of_t.1,
     )
 taken_more (Err e) t m xs ys pages more traced first second = tt
 

@@ -9,7 +9,7 @@ use Rattle.ub_planning.specs.Plan.{PlanView}
 use Rattle.ub_planning.specs.Visits.{is_past}
 use Rattle.ub_filter.specs.declared.choice.Choice.{Choice}
 use Rattle.ub_query.specs.declared.query.SortKey.{SortKey}
-use Rattle.ub_table.specs.Region.{IsRegion, Region}
+use Rattle.ub_table.specs.Region.{IsRegion, RegionRows}
 use Rattle.ub_table.specs.declared.row.Row.{Row}
 use Rattle.ub_table.specs.declared.schema.Schema.{Schema}
 use Rattle.ub_tetris.proofs.AlongFacts.{keys_of}
@@ -38,7 +38,7 @@ next_awaited (y ∷ queue) (suc k) zero x next at = absurd (omega arith)
 next_awaited (y ∷ queue) (suc k) (suc n) x next at = next_awaited queue k n x (omega arith) at
 
 -- reading it leaves the schema
-pub schema_read : (t new : TreeView) (s : State) (region : Region) (schema : Schema) → HasReadNext t new s region → schema ≡ new.schema → schema ≡ t.schema
+pub schema_read : (t new : TreeView) (s : State) (region : RegionRows) (schema : Schema) → HasReadNext t new s region → schema ≡ new.schema → schema ≡ t.schema
 schema_read t new s region schema read is = is ∙ ap (λ (v : TreeView). v.schema) read.same
 
 -- a region is due only where one is awaited
@@ -78,7 +78,7 @@ none_due s first queue same past is =
     none_at (a ∷ queue) zero past = absurd (omega arith)
     none_at (a ∷ queue) (suc k) past = none_at queue k (omega arith)
 
-pub has_fetched : (plan : PlanView) (choice : Choice) (t new : TreeView) (s new_s : State) (region : Region) (schema : Schema) → HasReadNext t new s region → schema ≡ t.schema
+pub has_fetched : (plan : PlanView) (choice : Choice) (t new : TreeView) (s new_s : State) (region : RegionRows) (schema : Schema) → HasReadNext t new s region → schema ≡ t.schema
     → HoldsAlso schema (keys_of plan.asked) (filter (is_chosen choice schema plan) region.rows) s.held new_s.held → HasFetchedNext plan t new s new_s
 has_fetched plan choice t new s new_s region schema read of_tree holds = record {
   region = region;
@@ -90,7 +90,7 @@ has_fetched plan choice t new s new_s region schema read of_tree holds = record 
 -- ---- how many rows are left
 
 -- no more are held beside those that were than the region's page has room for
-pub held_few : (choice : Row → Bool) (schema of_tree : Schema) (keys : List SortKey) (region : Region) (old new : List HeldRow) → IsRegion of_tree region
+pub held_few : (choice : Row → Bool) (schema of_tree : Schema) (keys : List SortKey) (region : RegionRows) (old new : List HeldRow) → IsRegion of_tree region
     → HoldsAlso schema keys (filter choice region.rows) old new → length new ≤ length old + 64
 held_few choice schema of_tree keys region old new is holds =
     let chosen = filter choice region.rows in

@@ -7,7 +7,7 @@ use Rattle.ub_filter.specs.Choice.{is_chosen}
 use Rattle.ub_filter.specs.declared.choice.Choice.{Choice}
 use Rattle.ub_planning.specs.Plan.{PlanView}
 use Rattle.ub_query.specs.declared.query.SortKey.{SortKey}
-use Rattle.ub_table.specs.Region.{Region}
+use Rattle.ub_table.specs.Region.{RegionRows}
 use Rattle.ub_table.specs.declared.row.Row.{Row}
 use Rattle.ub_table.specs.declared.schema.Schema.{Schema}
 use Rattle.ub_tetris.proofs.AlongFacts.{keys_of}
@@ -48,7 +48,7 @@ awaited_onward : (s new_s : State) (x : Awaited) → IsOnward s new_s → slice_
 awaited_onward s new_s x (course, queue, fetched) at = rw queue (next_awaited s.queue.items s.fetched new_s.fetched x fetched at)
 
 -- those of the region that was read next
-pub found_more : (plan : PlanView) (t now new : TreeView) (s : SweepView) (s_now new_s : State) (rows more : List Row) (region : Region) (choice : Choice) → IsTraced t now
+pub found_more : (plan : PlanView) (t now new : TreeView) (s : SweepView) (s_now new_s : State) (rows more : List Row) (region : RegionRows) (choice : Choice) → IsTraced t now
     → IsOnward s_now new_s → HasFound plan t s (view_of s_now) rows → HasReadNext now new s_now region → more ≡ filter (is_chosen choice now.schema plan) region.rows
     → HasFound plan t s (view_of new_s) (rows ++ more)
 found_more plan t now new s s_now new_s rows more region choice traced onward found read is =

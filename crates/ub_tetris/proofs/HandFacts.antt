@@ -9,7 +9,7 @@ use Rattle.ub_planning.specs.Visits.{Event, selected_rows}
 use Rattle.ub_query.proofs.Laws.{contains_here}
 use Rattle.ub_query.specs.Groups.{is_selected}
 use Rattle.ub_store.specs.View.{Trace}
-use Rattle.ub_table.specs.Region.{Region}
+use Rattle.ub_table.specs.Region.{RegionRows}
 use Rattle.ub_table.specs.declared.row.Row.{Row}
 use Rattle.ub_table.specs.declared.schema.Schema.{Schema}
 use Rattle.ub_tetris.proofs.BrokenFacts.{noted_still, placed_of}
@@ -103,13 +103,13 @@ module _ (plan : PlanView) (t now : TreeView) (s s_now : State) (given rest : Li
   come_more new new_s more (course, queue, onward) has =
       let (event, later, one, awaited, awaits) = next_left has.read.next has.read.at in
       let (p, there, page, is) = has.read.stands ((Keeps-by t now traced).sound of.swept.sound) awaited.there in
-      let first : p.region.first ≡ has.read.next.region.first = ap (λ (r : Region). r.first) is ∙ has.read.first in
+      let first : p.region.first ≡ has.read.next.region.first = ap (λ (r : RegionRows). r.first) is ∙ has.read.first in
       let region : p.region ≡ event.span.region = its_region has.read.next event later p one awaited there first in
       let chosen : more ≡ filter (is_selected t.schema plan.asked.filter) event.span.region.rows =
       has.rows_are ∙ ap (λ (schema : Schema). filter (is_chosen has.choice schema plan) has.region.rows) schema_is
-      ∙ ap (λ (r : Region). filter (is_chosen has.choice t.schema plan) r.rows) (sym is)
+      ∙ ap (λ (r : RegionRows). filter (is_chosen has.choice t.schema plan) r.rows) (sym is)
       ∙ chosen_of plan t (view_of s) given rest fetched unread has.choice p of (subst (λ (placed : List Placed). Contains placed p) placed_is there)
-      ∙ ap (λ (r : Region). filter (is_selected t.schema plan.asked.filter) r.rows) region in
+      ∙ ap (λ (r : RegionRows). filter (is_selected t.schema plan.asked.filter) r.rows) region in
       record {
         read = come.read ++ event ∷ [];
         left = later;

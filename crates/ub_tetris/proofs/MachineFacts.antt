@@ -20,7 +20,7 @@ use Rattle.ub_query.specs.Meaning.{IsMeaning, limited}
 use Rattle.ub_query.specs.Order.{IsRowBefore}
 use Rattle.ub_query.specs.declared.query.SortKey.{SortKey}
 use Rattle.ub_region.specs.Regions.{AreTableRows, rows_of}
-use Rattle.ub_table.specs.Region.{Region}
+use Rattle.ub_table.specs.Region.{RegionRows}
 use Rattle.ub_table.specs.declared.row.Row.{Row}
 use Rattle.ub_table.specs.declared.schema.Schema.{Schema}
 use Rattle.ub_tetris.proofs.AlongFacts.{IsUpTo, along_before, along_up_to, led_asks, led_plan, plan_is_plain, keys_of, up_to_chain, values_rise}
@@ -36,14 +36,14 @@ IsBeforeNext dim is_descending row [] = Unit {0}
 IsBeforeNext dim is_descending row (event ∷ events) = IsRowAlong dim is_descending row event.value
 
 -- a row was the next one to be given, and was given: no region was fetched whose event value is past it
-pub record Gives (schema : Schema) (plan : PlanView) (dim : ℕ) (is_descending : Bool) (regions : List Region) (held_then given rest : List Row) (fetched unread : List Event) (row : Row) : Type 0 where
+pub record Gives (schema : Schema) (plan : PlanView) (dim : ℕ) (is_descending : Bool) (regions : List RegionRows) (held_then given rest : List Row) (fetched unread : List Event) (row : Row) : Type 0 where
   pub more : List Row
   pub next : rest ≡ row ∷ more
   pub under_way : IsUnderWay schema plan dim is_descending regions held_then (given ++ row ∷ []) more fetched unread
   pub reached : All (λ event. ¬ IsRowAlong dim is_descending row event.value) fetched
 
 -- a sweep begins: nothing is held or given, and no region fetched
-pub begins : (schema : Schema) (plan : PlanView) (dim : ℕ) (is_descending : Bool) (next : ℕ) (regions : List Region) (events : List Event)
+pub begins : (schema : Schema) (plan : PlanView) (dim : ℕ) (is_descending : Bool) (next : ℕ) (regions : List RegionRows) (events : List Event)
     → IsSweepOver schema plan dim is_descending next regions → AreEvents schema plan.covering.boxes dim is_descending regions events
     → (rest : List Row) × IsUnderWay schema plan dim is_descending regions [] [] rest [] events
 begins schema plan dim is_descending next regions events over are =
@@ -61,8 +61,8 @@ begins schema plan dim is_descending next regions events over are =
 pub selected_append : (schema : Schema) (plan : PlanView) (xs ys : List Event)
     → selected_rows schema plan (regions_at (xs ++ ys)) ≡ selected_rows schema plan (regions_at xs) ++ selected_rows schema plan (regions_at ys)
 selected_append schema plan xs ys =
-    ap (λ (regions : List Region). selected_rows schema plan regions) (map-append (λ (event : Event). event.span.region) xs ys)
-    ∙ ap (λ (rows : List Row). filter (is_selected schema plan.asked.filter) rows) (flat_map-append (λ (region : Region). region.rows) (regions_at xs) (regions_at ys))
+    ap (λ (regions : List RegionRows). selected_rows schema plan regions) (map-append (λ (event : Event). event.span.region) xs ys)
+    ∙ ap (λ (rows : List Row). filter (is_selected schema plan.asked.filter) rows) (flat_map-append (λ (region : RegionRows). region.rows) (regions_at xs) (regions_at ys))
     ∙ filter-append (is_selected schema plan.asked.filter) (rows_of (regions_at xs)) (rows_of (regions_at ys))
 
 fetched_are : (schema : Schema) (plan : PlanView) (held held_then given : List Row) (fetched : List Event) (event : Event)
@@ -87,7 +87,7 @@ only_one x y there P is = elim (contains_cases x [] y there) [
 ]
 
 -- it fetches the next region, where no held row lies before its event value, and then holds the region's selected rows too
-pub fetches : (schema : Schema) (plan : PlanView) (dim : ℕ) (is_descending : Bool) (next : ℕ) (regions : List Region) (held held_then given rest : List Row) (fetched : List Event) (event : Event) (unread : List Event)
+pub fetches : (schema : Schema) (plan : PlanView) (dim : ℕ) (is_descending : Bool) (next : ℕ) (regions : List RegionRows) (held held_then given rest : List Row) (fetched : List Event) (event : Event) (unread : List Event)
     → IsSweepOver schema plan dim is_descending next regions
     → IsUnderWay schema plan dim is_descending regions held given rest fetched (event ∷ unread)
     → All (λ row. ¬ IsRowAlong dim is_descending row event.value) held
@@ -145,7 +145,7 @@ same_if_one number row h = elim (cases_Bool (row.number == number)) [
   | inr f ↦ let none : 1 ≤ 0 = rw f at h in absurd (omega arith)
 ]
 
-held_weigh : (schema : Schema) (plan : PlanView) (dim : ℕ) (is_descending : Bool) (regions : List Region) (held given rest : List Row) (fetched unread : List Event) (weight : Row → ℕ)
+held_weigh : (schema : Schema) (plan : PlanView) (dim : ℕ) (is_descending : Bool) (regions : List RegionRows) (held given rest : List Row) (fetched unread : List Event) (weight : Row → ℕ)
     → IsUnderWay schema plan dim is_descending regions held given rest fetched unread → sum_by weight held ≤ sum_by weight rest
 held_weigh schema plan dim is_descending regions held given rest fetched unread weight under =
     let most = fetched_weigh schema plan dim is_descending regions fetched unread weight under.events in
@@ -165,7 +165,7 @@ same_row rows a b up left right same = elim (rising_two (λ a b. Differ a b) row
 ]
 
 -- the held rows and those still to be given are selected rows
-held_selected : (schema : Schema) (plan : PlanView) (dim : ℕ) (is_descending : Bool) (regions : List Region) (held given rest : List Row) (fetched unread : List Event) (row : Row)
+held_selected : (schema : Schema) (plan : PlanView) (dim : ℕ) (is_descending : Bool) (regions : List RegionRows) (held given rest : List Row) (fetched unread : List Event) (row : Row)
     → IsUnderWay schema plan dim is_descending regions held given rest fetched unread → Contains held row → Contains (selected_rows schema plan regions) row
 held_selected schema plan dim is_descending regions held given rest fetched unread row under here =
     let (event, there, has, t) = from_fetched schema plan fetched row
@@ -174,12 +174,12 @@ held_selected schema plan dim is_descending regions held given rest fetched unre
     contains_filter (is_selected schema plan.asked.filter) (rows_of regions) row
     (event_rows schema plan.covering.boxes dim is_descending regions (fetched ++ unread) event row under.events (Contains-append_left fetched unread event there) has) t
 
-rest_selected : (schema : Schema) (plan : PlanView) (dim : ℕ) (is_descending : Bool) (regions : List Region) (held given rest : List Row) (fetched unread : List Event) (row : Row)
+rest_selected : (schema : Schema) (plan : PlanView) (dim : ℕ) (is_descending : Bool) (regions : List RegionRows) (held given rest : List Row) (fetched unread : List Event) (row : Row)
     → IsUnderWay schema plan dim is_descending regions held given rest fetched unread → Contains rest row → Contains (selected_rows schema plan regions) row
 rest_selected schema plan dim is_descending regions held given rest fetched unread row under there =
     Contains-permutation (given ++ rest) (selected_rows schema plan regions) row (IsPermutation-sym (selected_rows schema plan regions) (given ++ rest) under.rows.same) (Contains-append_right given rest row there)
 
-pub held_in_rest : (schema : Schema) (plan : PlanView) (dim : ℕ) (is_descending : Bool) (next : ℕ) (regions : List Region) (held given rest : List Row) (fetched unread : List Event) (row : Row)
+pub held_in_rest : (schema : Schema) (plan : PlanView) (dim : ℕ) (is_descending : Bool) (next : ℕ) (regions : List RegionRows) (held given rest : List Row) (fetched unread : List Event) (row : Row)
     → IsSweepOver schema plan dim is_descending next regions → IsUnderWay schema plan dim is_descending regions held given rest fetched unread → Contains held row → Contains rest row
 held_in_rest schema plan dim is_descending next regions held given rest fetched unread row over under here =
     let most = held_weigh schema plan dim is_descending regions held given rest fetched unread (one_if row.number) under in
@@ -193,7 +193,7 @@ held_in_rest schema plan dim is_descending next regions held given rest fetched 
     subst (λ (r : Row). Contains rest r) same there
 
 -- no row still to be given lies before the event value of a fetched region
-pub rest_past : (schema : Schema) (plan : PlanView) (dim : ℕ) (is_descending : Bool) (next : ℕ) (regions : List Region) (held given rest : List Row) (fetched unread : List Event) (row : Row)
+pub rest_past : (schema : Schema) (plan : PlanView) (dim : ℕ) (is_descending : Bool) (next : ℕ) (regions : List RegionRows) (held given rest : List Row) (fetched unread : List Event) (row : Row)
     → IsSweepOver schema plan dim is_descending next regions → IsUnderWay schema plan dim is_descending regions held given rest fetched unread
     → Contains rest row → All (λ event. ¬ IsRowAlong dim is_descending row event.value) fetched
 rest_past schema plan dim is_descending next regions held given rest fetched unread row over under there =
@@ -216,7 +216,7 @@ rest_past schema plan dim is_descending next regions held given rest fetched unr
     ])
 
 -- a row still to be given is held, or stands in a region that isn't fetched yet, and then not before its event value
-pub held_or_unread : (schema : Schema) (plan : PlanView) (dim : ℕ) (is_descending : Bool) (next : ℕ) (regions : List Region) (held given rest : List Row) (fetched unread : List Event) (row : Row)
+pub held_or_unread : (schema : Schema) (plan : PlanView) (dim : ℕ) (is_descending : Bool) (next : ℕ) (regions : List RegionRows) (held given rest : List Row) (fetched unread : List Event) (row : Row)
     → IsSweepOver schema plan dim is_descending next regions → IsUnderWay schema plan dim is_descending regions held given rest fetched unread → Contains rest row
     → Contains held row ⊎ ((event : Event) × Contains unread event × IsUpTo is_descending event.value (slice_index row.dims dim))
 held_or_unread schema plan dim is_descending next regions held given rest fetched unread row over under there =
@@ -233,7 +233,7 @@ held_or_unread schema plan dim is_descending next regions held given rest fetche
     ]
 
 -- none of them lies before a row that was given
-pub given_up_to : (schema : Schema) (plan : PlanView) (dim : ℕ) (is_descending : Bool) (next : ℕ) (regions : List Region) (held given rest : List Row) (fetched unread : List Event) (last row : Row)
+pub given_up_to : (schema : Schema) (plan : PlanView) (dim : ℕ) (is_descending : Bool) (next : ℕ) (regions : List RegionRows) (held given rest : List Row) (fetched unread : List Event) (last row : Row)
     → IsSweepOver schema plan dim is_descending next regions → IsUnderWay schema plan dim is_descending regions held given rest fetched unread
     → Contains given last → Contains rest row → IsUpTo is_descending (slice_index last.dims dim) (slice_index row.dims dim)
 given_up_to schema plan dim is_descending next regions held given rest fetched unread last row over under gone there along =
@@ -244,7 +244,7 @@ given_up_to schema plan dim is_descending next regions held given rest fetched u
     asked-never schema order last (asked-chain schema order last row last first back)
 
 -- no row still to be given is before a held one that no held row is before and that lies before all unread event values
-none_before : (schema : Schema) (plan : PlanView) (dim : ℕ) (is_descending : Bool) (next : ℕ) (regions : List Region) (held held_then given rest : List Row) (fetched unread : List Event) (row : Row)
+none_before : (schema : Schema) (plan : PlanView) (dim : ℕ) (is_descending : Bool) (next : ℕ) (regions : List RegionRows) (held held_then given rest : List Row) (fetched unread : List Event) (row : Row)
     → IsSweepOver schema plan dim is_descending next regions
     → IsUnderWay schema plan dim is_descending regions held given rest fetched unread
     → IsPermutation held (row ∷ held_then)
@@ -273,7 +273,7 @@ none_before schema plan dim is_descending next regions held held_then given rest
     ]
 
 -- it gives a held row that no held row is before, where it lies before the next event value
-pub gives : (schema : Schema) (plan : PlanView) (dim : ℕ) (is_descending : Bool) (next : ℕ) (regions : List Region) (held held_then given rest : List Row) (fetched unread : List Event) (row : Row)
+pub gives : (schema : Schema) (plan : PlanView) (dim : ℕ) (is_descending : Bool) (next : ℕ) (regions : List RegionRows) (held held_then given rest : List Row) (fetched unread : List Event) (row : Row)
     → IsSweepOver schema plan dim is_descending next regions
     → IsUnderWay schema plan dim is_descending regions held given rest fetched unread
     → IsPermutation held (row ∷ held_then)
@@ -320,7 +320,7 @@ no_elements [] none = refl
 no_elements (x ∷ xs) none = absurd (none x (contains_here x xs))
 
 -- where no row is held and no region is left, all rows were given
-pub ends : (schema : Schema) (plan : PlanView) (dim : ℕ) (is_descending : Bool) (next : ℕ) (regions : List Region) (given rest : List Row) (fetched : List Event)
+pub ends : (schema : Schema) (plan : PlanView) (dim : ℕ) (is_descending : Bool) (next : ℕ) (regions : List RegionRows) (given rest : List Row) (fetched : List Event)
     → IsSweepOver schema plan dim is_descending next regions → IsUnderWay schema plan dim is_descending regions [] given rest fetched [] → rest ≡ []
 ends schema plan dim is_descending next regions given rest fetched over under =
     no_elements rest
@@ -351,7 +351,7 @@ stops_at dim is_descending given fetched unread row past before =
     (recursion_from_All (λ event. ¬ (IsRowAlong dim is_descending row event.value)) fetched past, all_from_contains (λ event. IsRowAlong dim is_descending row event.value) unread before)
 
 -- the limit was filled by a row: the regions fetched are the visits
-pub stops : (schema : Schema) (plan : PlanView) (dim : ℕ) (is_descending : Bool) (regions : List Region) (held given rest : List Row) (fetched unread : List Event) (row : Row)
+pub stops : (schema : Schema) (plan : PlanView) (dim : ℕ) (is_descending : Bool) (regions : List RegionRows) (held given rest : List Row) (fetched unread : List Event) (row : Row)
     → IsUnderWay schema plan dim is_descending regions held (given ++ row ∷ []) rest fetched unread
     → plan.asked.limit ≡ Some (length (given ++ row ∷ []))
     → All (λ event. ¬ IsRowAlong dim is_descending row event.value) fetched
@@ -375,7 +375,7 @@ few_more : (limit : Option ℕ) (given : List Row) → IfSome limit (λ n. lengt
 few_more limit given short = subst (λ (rows : List Row). IfSome limit (λ n. length rows < n)) (sym (append-nil given)) short
 
 -- no row is left, and the limit isn't filled: all regions are the visits
-pub runs_out : (schema : Schema) (plan : PlanView) (dim : ℕ) (is_descending : Bool) (regions : List Region) (held given : List Row) (fetched : List Event)
+pub runs_out : (schema : Schema) (plan : PlanView) (dim : ℕ) (is_descending : Bool) (regions : List RegionRows) (held given : List Row) (fetched : List Event)
     → IsUnderWay schema plan dim is_descending regions held given [] fetched []
     → IfSome plan.asked.limit (λ n. length given < n)
     → AreSweepVisits schema plan dim is_descending regions (map (λ event. event.span) fetched)
@@ -392,7 +392,7 @@ runs_out schema plan dim is_descending regions held given fetched under short =
 -- ---- where it is broken off
 
 -- regions none of which is past a row that is asked for are the first of the visits
-front_visits : (schema : Schema) (plan : PlanView) (dim : ℕ) (is_descending : Bool) (next : ℕ) (regions : List Region) (front left : List Event) (given : List Row) (row : Row) (more : List Row)
+front_visits : (schema : Schema) (plan : PlanView) (dim : ℕ) (is_descending : Bool) (next : ℕ) (regions : List RegionRows) (front left : List Event) (given : List Row) (row : Row) (more : List Row)
     → IsSweepOver schema plan dim is_descending next regions → AreEvents schema plan.covering.boxes dim is_descending regions (front ++ left)
     → AreArranged schema plan (selected_rows schema plan regions) (given ++ row ∷ more) → IfSome plan.asked.limit (λ n. length given < n)
     → All (λ event. ¬ IsRowAlong dim is_descending row event.value) front
@@ -423,7 +423,7 @@ front_visits schema plan dim is_descending next regions front left given row mor
     )
 
 -- a sweep that was ended by a fault has fetched the first of the visits: where that came after a row,
-pub broken_after : (schema : Schema) (plan : PlanView) (dim : ℕ) (is_descending : Bool) (next : ℕ) (regions : List Region) (held given rest : List Row) (fetched unread : List Event) (row : Row)
+pub broken_after : (schema : Schema) (plan : PlanView) (dim : ℕ) (is_descending : Bool) (next : ℕ) (regions : List RegionRows) (held given rest : List Row) (fetched unread : List Event) (row : Row)
     → IsSweepOver schema plan dim is_descending next regions → IsUnderWay schema plan dim is_descending regions held (given ++ row ∷ []) rest fetched unread
     → IfSome plan.asked.limit (λ n. length given < n) → All (λ event. ¬ IsRowAlong dim is_descending row event.value) fetched
     → (later : List Event) × AreSweepVisits schema plan dim is_descending regions (map (λ event. event.span) (fetched ++ later))
@@ -432,7 +432,7 @@ broken_after schema plan dim is_descending next regions held given rest fetched 
     (subst (λ (rows : List Row). AreArranged schema plan (selected_rows schema plan regions) rows) (append_assoc given (row ∷ []) rest) under.rows) short past
 
 -- and where it came while the next row was looked for
-pub broken_before : (schema : Schema) (plan : PlanView) (dim : ℕ) (is_descending : Bool) (next : ℕ) (regions : List Region) (held given rest : List Row) (fetched unread read left : List Event)
+pub broken_before : (schema : Schema) (plan : PlanView) (dim : ℕ) (is_descending : Bool) (next : ℕ) (regions : List RegionRows) (held given rest : List Row) (fetched unread read left : List Event)
     → IsSweepOver schema plan dim is_descending next regions → IsUnderWay schema plan dim is_descending regions held given rest fetched unread
     → IfSome plan.asked.limit (λ n. length given < n) → unread ≡ read ++ left
     → ((row : Row) (more : List Row) → rest ≡ row ∷ more → All (λ event. ¬ IsRowAlong dim is_descending row event.value) read)
@@ -477,7 +477,7 @@ limited_short : (limit : Option ℕ) (given : List Row) → IfSome limit (λ n. 
 limited_short None given short = append-nil given
 limited_short (Some n) given short = ap (λ (rows : List Row). take n rows) (append-nil given) ∙ take_all n given (omega (arith, short))
 
-given_mean : (schema : Schema) (plan : PlanView) (dim : ℕ) (is_descending : Bool) (next : ℕ) (regions : List Region) (rows held given rest : List Row) (fetched unread : List Event)
+given_mean : (schema : Schema) (plan : PlanView) (dim : ℕ) (is_descending : Bool) (next : ℕ) (regions : List RegionRows) (rows held given rest : List Row) (fetched unread : List Event)
     → IsSweepOver schema plan dim is_descending next regions → plan.asked.group ≡ [] → AreTableRows regions rows
     → IsUnderWay schema plan dim is_descending regions held given rest fetched unread
     → limited plan.asked.limit (given ++ rest) ≡ given
@@ -497,7 +497,7 @@ given_mean schema plan dim is_descending next regions rows held given rest fetch
 )
 
 -- what was given is then what the query means on the table
-pub stops_with_the_meaning : (schema : Schema) (plan : PlanView) (dim : ℕ) (is_descending : Bool) (next : ℕ) (regions : List Region) (rows held given rest : List Row) (fetched unread : List Event)
+pub stops_with_the_meaning : (schema : Schema) (plan : PlanView) (dim : ℕ) (is_descending : Bool) (next : ℕ) (regions : List RegionRows) (rows held given rest : List Row) (fetched unread : List Event)
     → IsSweepOver schema plan dim is_descending next regions → plan.asked.group ≡ [] → AreTableRows regions rows
     → IsUnderWay schema plan dim is_descending regions held given rest fetched unread
     → plan.asked.limit ≡ Some (length given)
@@ -505,7 +505,7 @@ pub stops_with_the_meaning : (schema : Schema) (plan : PlanView) (dim : ℕ) (is
 stops_with_the_meaning schema plan dim is_descending next regions rows held given rest fetched unread over none table under filled =
     given_mean schema plan dim is_descending next regions rows held given rest fetched unread over none table under (limited_filled plan.asked.limit given rest filled)
 
-pub runs_out_with_the_meaning : (schema : Schema) (plan : PlanView) (dim : ℕ) (is_descending : Bool) (next : ℕ) (regions : List Region) (rows held given : List Row) (fetched unread : List Event)
+pub runs_out_with_the_meaning : (schema : Schema) (plan : PlanView) (dim : ℕ) (is_descending : Bool) (next : ℕ) (regions : List RegionRows) (rows held given : List Row) (fetched unread : List Event)
     → IsSweepOver schema plan dim is_descending next regions → plan.asked.group ≡ [] → AreTableRows regions rows
     → IsUnderWay schema plan dim is_descending regions held given [] fetched unread
     → IfSome plan.asked.limit (λ n. length given < n)

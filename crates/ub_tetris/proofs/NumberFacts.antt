@@ -11,11 +11,11 @@ use Rattle.ub_query.specs.Groups.{is_selected, selected}
 use Rattle.ub_query.specs.Order.{IsRowBefore}
 use Rattle.ub_query.specs.declared.query.SortKey.{SortKey}
 use Rattle.ub_region.specs.Regions.{AreRegions, AreTableRows, rows_of}
-use Rattle.ub_table.specs.Region.{Region}
+use Rattle.ub_table.specs.Region.{RegionRows}
 use Rattle.ub_table.specs.declared.row.Row.{Row}
 use Rattle.ub_table.specs.declared.schema.Schema.{Schema}
 
-pub selected_differ : (schema : Schema) (plan : PlanView) (next : ℕ) (regions : List Region) → AreRegions schema next regions → Rising (λ a b. Differ a b) (selected_rows schema plan regions)
+pub selected_differ : (schema : Schema) (plan : PlanView) (next : ℕ) (regions : List RegionRows) → AreRegions schema next regions → Rising (λ a b. Differ a b) (selected_rows schema plan regions)
 selected_differ schema plan next regions are = Rising-filter (λ a b. Differ a b) (is_selected schema plan.asked.filter) (rows_of regions) (rows_differ (rows_of regions) are.distinct)
 
 -- the order asked
@@ -27,7 +27,7 @@ pub asked-chain : (schema : Schema) (keys : List SortKey) (a b c : Row) → IsRo
 asked-chain schema keys a b c = before-chain (row_cell schema) (λ a b. a.number < b.number) numbers-chain keys a b c
 
 -- the selected rows of the regions are those of the table
-pub selected_of_table : (schema : Schema) (plan : PlanView) (next : ℕ) (regions : List Region) (rows : List Row) (meeting : List Span) → plan ≡ plan_of schema plan.asked → plan.asked.limit ≢ Some 0
+pub selected_of_table : (schema : Schema) (plan : PlanView) (next : ℕ) (regions : List RegionRows) (rows : List Row) (meeting : List Span) → plan ≡ plan_of schema plan.asked → plan.asked.limit ≢ Some 0
     → AreRegions schema next regions → AreTableRows regions rows → AreMeeting schema plan.covering.boxes regions meeting
     → IsPermutation (selected (record { schema = schema; rows = rows }) plan.asked.filter) (selected_rows schema plan regions)
 selected_of_table schema plan next regions rows meeting planned limit are table those =

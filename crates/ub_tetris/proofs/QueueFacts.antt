@@ -19,7 +19,7 @@ use Rattle.ub_region.specs.Regions.{firsts_of}
 use Rattle.ub_region.specs.Spans.{span_end}
 use Rattle.ub_table.proofs.Laws.{before_from, before_parts, before_trans, not_before_self}
 use Rattle.ub_table.specs.Keys.{IsBefore, is_same}
-use Rattle.ub_table.specs.Region.{Region}
+use Rattle.ub_table.specs.Region.{RegionRows}
 use Rattle.ub_table.specs.declared.row.Key.{Key}
 use Rattle.ub_tetris.proofs.ArrangeFacts.{rising_two}
 use Rattle.ub_tetris.proofs.EventFacts.{events_total}
@@ -33,7 +33,7 @@ use Rattle.ub_tetris.specs.inner.Events.{AreQueued, along_cmp, event_cmp, region
 use Rattle.ub_tetris.specs.inner.Turns.{awaited_of}
 use Rattle.ub_tree.proofs.Laws.{answers_are_those_that_meet, firsts_placed}
 use Rattle.ub_tree.specs.Placed.{Placed, entry_of, regions_in}
-use Rattle.ub_tree.specs.Spans.{Meets, first_keys, regions_of, Region as TreeRegion}
+use Rattle.ub_tree.specs.Spans.{Meets, first_keys, regions_of, Region}
 use Rattle.ub_tree.specs.View.{IsSound, TreeView, regions, spans_of}
 use Rattle.ub_zaddr.specs.Address.{last_address}
 
@@ -61,29 +61,29 @@ those_have P (y ∷ ys) those x (inr are) there is = elim (contains_cases y ys x
 
 -- ---- the regions of a tree, as it tells of them and as plans do
 
-firsts_in_spans : (last : ℕ) (regions : List Region) → map (λ (span : Span). span.region.first) (spans_up_to last regions) ≡ firsts_of regions
+firsts_in_spans : (last : ℕ) (regions : List RegionRows) → map (λ (span : Span). span.region.first) (spans_up_to last regions) ≡ firsts_of regions
 firsts_in_spans last [] = refl
 firsts_in_spans last (region ∷ regions) = ap (λ (keys : List Key). region.first ∷ keys) (firsts_in_spans last regions)
 
 -- one is the other
-record IsOne (r : TreeRegion) (span : Span) : Type 0 where
+record IsOne (r : Region) (span : Span) : Type 0 where
   first : r.first ≡ span.region.first
   from : r.from ≡ span.from
   to : r.to ≡ span.to
 
-span_for : (last : ℕ) (placed : List Placed) (r : TreeRegion) → Contains (regions_of last (map entry_of placed)) r → (span : Span) × Contains (spans_up_to last (regions_in placed)) span × IsOne r span
+span_for : (last : ℕ) (placed : List Placed) (r : Region) → Contains (regions_of last (map entry_of placed)) r → (span : Span) × Contains (spans_up_to last (regions_in placed)) span × IsOne r span
 span_for last [] r there = absurd (contains_none r there)
 span_for last (p ∷ placed) r there = elim (contains_cases _ (regions_of last (map entry_of placed)) r there) [
   | inl same ↦ (
     record { region = p.region; from = p.region.first.z; to = span_end last (firsts_of (regions_in placed)) },
     contains_here _ (spans_up_to last (regions_in placed)),
-    subst (λ (x : TreeRegion). IsOne x (record { region = p.region; from = p.region.first.z; to = span_end last (firsts_of (regions_in placed)) })) same
+    subst (λ (x : Region). IsOne x (record { region = p.region; from = p.region.first.z; to = span_end last (firsts_of (regions_in placed)) })) same
         (record { first = refl; from = refl; to = ap (λ (keys : List Key). span_end last keys) (firsts_placed placed) }),
   )
   | inr later ↦ let (span, here, one) = span_for last placed r later in (span, contains_later _ (spans_up_to last (regions_in placed)) span here, one)
 ]
 
-region_for : (last : ℕ) (placed : List Placed) (span : Span) → Contains (spans_up_to last (regions_in placed)) span → (r : TreeRegion) × Contains (regions_of last (map entry_of placed)) r × IsOne r span
+region_for : (last : ℕ) (placed : List Placed) (span : Span) → Contains (spans_up_to last (regions_in placed)) span → (r : Region) × Contains (regions_of last (map entry_of placed)) r × IsOne r span
 region_for last [] span there = absurd (contains_none span there)
 region_for last (p ∷ placed) span there = elim (contains_cases _ (spans_up_to last (regions_in placed)) span there) [
   | inl same ↦ (
@@ -283,7 +283,7 @@ event_sides t a b d e apart left right =
     subst (λ (k : Key). IsBefore k e.span.region.first ⊎ IsBefore e.span.region.first k) left.one.first
     (subst (λ (k : Key). IsBefore a.region.first k ⊎ IsBefore k a.region.first) right.one.first (sides a b apart))
 
-first_value : (boxes : List Corners) (dim : ℕ) (down : Bool) (r : TreeRegion) (span : Span) (v : ℕ) → IsOne r span → IsFirstValue boxes dim down r v → IsEventValue boxes dim down span v
+first_value : (boxes : List Corners) (dim : ℕ) (down : Bool) (r : Region) (span : Span) (v : ℕ) → IsOne r span → IsFirstValue boxes dim down r v → IsEventValue boxes dim down span v
 first_value boxes dim false r span v one is = rw (← one.from, ← one.to) is
 first_value boxes dim true r span v one is = rw (← one.from, ← one.to) is
 
@@ -292,14 +292,14 @@ event_value : (t : TreeView) (boxes : List Corners) (dim : ℕ) (down : Bool) (a
 event_value t boxes dim down a event is match =
     subst (λ (v : ℕ). IsEventValue boxes dim down event.span v) match.value (first_value boxes dim down a.region event.span a.value match.one is)
 
-meets_span : (boxes : List Corners) (r : TreeRegion) (span : Span) → IsOne r span → Meets boxes r → plan.Meets boxes span.from span.to
+meets_span : (boxes : List Corners) (r : Region) (span : Span) → IsOne r span → Meets boxes r → plan.Meets boxes span.from span.to
 meets_span boxes r span one (z, holds, from, to) = (z, holds, subst (λ (n : ℕ). n ≤ z) one.from from, subst (λ (n : ℕ). z ≤ n) one.to to)
 
-meets_region : (boxes : List Corners) (r : TreeRegion) (span : Span) → IsOne r span → plan.Meets boxes span.from span.to → Meets boxes r
+meets_region : (boxes : List Corners) (r : Region) (span : Span) → IsOne r span → plan.Meets boxes span.from span.to → Meets boxes r
 meets_region boxes r span one (z, holds, from, to) = (z, holds, subst (λ (n : ℕ). n ≤ z) (sym one.from) from, subst (λ (n : ℕ). z ≤ n) (sym one.to) to)
 
-begins_alike : (t : TreeView) (a : Awaited) (event : Event) (r : TreeRegion) (span : Span) → IsMatched t a event → a.region ≡ r → IsOne r span → event.span.region.first ≡ span.region.first
-begins_alike t a event r span match same one = sym match.one.first ∙ ap (λ (r : TreeRegion). r.first) same ∙ one.first
+begins_alike : (t : TreeView) (a : Awaited) (event : Event) (r : Region) (span : Span) → IsMatched t a event → a.region ≡ r → IsOne r span → event.span.region.first ≡ span.region.first
+begins_alike t a event r span match same one = sym match.one.first ∙ ap (λ (r : Region). r.first) same ∙ one.first
 
 -- ---- the events
 
@@ -312,7 +312,7 @@ module _ (t : TreeView) (boxes : List Corners) (course : Course) (awaited : List
   queue_apart =
       rising_permutation same_first same_flips queue.met awaited queue.same
       (rising_weaker (λ (a b : Awaited). IsBefore a.region.first b.region.first) (λ a b. same_first a b ≡ false) same_false queue.met
-      (Rising-map (λ (a b : TreeRegion). IsBefore a.first b.first) (λ (a : Awaited). a.region) queue.met
+      (Rising-map (λ (a b : Region). IsBefore a.first b.first) (λ (a : Awaited). a.region) queue.met
       (met_rise boxes t None (regions_awaited queue.met) queue.met_are.met)))
 
   queue_rises : Rising (λ a b. event_cmp course.is_descending a b ≡ Less) awaited
@@ -385,7 +385,7 @@ queued t boxes course awaited sound queue =
 
 regions_alike : (awaited : List Awaited) → regions_awaited awaited ≡ map (λ (a : AwaitedRegion). a.region) (awaited_of awaited)
 regions_alike [] = refl
-regions_alike (a ∷ awaited) = ap (λ (rs : List TreeRegion). a.region ∷ rs) (regions_alike awaited)
+regions_alike (a ∷ awaited) = ap (λ (rs : List Region). a.region ∷ rs) (regions_alike awaited)
 
 values_alike : (boxes : List Corners) (course : Course) (awaited : List Awaited) → AllByRecursion (λ a. IsFirstValue boxes course.dim course.is_descending a.region a.value) awaited
     → AllByRecursion (λ (a : AwaitedRegion). IsFirstValue boxes course.dim course.is_descending a.region a.value) (awaited_of awaited)
@@ -397,7 +397,7 @@ pub met_along : (t : TreeView) (boxes : List Corners) (course : Course) (awaited
 met_along t boxes course awaited queue = record {
   met = regions_awaited queue.met;
   met_are = queue.met_are.met;
-  same = subst (λ (rs : List TreeRegion). IsPermutation (regions_awaited queue.met) rs) (regions_alike awaited) (IsPermutation-map (λ (a : Awaited). a.region) queue.met awaited queue.same);
+  same = subst (λ (rs : List Region). IsPermutation (regions_awaited queue.met) rs) (regions_alike awaited) (IsPermutation-map (λ (a : Awaited). a.region) queue.met awaited queue.same);
   values = values_alike boxes course awaited
       (all_permutation (λ (a : Awaited). IsFirstValue boxes course.dim course.is_descending a.region a.value) queue.met awaited queue.same queue.met_are.valued);
   ordered = adjacent-from_Rising (IsAwaitedBefore course.is_descending) (awaited_of awaited)

@@ -18,7 +18,7 @@ use Rattle.ub_region.specs.Regions.{firsts_of, rows_of}
 use Rattle.ub_store.specs.View.{Trace}
 use Rattle.ub_table.proofs.Laws.{not_before_self}
 use Rattle.ub_table.specs.Keys.{AreKeysAscending, IsBefore}
-use Rattle.ub_table.specs.Region.{Region}
+use Rattle.ub_table.specs.Region.{RegionRows}
 use Rattle.ub_table.specs.declared.row.Key.{Key}
 use Rattle.ub_table.specs.declared.row.Row.{Row}
 use Rattle.ub_table.specs.declared.schema.Schema.{Schema}
@@ -48,15 +48,15 @@ sweep_over plan t s given rest fetched unread of = record { planned = of.swept.p
 -- ---- the regions of a tree
 
 -- regions that begin with one key are one region
-same_region : (regions : List Region) (a b : Region) → AreKeysAscending (firsts_of regions) → Contains regions a → Contains regions b → a.first ≡ b.first → a ≡ b
+same_region : (regions : List RegionRows) (a b : RegionRows) → AreKeysAscending (firsts_of regions) → Contains regions a → Contains regions b → a.first ≡ b.first → a ≡ b
 same_region regions a b up left right same =
-    elim (rising_two (λ (a : Region) (b : Region). IsBefore a.first b.first) regions a b (Rising-map (λ a b. IsBefore a b) (λ (region : Region). region.first) regions (keys_rise (firsts_of regions) up)) left right) [
+    elim (rising_two (λ (a : RegionRows) (b : RegionRows). IsBefore a.first b.first) regions a b (Rising-map (λ a b. IsBefore a b) (λ (region : RegionRows). region.first) regions (keys_rise (firsts_of regions) up)) left right) [
       | inl is ↦ is
       | inr (inl lt) ↦ absurd (not_before_self b.first (subst (λ (k : Key). IsBefore k b.first) same lt))
       | inr (inr lt) ↦ absurd (not_before_self b.first (subst (λ (k : Key). IsBefore b.first k) same lt))
     ]
 
-span_region : (last : ℕ) (regions : List Region) (span : Span) → Contains (spans_up_to last regions) span → Contains regions span.region
+span_region : (last : ℕ) (regions : List RegionRows) (span : Span) → Contains (spans_up_to last regions) span → Contains regions span.region
 span_region last [] span there = absurd (contains_none span there)
 span_region last (region ∷ regions) span there = elim (contains_cases _ (spans_up_to last regions) span there) [
   | inl same ↦ subst (λ (s : Span). Contains (region ∷ regions) s.region) same (contains_here region regions)
@@ -116,18 +116,18 @@ noted_more t new events event p noted placed there same trace = record {
   placed = noted.placed ++ p ∷ [];
   there = subst (λ (all : List Placed). AllByRecursion (Contains all) (noted.placed ++ p ∷ [])) (sym placed) (all_pushed (Contains t.placed) noted.placed p noted.there there);
   regions_are = map-append (λ (p : Placed). p.region) noted.placed (p ∷ [])
-      ∙ ap (λ (rs : List Region). rs ++ p.region ∷ []) noted.regions_are
-      ∙ ap (λ (r : Region). regions_at events ++ r ∷ []) same
+      ∙ ap (λ (rs : List RegionRows). rs ++ p.region ∷ []) noted.regions_are
+      ∙ ap (λ (r : RegionRows). regions_at events ++ r ∷ []) same
       ∙ sym (map-append (λ (event : Event). event.span.region) events (event ∷ []));
   trace_is = trace
       ∙ ap (λ (pages : List ℕ). pages ++ p.page ∷ []) noted.trace_is
       ∙ sym (map-append (λ (p : Placed). p.page) noted.placed (p ∷ []));
 }
 
-rows_among : (regions : List Region) (region : Region) (row : Row) → Contains regions region → Contains region.rows row → Contains (rows_of regions) row
+rows_among : (regions : List RegionRows) (region : RegionRows) (row : Row) → Contains regions region → Contains region.rows row → Contains (rows_of regions) row
 rows_among [] region row there here = absurd (contains_none region there)
 rows_among (r ∷ regions) region row there here = elim (contains_cases r regions region there) [
-  | inl same ↦ Contains-append_left r.rows (rows_of regions) row (subst (λ (x : Region). Contains x.rows row) (sym same) here)
+  | inl same ↦ Contains-append_left r.rows (rows_of regions) row (subst (λ (x : RegionRows). Contains x.rows row) (sym same) here)
   | inr later ↦ Contains-append_right r.rows (rows_of regions) row (rows_among regions region row later here)
 ]
 
@@ -161,7 +161,7 @@ module _ (plan : PlanView) (t : TreeView) (s : SweepView) (held_then : List Held
         under_way = fetches t.schema plan s.dim s.is_descending t.next (regions t) (rows_held s.held) (rows_held held_then) given rest fetched event left
             (sweep_over plan t s given rest fetched (event ∷ left) of) of.under_way
             (subst (λ (v : ℕ). All (λ row. ¬ (IsRowAlong s.dim s.is_descending row v)) (rows_held s.held)) is_awaited.value past)
-            (subst (λ (region : Region). IsPermutation (rows_held s.held ++ filter (is_selected t.schema plan.asked.filter) region.rows) (rows_held held_then)) same holds_rows);
+            (subst (λ (region : RegionRows). IsPermutation (rows_held s.held ++ filter (is_selected t.schema plan.asked.filter) region.rows) (rows_held held_then)) same holds_rows);
         values = all_permutation (λ (h : HeldRow). h.values ≡ values_by t.schema (keys_of plan.asked) h.row) (s.held ++ map (held_row t.schema (keys_of plan.asked)) chosen) held_then holds
             (held_by_more t.schema (keys_of plan.asked) s.held chosen of.values);
         noted = noted_more t after fetched event p of.noted refl there same (noted ∙ ap (λ (number : ℕ). t.trace.pages ++ number ∷ []) (sym page));
@@ -252,8 +252,8 @@ fetch_step plan t new s new_s given rest fetched unread of (first, is_first, due
     let queued : awaited_of (drop s.fetched s.queue.items) ≡ a ∷ more = ap awaited_of (drop_next s.queue.items s.fetched has.read.next has.read.at) in
     let (event, left, parts, is_awaited, are_awaited) = waiting t a more unread (subst (λ (awaited : List AwaitedRegion). AreAwaited t awaited unread) queued of.awaited) in
     let (p, there, page, is) = has.read.stands of.swept.sound is_awaited.there in
-    let begins : p.region.first ≡ has.read.next.region.first = ap (λ (r : Region). r.first) is ∙ has.read.first in
-    let holds = subst (λ (r : Region). HoldsAlso t.schema (keys_of plan.asked) (filter (is_chosen has.choice t.schema plan) r.rows) s.held new_s.held) (sym is) has.rows in
+    let begins : p.region.first ≡ has.read.next.region.first = ap (λ (r : RegionRows). r.first) is ∙ has.read.first in
+    let holds = subst (λ (r : RegionRows). HoldsAlso t.schema (keys_of plan.asked) (filter (is_chosen has.choice t.schema plan) r.rows) s.held new_s.held) (sym is) has.rows in
     let past = due_past plan t s given rest fetched unread first has.read.next of is_first (due ∙ ap (λ (o : Option Awaited). is_due_by s.course o first) has.read.at) in
     let selected = subst (λ (rows : List Row). HoldsAlso t.schema (keys_of plan.asked) rows s.held new_s.held) (chosen_of plan t (view_of s) given rest fetched unread has.choice p of there) holds in
     let next = fetched_next plan t (view_of s) new_s.held given rest fetched a more new.trace p event left

@@ -7,7 +7,7 @@ use Rattle.ub_filter.specs.declared.choice.Choice.{Choice}
 use Rattle.ub_planning.specs.Plan.{PlanView}
 use Rattle.ub_store.specs.Facts.{raised}
 use Rattle.ub_store.specs.View.{emptied}
-use Rattle.ub_table.specs.Region.{Region}
+use Rattle.ub_table.specs.Region.{RegionRows}
 use Rattle.ub_table.specs.declared.row.Row.{Row}
 use Rattle.ub_tetris.specs.Held.{rows_held}
 use Rattle.ub_tetris.specs.Sweep.{AwaitedRegion, SweepView, AreItsRegions, rows_left}
@@ -61,7 +61,7 @@ pub record Begins {A : Type 0} (old new : TreeView) (result : Result A SweepFaul
 -- these are the pages of these regions, each of which was taken in
 abbrev pub AreTakenIn : TreeView → List AwaitedRegion → List ℕ → Type 0
 AreTakenIn t come pages =
-    (pages ≡ map (λ a. a.region.page) come) × AllByRecursion (λ a. (region : Region) × IsTakenIn t a.region region) come
+    (pages ≡ map (λ a. a.region.page) come) × AllByRecursion (λ a. (region : RegionRows) × IsTakenIn t a.region region) come
 
 -- these are the pages of the first of these regions, each once and in their order; that of the last one alone may be missing
 pub record AreAsked (come : List AwaitedRegion) (pages : List ℕ) : Type 0 where
@@ -104,7 +104,7 @@ pub record Rests {A : Type 0} (s new_s : SweepView) (old new : TreeView) (result
 abbrev pub AreRowsOf : PlanView → TreeView → List AwaitedRegion → List Row → Type 0
 AreRowsOf plan t [] rows = rows ≡ []
 AreRowsOf plan t (a ∷ come) rows =
-    (region : Region) × IsTakenIn t a.region region × (choice : Choice) × (more : List Row)
+    (region : RegionRows) × IsTakenIn t a.region region × (choice : Choice) × (more : List Row)
     × (rows ≡ filter (is_chosen choice t.schema plan) region.rows ++ more) × AreRowsOf plan t come more
 
 -- these rows came: those of the regions that were awaited and are no more

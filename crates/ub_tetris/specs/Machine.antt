@@ -5,12 +5,12 @@ use Rattle.std.specs.List.{All}
 use Rattle.std.specs.List.Sorted.{IsPermutation}
 use Rattle.ub_planning.specs.Plan.{PlanView}
 use Rattle.ub_planning.specs.Visits.{Event, IsAlong, AreEvents, AreArranged, selected_rows}
-use Rattle.ub_table.specs.Region.{Region}
+use Rattle.ub_table.specs.Region.{RegionRows}
 use Rattle.ub_table.specs.declared.row.Row.{Row}
 use Rattle.ub_table.specs.declared.schema.Schema.{Schema}
 
 -- the regions of some events
-abbrev pub regions_at : List Event → List Region
+abbrev pub regions_at : List Event → List RegionRows
 regions_at events = map (λ event. event.span.region) events
 
 -- a row's coordinate lies before another one along the sweep, such as an event value, and after it
@@ -23,7 +23,7 @@ IsRowPast dim is_descending other row = IsAlong is_descending other (slice_index
 -- a sweep under way: it comes to the regions in order, those fetched first; the rows given and those still to be given are the
 -- selected rows in the order in which it gives them; those given and those held are the selected rows of the fetched regions. No
 -- held row lies before the event value of a fetched region, and each row given lies before that of each region not yet fetched.
-pub record IsUnderWay (schema : Schema) (plan : PlanView) (dim : ℕ) (is_descending : Bool) (regions : List Region) (held given rest : List Row) (fetched unread : List Event) : Type 0 where
+pub record IsUnderWay (schema : Schema) (plan : PlanView) (dim : ℕ) (is_descending : Bool) (regions : List RegionRows) (held given rest : List Row) (fetched unread : List Event) : Type 0 where
   pub events : AreEvents schema plan.covering.boxes dim is_descending regions (fetched ++ unread)
   pub rows : AreArranged schema plan (selected_rows schema plan regions) (given ++ rest)
   pub held_are : IsPermutation (selected_rows schema plan (regions_at fetched)) (given ++ held)

@@ -14,13 +14,13 @@ use Rattle.ub_tetris.specs.Held.{HeldRow, AreHeldBy, rows_held}
 use Rattle.ub_tetris.specs.Machine.{IsUnderWay, IsRowAlong, IsRowPast, regions_at}
 use Rattle.ub_tree.specs.Placed.{Placed, regions_in}
 use Rattle.ub_tree.specs.View.{TreeView, IsSound, regions, spans_of}
-use Rattle.ub_tree.specs.Spans.{Region as TreeRegion}
+use Rattle.ub_tree.specs.Spans.{Region}
 use Rattle.ub_tree.specs.Told.{IsRegionOf}
 
 -- a region that is not fetched yet, and its event value
 pub record AwaitedRegion : Type 0 where
   pub value : ℕ
-  pub region : TreeRegion
+  pub region : Region
 
 -- a sweep: its dimension and direction; the rows that it holds; the regions not yet fetched; whether it has failed
 pub record SweepView : Type 0 where

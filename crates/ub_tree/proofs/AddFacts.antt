@@ -11,10 +11,10 @@ use Rattle.ub_index.specs.Making.{IsCommitted, PutsSheets, StayOutside, changed}
 use Rattle.ub_index.specs.Preparing.{ChangeView, IsForeign, MakesIndex, added_at}
 use Rattle.ub_index.specs.Standing.{AreOwnPages, region_pages}
 use Rattle.ub_index.specs.View.{IndexView, entries_in, entry_at}
-use Rattle.ub_region.specs.declared.region.Region.{Region as Span}
+use Rattle.ub_region.specs.declared.region.Region.{Region}
 use Rattle.ub_page.proofs.PageLaws.{region_parts}
-use Rattle.ub_page.specs.Region.{region_page}
-use Rattle.ub_page.specs.declared.entries.Entry.{Entry}
+use Rattle.ub_region.specs.RegionPage.{region_page}
+use Rattle.ub_region.specs.declared.entry.Entry.{Entry}
 use Rattle.ub_store.specs.Facts.{StoreFacts, IsHonest, page_count}
 use Rattle.ub_table.specs.Region.{IsRegion}
 use Rattle.ub_table.specs.declared.row.Key.{Key}
@@ -37,7 +37,7 @@ view_placed : (schema : Schema) (index : IndexView) (store : StoreFacts) → IsH
 view_placed schema index store honest = ap (λ (known : List (List ℕ)). placed_of schema known (entries_on index known)) (known_is store honest)
 
 -- a region of a stored tree is parted: its first half stands on its page, the other one on the page that the store got first
-module _ (t : TreeView) (seen : t.placed ≡ placed_in t.schema t.inner.index t.store) (stored : IsStored t) (i : ℕ) (span : Span) (at : IsRegionIn t i span) (here : span.page < page_count t.store)
+module _ (t : TreeView) (seen : t.placed ≡ placed_in t.schema t.inner.index t.store) (stored : IsStored t) (i : ℕ) (span : Region) (at : IsRegionIn t i span) (here : span.page < page_count t.store)
     (first : Key) (left right : List Row) (page other : List ℕ) (change : ChangeView) (number : ℕ) (grown filled new : StoreFacts)
     (makes : MakesIndex t.inner.index t.store (page_count t.store + 1) change (Replaces (entry_at span) (entry_at span ∷ added_at first t.store ∷ []) (entries_in t.inner.index t.store)))
     (grows : Grows t.store grown) (honest_grown : IsHonest grown) (honest_filled : IsHonest filled) (honest_new : IsHonest new)

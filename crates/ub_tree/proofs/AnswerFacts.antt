@@ -11,7 +11,7 @@ use Rattle.ub_region.specs.Spans.{address_before}
 use Rattle.ub_table.proofs.Laws.{before_from, before_parts, before_trans}
 use Rattle.ub_table.specs.Keys.{IsBefore, precedes}
 use Rattle.ub_table.specs.declared.row.Key.{Key}
-use Rattle.ub_tree.specs.Spans.{IsLater, Meets, Region as Span}
+use Rattle.ub_tree.specs.Spans.{IsLater, Meets, Region}
 use Rattle.ub_tree.specs.Told.{AreAnswers, GivesNext, IsRegionOf}
 use Rattle.ub_tree.specs.View.{TreeView}
 
@@ -31,11 +31,11 @@ capped_is : (n : ℕ) → n < 4294967296 → capped n ≡ n
 capped_is n lt = let t = lt-ltb n 4294967296 lt in rw t refl
 
 -- the place of a region's first key among the keys of numbers of 32 bits, from 1 on
-pub place : Option Span → ℕ
+pub place : Option Region → ℕ
 place None = 0
 place (Some a) = a.first.z * 4294967296 + capped a.first.number + 1
 
-place_later : (after : Option Span) (span : Span) → IsLater after span → span.first.number < 2 ^ 32 → place after < place (Some span)
+place_later : (after : Option Region) (span : Region) → IsLater after span → span.first.number < 2 ^ 32 → place after < place (Some span)
 unfolding place
 place_later None span later small = omega arith
 place_later (Some a) span later small =
@@ -46,12 +46,12 @@ place_later (Some a) span later small =
       | inr same ↦ let e = same.0 in let lt = same.1 in let own = capped_is a.first.number (omega arith) in omega arith
     ]
 
-place_within : (last : ℕ) (span : Span) → span.first.z ≤ last → place (Some span) ≤ (last + 1) * 4294967296
+place_within : (last : ℕ) (span : Region) → span.first.z ≤ last → place (Some span) ≤ (last + 1) * 4294967296
 unfolding place
 place_within last span le = let few = capped_few span.first.number in omega arith
 
 -- how many keys of the tree's space are later than a region's first one
-pub left_after : TreeView → Option Span → ℕ
+pub left_after : TreeView → Option Region → ℕ
 left_after t after = (t.inner.index.last + 1) * 4294967296 - place after
 
 -- ---- what one answer is
@@ -83,7 +83,7 @@ begins_up_to key first later = elim (cases_lt key.z first.z) [
 ]
 
 -- a region that is given is one that the tree tells of, and meets the boxes
-given_met : (boxes : List Corners) (t : TreeView) (from : Option Key) (span : Span)
+given_met : (boxes : List Corners) (t : TreeView) (from : Option Key) (span : Region)
     → GivesFrom t.inner.index t.store (λ from. LeastFrom (HoldsAny boxes) from.z) from (Some span) → IsRegionOf t span × Meets boxes span
 given_met boxes t None span h = absurd h
 given_met boxes t (Some from) span (key, (z, least, le, aim), given) =
@@ -98,17 +98,17 @@ given_met boxes t (Some from) span (key, (z, least, le, aim), given) =
     (record { key = key; falls = given }, (z, least.0, omega arith, omega arith))
 
 -- these are the first answers, and the last of them
-pub record HasAnswers (boxes : List Corners) (t : TreeView) (found : List Span) (after : Option Span) : Type 0 where
-  pub answers : (more : List Span) → AreAnswers boxes t after more → AreAnswers boxes t None (found ++ more)
+pub record HasAnswers (boxes : List Corners) (t : TreeView) (found : List Region) (after : Option Region) : Type 0 where
+  pub answers : (more : List Region) → AreAnswers boxes t after more → AreAnswers boxes t None (found ++ more)
 
 module _ (boxes : List Corners) (t : TreeView) where
-  pub next_later : (after : Option Span) (span : Span) → GivesNext boxes t after (Some span) → IsRegionOf t span × IsLater after span × Meets boxes span
+  pub next_later : (after : Option Region) (span : Region) → GivesNext boxes t after (Some span) → IsRegionOf t span × IsLater after span × Meets boxes span
   next_later after span gives =
       let met = given_met boxes t gives.given.0 span gives.given.2 in
       (met.0, gives.found_after.later, met.1)
 
   -- fewer are left after it
-  pub left_less : (after : Option Span) (span : Span) → GivesNext boxes t after (Some span) → left_after t (Some span) < left_after t after
+  pub left_less : (after : Option Region) (span : Region) → GivesNext boxes t after (Some span) → left_after t (Some span) < left_after t after
   unfolding left_after
   left_less after span gives =
       let later = place_later after span gives.found_after.later gives.found_after.number in
@@ -118,32 +118,32 @@ module _ (boxes : List Corners) (t : TreeView) where
   -- ---- all answers
 
   -- they are regions that the tree tells of and that meet the boxes
-  pub answers_there : (after : Option Span) (answers : List Span) → AreAnswers boxes t after answers → AllByRecursion (λ r. IsRegionOf t r × Meets boxes r) answers
+  pub answers_there : (after : Option Region) (answers : List Region) → AreAnswers boxes t after answers → AllByRecursion (λ r. IsRegionOf t r × Meets boxes r) answers
   answers_there after [] are = tt
   answers_there after (found ∷ more) (gives, rest) = let next = next_later after found gives in ((next.0, next.2), answers_there (Some found) more rest)
 
   -- and later than the one after which they are asked for
-  pub answers_later : (a : Span) (answers : List Span) → AreAnswers boxes t (Some a) answers → AllByRecursion (λ r. IsBefore a.first r.first) answers
+  pub answers_later : (a : Region) (answers : List Region) → AreAnswers boxes t (Some a) answers → AllByRecursion (λ r. IsBefore a.first r.first) answers
   answers_later a [] are = tt
   answers_later a (found ∷ more) (gives, rest) = (gives.found_after.later, all_later more (answers_later found more rest))
     where
-      all_later : (rs : List Span) → AllByRecursion (λ r. IsBefore found.first r.first) rs → AllByRecursion (λ r. IsBefore a.first r.first) rs
+      all_later : (rs : List Region) → AllByRecursion (λ r. IsBefore found.first r.first) rs → AllByRecursion (λ r. IsBefore a.first r.first) rs
       all_later [] all = tt
       all_later (r ∷ rs) all = (before_trans a.first found.first r.first gives.found_after.later all.0, all_later rs all.1)
 
-  later_at : (a : Span) (rs : List Span) → AllByRecursion (λ r. IsBefore a.first r.first) rs → (j : ℕ) (b : Span) → slice_get rs j ≡ Some b → IsBefore a.first b.first
+  later_at : (a : Region) (rs : List Region) → AllByRecursion (λ r. IsBefore a.first r.first) rs → (j : ℕ) (b : Region) → slice_get rs j ≡ Some b → IsBefore a.first b.first
   later_at a [] all j b at = cc
-  later_at a (r ∷ rs) all zero b at = let same : r ≡ b = cc in subst (λ (s : Span). IsBefore a.first s.first) same all.0
+  later_at a (r ∷ rs) all zero b at = let same : r ≡ b = cc in subst (λ (s : Region). IsBefore a.first s.first) same all.0
   later_at a (r ∷ rs) all (suc j) b at = later_at a rs all.1 j b at
 
   -- each is later than all before it
-  pub answers_up : (after : Option Span) (answers : List Span) → AreAnswers boxes t after answers
-      → (i j : ℕ) (a b : Span) → i < j → slice_get answers i ≡ Some a → slice_get answers j ≡ Some b → IsBefore a.first b.first
+  pub answers_up : (after : Option Region) (answers : List Region) → AreAnswers boxes t after answers
+      → (i j : ℕ) (a b : Region) → i < j → slice_get answers i ≡ Some a → slice_get answers j ≡ Some b → IsBefore a.first b.first
   answers_up after [] are i j a b lt at_i at_j = cc
   answers_up after (found ∷ more) are i zero a b lt at_i at_j = absurd (omega arith)
   answers_up after (found ∷ more) (gives, rest) zero (suc j) a b lt at_i at_j =
       let same : found ≡ a = cc in
-      subst (λ (s : Span). IsBefore s.first b.first) same (later_at found more (answers_later found more rest) j b at_j)
+      subst (λ (s : Region). IsBefore s.first b.first) same (later_at found more (answers_later found more rest) j b at_j)
   answers_up after (found ∷ more) (gives, rest) (suc i) (suc j) a b lt at_i at_j = answers_up (Some found) more rest i j a b (omega arith) at_i at_j
 
   -- ---- the answers so far
@@ -151,13 +151,13 @@ module _ (boxes : List Corners) (t : TreeView) where
   pub HasAnswers-none : HasAnswers boxes t [] None
   HasAnswers-none = record { answers = λ more are. are }
 
-  module _ (found : List Span) (after : Option Span) (so_far : HasAnswers boxes t found after) where
+  module _ (found : List Region) (after : Option Region) (so_far : HasAnswers boxes t found after) where
     -- one more came
-    pub HasAnswers-more : (span : Span) → GivesNext boxes t after (Some span) → HasAnswers boxes t (found ++ span ∷ []) (Some span)
+    pub HasAnswers-more : (span : Region) → GivesNext boxes t after (Some span) → HasAnswers boxes t (found ++ span ∷ []) (Some span)
     HasAnswers-more span gives = record {
-      answers = λ more are. subst (λ (all : List Span). AreAnswers boxes t None all) (sym (append_assoc found (span ∷ []) more)) (so_far.answers (span ∷ more) (gives, are));
+      answers = λ more are. subst (λ (all : List Region). AreAnswers boxes t None all) (sym (append_assoc found (span ∷ []) more)) (so_far.answers (span ∷ more) (gives, are));
     }
 
     -- they are all where none is left
     pub answers_ended : GivesNext boxes t after None → AreAnswers boxes t None found
-    answers_ended none = subst (λ (all : List Span). AreAnswers boxes t None all) (append-nil found) (so_far.answers [] none)
+    answers_ended none = subst (λ (all : List Region). AreAnswers boxes t None all) (append-nil found) (so_far.answers [] none)

@@ -9,18 +9,18 @@ use Rattle.ub_index.proofs.Lists.{ascend_first}
 use Rattle.ub_index.proofs.Numbers.{StandApart, distinct_cons, distinct_join}
 use Rattle.ub_index.specs.Changing.{IsOutside}
 use Rattle.ub_index.specs.Index.{entries_of, first_or, page_in, AscendTo, EachTo, IsIndexPage, IsUnder, pages_under}
-use Rattle.ub_index_page.proofs.Laws.{node_parts}
-use Rattle.ub_index_page.specs.Index.{node_on}
+use Rattle.ub_page.proofs.IndexLaws.{node_parts}
+use Rattle.ub_page.specs.Index.{node_on}
 use Rattle.ub_page.proofs.PageLaws.{region_parts}
-use Rattle.ub_page.specs.Bytes.{number_at}
+use Rattle.ub_bytes.specs.Bytes.{number_at}
 use Rattle.ub_page.specs.Entries.{IsEntry}
-use Rattle.ub_page.specs.Region.{region_page}
-use Rattle.ub_page.specs.declared.entries.Entry.{Entry}
+use Rattle.ub_region.specs.RegionPage.{region_page}
+use Rattle.ub_region.specs.declared.entry.Entry.{Entry}
 use Rattle.ub_region.proofs.Laws.{all_after, all_append, all_more, up_tail}
 use Rattle.ub_region.specs.Regions.{firsts_of}
 use Rattle.ub_table.proofs.Laws.{before_trans, not_before_self}
 use Rattle.ub_table.specs.Keys.{IsBefore, AreKeysAscending}
-use Rattle.ub_table.specs.Region.{Region, IsRegion}
+use Rattle.ub_table.specs.Region.{RegionRows, IsRegion}
 use Rattle.ub_table.specs.declared.row.Key.{Key}
 use Rattle.ub_table.specs.declared.schema.Schema.{Schema}
 use Rattle.ub_tree.specs.Placed.{Placed, regions_in}
@@ -157,7 +157,7 @@ module _ (schema : Schema) (pages : List (List ℕ)) where
   others p (q ∷ ps) on all up = (
     (λ same.
         let one = one_region schema pages p.page p.region q.region on.spelled on.is (ap (slice_get pages) same ∙ all.0.spelled) all.0.is in
-        not_before_self p.region.first (subst (λ (k : Key). IsBefore p.region.first k) (sym (ap (λ (r : Region). r.first) one)) up.0)),
+        not_before_self p.region.first (subst (λ (k : Key). IsBefore p.region.first k) (sym (ap (λ (r : RegionRows). r.first) one)) up.0)),
     others p ps on all.1 up.1,
   )
 

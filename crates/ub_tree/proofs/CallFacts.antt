@@ -23,7 +23,7 @@ use Rattle.ub_tree.proofs.WayFacts.{KeepsIndexKinds, led_not_stopped, still_led}
 use Rattle.ub_tree.specs.Faults.{index_fault}
 use Rattle.ub_tree.specs.Opened.{IsPassing}
 use Rattle.ub_tree.specs.Placed.{entry_of}
-use Rattle.ub_tree.specs.Spans.{IsLater, Region as Span}
+use Rattle.ub_tree.specs.Spans.{IsLater, Region}
 use Rattle.ub_tree.specs.Told.{FallsTo, GivesNext, IsRegionOf}
 use Rattle.ub_tree.specs.View.{TreeView}
 use Rattle.ub_tree.specs.declared.fault.TreeFault.{TreeFault}
@@ -56,7 +56,7 @@ ends_after last z key None before up le = le
 ends_after last z key (Some next) before up le = let more = up_to key.z key.number next.z next.number (before_parts key next before) in omega arith
 
 -- what is sought after a region, up from an address, is a region that the tree tells of, which ends there or later
-pub seek_told : (t : TreeView) (z : ℕ) (after found : Option Span) → GivesAfter t.inner.index t.store (λ _ to. to ≡ Some z) after found
+pub seek_told : (t : TreeView) (z : ℕ) (after found : Option Region) → GivesAfter t.inner.index t.store (λ _ to. to ≡ Some z) after found
     → IfSome found (IsLater after) → IfSome found (λ r. IsRegionOf t r × IsLater after r × (z ≤ r.to))
 seek_told t z after None given later = tt
 seek_told t z after (Some r) (None, from, h) later = absurd h
@@ -69,7 +69,7 @@ seek_told t z after (Some r) (Some key, from, (aim, (to, is, le, aim_is), given)
     (record { key = aim; falls = given }, later, omega arith)
 
 -- what is given after a region, as the tree tells it
-pub gives_next : (boxes : List Corners) (t : TreeView) (after found : Option Span)
+pub gives_next : (boxes : List Corners) (t : TreeView) (after found : Option Region)
     → GivesAfter t.inner.index t.store (λ from. LeastFrom (HoldsAny boxes) from.z) after found
     → IfSome found (IsLater after) → IfSome found (λ r. r.first.number < 2 ^ 32) → GivesNext boxes t after found
 gives_next boxes t after None given later number = record { given = given; found_after = tt }
@@ -86,14 +86,14 @@ gives_next boxes t after (Some r) given later number = record {
         omega arith
 
 -- where a way leads to a span, it stops nowhere
-not_stopped : (i : IndexView) (facts : StoreFacts) (key sought : Key) (span : Span) (n : ℕ) (fault : Option PageFault) → i.last < 2 ^ 128 → IsHonest facts
+not_stopped : (i : IndexView) (facts : StoreFacts) (key sought : Key) (span : Region) (n : ℕ) (fault : Option PageFault) → i.last < 2 ^ 128 → IsHonest facts
     → Gives i facts key span → sought ≡ key → ¬ (Stops i facts sought n fault)
 not_stopped i facts key sought span n fault small honest given same stops =
     led_not_stopped i.last facts.pages key small i.levels (top i.root) None (entry_at span) span.next n fault (given.way honest)
     (subst (λ (k : Key). Stops i facts k n fault) same stops)
 
 -- and a search to that key fails in passing alone
-pub way_passing : (i : IndexView) (facts : StoreFacts) (key : Key) (span : Span) → i.last < 2 ^ 128 → IsHonest facts → Gives i facts key span
+pub way_passing : (i : IndexView) (facts : StoreFacts) (key : Key) (span : Region) → i.last < 2 ^ 128 → IsHonest facts → Gives i facts key span
     → (e : IndexFault) → IsWayFault i facts (λ k. k ≡ key) e → IsPassing (index_fault e)
 way_passing i facts key span small honest given (index.Page n fault) h = let w = h honest in absurd (not_stopped i facts key w.0 span n (Some fault) small honest given w.1 w.2)
 way_passing i facts key span small honest given index.Full h = absurd h
@@ -103,11 +103,11 @@ way_passing i facts key span small honest given (index.Store store.BadSize) h = 
 way_passing i facts key span small honest given (index.Store store.NoPage) h = let w = h.2 honest in absurd (not_stopped i facts key w.0 span h.0 None small honest given w.1 w.2)
 
 -- what it gives is the region to which that way leads
-pub one_falls : (t : TreeView) (key : Key) (found span : Span) → IsHonest t.store → FallsTo t key found → FallsTo t key span → found ≡ span
+pub one_falls : (t : TreeView) (key : Key) (found span : Region) → IsHonest t.store → FallsTo t key found → FallsTo t key span → found ≡ span
 one_falls t key found span honest a b = one_given t.inner.index t.store key found span honest a b
 
 -- where the index stays, and each page but the first that is of an index by its first byte, a key falls to the span to which it fell
-pub kept_falls : (old new : TreeView) (key : Key) (span : Span) → new.inner.index ≡ old.inner.index → (IsHonest new.store → IsHonest old.store) → 1 ≤ old.inner.index.root
+pub kept_falls : (old new : TreeView) (key : Key) (span : Region) → new.inner.index ≡ old.inner.index → (IsHonest new.store → IsHonest old.store) → 1 ≤ old.inner.index.root
     → old.inner.index.last < 2 ^ 128 → (IsHonest old.store → KeepsIndexKinds old.store.pages new.store.pages) → FallsTo old key span → FallsTo new key span
 kept_falls old new key span indexes honesty some small keeps falls =
     subst (λ (i : IndexView). Gives i new.store key span) (sym indexes) (record {
@@ -119,7 +119,7 @@ kept_falls old new key span indexes honesty some small keeps falls =
     })
 
 -- a search to a key that leads to a span, which is refused
-pub holding_refused : (i : IndexView) (facts : StoreFacts) (key : Key) (span : Span) (r : Result Span TreeFault) (e : IndexFault) → i.last < 2 ^ 128 → IsHonest facts
+pub holding_refused : (i : IndexView) (facts : StoreFacts) (key : Key) (span : Region) (r : Result Region TreeFault) (e : IndexFault) → i.last < 2 ^ 128 → IsHonest facts
     → Gives i facts key span → IsErrAnd r (λ x. x ≡ index_fault e) → IsWayFault i facts (λ k. k ≡ key) e → MatchResult r (λ found. found ≡ span) IsPassing
 holding_refused i facts key span (Ok x) e small honest given is h = absurd is
 holding_refused i facts key span (Err f) e small honest given is h = rw is (way_passing i facts key span small honest given e h)

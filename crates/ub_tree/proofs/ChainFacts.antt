@@ -6,14 +6,14 @@ use Rattle.ub_index.proofs.FitFacts.{page_is}
 use Rattle.ub_index.proofs.Numbers.{StandApart, distinct_cons}
 use Rattle.ub_index.specs.Changing.{IsOutside}
 use Rattle.ub_index.specs.Index.{page_in}
-use Rattle.ub_page.proofs.BytesFacts.{length-layout, read_at}
+use Rattle.ub_bytes.proofs.BytesFacts.{length-layout, read_at}
 use Rattle.ub_page.proofs.EntryFacts.{entries_read}
 use Rattle.ub_page.proofs.PageLaws.{region_parts}
-use Rattle.ub_page.specs.Bytes.{layout, number_at, number_bytes}
+use Rattle.ub_bytes.specs.Bytes.{layout, number_at, number_bytes}
 use Rattle.ub_page.specs.Directory.{directory_page}
 use Rattle.ub_page.specs.Entries.{IsEntry, entry_bytes, entry_on, key_on, page_fields}
-use Rattle.ub_page.specs.Region.{region_page}
-use Rattle.ub_page.specs.declared.entries.Entry.{Entry}
+use Rattle.ub_region.specs.RegionPage.{region_page}
+use Rattle.ub_region.specs.declared.entry.Entry.{Entry}
 use Rattle.ub_region.proofs.Laws.{all_after, all_drop, all_more, all_take, up_tail}
 use Rattle.ub_table.proofs.Laws.{not_before_self}
 use Rattle.ub_table.specs.Keys.{AreKeysAscending, IsBefore}

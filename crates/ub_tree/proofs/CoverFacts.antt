@@ -13,7 +13,7 @@ use Rattle.ub_table.proofs.Laws.{before_from, before_of, before_parts, not_befor
 use Rattle.ub_table.specs.Keys.{IsBefore, origin, precedes}
 use Rattle.ub_table.specs.declared.row.Key.{Key}
 use Rattle.ub_tree.proofs.MeetFacts.{contained_at, contains_at}
-use Rattle.ub_tree.specs.Spans.{Region as Span}
+use Rattle.ub_tree.specs.Spans.{Region}
 use Rattle.ub_tree.specs.Told.{AreAnswers, GivesNext}
 use Rattle.ub_tree.specs.View.{TreeView}
 
@@ -22,7 +22,7 @@ module _ (boxes : List Corners) (tree : TreeView) (honest : IsHonest tree.store)
   To from = LeastFrom (HoldsAny boxes) from.z
 
   -- the search after this region goes on from a key that isn't behind the one in question
-  abbrev IsAhead : Option Span → Type 0
+  abbrev IsAhead : Option Region → Type 0
   IsAhead after = (from : Option Key) → IsFrom tree.inner.index tree.store after from → (f : Key) × (from ≡ Some f) × (¬ (IsBefore key f))
 
   address_up : (f : Key) → ¬ (IsBefore key f) → f.z ≤ key.z
@@ -51,7 +51,7 @@ module _ (boxes : List Corners) (tree : TreeView) (honest : IsHonest tree.store)
       ])
 
   -- a span that doesn't begin behind the key holds it, or ends before it
-  holds_or_ends : (span : Span) → ¬ (IsBefore key span.first) → (next : Option Key) → span.next ≡ next
+  holds_or_ends : (span : Region) → ¬ (IsBefore key span.first) → (next : Option Key) → span.next ≡ next
       → HoldsKey key span.first span.next ⊎ ((n : Key) × (span.next ≡ Some n) × (¬ (IsBefore key n)))
   holds_or_ends span from None e = inl (record { from = from; to = subst (λ (o : Option Key). IfSome o (IsBefore key)) (sym e) tt })
   holds_or_ends span from (Some n) e = elim (cases_Bool (precedes key n)) [
@@ -60,13 +60,13 @@ module _ (boxes : List Corners) (tree : TreeView) (honest : IsHonest tree.store)
   ]
 
   -- the way to the first key of the span that is given leads to it alone
-  one_next : (aim : Key) (span other : Span) → Gives tree.inner.index tree.store aim span → Gives tree.inner.index tree.store span.first other → other ≡ span
+  one_next : (aim : Key) (span other : Region) → Gives tree.inner.index tree.store aim span → Gives tree.inner.index tree.store span.first other → other ≡ span
   one_next aim span other given again =
       let ways = ways_hold tree.inner.index tree.store aim span (given.way honest) in
       one_given tree.inner.index tree.store span.first other span honest again (record { holds = ways.1; from = given.from; to = given.to; way = λ _. ways.2 span.first ways.1 })
 
   -- so what is given holds the key, or the search after it goes on from no later one
-  step : (after : Option Span) (found : Span) → IsAhead after → GivesAfter tree.inner.index tree.store To after (Some found) → HoldsKey key found.first found.next ⊎ IsAhead (Some found)
+  step : (after : Option Region) (found : Region) → IsAhead after → GivesAfter tree.inner.index tree.store To after (Some found) → HoldsKey key found.first found.next ⊎ IsAhead (Some found)
   step after found ahead (None, is_from, gone) = absurd gone
   step after found ahead (Some f, is_from, (aim, is_aim, given)) =
       let there = ahead (Some f) is_from in
@@ -74,17 +74,17 @@ module _ (boxes : List Corners) (tree : TreeView) (honest : IsHonest tree.store)
       let up = not_before_aim f aim (subst (λ (k : Key). ¬ (IsBefore key k)) same there.2) is_aim in
       elim (holds_or_ends found (le_trans found.first aim key given.holds.from up) found.next refl) [
         | inl holds ↦ inl holds
-        | inr ends ↦ inr (λ from is. (ends.0, is.2 ∙ (ap (λ (s : Span). s.next) (one_next aim found is.0 given is.1) ∙ ends.1), ends.2))
+        | inr ends ↦ inr (λ from is. (ends.0, is.2 ∙ (ap (λ (s : Region). s.next) (one_next aim found is.0 given is.1) ∙ ends.1), ends.2))
       ]
 
-  none_left : (after : Option Span) → IsAhead after → GivesAfter tree.inner.index tree.store To after None → ⊥
+  none_left : (after : Option Region) → IsAhead after → GivesAfter tree.inner.index tree.store To after None → ⊥
   none_left after ahead (None, is_from, none) = let there = ahead None is_from in let e = there.1 in cc
   none_left after ahead (Some f, is_from, none) =
       let there = ahead (Some f) is_from in
       let same : there.0 ≡ f = let e = there.1 in cc in
       not_aimless f (subst (λ (k : Key). ¬ (IsBefore key k)) same there.2) none
 
-  cover : (after : Option Span) (answers : List Span) → IsAhead after → AreAnswers boxes tree after answers → (span : Span) × Contains answers span × HoldsKey key span.first span.next
+  cover : (after : Option Region) (answers : List Region) → IsAhead after → AreAnswers boxes tree after answers → (span : Region) × Contains answers span × HoldsKey key span.first span.next
   cover after [] ahead gives = absurd (none_left after ahead gives.given)
   cover after (found ∷ more) ahead are = elim (step after found ahead are.0.given) [
     | inl holds ↦ (found, contains_at (found ∷ more) 0 found refl, holds)
@@ -93,5 +93,5 @@ module _ (boxes : List Corners) (tree : TreeView) (honest : IsHonest tree.store)
         (r.0, contains_at (found ∷ more) (suc r.1.0) r.0 (contained_at more r.0 r.1), r.2)
   ]
 
-  pub covered : (answers : List Span) → AreAnswers boxes tree None answers → (span : Span) × Contains answers span × HoldsKey key span.first span.next
+  pub covered : (answers : List Region) → AreAnswers boxes tree None answers → (span : Region) × Contains answers span × HoldsKey key span.first span.next
   covered answers are = cover None answers (λ from is. (origin, is, not_before_origin key)) are

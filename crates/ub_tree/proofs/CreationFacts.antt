@@ -10,13 +10,13 @@ use Rattle.ub_index.proofs.FillFacts.{filled_low}
 use Rattle.ub_index.specs.Index.{top}
 use Rattle.ub_index.specs.Opening.{IsAlone}
 use Rattle.ub_index.specs.View.{IndexView, index_view}
-use Rattle.ub_page.specs.Region.{region_on, region_page}
-use Rattle.ub_page.specs.declared.entries.Entry.{Entry}
+use Rattle.ub_region.specs.RegionPage.{region_on, region_page}
+use Rattle.ub_region.specs.declared.entry.Entry.{Entry}
 use Rattle.ub_region.specs.Regions.{AreRegions, rows_of}
 use Rattle.ub_store.specs.Facts.{StoreFacts, IsHonest}
 use Rattle.ub_store.specs.View.{PagerView, untouched}
 use Rattle.ub_table.specs.Keys.{origin}
-use Rattle.ub_table.specs.Region.{Region, IsRegion}
+use Rattle.ub_table.specs.Region.{RegionRows, IsRegion}
 use Rattle.ub_table.specs.declared.row.Row.{Row}
 use Rattle.ub_table.specs.declared.schema.Schema.{Schema}
 use Rattle.ub_tree.proofs.PutFacts.{view_placed}
@@ -37,11 +37,11 @@ empty_regions : (schema : Schema) → AreRegions schema 1 (empty_region ∷ [])
 empty_regions schema = record { begins = refl; ascending = tt; each = (empty_is_region schema, tt); apart = tt; distinct = none_twice; numbered = tt }
 
 -- the rows that a page tells of
-rows_there : (schema : Schema) (pages : List (List ℕ)) (n : ℕ) (region : Region) → slice_get pages n ≡ Some (region_page schema region)
+rows_there : (schema : Schema) (pages : List (List ℕ)) (n : ℕ) (region : RegionRows) → slice_get pages n ≡ Some (region_page schema region)
     → region_on schema (region_page schema region) ≡ region → (region_on schema (slice_index_or pages n [])).rows ≡ region.rows
 rows_there schema pages n region at back =
     let page : slice_index_or pages n [] ≡ region_page schema region = get_or_from_slice_get pages n (region_page schema region) [] at in
-    ap (λ (p : List ℕ). (region_on schema p).rows) page ∙ ap (λ (r : Region). r.rows) back
+    ap (λ (p : List ℕ). (region_on schema p).rows) page ∙ ap (λ (r : RegionRows). r.rows) back
 
 abbrev placed_with : ℕ → List Row → List Placed
 placed_with page rows = record { page = page; region = record { first = origin; rows = rows } } ∷ []
@@ -114,7 +114,7 @@ module _ (facts : StoreFacts) (schema : Schema) (index : IndexView) (pager : Pag
           regions_are = subst (AreRegions schema 1) (sym (first_regions is)) (empty_regions schema);
           placed_are = first_placed is;
           count_is = sym long;
-          rows_are = sym (ap (λ (rs : List Region). length (rows_of rs)) (first_regions is));
+          rows_are = sym (ap (λ (rs : List RegionRows). length (rows_of rs)) (first_regions is));
           some_next = omega arith;
           last_next = omega arith;
           few = subst (λ (n : ℕ). n < 2 ^ 32) (sym long) (omega arith);

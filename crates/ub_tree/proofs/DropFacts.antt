@@ -17,14 +17,14 @@ use Rattle.ub_index.specs.Making.{IsCommitted, PutsSheets, changed}
 use Rattle.ub_index.specs.Preparing.{ChangeView, IsForeign, IsReachedOnce, MakesIndex, pages_of_index}
 use Rattle.ub_index.specs.Standing.{AreOwnPages, AreRegionsThere, StandsAsOn, region_pages}
 use Rattle.ub_index.specs.View.{IndexView, IsIndexOn, IsRegionAt, entries_in, entry_at}
-use Rattle.ub_region.specs.declared.region.Region.{Region as Span}
+use Rattle.ub_region.specs.declared.region.Region.{Region}
 use Rattle.ub_index.specs.declared.sheet.Sheet.{Sheet}
 use Rattle.ub_page.proofs.PageLaws.{region_parts}
-use Rattle.ub_page.specs.Region.{region_page}
-use Rattle.ub_page.specs.declared.entries.Entry.{Entry}
+use Rattle.ub_region.specs.RegionPage.{region_page}
+use Rattle.ub_region.specs.declared.entry.Entry.{Entry}
 use Rattle.ub_region.specs.Joins.{put_rows}
 use Rattle.ub_store.specs.Facts.{StoreFacts, IsHonest, page_count}
-use Rattle.ub_table.specs.Region.{Region, IsRegion}
+use Rattle.ub_table.specs.Region.{RegionRows, IsRegion}
 use Rattle.ub_table.specs.declared.row.Key.{Key}
 use Rattle.ub_table.specs.declared.row.Row.{Row}
 use Rattle.ub_table.specs.declared.schema.Schema.{Schema}
@@ -91,7 +91,7 @@ pages_there schema pages (p ∷ ps) h = (slice_get_within pages p.page _ h.0, pa
 module _ (schema : Schema) (index : IndexView) (a mid new : StoreFacts) (placed placed_mid : List Placed)
     (honest : IsHonest a) (viewed : placed ≡ placed_of schema a.pages (entries_on index a.pages))
     (indexed : HasIndex index a.pages (map entry_of placed)) (placed_are : ArePlaced schema placed (reserved index a.pages) a.pages)
-    (i : ℕ) (span next : Span) (at : IsRegionAt (map entry_of placed) i span) (at_next : IsRegionAt (map entry_of placed) (i + 1) next)
+    (i : ℕ) (span next : Region) (at : IsRegionAt (map entry_of placed) i span) (at_next : IsRegionAt (map entry_of placed) (i + 1) next)
     (rows : List Row) (good : IsRegion schema (record { first = span.first; rows = rows }))
     (honest_mid : IsHonest mid) (others : AreOthersKept (0 ∷ span.page ∷ []) a.pages mid.pages) (count : page_count mid ≡ page_count a)
     (indexed_mid : HasIndex index mid.pages (map entry_of placed_mid)) (placed_are_mid : ArePlaced schema placed_mid (reserved index mid.pages) mid.pages)
@@ -190,12 +190,12 @@ module _ (schema : Schema) (index : IndexView) (a mid new : StoreFacts) (placed 
   dropped_regions =
       let p = placed_there placed i span at in
       let region = region_get placed i p.0 p.1 in
-      let alone : List Region = record { first = span.first; rows = rows } ∷ [] in
+      let alone : List RegionRows = record { first = span.first; rows = rows } ∷ [] in
       let first : slice_get (regions_in placed) i ≡ Some p.0.region = region in
       let joined : remove_at_index (regions_with i alone (regions_in placed)) (suc i) ≡ put_rows i true rows (regions_in placed) =
       subst (λ (k : Key). remove_at_index (regions_with i (record { first = k; rows = rows } ∷ []) (regions_in placed)) (suc i) ≡ put_rows i true rows (regions_in placed)) p.3
       (put_joined i rows p.0.region (regions_in placed) region) in
       let up : i + 1 ≡ suc i = omega arith in
       ap regions_in (placed_without (i + 1) placed_mid) ∙ map_removed (λ (q : Placed). q.region) (i + 1) placed_mid
-      ∙ ap (λ (rs : List Region). remove_at_index rs (i + 1)) (ap regions_in is_mid ∙ regions_put i (put ∷ []) placed)
+      ∙ ap (λ (rs : List RegionRows). remove_at_index rs (i + 1)) (ap regions_in is_mid ∙ regions_put i (put ∷ []) placed)
       ∙ ap (remove_at_index (regions_with i alone (regions_in placed))) up ∙ joined

@@ -5,7 +5,7 @@ use Rattle.ub_index.specs.Changing.{IsOutside, IsUnspelled}
 use Rattle.ub_index.specs.Index.{pages_under, top}
 use Rattle.ub_index.specs.Making.{PutsSheets, SameButSheets}
 use Rattle.ub_index.specs.declared.sheet.Sheet.{Sheet}
-use Rattle.ub_region.specs.declared.region.Region.{Region as Span}
+use Rattle.ub_region.specs.declared.region.Region.{Region}
 use Rattle.ub_region.proofs.Laws.{all_left, all_right}
 use Rattle.ub_store.specs.Facts.{StoreFacts, IsHonest, page_count}
 use Rattle.ub_store.specs.declared.fault.StoreFault.TheVariants as store
@@ -138,7 +138,7 @@ writes_both chain page sheets a mid new h puts honest_mid free = record {
     by_puts honest (inr put) = inr (λ m out lt. put.others m (free honest m lt (all_left (λ n. m ≢ n) (0 ∷ chain) (page ∷ []) out)) ∙ wide.kept honest m out lt)
 
 -- the page is that of a region of which the tree tells
-pub writes_told : (a c : TreeView) (span : Span) → IsRegionOf a span → WritesIndex span.page a c → WritesOneRegion a c
+pub writes_told : (a c : TreeView) (span : Region) → IsRegionOf a span → WritesIndex span.page a c → WritesOneRegion a c
 writes_told a c span of h = (
   span.page,
   inr (span, of, refl),
@@ -146,7 +146,7 @@ writes_told a c span of h = (
 )
 
 -- a call that only writes is a change
-module _ (a c : TreeView) (span : Span) (of : IsRegionOf a span) where
+module _ (a c : TreeView) (span : Region) (of : IsRegionOf a span) where
   ended : (fault : TreeFault) → HasStopped fault a c → WritesPage span.page a c → HasEnded fault a c
   ended fault h kept = record {
     same = h.same;

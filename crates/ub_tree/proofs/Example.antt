@@ -2,13 +2,13 @@
 use Rattle.std.proofs.Common.{◌≡◌, ℕ, List, [], ◌∷◌, Option, Some, None, refl, replicate}
 use Rattle.std.specs.Prelude.{pos}
 use Rattle.ub_zaddr.specs.Address.{address, last_address}
-use Rattle.ub_page.specs.declared.entries.Entry.{Entry}
+use Rattle.ub_region.specs.declared.entry.Entry.{Entry}
 use Rattle.ub_region.specs.Regions.{insert, remove}
 use Rattle.ub_table.specs.Keys.{origin}
-use Rattle.ub_table.specs.Region.{Region}
+use Rattle.ub_table.specs.Region.{RegionRows}
 use Rattle.ub_table.specs.declared.row.Key.{Key}
 use Rattle.ub_table.specs.declared.row.Row.{Row}
-use Rattle.ub_tree.specs.Spans.{regions_of, Region as Place}
+use Rattle.ub_tree.specs.Spans.{regions_of, Region}
 
 row_at : ℕ → ℕ → ℕ → Row
 row_at n x y = record { number = n; dims = x ∷ y ∷ 0 ∷ 0 ∷ []; measures = replicate 4 (pos 0) }
@@ -16,13 +16,13 @@ row_at n x y = record { number = n; dims = x ∷ y ∷ 0 ∷ 0 ∷ []; measures 
 key : ℕ → ℕ → Key
 key z n = record { z = z; number = n }
 
-abbrev region : Key → List Row → Region
+abbrev region : Key → List Row → RegionRows
 region first rows = record { first = first; rows = rows }
 
-abbrev empty : List Region
+abbrev empty : List RegionRows
 empty = region origin [] ∷ []
 
-abbrev table_s : List Region
+abbrev table_s : List RegionRows
 table_s = insert 2 2 (row_at 5 2 3) (insert 2 2 (row_at 4 0 2) (insert 2 2 (row_at 3 3 0) (insert 2 2 (row_at 2 2 3) (insert 2 2 (row_at 1 1 1) empty))))
 
 five_rows : table_s ≡ region origin (row_at 1 1 1 ∷ row_at 4 0 2 ∷ []) ∷ region (key 10 0) (row_at 3 3 0 ∷ []) ∷ region (key 13 0) (row_at 2 2 3 ∷ row_at 5 2 3 ∷ []) ∷ []
@@ -43,7 +43,7 @@ one_address = refl
 abbrev entry : Key → ℕ → Entry
 entry first page = record { first = first; page = page }
 
-abbrev index : Key → Option Key → ℕ → ℕ → ℕ → Place
+abbrev index : Key → Option Key → ℕ → ℕ → ℕ → Region
 index first next from to page = record { first = first; next = next; from = from; to = to; page = page }
 
 five_spans : regions_of (last_address 2) (entry origin 1 ∷ entry (key 10 0) 3 ∷ entry (key 13 0) 2 ∷ [])

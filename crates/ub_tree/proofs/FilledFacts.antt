@@ -9,7 +9,7 @@ use Rattle.ub_index.specs.Filling.{IsFilled}
 use Rattle.ub_index.specs.Preparing.{pages_of_index}
 use Rattle.ub_index.specs.Standing.{AreOwnPages, region_pages}
 use Rattle.ub_index.specs.View.{IndexView, entries_in, entry_at}
-use Rattle.ub_region.specs.declared.region.Region.{Region as Span}
+use Rattle.ub_region.specs.declared.region.Region.{Region}
 use Rattle.ub_tree.proofs.CallFacts.{stored_on}
 use Rattle.ub_tree.proofs.IndexedFacts.{reached_once}
 use Rattle.ub_tree.proofs.PutFacts.{page_at}
@@ -21,7 +21,7 @@ use Rattle.ub_tree.specs.declared.fault.TreeFault.{TreeFault}
 use Rattle.ub_tree.specs.inner.Change.{IsRegionIn, IsStored, KeepsGrown, Writes}
 
 -- neither the first page nor that of a span is one of the index
-page_apart : (t : TreeView) (i : ℕ) (span : Span) → IsStored t → IsRegionIn t i span → AllByRecursion (λ n. IsOutside n (pages_of_index t.inner.index t.store)) (0 ∷ span.page ∷ [])
+page_apart : (t : TreeView) (i : ℕ) (span : Region) → IsStored t → IsRegionIn t i span → AllByRecursion (λ n. IsOutside n (pages_of_index t.inner.index t.store)) (0 ∷ span.page ∷ [])
 page_apart t i span stored at =
     let numbers : region_pages (entries_in t.inner.index t.store) ≡ map (λ (p : Placed). p.page) t.placed = ap region_pages stored.indexed.entries_are ∙ pages_by t.placed in
     let own : AreOwnPages t.inner.index t.store = subst (λ (ns : List ℕ). IsDistinct nat_eq (reserved t.inner.index t.store.pages ++ ns)) (sym numbers) stored.placed_are.own in
@@ -30,7 +30,7 @@ page_apart t i span stored at =
     (apart.0, (each_get (λ n. IsOutside n (pages_of_index t.inner.index t.store)) (map (λ (p : Placed). p.page) t.placed) i span.page each (page_at t.placed i (entry_at span) at.entry), tt))
 
 -- where only the page of a region is written, and the first, the pages of the index are as full as before
-pub writes_grown : {A : Type 0} (old new : TreeView) (i : ℕ) (span : Span) (r : Result A TreeFault) → IsStored old → IsRegionIn old i span → Writes span old new r → KeepsGrown old new
+pub writes_grown : {A : Type 0} (old new : TreeView) (i : ℕ) (span : Region) (r : Result A TreeFault) → IsStored old → IsRegionIn old i span → Writes span old new r → KeepsGrown old new
 writes_grown old new i span r stored at writes was =
     subst (λ (x : IndexView). IsFilled x new.store.pages) (sym (ap (λ (v : TreeView). v.inner.index) writes.frame))
     (stands_filled old.inner.index old.store new.store (0 ∷ span.page ∷ []) (stored_on old stored) (reached_once old.inner.index old.store _ stored.placed_are.own)

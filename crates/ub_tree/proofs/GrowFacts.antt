@@ -9,14 +9,14 @@ use Rattle.ub_index.proofs.WaysFacts.{ends_from, ends_to}
 use Rattle.ub_index.specs.View.{entry_at}
 use Rattle.ub_index.specs.Index.{entries_of, first_or, top}
 use Rattle.ub_index.specs.Way.{HoldsKey, IsFullWay, LeadsTo}
-use Rattle.ub_page.specs.declared.entries.Entry.{Entry}
+use Rattle.ub_region.specs.declared.entry.Entry.{Entry}
 use Rattle.ub_region.proofs.Laws.{all_left, all_right, insert_keeps, insert_table}
 use Rattle.ub_region.specs.Regions.{firsts_of, index_holding, insert, rows_of, split_region}
 use Rattle.ub_region.specs.Rows.{Halves, has_key, insert_row, split}
 use Rattle.ub_store.specs.Facts.{IsHonest}
 use Rattle.ub_store.specs.declared.fault.StoreFault.TheVariants as store
 use Rattle.ub_table.specs.Keys.{IsBefore}
-use Rattle.ub_table.specs.Region.{Region, IsRegion, IsRow, key_of, measures_of}
+use Rattle.ub_table.specs.Region.{RegionRows, IsRegion, IsRow, key_of, measures_of}
 use Rattle.ub_table.specs.declared.fault.PageFault.{PageFault}
 use Rattle.ub_table.specs.declared.fault.PageFault.TheVariants.{BadCount}
 use Rattle.ub_table.specs.declared.row.Key.{Key}
@@ -35,7 +35,7 @@ use Rattle.ub_tree.specs.Holding.{Answers, AnswersKey, AnswersAt, GrowsAt}
 use Rattle.ub_tree.specs.Opened.{IsPassing}
 use Rattle.ub_tree.specs.Others.{AddsEntry, KeepsEntries, WritesIndex, WritesPage}
 use Rattle.ub_tree.specs.Placed.{entry_of, regions_in}
-use Rattle.ub_tree.specs.Spans.{first_keys, Region as Span}
+use Rattle.ub_tree.specs.Spans.{first_keys, Region}
 use Rattle.ub_tree.specs.Told.{FallsTo, IsRegionOf, KeepsTold}
 use Rattle.ub_tree.specs.View.{TreeView, IsSound, region_count, regions}
 use Rattle.ub_tree.specs.declared.fault.TreeFault.{TreeFault}
@@ -45,7 +45,7 @@ use Rattle.ub_writing.specs.Marks.{HasMark}
 use Rattle.ub_zaddr.specs.Address.{last_address}
 
 -- rows that stand in place of a region's are one region, or two
-module _ (old new : TreeView) (i : ℕ) (span : Span) (rows : List Row) where
+module _ (old new : TreeView) (i : ℕ) (span : Region) (rows : List Row) where
   pub one_stored : (r : Result (Unit {0}) TreeFault) → nat_le (length rows) old.schema.page_rows ≡ true
       → OnOk r (IsStored new × (new.placed ≡ placed_with i (record { page = span.page; region = record { first = span.first; rows = rows } } ∷ []) old.placed)) → KeepsGrown old new
       → OnOk r (IsStored new × (regions new ≡ regions_with i (split_of old.schema span.first rows) (regions old)) × KeepsGrown old new)
@@ -76,13 +76,13 @@ drop_at (y ∷ xs) zero x at = let same : y ≡ x = cc in ap (λ z. z ∷ xs) sa
 drop_at (y ∷ xs) (suc i) x at = drop_at xs i x at
 
 -- insertion changes the region at the index of the row's key
-insert_at_index : (dims c : ℕ) (row : Row) (rs : List Region) (index : ℕ) (r : Region) → slice_get rs index ≡ Some r → index ≡ index_holding (key_of dims row) (firsts_of rs)
+insert_at_index : (dims c : ℕ) (row : Row) (rs : List RegionRows) (index : ℕ) (r : RegionRows) → slice_get rs index ≡ Some r → index ≡ index_holding (key_of dims row) (firsts_of rs)
     → insert dims c row rs ≡ regions_with index (split_region dims c (record { first = r.first; rows = insert_row dims row r.rows })) rs
 insert_at_index dims c row rs index r at is =
     rw (← is) (rw (drop_at rs index r at) (sym (append_assoc (take index rs) (split_region dims c (record { first = r.first; rows = insert_row dims row r.rows })) (drop (suc index) rs))))
 
 -- a row was put into a sound tree
-pub grown : (a b after d : TreeView) (row : Row) (span : Span) (read : List Row) → IsHolder a (key_of a.schema.dims row) span read → b ≡ a → IsRow a.schema.dims (measures_of a.schema) row
+pub grown : (a b after d : TreeView) (row : Row) (span : Region) (read : List Row) → IsHolder a (key_of a.schema.dims row) span read → b ≡ a → IsRow a.schema.dims (measures_of a.schema) row
     → row.number ≡ a.next → a.next ≢ 16777216 → IsElsewhereSame b after → (IsSound b → after.is_changed ≡ true → HasMark b.schema after.store.pages) → after.inner.index.last ≡ last_address after.schema.dims
     → region_count after < 2 ^ 32 → d ≡ record after { next = after.next + 1; rows = after.rows + 1 }
     → ((i : ℕ) → IsStored b → IsRegionIn b i span → AllByRecursion (IsRegion b.schema) (split_of b.schema span.first (insert_row b.schema.dims row read))
@@ -112,7 +112,7 @@ grown a b after d row span read h same good number not_last changed marks last f
     let are : regions_in after.placed ≡ insert dims a.schema.page_rows row (regions a) = both.1 ∙ sym is in
     let mark : HasMark a.schema after.store.pages =
     subst (λ (v : TreeView). HasMark v.schema after.store.pages) same (marks (subst IsSound (sym same) sound) (ap (λ (v : TreeView). v.is_changed) whole)) in
-    let long : length (rows_of (regions_in after.placed)) ≡ length (rows_of (insert dims a.schema.page_rows row (regions a))) = ap (λ (rs : List Region). length (rows_of rs)) are in
+    let long : length (rows_of (regions_in after.placed)) ≡ length (rows_of (insert dims a.schema.page_rows row (regions a))) = ap (λ (rs : List RegionRows). length (rows_of rs)) are in
     let more : length (rows_of (insert dims a.schema.page_rows row (regions a))) ≡ length (row ∷ rows_of (regions a)) =
     length_permutation (row ∷ rows_of (regions a)) (rows_of (insert dims a.schema.page_rows row (regions a))) kept.1 in
     let before : a.rows ≡ length (rows_of (regions a)) = sound.rows_are in
@@ -144,10 +144,10 @@ grown a b after d row span read h same good number not_last changed marks last f
     })
 
 -- the counts of a tree say nothing of its regions and pages
-told_more : (t : TreeView) (next rows : ℕ) (region : Span) → IsRegionOf t region → IsRegionOf (record t { next = next; rows = rows }) region
+told_more : (t : TreeView) (next rows : ℕ) (region : Region) → IsRegionOf t region → IsRegionOf (record t { next = next; rows = rows }) region
 told_more t next rows region h = record { key = h.key; falls = h.falls }
 
-told_less : (t : TreeView) (next rows : ℕ) (region : Span) → IsRegionOf (record t { next = next; rows = rows }) region → IsRegionOf t region
+told_less : (t : TreeView) (next rows : ℕ) (region : Region) → IsRegionOf (record t { next = next; rows = rows }) region → IsRegionOf t region
 told_less t next rows region h = record { key = h.key; falls = h.falls }
 
 -- the tree with one row more counted
@@ -155,8 +155,8 @@ abbrev counted_more : TreeView → TreeView
 counted_more t = record t { next = t.next + 1; rows = t.rows + 1 }
 
 -- where a row was put, which then is counted
-pub grows_by : (a b mid d : TreeView) (key : Key) (span : Span) (read : Region) → b ≡ a → d ≡ record mid { next = mid.next + 1; rows = mid.rows + 1 } → FallsTo a key span
-    → (IsHonest b.store → (r : Region) → IsTakenIn b span r → read ≡ r) → length read.rows ≤ b.schema.page_rows → StoresAt span (length read.rows) b mid → GrowsAt key a d
+pub grows_by : (a b mid d : TreeView) (key : Key) (span : Region) (read : RegionRows) → b ≡ a → d ≡ record mid { next = mid.next + 1; rows = mid.rows + 1 } → FallsTo a key span
+    → (IsHonest b.store → (r : RegionRows) → IsTakenIn b span r → read ≡ r) → length read.rows ≤ b.schema.page_rows → StoresAt span (length read.rows) b mid → GrowsAt key a d
 grows_by a b mid d key span read same counted falls taken few h =
     subst (λ (v : TreeView). GrowsAt key a v) (sym counted)
     (subst (λ (v : TreeView). FallsTo v key span → GrowsAt key v (counted_more mid)) same by_b falls)
@@ -183,12 +183,12 @@ grows_by a b mid d key span read same counted falls taken few h =
       span = span;
       falls = here;
       others = others h.others;
-      full = λ page region honest into full. added (h.full (ap (λ (r : Region). length r.rows) (taken honest region (on_region b key page region span honest into here).0) ∙ full));
-      spare = λ page region honest into spare. kept (h.spare (subst (λ (r : Region). length r.rows < b.schema.page_rows) (sym (taken honest region (on_region b key page region span honest into here).0)) spare));
+      full = λ page region honest into full. added (h.full (ap (λ (r : RegionRows). length r.rows) (taken honest region (on_region b key page region span honest into here).0) ∙ full));
+      spare = λ page region honest into spare. kept (h.spare (subst (λ (r : RegionRows). length r.rows < b.schema.page_rows) (sym (taken honest region (on_region b key page region span honest into here).0)) spare));
     }
 
 -- the key of a new row stands in the region on a span already
-pub key_there : (t : TreeView) (key : Key) (span : Span) (region : Region) → FallsTo t key span → IsTakenIn t span region
+pub key_there : (t : TreeView) (key : Key) (span : Region) (region : RegionRows) → FallsTo t key span → IsTakenIn t span region
     → key.number ≡ t.next → has_key t.schema.dims key region.rows ≡ true → IsHolder t key span region.rows → (¬ (IsSound t)) × IsNumberTaken t span.page
 key_there t key span region falls on number has h = (
   λ sound.
@@ -271,7 +271,7 @@ full_way_to last pages key other (suc level) entry end found next (named, below,
         before_le other first.0 x.first sooner (ends_to last pages key level below beyond found next leads first.0 x.first first.1 e)
 
 -- the same answer of another call
-pub answers_err_at : {U A : Type 0} (IsFull : Type 0) (t : TreeView) (span : Span) (r : Result A TreeFault) (e : TreeFault) → IsErrAnd r (λ x. x ≡ e) → AnswersAt {A = U} IsFull t span (Err e) → AnswersAt IsFull t span r
+pub answers_err_at : {U A : Type 0} (IsFull : Type 0) (t : TreeView) (span : Region) (r : Result A TreeFault) (e : TreeFault) → IsErrAnd r (λ x. x ≡ e) → AnswersAt {A = U} IsFull t span (Err e) → AnswersAt IsFull t span r
 answers_err_at {U} {A} IsFull t span (Ok x) e is h = absurd is
 answers_err_at {U} {A} IsFull t span (Err f) e is h = subst (λ (x : TreeFault). AnswersAt {A = A} IsFull t span (Err x)) (sym is) (
   λ full many. (let told = h.0 full many in let same : e ≡ Page 0 BadCount = cc in ap (λ (x : TreeFault). Err x) same),
@@ -279,7 +279,7 @@ answers_err_at {U} {A} IsFull t span (Err f) e is h = subst (λ (x : TreeFault).
   h.2,
 )
 
-pub answers_ok_at : {U A : Type 0} (IsFull : Type 0) (t : TreeView) (span : Span) (x : U) (y : A) → AnswersAt {A = U} IsFull t span (Ok x) → AnswersAt {A = A} IsFull t span (Ok y)
+pub answers_ok_at : {U A : Type 0} (IsFull : Type 0) (t : TreeView) (span : Region) (x : U) (y : A) → AnswersAt {A = U} IsFull t span (Ok x) → AnswersAt {A = A} IsFull t span (Ok y)
 answers_ok_at IsFull t span x y h = (
   λ full many. (let told = h.0 full many in cc),
   λ honest falls page fault told. cc,
@@ -287,21 +287,21 @@ answers_ok_at IsFull t span x y h = (
 )
 
 -- the region that the key falls into was read, and hasn't the key
-pub added_answers : {A : Type 0} (a b : TreeView) (key : Key) (span : Span) (read : Region) (r : Result A TreeFault) → b ≡ a → FallsTo a key span
-    → (IsHonest b.store → (q : Region) → IsTakenIn b span q → read ≡ q) → has_key a.schema.dims key read.rows ≡ false → AnswersAt (length read.rows ≡ b.schema.page_rows) b span r
+pub added_answers : {A : Type 0} (a b : TreeView) (key : Key) (span : Region) (read : RegionRows) (r : Result A TreeFault) → b ≡ a → FallsTo a key span
+    → (IsHonest b.store → (q : RegionRows) → IsTakenIn b span q → read ≡ q) → has_key a.schema.dims key read.rows ≡ false → AnswersAt (length read.rows ≡ b.schema.page_rows) b span r
     → IsHonest a.store → AnswersKey a key r
 added_answers {A} a b key span read r same to taken none answers honest number region into =
     let on = on_region a key number region span honest into to in
-    let taken_a = subst (λ (v : TreeView). IsHonest v.store → (q : Region) → IsTakenIn v span q → read ≡ q) same taken in
+    let taken_a = subst (λ (v : TreeView). IsHonest v.store → (q : RegionRows) → IsTakenIn v span q → read ≡ q) same taken in
     let read_is : read ≡ region = taken_a honest region on.0 in
     let h = subst (λ (v : TreeView). AnswersAt (length read.rows ≡ v.schema.page_rows) v span r) same answers in
     let one : span ≡ into.span = one_falls a key span into.span honest to into.falls in
-    let sure_key : FallsTo a key span = subst (λ (s : Span). FallsTo a key s) (sym one) into.falls in
+    let sure_key : FallsTo a key span = subst (λ (s : Region). FallsTo a key s) (sym one) into.falls in
     let leads = sure_key.way honest in
     let holds = ways_hold a.inner.index a.store key span leads in
     let sure : FallsTo a span.first span = record { holds = holds.1; from = sure_key.from; to = sure_key.to; way = λ _. holds.2 span.first holds.1 } in
-    let here : has_key a.schema.dims key region.rows ≡ false = subst (λ (q : Region). has_key a.schema.dims key q.rows ≡ false) read_is none in
-    let long : length read.rows ≡ length region.rows = ap (λ (q : Region). length q.rows) read_is in (
+    let here : has_key a.schema.dims key region.rows ≡ false = subst (λ (q : RegionRows). has_key a.schema.dims key q.rows ≡ false) read_is none in
+    let long : length read.rows ≡ length region.rows = ap (λ (q : RegionRows). length q.rows) read_is in (
       λ has. absurd (let bad : true ≡ false = sym has ∙ here in cc),
       λ free full many. subst (λ (q : Result A TreeFault). Answers q (Page 0 BadCount)) (sym (h.0 (long ∙ full) many)) (inl refl),
       λ free page fault told. (let only = h.1 honest sure page fault told in (sym long ∙ only.0, only.1)),
@@ -310,7 +310,7 @@ added_answers {A} a b key span read r same to taken none answers honest number r
     )
 
 -- the region of a span whose page had room was put on it
-pub put_at : {T : Type 0} (r : Result T TreeFault) (old new : TreeView) (span : Span) (count : ℕ) → count ≢ old.schema.page_rows → OnOk r (IsPut old new) → OnOk r (KeepsTold old new) → Writes span old new r
+pub put_at : {T : Type 0} (r : Result T TreeFault) (old new : TreeView) (span : Region) (count : ℕ) → count ≢ old.schema.page_rows → OnOk r (IsPut old new) → OnOk r (KeepsTold old new) → Writes span old new r
     → OnOk r (StoresAt span count old new)
 put_at (Err e) old new span count room put told writes = tt
 put_at (Ok x) old new span count room put told writes = record {
@@ -321,7 +321,7 @@ put_at (Ok x) old new span count room put told writes = record {
 }
 
 -- what a span answers where its region isn't full, and only the device can fail
-pub spared_answers : {A : Type 0} (F : Type 0) (t : TreeView) (span : Span) (r : Result A TreeFault) → (F → ⊥) → IfErr r (λ fault. fault ≡ Store store.Device) → AnswersAt F t span r
+pub spared_answers : {A : Type 0} (F : Type 0) (t : TreeView) (span : Region) (r : Result A TreeFault) → (F → ⊥) → IfErr r (λ fault. fault ≡ Store store.Device) → AnswersAt F t span r
 spared_answers F t span (Ok x) room device = (λ full many. absurd (room full), λ honest falls page fault told. cc, λ honest falls full few levels way. absurd (room full))
 spared_answers F t span (Err e) room device = (
   λ full many. absurd (room full),
@@ -333,7 +333,7 @@ spared_answers F t span (Err e) room device = (
 )
 
 -- and where it is full
-pub filled_answers : {A : Type 0} (F : Type 0) (t : TreeView) (span : Span) (r : Result A TreeFault) → F → AnswersAt (Unit {0}) t span r → AnswersAt F t span r
+pub filled_answers : {A : Type 0} (F : Type 0) (t : TreeView) (span : Region) (r : Result A TreeFault) → F → AnswersAt (Unit {0}) t span r → AnswersAt F t span r
 filled_answers F t span r full h = (
   λ is many. h.0 tt many,
   λ honest falls page fault told. (full, (h.1 honest falls page fault told).1),

@@ -11,7 +11,7 @@ use Rattle.ub_index.specs.Changed.{PagesStay}
 use Rattle.ub_index.specs.Index.{pages_under, top}
 use Rattle.ub_index.specs.Making.{IsGrowFault}
 use Rattle.ub_index.specs.View.{IndexView}
-use Rattle.ub_page.specs.declared.entries.Entry.{Entry}
+use Rattle.ub_region.specs.declared.entry.Entry.{Entry}
 use Rattle.ub_region.specs.Regions.{AreRegions, rows_of}
 use Rattle.ub_store.specs.Facts.{StoreFacts, IsHonest, page_count}
 use Rattle.ub_store.specs.View.{PagerView, SameTrace}

@@ -6,15 +6,15 @@ use Rattle.ub_index.proofs.HeldFacts.{keeps_but, keeps_gone}
 use Rattle.ub_index.proofs.StepFacts.{held_once, honest_back, same_honest}
 use Rattle.ub_index.specs.Held.{AreChecked, KeepsChecked}
 use Rattle.ub_index.specs.View.{IndexView}
-use Rattle.ub_index_page.specs.Index.{IsIndexKind}
-use Rattle.ub_page.specs.Bytes.{number_at, number_bytes}
+use Rattle.ub_page.specs.Index.{IsIndexKind}
+use Rattle.ub_bytes.specs.Bytes.{number_at, number_bytes}
 use Rattle.ub_page.specs.Header.{header_page, page_of}
-use Rattle.ub_page.specs.Region.{region_page}
+use Rattle.ub_region.specs.RegionPage.{region_page}
 use Rattle.ub_page.specs.declared.header.Header.{Header}
 use Rattle.ub_store.specs.Cache.{NoneMoreBut, Renews, SameBut, page_at}
 use Rattle.ub_store.specs.Facts.{StoreFacts, IsHonest}
 use Rattle.ub_store.specs.View.{PagerView}
-use Rattle.ub_table.specs.Region.{Region, IsRegion}
+use Rattle.ub_table.specs.Region.{RegionRows, IsRegion}
 use Rattle.ub_table.specs.declared.schema.Schema.{Schema}
 use Rattle.ub_tree.proofs.WayFacts.{region_no_kind}
 use Rattle.ub_tree.specs.Tree.{IsTree}
@@ -63,7 +63,7 @@ module _ (last n : ℕ) (old mid : PagerView) (reads : ℕ) (same : mid.store �
       keeps_gone last old new n (λ good. honest_back old.store mid.store reads same (same_honest mid new forgot good)) (λ m page ne h. others m page ne (sym (but m ne) ∙ h)) gone
 
 pub region_checked : (schema : Schema) (last n : ℕ) (old mid : PagerView) (reads : ℕ) → mid.store ≡ record old.store { failed_reads = reads } → NoneMoreBut n old.cached mid.cached
-    → (region : Region) (page : List ℕ) → page_at mid.cached n ≡ Some page → IsRegion schema region → page ≡ region_page schema region → KeepsChecked last old mid
+    → (region : RegionRows) (page : List ℕ) → page_at mid.cached n ≡ Some page → IsRegion schema region → page ≡ region_page schema region → KeepsChecked last old mid
 region_checked schema last n old mid reads same others region page at is spelled =
     kind_checked last n old mid reads same others page at (subst (λ (x : List ℕ). ¬ (IsIndexKind x)) (sym spelled) (region_no_kind schema region is))
 

@@ -8,14 +8,14 @@ use Rattle.std.proofs.lemmas.Option.{slice_get_within}
 use Rattle.std.specs.List.{AllByRecursion, list_any}
 use Rattle.std.specs.Result.{IsErrAnd, IsErrOf}
 use Rattle.ub_index.specs.Preparing.{HasFullWay}
-use Rattle.ub_region.specs.declared.region.Region.{Region as Span}
-use Rattle.ub_index_page.specs.declared.index.TheConstants.{MAX_LEVEL}
+use Rattle.ub_region.specs.declared.region.Region.{Region}
+use Rattle.ub_page.specs.declared.header.TheConstants.{MAX_LEVEL}
 use Rattle.ub_region.proofs.Laws.{all_append}
 use Rattle.ub_region.specs.Rows.{has_key}
 use Rattle.ub_store.specs.Facts.{IsHonest, page_count}
 use Rattle.ub_store.specs.declared.fault.StoreFault.{StoreFault}
 use Rattle.ub_store.specs.declared.fault.StoreFault.TheVariants as store
-use Rattle.ub_table.specs.Region.{Region, key_of}
+use Rattle.ub_table.specs.Region.{RegionRows, key_of}
 use Rattle.ub_table.specs.declared.fault.PageFault.{PageFault}
 use Rattle.ub_table.specs.declared.fault.PageFault.TheVariants.{BadCount, BadOrder}
 use Rattle.ub_table.specs.declared.row.Key.{Key}
@@ -62,9 +62,9 @@ never_full t small many sound =
     absurd (omega arith)
 
 -- the region that a key falls into is that of the span to which it falls
-pub on_region : (t : TreeView) (key : Key) (page : ℕ) (region : Region) (span : Span) → IsHonest t.store → FallsInto t key page region → FallsTo t key span → IsTakenIn t span region × (span.page ≡ page)
+pub on_region : (t : TreeView) (key : Key) (page : ℕ) (region : RegionRows) (span : Region) → IsHonest t.store → FallsInto t key page region → FallsTo t key span → IsTakenIn t span region × (span.page ≡ page)
 on_region t key page region span honest h falls =
-    subst (λ (s : Span). IsTakenIn t s region × (s.page ≡ page)) (sym (one_falls t key span h.span honest falls h.falls))
+    subst (λ (s : Region). IsTakenIn t s region × (s.page ≡ page)) (sym (one_falls t key span h.span honest falls h.falls))
     (h.taken, h.page_is)
 
 -- a read that failed, of a page that is there
@@ -116,14 +116,14 @@ no_answer (Ok x) e P is = absurd is
 no_answer (Err f) e P is = tt
 
 -- a span was found, the tree is as it was, and the rows of its region are read where its page spells it
-module _ (a b : TreeView) (key : Key) (span : Span) (same : b ≡ a) (to : FallsTo a key span) where
-  falls_on : IsHonest a.store → (page : ℕ) (region : Region) → FallsInto a key page region → IsHonest b.store × IsTakenIn b span region × (span.page ≡ page)
+module _ (a b : TreeView) (key : Key) (span : Region) (same : b ≡ a) (to : FallsTo a key span) where
+  falls_on : IsHonest a.store → (page : ℕ) (region : RegionRows) → FallsInto a key page region → IsHonest b.store × IsTakenIn b span region × (span.page ≡ page)
   falls_on honest page region falls =
       let on = on_region a key page region span honest falls to in
       (subst (λ (v : TreeView). IsHonest v.store) (sym same) honest, subst (λ (v : TreeView). IsTakenIn v span region) (sym same) on.0, on.1)
 
   -- where it can't be read
-  pub unread_key : {A : Type 0} (r : Result A TreeFault) (e : TreeFault) → IsErrAnd r (λ x. x ≡ e) → (IsHonest b.store → (q : Region) → IsTakenIn b span q → IsPassing e)
+  pub unread_key : {A : Type 0} (r : Result A TreeFault) (e : TreeFault) → IsErrAnd r (λ x. x ≡ e) → (IsHonest b.store → (q : RegionRows) → IsTakenIn b span q → IsPassing e)
       → IsHonest a.store → AnswersKey a key r
   unread_key r e told taken honest page region falls =
       let on = falls_on honest page region falls in
@@ -134,14 +134,14 @@ module _ (a b : TreeView) (key : Key) (span : Span) (same : b ≡ a) (to : Falls
         λ none full few levels way. passing_no_room r e told passing,
       )
 
-  pub unread_removal : (r : Result Bool TreeFault) (e : TreeFault) → IsErrAnd r (λ x. x ≡ e) → (IsHonest b.store → (q : Region) → IsTakenIn b span q → IsPassing e)
+  pub unread_removal : (r : Result Bool TreeFault) (e : TreeFault) → IsErrAnd r (λ x. x ≡ e) → (IsHonest b.store → (q : RegionRows) → IsTakenIn b span q → IsPassing e)
       → IsHonest a.store → AnswersRemoval a key r
   unread_removal r e told taken honest page region falls =
       let on = falls_on honest page region falls in
       let passing = taken on.0 region on.1 in
       (λ has none. passing_answers r e _ told passing, λ none. passing_fault r e told passing, no_answer r e _ told)
 
-  module _ (rows : List Row) (taken : IsHonest b.store → (q : Region) → IsTakenIn b span q → rows ≡ q.rows) where
+  module _ (rows : List Row) (taken : IsHonest b.store → (q : RegionRows) → IsTakenIn b span q → rows ≡ q.rows) where
     pub key_is_there : (A : Type 0) (number : ℕ) → number ≡ span.page → has_key a.schema.dims key rows ≡ true → IsHonest a.store → AnswersKey {A = A} a key (Err (Page number BadOrder))
     key_is_there A number at there honest there_page region falls =
         let on = falls_on honest there_page region falls in

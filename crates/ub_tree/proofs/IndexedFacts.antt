@@ -5,14 +5,14 @@ use Rattle.std.specs.List.{Contains, IsDistinct}
 use Rattle.ub_bigmin.specs.Box.{Corners, HoldsAny}
 use Rattle.ub_bigmin.specs.Extremes.{LeastFrom}
 use Rattle.ub_index.specs.Spans.{First, IsLater, Meets, first_keys, regions_of}
-use Rattle.ub_region.specs.declared.region.Region.{Region as Span}
+use Rattle.ub_region.specs.declared.region.Region.{Region}
 use Rattle.ub_index.proofs.FoundFacts.{meeting_given, region_there}
 use Rattle.ub_index.proofs.LeadFacts.{led_to, ways_hold}
 use Rattle.ub_index.proofs.WayFacts.{way_ends_at}
 use Rattle.ub_index.specs.Preparing.{IsReachedOnce}
 use Rattle.ub_index.specs.Searching.{GivesAfter, end_before, region_of}
 use Rattle.ub_index.specs.View.{IndexView, IsIndexOn, IsRegionAt, entries_in}
-use Rattle.ub_page.specs.declared.entries.Entry.{Entry}
+use Rattle.ub_region.specs.declared.entry.Entry.{Entry}
 use Rattle.ub_region.specs.Regions.{index_holding}
 use Rattle.ub_store.specs.Facts.{StoreFacts, IsHonest}
 use Rattle.ub_table.specs.declared.row.Key.{Key}
@@ -35,7 +35,7 @@ pub reached_once : (index : IndexView) (store : StoreFacts) (numbers : List ℕ)
 reached_once index store numbers own = distinct_left (reserved index store.pages) numbers own
 
 -- what is given after a region is the first later one of the index that meets the boxes
-pub first_given : (index : IndexView) (store : StoreFacts) → IsIndexOn index store → (boxes : List Corners) (after found : Option Span)
+pub first_given : (index : IndexView) (store : StoreFacts) → IsIndexOn index store → (boxes : List Corners) (after found : Option Region)
     → GivesAfter index store (λ from. LeastFrom (HoldsAny boxes) from.z) after found
     → First (λ r. IsLater after r × Meets boxes r) (regions_of index.last (entries_in index store)) found
 first_given index store is boxes after found given = meeting_given index store is after (record { ref_ptr = (0, 0); now = boxes }) found given
@@ -48,35 +48,35 @@ module _ (t : TreeView) (sound : IsSound t) where
   spans_told = ap (λ (last : ℕ). regions_of last (entries_in t.inner.index t.store)) sound.last_is ∙ ap (regions_of (last_address t.schema.dims)) sound.indexed.entries_are
 
   -- the region to which a key falls is that which holds it
-  pub at_of_key : (key : Key) (span : Span) → FallsTo t key span → IsRegionIn t (index_holding key (first_keys (map entry_of t.placed))) span
+  pub at_of_key : (key : Key) (span : Region) → FallsTo t key span → IsRegionIn t (index_holding key (first_keys (map entry_of t.placed))) span
   at_of_key key span falls =
       subst (λ (es : List Entry). IsRegionAt es (index_holding key (first_keys es)) span) sound.indexed.entries_are (way_ends_at t.inner.index t.store key span sound_index (falls.way sound.honest))
 
   -- and to each region its own first key falls, on a way on which each page fits
-  pub first_falls : (i : ℕ) (span : Span) → IsRegionIn t i span → span.from ≡ span.first.z → span.to ≡ end_before t.inner.index.last span.next → FallsTo t span.first span
+  pub first_falls : (i : ℕ) (span : Region) → IsRegionIn t i span → span.from ≡ span.first.z → span.to ≡ end_before t.inner.index.last span.next → FallsTo t span.first span
   first_falls i span at from to =
       let leads = led_to t.inner.index t.store i span sound_index (subst (λ (es : List Entry). IsRegionAt es i span) (sym sound.indexed.entries_are) at) in
       let holds = ways_hold t.inner.index t.store span.first span leads in
       record { holds = holds.1; from = from; to = to; way = λ honest. leads }
 
-  pub told_contained : (span : Span) → IsRegionOf t span → Contains (spans_of t) span
+  pub told_contained : (span : Region) → IsRegionOf t span → Contains (spans_of t) span
   told_contained span told =
       let i = index_holding told.key (first_keys (map entry_of t.placed)) in
       let at = region_there t.inner.index.last (map entry_of t.placed) i span (at_of_key told.key span told.falls) told.falls.from told.falls.to in
       let here : slice_get (spans_of t) i ≡ Some span = ap (λ (last : ℕ). slice_get (regions_of last (map entry_of t.placed)) i) (sym sound.last_is) ∙ at in
       contains_at (spans_of t) i span here
 
-  pub contained_told : (span : Span) → Contains (spans_of t) span → IsRegionOf t span
+  pub contained_told : (span : Region) → Contains (spans_of t) span → IsRegionOf t span
   contained_told span there =
       let i = there.0 in
       let at : slice_get (spans_of t) i ≡ Some span = contained (spans_of t) span there in
       let (e, entry_at, first, page, next) = span_entry (last_address t.schema.dims) (map entry_of t.placed) i span at in
-      let told : Span = region_of t.inner.index.last e (slice_get (first_keys (map entry_of t.placed)) (suc i)) in
+      let told : Region = region_of t.inner.index.last e (slice_get (first_keys (map entry_of t.placed)) (suc i)) in
       let placed : IsRegionIn t i told = there_at (map entry_of t.placed) i e entry_at in
       let own = region_there t.inner.index.last (map entry_of t.placed) i told placed refl refl in
       let whole : slice_get (regions_of t.inner.index.last (map entry_of t.placed)) i ≡ Some span = ap (λ (last : ℕ). slice_get (regions_of last (map entry_of t.placed)) i) sound.last_is ∙ at in
       let same : told ≡ span = (let both = sym own ∙ whole in cc) in
-      subst (λ (s : Span). IsRegionOf t s) same (record { key = told.first; falls = first_falls i told placed refl refl })
+      subst (λ (s : Region). IsRegionOf t s) same (record { key = told.first; falls = first_falls i told placed refl refl })
     where
       there_at : (entries : List Entry) (i : ℕ) (e : Entry) → slice_get entries i ≡ Some e
           → IsRegionAt entries i (region_of t.inner.index.last e (slice_get (first_keys entries) (suc i)))

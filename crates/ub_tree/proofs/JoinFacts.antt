@@ -16,9 +16,9 @@ use Rattle.ub_index.specs.Preparing.{ChangeView, MakesIndex}
 use Rattle.ub_index.specs.View.{IndexView, entries_in, entry_at}
 use Rattle.ub_index.specs.declared.fault.IndexFault.{IndexFault}
 use Rattle.ub_index.specs.declared.fault.IndexFault.TheVariants as index
-use Rattle.ub_region.specs.declared.region.Region.{Region as Span}
+use Rattle.ub_region.specs.declared.region.Region.{Region}
 use Rattle.ub_index.specs.declared.sheet.Sheet.{Sheet}
-use Rattle.ub_page.specs.declared.entries.Entry.{Entry}
+use Rattle.ub_region.specs.declared.entry.Entry.{Entry}
 use Rattle.ub_region.proofs.Laws.{all_more}
 use Rattle.ub_region.specs.Joins.{put_rows}
 use Rattle.ub_region.specs.Regions.{index_holding}
@@ -62,11 +62,11 @@ after_origin key later before = by_parts (before_parts key later before)
     ]
 
 -- a region that comes after another one isn't the first
-pub behind_first : (t : TreeView) (span next : Span) → IsRegionOf t span → span.next ≡ Some next.first → IsBefore origin next.first
+pub behind_first : (t : TreeView) (span next : Region) → IsRegionOf t span → span.next ≡ Some next.first → IsBefore origin next.first
 behind_first t span next of begins = after_origin span.first next.first (begins_before t of.key span next.first of.falls begins)
 
 -- a sound tree of which two neighbours are known has more than one region
-pub alone_not_sound : (t : TreeView) (span next : Span) → region_count t ≡ 1 → IsRegionOf t span → span.next ≡ Some next.first → ¬ (IsSound t)
+pub alone_not_sound : (t : TreeView) (span next : Region) → region_count t ≡ 1 → IsRegionOf t span → span.next ≡ Some next.first → ¬ (IsSound t)
 alone_not_sound t span next one of begins sound =
     let i = index_holding of.key (first_keys (map entry_of t.placed)) in
     let at = at_of_key t sound of.key span of.falls in
@@ -78,7 +78,7 @@ alone_not_sound t span next one of begins sound =
     let bad : None ≡ Some next.first = sym none ∙ sym at.next ∙ begins in
     cc
 
-module _ (b mid n : TreeView) (span next : Span) (change : ChangeView) (there : IsRegionThere b span) (of_next : IsRegionOf b next) (begins : span.next ≡ Some next.first)
+module _ (b mid n : TreeView) (span next : Region) (change : ChangeView) (there : IsRegionThere b span) (of_next : IsRegionOf b next) (begins : span.next ≡ Some next.first)
     (ready : IsDropReady b next change) (put : IsPut b mid) (wrote : Writes {A = Unit {0}} span b mid (Ok tt)) (puts : PutsSheets change.sheets mid.store n.store) where
   abbrev chain : List ℕ
   chain = pages_under b.store.pages b.inner.index.levels (top b.inner.index.root)

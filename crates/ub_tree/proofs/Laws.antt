@@ -8,7 +8,7 @@ use Rattle.std.specs.List.{IsDistinct}
 use Rattle.ub_region.proofs.Laws as lists
 use Rattle.ub_region.specs.Regions.{firsts_of}
 use Rattle.ub_region.specs.Spans.{span_end}
-use Rattle.ub_table.specs.Region.{Region}
+use Rattle.ub_table.specs.Region.{RegionRows}
 use Rattle.ub_tree.proofs.AnswerFacts.{answers_up, next_later}
 use Rattle.ub_tree.proofs.CallFacts.{last_small}
 use Rattle.ub_tree.proofs.CheckFacts.{first_once}
@@ -19,12 +19,12 @@ use Rattle.ub_bigmin.specs.Box.{Corners}
 use Rattle.ub_index.proofs.FillFacts.{filled_low_levels}
 use Rattle.ub_index.proofs.Numbers.{distinct_right}
 use Rattle.ub_index.specs.View.{entries_in}
-use Rattle.ub_index_page.specs.declared.index.TheConstants.{MAX_LEVEL}
+use Rattle.ub_page.specs.declared.header.TheConstants.{MAX_LEVEL}
 use Rattle.ub_tree.specs.Handing.{AreMetBy}
 use Rattle.ub_tree.specs.Laws.{SpansAscend, PagesDiffer, SpansCoverTheSpace, RowsLieInSpans, RegionsAreTold, NextIsTheFirst, NextIsLater, AnswersAreThoseThatMeet, AnswersAreRegionsThatMeet, AnswersAscend, AnswersCover, GrownIsNotFull, WellPagesAreSound, SoundTreesAreWell, FirstFaultIsOne}
 use Rattle.ub_tree.specs.Placed.{Placed, entry_of, regions_in}
 use Rattle.ub_tree.specs.Indexed.{reserved}
-use Rattle.ub_tree.specs.Spans.{first_keys, regions_of, First, IsLater, Meets, Region as Span}
+use Rattle.ub_tree.specs.Spans.{first_keys, regions_of, First, IsLater, Meets, Region}
 use Rattle.ub_tree.specs.View.{TreeView, IsSound, regions, spans_of}
 use Rattle.ub_tree.proofs.WellFacts.{opened_pages, opened_sound, sound_well}
 use Rattle.ub_zaddr.specs.Address.{last_address}
@@ -36,7 +36,7 @@ pub use Rattle.ub_tree.proofs.ReadFacts.{IsTraced, Keeps, Keeps-by, Keeps-more, 
 pub use Rattle.ub_index.proofs.Laws.{region_first}
 
 -- the region of a span, with its page
-record HasSpan (last i : ℕ) (placed : List Placed) (span : Span) (p : Placed) : Type 0 where
+record HasSpan (last i : ℕ) (placed : List Placed) (span : Region) (p : Placed) : Type 0 where
   pub at : slice_get placed i ≡ Some p
   pub region_at : slice_get (regions_in placed) i ≡ Some p.region
   pub first : p.region.first ≡ span.first
@@ -44,19 +44,19 @@ record HasSpan (last i : ℕ) (placed : List Placed) (span : Span) (p : Placed) 
   pub from : span.from ≡ p.region.first.z
   pub to : span.to ≡ span_end last (firsts_of (drop (suc i) (regions_in placed)))
 
-has_span : (last : ℕ) (placed : List Placed) (i : ℕ) (span : Span) → slice_get (regions_of last (map entry_of placed)) i ≡ Some span → (p : Placed) × HasSpan last i placed span p
+has_span : (last : ℕ) (placed : List Placed) (i : ℕ) (span : Region) → slice_get (regions_of last (map entry_of placed)) i ≡ Some span → (p : Placed) × HasSpan last i placed span p
 has_span last [] i span at = cc
 has_span last (p ∷ placed) zero span at =
-    let whole : Span = record { first = p.region.first; next = slice_get (first_keys (map entry_of placed)) 0; from = p.region.first.z; to = span_end last (first_keys (map entry_of placed)); page = p.page } in
+    let whole : Region = record { first = p.region.first; next = slice_get (first_keys (map entry_of placed)) 0; from = p.region.first.z; to = span_end last (first_keys (map entry_of placed)); page = p.page } in
     let same : whole ≡ span = cc in (
       p,
       record {
         at = refl;
         region_at = refl;
-        first = ap (λ (s : Span). s.first) same;
-        page = ap (λ (s : Span). s.page) same;
-        from = sym (ap (λ (s : Span). s.from) same);
-        to = sym (ap (λ (s : Span). s.to) same) ∙ ap (span_end last) (firsts_placed placed);
+        first = ap (λ (s : Region). s.first) same;
+        page = ap (λ (s : Region). s.page) same;
+        from = sym (ap (λ (s : Region). s.from) same);
+        to = sym (ap (λ (s : Region). s.to) same) ∙ ap (span_end last) (firsts_placed placed);
       },
     )
 has_span last (q ∷ placed) (suc i) span at =
@@ -64,7 +64,7 @@ has_span last (q ∷ placed) (suc i) span at =
     (p, record { at = h.at; region_at = h.region_at; first = h.first; page = h.page; from = h.from; to = h.to })
 
 -- the region at an index has a span
-span_at : (last : ℕ) (placed : List Placed) (i : ℕ) (region : Region) → slice_get (regions_in placed) i ≡ Some region → (span : Span) × (slice_get (regions_of last (map entry_of placed)) i ≡ Some span)
+span_at : (last : ℕ) (placed : List Placed) (i : ℕ) (region : RegionRows) → slice_get (regions_in placed) i ≡ Some region → (span : Region) × (slice_get (regions_of last (map entry_of placed)) i ≡ Some span)
 span_at last [] i region at = cc
 span_at last (p ∷ placed) zero region at = (_, refl)
 span_at last (p ∷ placed) (suc i) region at = span_at last placed i region at
@@ -119,7 +119,7 @@ spans_cover_the_space t z sound upto =
     let (p, one) = has_span (last_address t.schema.dims) t.placed i span span_is in
     let region_at = one.region_at in
     let same : p.region ≡ r = cc in
-    let begins : span.from ≡ r.first.z = one.from ∙ ap (λ (x : Region). x.first.z) same in
+    let begins : span.from ≡ r.first.z = one.from ∙ ap (λ (x : RegionRows). x.first.z) same in
     let ends = one.to in
     (span, contains_at (spans_of t) i span span_is, (omega arith, omega arith))
 
@@ -133,10 +133,10 @@ rows_lie_in_spans t span r row sound there stands has =
     let at_p = one.at in
     let same : p ≡ q = cc in
     let region_is : p.region ≡ r = ap (λ (x : Placed). x.region) same ∙ is in
-    let at : slice_get (regions t) there.0 ≡ Some r = one.region_at ∙ ap (λ (x : Region). Some x) region_is in
+    let at : slice_get (regions t) there.0 ≡ Some r = one.region_at ∙ ap (λ (x : RegionRows). Some x) region_is in
     let (own, own_at, from, end) = lists.rows_lie_in_their_spans t.schema t.next (regions t) there.0 r row sound.regions_are at has in
     let own_is : own ≡ r = cc in
-    let begins : span.from ≡ own.first.z = one.from ∙ ap (λ (x : Region). x.first.z) (region_is ∙ sym own_is) in
+    let begins : span.from ≡ own.first.z = one.from ∙ ap (λ (x : RegionRows). x.first.z) (region_is ∙ sym own_is) in
     let ends = one.to in
     (omega arith, omega arith)
 
@@ -145,7 +145,7 @@ regions_are_told t span sound = (λ told. told_contained t sound span told, λ t
 
 pub next_is_the_first : NextIsTheFirst
 next_is_the_first t boxes after found sound gives =
-    subst (λ (spans : List Span). First (λ r. IsLater after r × Meets boxes r) spans found) (spans_told t sound)
+    subst (λ (spans : List Region). First (λ r. IsLater after r × Meets boxes r) spans found) (spans_told t sound)
     (first_given t.inner.index t.store (sound_index t sound) boxes after found gives.given)
 
 pub next_is_later : NextIsLater
@@ -156,7 +156,7 @@ answers_are_those_that_meet t boxes answers sound are =
     answers_are_those boxes t (λ after found gives. next_is_the_first t boxes after found sound gives) (λ i j a b lt at_i at_j. spans_ascend t i j a b sound lt at_i at_j) answers are
 
 -- a walk over a sound tree has come to no more regions than it has
-pub met_few : (boxes : List Corners) (t : TreeView) (met : List Span) → IsSound t → AreMetBy boxes t met → length met < 2 ^ 32
+pub met_few : (boxes : List Corners) (t : TreeView) (met : List Region) → IsSound t → AreMetBy boxes t met → length met < 2 ^ 32
 met_few boxes t met sound are =
     let most = those_few (Meets boxes) (spans_of t) met (answers_are_those_that_meet t boxes met sound are) in
     let long = spans_long (last_address t.schema.dims) t.placed in

@@ -10,12 +10,12 @@ use Rattle.ub_table.specs.Keys.{IsBefore}
 use Rattle.ub_tree.proofs.AnswerFacts.{HasAnswers, HasAnswers-none, HasAnswers-more, answers_ended, left_after, left_less}
 use Rattle.ub_tree.specs.Handing.{AreMetBy, Began, TakesThese}
 use Rattle.ub_tree.specs.Placed.{Placed, entry_of}
-use Rattle.ub_tree.specs.Spans.{IsLater, regions_of, Region as Span}
+use Rattle.ub_tree.specs.Spans.{IsLater, regions_of, Region}
 use Rattle.ub_tree.specs.Told.{GivesNext}
 use Rattle.ub_tree.specs.View.{TreeView}
 
 -- the span before the one at a place, if there is one
-abbrev pub before : ℕ → List Span → Option Span
+abbrev pub before : ℕ → List Region → Option Region
 before zero spans = None
 before (suc k) spans = slice_get spans k
 
@@ -84,28 +84,28 @@ module _ {X : Type 0} where
 
 -- ---- spans whose first keys ascend
 
-module _ (spans : List Span) (ordered : (i j : ℕ) (a b : Span) → i < j → slice_get spans i ≡ Some a → slice_get spans j ≡ Some b → IsBefore a.first b.first) where
+module _ (spans : List Region) (ordered : (i j : ℕ) (a b : Region) → i < j → slice_get spans i ≡ Some a → slice_get spans j ≡ Some b → IsBefore a.first b.first) where
   -- the spans from a place on are later than the one before it
-  pub is_later : (k i : ℕ) (r : Span) → k ≤ i → slice_get spans i ≡ Some r → IsLater (before k spans) r
+  pub is_later : (k i : ℕ) (r : Region) → k ≤ i → slice_get spans i ≡ Some r → IsLater (before k spans) r
   is_later zero i r le at = tt
   is_later (suc k) i r le at =
       let within = slice_get_within spans i r at in
       let there = there_is spans k (omega arith) in
-      at_some (λ (other : Span). IsBefore other.first r.first) (slice_get spans k) there.0 there.1 (ordered k i there.0 r (omega arith) there.1 at)
+      at_some (λ (other : Region). IsBefore other.first r.first) (slice_get spans k) there.0 there.1 (ordered k i there.0 r (omega arith) there.1 at)
 
   -- and they alone
-  pub later_from : (k i : ℕ) (x : Span) → k ≤ length spans → slice_get spans i ≡ Some x → IsLater (before k spans) x → k ≤ i
+  pub later_from : (k i : ℕ) (x : Region) → k ≤ length spans → slice_get spans i ≡ Some x → IsLater (before k spans) x → k ≤ i
   later_from zero i x far there h = omega arith
   later_from (suc k) i x far there h =
       let (a, at_k) = there_is spans k (omega arith) in
-      let after : IsBefore a.first x.first = some_at (λ (other : Span). IsBefore other.first x.first) (slice_get spans k) a at_k h in
+      let after : IsBefore a.first x.first = some_at (λ (other : Region). IsBefore other.first x.first) (slice_get spans k) a at_k h in
       elim (cases_lt k i) [
         | inl lt ↦ omega arith
         | inr ge ↦ elim (cases_eq i k) [
           | inl e ↦
               let again : slice_get spans k ≡ Some x = ap (slice_get spans) (sym e) ∙ there in
               let same : a ≡ x = cc in
-              absurd (not_before_self a.first (subst (λ (s : Span). IsBefore a.first s.first) (sym same) after))
+              absurd (not_before_self a.first (subst (λ (s : Region). IsBefore a.first s.first) (sym same) after))
           | inr ne ↦ absurd (not_both_before a.first x.first after (ordered i k x a (omega arith) there at_k))
         ]
       ]
@@ -117,24 +117,24 @@ spans_long last [] = refl
 spans_long last (p ∷ placed) = ap suc (spans_long last placed)
 
 -- so far as a walk has come, in which nothing changes
-pub record Walks (boxes : List Corners) (t now : TreeView) (found : List Span) (after : Option Span) : Type 0 where
+pub record Walks (boxes : List Corners) (t now : TreeView) (found : List Region) (after : Option Region) : Type 0 where
   pub same : now ≡ t
   pub come : HasAnswers boxes t found after
 
 pub Walks-none : (boxes : List Corners) (t : TreeView) → Walks boxes t t [] None
 Walks-none boxes t = record { same = refl; come = HasAnswers-none boxes t }
 
-module _ (boxes : List Corners) (t now : TreeView) (found : List Span) (after : Option Span) (walks : Walks boxes t now found after) where
+module _ (boxes : List Corners) (t now : TreeView) (found : List Region) (after : Option Region) (walks : Walks boxes t now found after) where
   -- what the tree tells next, of one that is the same
-  told : (next copied : Option Span) → copied ≡ after → GivesNext boxes now copied next → GivesNext boxes t after next
+  told : (next copied : Option Region) → copied ≡ after → GivesNext boxes now copied next → GivesNext boxes t after next
   told next copied is gives =
-      subst (λ (a : Option Span). GivesNext boxes t a next) is (subst (λ (x : TreeView). GivesNext boxes x copied next) walks.same gives)
+      subst (λ (a : Option Region). GivesNext boxes t a next) is (subst (λ (x : TreeView). GivesNext boxes x copied next) walks.same gives)
 
-  pub walks_ended : (next copied : Option Span) → ((x : Span) → next ≡ Some x → ⊥) → copied ≡ after → GivesNext boxes now copied next → AreMetBy boxes t found
+  pub walks_ended : (next copied : Option Region) → ((x : Region) → next ≡ Some x → ⊥) → copied ≡ after → GivesNext boxes now copied next → AreMetBy boxes t found
   walks_ended None copied none is gives = answers_ended boxes t found after walks.come (told None copied is gives)
   walks_ended (Some span) copied none is gives = absurd (none span refl)
 
-  pub walks_on : (new : TreeView) (copied : Option Span) (span : Span) → new ≡ now → copied ≡ after → GivesNext boxes now copied (Some span)
+  pub walks_on : (new : TreeView) (copied : Option Region) (span : Region) → new ≡ now → copied ≡ after → GivesNext boxes now copied (Some span)
       → Walks boxes t new (found ++ span ∷ []) (Some span)
   walks_on new copied span kept is gives = record {
     same = kept ∙ walks.same;
@@ -142,21 +142,21 @@ module _ (boxes : List Corners) (t now : TreeView) (found : List Span) (after : 
   }
 
   -- and fewer regions are left after it
-  pub walks_down : (copied : Option Span) (span : Span) → copied ≡ after → GivesNext boxes now copied (Some span) → left_after t (Some span) < left_after t after
+  pub walks_down : (copied : Option Region) (span : Region) → copied ≡ after → GivesNext boxes now copied (Some span) → left_after t (Some span) < left_after t after
   walks_down copied span is gives = left_less boxes t after span (told (Some span) copied is gives)
 
 -- ---- the sink
 
-module _ {S : Type 0} (Takes : S → List Span → S → Type 0) where
+module _ {S : Type 0} (Takes : S → List Region → S → Type 0) where
   pub takes_none : (sink : S) → TakesThese Takes sink sink []
-  takes_none sink start taken has = subst (λ (regions : List Span). Takes start regions sink) (sym (none_more taken)) has
+  takes_none sink start taken has = subst (λ (regions : List Region). Takes start regions sink) (sym (none_more taken)) has
     where
-      none_more : (xs : List Span) → xs ++ [] ≡ xs
+      none_more : (xs : List Region) → xs ++ [] ≡ xs
       none_more [] = refl
-      none_more (x ∷ xs) = ap (λ (ys : List Span). x ∷ ys) (none_more xs)
+      none_more (x ∷ xs) = ap (λ (ys : List Region). x ∷ ys) (none_more xs)
 
-  pub takes_more : (a b c : S) (some more : List Span) → TakesThese Takes a b some → TakesThese Takes b c more → TakesThese Takes a c (some ++ more)
-  takes_more a b c some more h k start taken has = subst (λ (regions : List Span). Takes start regions c) (append_assoc taken some more) (k start (taken ++ some) (h start taken has))
+  pub takes_more : (a b c : S) (some more : List Region) → TakesThese Takes a b some → TakesThese Takes b c more → TakesThese Takes a c (some ++ more)
+  takes_more a b c some more h k start taken has = subst (λ (regions : List Region). Takes start regions c) (append_assoc taken some more) (k start (taken ++ some) (h start taken has))
 
-  pub still_began : (a b : S) (some : List Span) → Began Takes a → TakesThese Takes a b some → Began Takes b
+  pub still_began : (a b : S) (some : List Region) → Began Takes a → TakesThese Takes a b some → Began Takes b
   still_began a b some (start, taken, has) takes = (start, taken ++ some, takes start taken has)

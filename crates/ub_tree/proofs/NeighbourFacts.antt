@@ -4,7 +4,7 @@ use Rattle.std.proofs.lemmas.Bool.{cases_lt}
 use Rattle.ub_index.proofs.KeyFacts.{le_before}
 use Rattle.ub_index.specs.Searching.{GivesAny, GoesDown, key_before}
 use Rattle.ub_index.specs.View.{IndexView}
-use Rattle.ub_region.specs.declared.region.Region.{Region as Span}
+use Rattle.ub_region.specs.declared.region.Region.{Region}
 use Rattle.ub_store.specs.Facts.{IsHonest}
 use Rattle.ub_store.specs.View.{PagerView}
 use Rattle.ub_table.proofs.Laws.{before_from, before_parts, before_trans, not_before_self}
@@ -45,14 +45,14 @@ same_or_later a b h = elim (cases_lt a.z b.z) [
 ]
 
 -- what follows the first key of a span, which another span holds, is where that span begins, over an honest store
-pub next_begins : (t : TreeView) (key next_key : Key) (span next : Span) → FallsTo t key span → span.next ≡ Some next_key → FallsTo t next_key next → (span.next ≡ Some next.first) ⊎ (¬ (IsHonest t.store))
+pub next_begins : (t : TreeView) (key next_key : Key) (span next : Region) → FallsTo t key span → span.next ≡ Some next_key → FallsTo t next_key next → (span.next ≡ Some next.first) ⊎ (¬ (IsHonest t.store))
 next_begins t key next_key span next falls next_is next_falls = elim (same_or_later next_key next.first next_falls.holds.from) [
   | inl same ↦ inl (next_is ∙ ap (λ (k : Key). Some k) same)
   | inr later ↦
       let within = not_empty key span.first span.next falls.holds in
       let sooner : IsBefore span.first next_key = subst (λ (o : Option Key). IfSome o (IsBefore span.first)) next_is within in
       inr (overlaps t key next_key span next falls next_falls
-      (λ one. not_before_self next_key (subst (λ (o : Option Key). IfSome o (IsBefore next_key)) (sym (ap (λ (s : Span). s.next) one) ∙ next_is) next_falls.holds.to))
+      (λ one. not_before_self next_key (subst (λ (o : Option Key). IfSome o (IsBefore next_key)) (sym (ap (λ (s : Region). s.next) one) ∙ next_is) next_falls.holds.to))
       within (subst (λ (o : Option Key). IfSome o (IsBefore next.first)) (sym next_is) later) (before_end next.next next_falls.holds.to sooner)
       (not_empty next_key next.first next.next next_falls.holds))
 ]
@@ -96,7 +96,7 @@ greatest_before z (suc n) key h =
     ]
 
 -- the span that holds the greatest key before that with which another span begins ends there, over an honest store
-pub before_ends : (t : TreeView) (key before_key : Key) (span before : Span) → FallsTo t key span → key_before span.first.z span.first.number ≡ Some before_key → FallsTo t before_key before
+pub before_ends : (t : TreeView) (key before_key : Key) (span before : Region) → FallsTo t key span → key_before span.first.z span.first.number ≡ Some before_key → FallsTo t before_key before
     → IfSome before.next (λ k. k.number < 2 ^ 32) → (before.next ≡ Some span.first) ⊎ (¬ (IsHonest t.store))
 before_ends t key before_key span before falls before_is before_falls small = by_next before.next refl small before_falls.holds.to
   where
@@ -116,7 +116,7 @@ before_ends t key before_key span before falls before_is before_falls small = by
     over : IfSome before.next (IsBefore span.first) → ¬ (IsHonest t.store)
     over later =
         overlaps t before_key key before span before_falls falls
-        (λ one. not_before_self span.first (subst (λ (k : Key). IsBefore k span.first) (ap (λ (s : Span). s.first) one) sooner))
+        (λ one. not_before_self span.first (subst (λ (k : Key). IsBefore k span.first) (ap (λ (s : Region). s.first) one) sooner))
         (not_empty before_key before.first before.next before_falls.holds) later (before_end span.next within) within
 
     by_next : (o : Option Key) → before.next ≡ o → IfSome o (λ k. k.number < 2 ^ 32) → IfSome o (IsBefore before_key) → (before.next ≡ Some span.first) ⊎ (¬ (IsHonest t.store))
@@ -131,7 +131,7 @@ pub apart_fault : (t : TreeView) → ¬ (IsHonest t.store) → IsReadFault t (Pa
 apart_fault t over = ((λ sound. over sound.honest), inl (λ honest. absurd (over honest)))
 
 -- what is given for a key that there may be
-pub given_next : (t : TreeView) (sought : Option Key) (span : Span) → GivesAny t.inner.index t.store sought (Some span) → (key : Key) × (sought ≡ Some key) × FallsTo t key span
+pub given_next : (t : TreeView) (sought : Option Key) (span : Region) → GivesAny t.inner.index t.store sought (Some span) → (key : Key) × (sought ≡ Some key) × FallsTo t key span
 given_next t None span h = cc
 given_next t (Some key) span h = (key, refl, h)
 

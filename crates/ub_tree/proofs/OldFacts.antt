@@ -10,10 +10,10 @@ use Rattle.ub_index.specs.Changed.{PagesStay}
 use Rattle.ub_index.specs.Changing.{IsOutside}
 use Rattle.ub_index.specs.Index.{pages_under, top}
 use Rattle.ub_index.specs.View.{IndexView}
-use Rattle.ub_page.proofs.EntryFacts.{small_address}
+use Rattle.ub_region.proofs.AddressFacts.{small_address}
 use Rattle.ub_page.specs.Header.{header_page_of}
-use Rattle.ub_page.specs.Region.{region_page}
-use Rattle.ub_page.specs.declared.entries.Entry.{Entry}
+use Rattle.ub_region.specs.RegionPage.{region_page}
+use Rattle.ub_region.specs.declared.entry.Entry.{Entry}
 use Rattle.ub_page.specs.declared.header.OldHeader.{OldHeader}
 use Rattle.ub_region.proofs.Laws.{all_append, all_more}
 use Rattle.ub_store.specs.Facts.{StoreFacts, IsHonest, page_count}

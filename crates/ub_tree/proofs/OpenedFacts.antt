@@ -6,9 +6,9 @@ use Rattle.std.specs.List.{AllByRecursion}
 use Rattle.ub_index.specs.Index.{IsUnder, NamesFitting, top}
 use Rattle.ub_index.specs.View.{IndexView, index_view}
 use Rattle.ub_page.proofs.PageLaws.{HasParts, header_not_refused, header_parts, region_parts, same_header, unclean_refused}
-use Rattle.ub_page.specs.Bytes.{number_at}
+use Rattle.ub_bytes.specs.Bytes.{number_at}
 use Rattle.ub_page.specs.Header.{AreSame, IsHeader, IsHeaderFault, header_page}
-use Rattle.ub_page.specs.Region.{region_page}
+use Rattle.ub_region.specs.RegionPage.{region_page}
 use Rattle.ub_page.specs.declared.header.Header.{Header}
 use Rattle.ub_store.specs.Facts.{StoreFacts, IsHonest}
 use Rattle.ub_store.specs.View.{PagerView, pager_view, untouched}

@@ -10,12 +10,12 @@ use Rattle.ub_index.specs.Index.{pages_under, top}
 use Rattle.ub_index.specs.Making.{IsPutFault, PutsSheets}
 use Rattle.ub_index.specs.Preparing.{ChangeView, HasFullWay, IsWithinRegion, NeedsPages}
 use Rattle.ub_index.specs.View.{entry_at}
-use Rattle.ub_region.specs.declared.region.Region.{Region as Span}
+use Rattle.ub_region.specs.declared.region.Region.{Region}
 use Rattle.ub_index.specs.declared.sheet.Sheet.{Sheet}
-use Rattle.ub_index_page.specs.declared.index.TheConstants.{MAX_LEVEL}
+use Rattle.ub_page.specs.declared.header.TheConstants.{MAX_LEVEL}
 use Rattle.ub_region.proofs.Laws.{all_more, all_right}
 use Rattle.ub_page.specs.Header.{header_page}
-use Rattle.ub_page.specs.declared.entries.Entry.{Entry}
+use Rattle.ub_region.specs.declared.entry.Entry.{Entry}
 use Rattle.ub_region.specs.Regions.{index_holding}
 use Rattle.ub_store.specs.Facts.{StoreFacts, IsHonest, page_count}
 use Rattle.ub_store.specs.declared.fault.StoreFault.TheVariants as store
@@ -56,7 +56,7 @@ no_page_told e page fault (inr (inr (inl memory))) same = cc
 no_page_told e page fault (inr (inr (inr device))) same = cc
 
 -- what a parting answers for which the index can't be made ready
-pub unready_answers : {A : Type 0} (t : TreeView) (span : Span) (r : Result A TreeFault) (e : TreeFault) → IsErrAnd r (λ x. x ≡ e) → region_count t ≢ 4294967295
+pub unready_answers : {A : Type 0} (t : TreeView) (span : Region) (r : Result A TreeFault) (e : TreeFault) → IsErrAnd r (λ x. x ≡ e) → region_count t ≢ 4294967295
     → (IsHonest t.store → FallsTo t span.first span → HasNoRoom e) → AnswersAt (Unit {0}) t span r
 unready_answers t span (Ok x) e is few led = absurd is
 unready_answers t span (Err f) e is few led = (
@@ -68,18 +68,18 @@ unready_answers t span (Err f) e is few led = (
 )
 
 -- over an honest store the index has fewer levels than one can have, or a page on the way to the region of a span isn't full
-abbrev pub HasRoom : TreeView → Span → Type 0
+abbrev pub HasRoom : TreeView → Region → Type 0
 HasRoom t span = IsHonest t.store → t.inner.index.levels ≡ MAX_LEVEL → HasFullWay t.inner.index t.store span.first → ⊥
 
 -- what a parting answers, once the index was made ready: nothing is refused, or something that is no fault of a page
-pub parted_answers : {A : Type 0} (t : TreeView) (span : Span) (x : A) → region_count t ≢ 4294967295 → HasRoom t span → AnswersAt (Unit {0}) t span (Ok x)
+pub parted_answers : {A : Type 0} (t : TreeView) (span : Region) (x : A) → region_count t ≢ 4294967295 → HasRoom t span → AnswersAt (Unit {0}) t span (Ok x)
 parted_answers t span x few room = (
   λ full many. absurd (few many),
   λ honest falls page fault told. cc,
   λ honest falls full fewer levels way. absurd (room honest levels way),
 )
 
-pub unparted_answers : {A : Type 0} (t : TreeView) (span : Span) (r : Result A TreeFault) (e : TreeFault) → IsErrAnd r (λ x. x ≡ e) → region_count t ≢ 4294967295
+pub unparted_answers : {A : Type 0} (t : TreeView) (span : Region) (r : Result A TreeFault) (e : TreeFault) → IsErrAnd r (λ x. x ≡ e) → region_count t ≢ 4294967295
     → ((page : ℕ) (fault : PageFault) → e ≡ Page page fault → ⊥) → HasRoom t span → AnswersAt (Unit {0}) t span r
 unparted_answers t span (Ok x) e is few apart room = absurd is
 unparted_answers t span (Err f) e is few apart room = (
@@ -91,7 +91,7 @@ unparted_answers t span (Err f) e is few apart room = (
 )
 
 -- the store wasn't given the pages
-module _ (a g : TreeView) (span : Span) (first : Key) (change : ChangeView) (there : span.page < page_count a.store) (ready : IsAddReady a span first change) (high : a.inner.index.levels ≤ MAX_LEVEL) where
+module _ (a g : TreeView) (span : Region) (first : Key) (change : ChangeView) (there : span.page < page_count a.store) (ready : IsAddReady a span first change) (high : a.inner.index.levels ≤ MAX_LEVEL) where
   full_then : 4294967295 < page_count a.store + (change.next - change.start) → IsFull a
   full_then over =
       let start = ready.start in
@@ -134,7 +134,7 @@ page_at [] i e at = cc
 page_at (p ∷ placed) zero e at = let same : entry_of p ≡ e = cc in ap (λ (x : Entry). Some x.page) same
 page_at (p ∷ placed) (suc i) e at = page_at placed i e at
 
-module _ (a g h : TreeView) (span : Span) (of : IsRegionOf a span) (first : Key) (change : ChangeView) (number : ℕ) (there : span.page < page_count a.store)
+module _ (a g h : TreeView) (span : Region) (of : IsRegionOf a span) (first : Key) (change : ChangeView) (number : ℕ) (there : span.page < page_count a.store)
     (within : IsWithinRegion a.inner.index.last span.first span.next first) (ready : IsAddReady a span first change) (number_is : number ≡ change.start)
     (grew : GrowsTo {A = Unit {0}} (page_count a.store + (change.next - change.start)) a g (Ok tt)) where
   abbrev chain : List ℕ

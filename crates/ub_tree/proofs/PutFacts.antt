@@ -17,14 +17,14 @@ use Rattle.ub_index.specs.Index.{NamesFitting, Fits, page_in, pages_under, top}
 use Rattle.ub_index.specs.Standing.{region_pages}
 use Rattle.ub_index.specs.View.{IndexView, IsRegionAt, entry_at}
 use Rattle.ub_index.specs.Way.{LeadsTo}
-use Rattle.ub_index_page.specs.Index.{IsIndexKind}
+use Rattle.ub_page.specs.Index.{IsIndexKind}
 use Rattle.ub_page.proofs.PageLaws.{region_parts}
-use Rattle.ub_page.specs.Region.{region_page}
-use Rattle.ub_page.specs.declared.entries.Entry.{Entry}
+use Rattle.ub_region.specs.RegionPage.{region_page}
+use Rattle.ub_region.specs.declared.entry.Entry.{Entry}
 use Rattle.ub_region.proofs.Laws.{all_left, all_right}
 use Rattle.ub_store.specs.Facts.{StoreFacts, IsHonest, IsPage}
 use Rattle.ub_store.specs.View.{PagerView}
-use Rattle.ub_table.specs.Region.{Region, IsRegion}
+use Rattle.ub_table.specs.Region.{RegionRows, IsRegion}
 use Rattle.ub_table.specs.declared.row.Key.{Key}
 use Rattle.ub_table.specs.declared.row.Row.{Row}
 use Rattle.ub_table.specs.declared.schema.Schema.{Schema}
@@ -35,7 +35,7 @@ use Rattle.ub_tree.proofs.StoredFacts.{IsKept, IsSpelled, IsTold, parted, placed
 use Rattle.ub_tree.proofs.TreeFacts.{entries_back}
 use Rattle.ub_tree.specs.Indexed.{HasIndex, entries_on, reserved}
 use Rattle.ub_tree.specs.Placed.{Placed, ArePlaced, entry_of, placed_of}
-use Rattle.ub_tree.specs.Spans.{Region as Span}
+use Rattle.ub_tree.specs.Spans.{Region}
 use Rattle.ub_tree.specs.Told.{IsRegionOf, KeepsTold}
 use Rattle.ub_tree.specs.Tree.{placed_in, tree_view}
 use Rattle.ub_tree.specs.View.{TreeView, IsSound}
@@ -60,7 +60,7 @@ outside_at n q (m ∷ ns) (suc i) at h = outside_at n q ns i at h.1
 -- a page of a region was put, and perhaps the first: the others are as they were
 module _ (schema : Schema) (index : IndexView) (pages new : List (List ℕ)) (placed : List Placed) (viewed : placed ≡ placed_of schema pages (entries_on index pages))
     (indexed : HasIndex index pages (map entry_of placed)) (placed_are : ArePlaced schema placed (reserved index pages) pages)
-    (i : ℕ) (span : Span) (at : IsRegionAt (map entry_of placed) i span) (rows : List Row)
+    (i : ℕ) (span : Region) (at : IsRegionAt (map entry_of placed) i span) (rows : List Row)
     (others : (m : ℕ) → m ≢ 0 → m ≢ span.page → slice_get new m ≡ slice_get pages m) (count : length new ≡ length pages)
     (told : IsTold schema new (record { page = span.page; region = record { first = span.first; rows = rows } })) where
   abbrev chain : List ℕ
@@ -175,13 +175,13 @@ module _ (schema : Schema) (index : IndexView) (pages new : List (List ℕ)) (pl
       ∙ length-map placed entry_of
 
 -- the same of a tree, where the page spells rows of the region of the span
-pub put_rows : (schema : Schema) (index : IndexView) (count next rows : ℕ) (changed now failed : Bool) (old new : PagerView) (i : ℕ) (span : Span) (page : List ℕ) (own : List Row)
+pub put_rows : (schema : Schema) (index : IndexView) (count next rows : ℕ) (changed now failed : Bool) (old new : PagerView) (i : ℕ) (span : Region) (page : List ℕ) (own : List Row)
     → Puts span.page page old.store new.store → IsHonest new.store → IsStored (tree_view schema index count next rows changed failed old) → IsRegionIn (tree_view schema index count next rows changed failed old) i span
     → IsRegion schema (record { first = span.first; rows = own }) → page ≡ region_page schema (record { first = span.first; rows = own })
     → IsStored (tree_view schema index count next rows now failed new)
     × (placed_in schema index new.store ≡ placed_with i (record { page = span.page; region = record { first = span.first; rows = own } } ∷ []) (placed_in schema index old.store))
 put_rows schema index count next rows changed now failed old new i span page own puts honest stored at good spells =
-    let region : Region = record { first = span.first; rows = own } in
+    let region : RegionRows = record { first = span.first; rows = own } in
     let told : IsTold schema new.store.pages (record { page = span.page; region = region }) =
     (puts.written stored.honest ∙ ap (λ (q : List ℕ). Some q) spells, (region_parts schema region (region_page schema region) good refl).on) in
     let viewed = view_placed schema index old.store stored.honest in
@@ -224,7 +224,7 @@ module _ (last : ℕ) (small : last < 256 ^ 16) (old new : List (List ℕ)) (kee
 -- where those pages stay, the tree tells of the same regions
 module _ (schema : Schema) (index : IndexView) (count next rows : ℕ) (was now failed now_failed : Bool) (old new : PagerView) (some : 1 ≤ index.root) (small : index.last < 2 ^ 128) where
   pub told_still : (IsHonest new.store → IsHonest old.store) → (IsHonest old.store → KeepsKinds old.store.pages new.store.pages)
-      → (region : Span) → IsRegionOf (tree_view schema index count next rows was failed old) region → IsRegionOf (tree_view schema index count next rows now now_failed new) region
+      → (region : Region) → IsRegionOf (tree_view schema index count next rows was failed old) region → IsRegionOf (tree_view schema index count next rows now now_failed new) region
   told_still honest keeps region is =
       let room : index.last < 256 ^ 16 = (let less : index.last < 2 ^ 128 = small in omega arith) in
       record {
@@ -240,7 +240,7 @@ module _ (schema : Schema) (index : IndexView) (count next rows : ℕ) (was now 
       }
 
 -- a page that is put where one stood that spells a region takes none of an index away
-put_keeps : (schema : Schema) (pages new : List (List ℕ)) (n : ℕ) (region : Region) → IsRegion schema region → slice_get pages n ≡ Some (region_page schema region)
+put_keeps : (schema : Schema) (pages new : List (List ℕ)) (n : ℕ) (region : RegionRows) → IsRegion schema region → slice_get pages n ≡ Some (region_page schema region)
     → ((m : ℕ) → m ≢ 0 → m ≢ n → slice_get new m ≡ slice_get pages m) → KeepsKinds pages new
 put_keeps schema pages new n region is at others m page some there index = elim (cases_eq m n) [
   | inl same ↦
@@ -251,7 +251,7 @@ put_keeps schema pages new n region is at others m page some there index = elim 
   | inr apart ↦ others m (λ e. absurd (omega arith)) apart
 ]
 
-pub told_put : (schema : Schema) (index : IndexView) (count next rows : ℕ) (was now failed : Bool) (old new : PagerView) (n : ℕ) (region after : Region) → 1 ≤ index.root → index.last < 2 ^ 128
+pub told_put : (schema : Schema) (index : IndexView) (count next rows : ℕ) (was now failed : Bool) (old new : PagerView) (n : ℕ) (region after : RegionRows) → 1 ≤ index.root → index.last < 2 ^ 128
     → IsRegion schema region → IsRegion schema after → IsPage old.store n (region_page schema region) → new.store.honest ≡ old.store.honest → Puts n (region_page schema after) old.store new.store
     → KeepsTold (tree_view schema index count next rows was failed old) (tree_view schema index count next rows now failed new)
 told_put schema index count next rows was now failed old new n region after some small is is_after stood same puts = record {
@@ -265,7 +265,7 @@ told_put schema index count next rows was now failed old new n region after some
 }
 
 -- no region of a sound tree stands on the first page
-pub own_page : (t : TreeView) (span : Span) → IsSound t → IsRegionOf t span → span.page ≢ 0
+pub own_page : (t : TreeView) (span : Region) → IsSound t → IsRegionOf t span → span.page ≢ 0
 own_page t span sound told =
     let numbers = map (λ (p : Placed). p.page) t.placed in
     let chain = pages_under t.store.pages t.inner.index.levels (top t.inner.index.root) in
@@ -274,8 +274,8 @@ own_page t span sound told =
     λ e. outside_at 0 span.page numbers _ (page_at t.placed _ (entry_at span) at.entry) apart (sym e)
 
 -- a page that spells a region is put on the page of a span where one stands
-pub told_there : (schema : Schema) (index : IndexView) (count next rows : ℕ) (was now failed : Bool) (old new : PagerView) (span : Span) (page : List ℕ) → 1 ≤ index.root → index.last < 2 ^ 128
-    → IsRegionThere (tree_view schema index count next rows was failed old) span → (r : Region) → IsRegion schema r → page ≡ region_page schema r → new.store.honest ≡ old.store.honest
+pub told_there : (schema : Schema) (index : IndexView) (count next rows : ℕ) (was now failed : Bool) (old new : PagerView) (span : Region) (page : List ℕ) → 1 ≤ index.root → index.last < 2 ^ 128
+    → IsRegionThere (tree_view schema index count next rows was failed old) span → (r : RegionRows) → IsRegion schema r → page ≡ region_page schema r → new.store.honest ≡ old.store.honest
     → Puts span.page page old.store new.store → KeepsTold (tree_view schema index count next rows was failed old) (tree_view schema index count next rows now failed new)
 told_there schema index count next rows was now failed old new span page some small there r is spells same puts =
     told_put schema index count next rows was now failed old new span.page there.region r some small there.on.0 is there.on.2 same

@@ -7,14 +7,14 @@ use Rattle.ub_check.specs.Standing.{IsRegionRefused, IsHeldBy}
 use Rattle.ub_index.specs.View.{IndexView}
 use Rattle.ub_index.specs.declared.fault.IndexFault.TheVariants as index
 use Rattle.ub_index.specs.declared.fault.IndexFault.{IndexFault}
-use Rattle.ub_page.specs.Region.{region_page}
+use Rattle.ub_region.specs.RegionPage.{region_page}
 use Rattle.ub_region.specs.Regions.{firsts_of, index_holding}
 use Rattle.ub_store.specs.Facts.{StoreFacts, IsPage, page_count, counted as counted_there}
 use Rattle.ub_store.specs.View.{PagerView, SameTrace}
 use Rattle.ub_store.specs.declared.fault.StoreFault.{StoreFault}
 use Rattle.ub_store.specs.declared.fault.StoreFault.TheVariants as store
 use Rattle.ub_table.specs.Keys.{IsBefore}
-use Rattle.ub_table.specs.Region.{Region, IsRegion, keys_of}
+use Rattle.ub_table.specs.Region.{RegionRows, IsRegion, keys_of}
 use Rattle.ub_table.specs.declared.fault.PageFault.{PageFault}
 use Rattle.ub_table.specs.declared.row.Key.{Key}
 use Rattle.ub_table.specs.declared.schema.Schema.{Schema}
@@ -24,7 +24,7 @@ use Rattle.ub_tree.specs.Effects.{IsPageMissing, IsPageRefused, IsReadFault, IsS
 use Rattle.ub_tree.specs.Faults.{index_fault, tree_fault}
 use Rattle.ub_tree.specs.Opened.{IsPassing}
 use Rattle.ub_tree.specs.Placed.{entry_of}
-use Rattle.ub_tree.specs.Spans.{first_keys, Region as Span}
+use Rattle.ub_tree.specs.Spans.{first_keys, Region}
 use Rattle.ub_tree.specs.Told.{IsRegionOf}
 use Rattle.ub_tree.specs.Tree.{tree_view}
 use Rattle.ub_tree.specs.View.{TreeView, IsSound, regions}
@@ -33,15 +33,15 @@ use Rattle.ub_tree.specs.declared.fault.TreeFault.TheVariants.{Failed, Page}
 use Rattle.ub_tree.specs.inner.Change.{IsRegionIn, IsRegionThere}
 
 -- so it is told of a page that was refused, or isn't there
-pub refused_there : (t : TreeView) (span : Span) (page : List ℕ) (fault : PageFault) → IsRegionOf t span → IsPage t.store span.page page → IsRegionRefused t.schema span.first span.next page fault
+pub refused_there : (t : TreeView) (span : Region) (page : List ℕ) (fault : PageFault) → IsRegionOf t span → IsPage t.store span.page page → IsRegionRefused t.schema span.first span.next page fault
     → IsPageRefused t span.page fault
 refused_there t span page fault told is refused = inr (span, told, refl, page, is, refused)
 
-pub missing_there : (t : TreeView) (span : Span) → IsRegionOf t span → page_count t.store ≤ span.page → IsPageMissing t
+pub missing_there : (t : TreeView) (span : Region) → IsRegionOf t span → page_count t.store ≤ span.page → IsPageMissing t
 missing_there t span told past = inr (span, told, past)
 
 -- on a sound tree a region stands on the page of each span
-pub sound_on : (t : TreeView) (i : ℕ) (span : Span) → IsSound t → IsRegionIn t i span → (r : Region) × IsTakenIn t span r
+pub sound_on : (t : TreeView) (i : ℕ) (span : Region) → IsSound t → IsRegionIn t i span → (r : RegionRows) × IsTakenIn t span r
 sound_on t i span sound at =
     let (p, there, page, first) = placed_there t.placed i span at in
     let region = region_get t.placed i p there in
@@ -58,7 +58,7 @@ sound_on t i span sound at =
     )
 
 -- and so one that the tree tells of
-pub sound_span : (t : TreeView) (span : Span) → IsSound t → IsRegionOf t span → (r : Region) × IsTakenIn t span r
+pub sound_span : (t : TreeView) (span : Region) → IsSound t → IsRegionOf t span → (r : RegionRows) × IsTakenIn t span r
 sound_span t span sound told = sound_on t (index_holding told.key (first_keys (map entry_of t.placed))) span sound (at_of_key t sound told.key span told.falls)
 
 -- a fault of a page of this number, of which this is known
@@ -81,12 +81,12 @@ pub page_refused : {T : Type 0} (Q : PageFault → Type 0) (r : Result T TreeFau
 page_refused Q (Ok x) number old is good told = tt
 page_refused Q (Err e) number old is good told = rw is.1 ((λ sound. let bad = good sound in cc), told is.0 is.2)
 
-pub span_refused : {T : Type 0} (Q : PageFault → Type 0) (r : Result T TreeFault) (span : Span) (old : TreeView) → IfErr r (IsTold span.page Q)
+pub span_refused : {T : Type 0} (Q : PageFault → Type 0) (r : Result T TreeFault) (span : Region) (old : TreeView) → IfErr r (IsTold span.page Q)
     → ((f : PageFault) → Q f → IsSpanFault span old (Page span.page f)) → IfErr r (IsSpanFault span old)
 span_refused Q (Ok x) span old is told = tt
 span_refused Q (Err e) span old is told = rw is.1 (told is.0 is.2)
 
-pub span_unread : {T : Type 0} (U : Type 0) (r : Result T TreeFault) (fault : StoreFault) (span : Span) (old : TreeView) → IsErrAnd r (λ e. e ≡ tree_fault fault)
+pub span_unread : {T : Type 0} (U : Type 0) (r : Result T TreeFault) (fault : StoreFault) (span : Region) (old : TreeView) → IsErrAnd r (λ e. e ≡ tree_fault fault)
     → (IsErrOf {T = U} (Err fault) store.Device → IsTrue old.store.can_fail) → (IsErrOf {T = U} (Err fault) store.NoPage → page_count old.store ≤ span.page)
     → (¬ (IsErrOf {T = U} (Err fault) store.BadSize)) → IfErr r (IsSpanFault span old)
 span_unread U (Ok x) fault span old is device missing size = tt
@@ -112,7 +112,7 @@ told_failed Q (Ok x) number old new is failed = cc
 told_failed Q (Err e) number old new is failed = let told = is.1 in cc
 
 -- what a page told is taken in
-pub taken_in : {T : Type 0} (t : TreeView) (r : Result T TreeFault) (span : Span) (region : Region) (page : List ℕ)
+pub taken_in : {T : Type 0} (t : TreeView) (r : Result T TreeFault) (span : Region) (region : RegionRows) (page : List ℕ)
     → OnOk r (IsRegion t.schema region × (page ≡ region_page t.schema region)) → OnOk r (IsHeldBy t.schema.dims span.first span.next region) → IsPage t.store span.page page
     → OnOk r (IsTakenIn t span region)
 taken_in t (Ok x) span region page found held is = (found.0, held, subst (λ (p : List ℕ). IsPage t.store span.page p) found.1 is)
@@ -183,7 +183,7 @@ past_pages count number page there also (inr (inl past)) = omega arith
 past_pages count number page there also (inr (inr past)) = omega arith
 
 -- a span of a tree that is as it was
-pub same_there : (a b : TreeView) (span : Span) → b ≡ a → IsRegionThere a span → IsRegionThere b span
+pub same_there : (a b : TreeView) (span : Region) → b ≡ a → IsRegionThere a span → IsRegionThere b span
 same_there a b span same h = subst (λ (v : TreeView). IsRegionThere v span) (sym same) h
 
 -- a search after one that changed nothing, and the answers of searches as those of others

@@ -13,11 +13,11 @@ use Rattle.ub_index.specs.Searching.{Gives, store_after}
 use Rattle.ub_index.specs.View.{IndexView, entry_at}
 use Rattle.ub_index.specs.declared.fault.IndexFault.{IndexFault}
 use Rattle.ub_index.specs.declared.fault.IndexFault.TheVariants as index
-use Rattle.ub_region.specs.declared.region.Region.{Region as Span}
+use Rattle.ub_region.specs.declared.region.Region.{Region}
 use Rattle.ub_index.specs.declared.told.Told.{Told}
 use Rattle.ub_index.specs.declared.told.Told.TheVariants.{Same, Gone, One, Two}
-use Rattle.ub_index_page.specs.declared.index.TheConstants.{MAX_LEVEL}
-use Rattle.ub_page.specs.declared.entries.Entry.{Entry}
+use Rattle.ub_page.specs.declared.header.TheConstants.{MAX_LEVEL}
+use Rattle.ub_region.specs.declared.entry.Entry.{Entry}
 use Rattle.ub_region.proofs.Laws.{all_append, all_more}
 use Rattle.ub_store.specs.Facts.{StoreFacts, IsHonest, page_count}
 use Rattle.ub_store.specs.View.{PagerView}
@@ -41,7 +41,7 @@ use Rattle.ub_tree.specs.declared.fault.TreeFault.{TreeFault}
 use Rattle.ub_tree.specs.inner.Change.{IsReadyFault, IsSpelledAt, MakesReady}
 
 -- where the way to a key leads to a span, a region comes behind it, unless there is no room
-pub change_room : (i : IndexView) (facts : StoreFacts) (key : Key) (span : Span) → i.last < 2 ^ 128 → IsHonest facts → Gives i facts key span
+pub change_room : (i : IndexView) (facts : StoreFacts) (key : Key) (span : Region) → i.last < 2 ^ 128 → IsHonest facts → Gives i facts key span
     → (added : Entry) (from : Spelled) (e : IndexFault) → IsChangeFault i facts key (Some added) from e → HasNoRoom (index_fault e)
 change_room i facts key span small honest given added from (index.Page n fault) h = elim (h honest) [
   | inl stops ↦ absurd (led_not_stopped i.last facts.pages key small i.levels (top i.root) None (entry_at span) span.next n (Some fault) (given.way honest) stops)
@@ -236,5 +236,5 @@ drop_fault t key small more taken (index.Store store.NoPage) (grows, why) = ((λ
     never sound (inr lower) = taken sound lower.0 lower.2.0 None (lower.1 sound.honest) (lower.2.2 sound.honest)
 
 -- a region that comes after another one isn't the first
-pub behind_origin : (t : TreeView) (key : Key) (span : Span) (next : Key) → FallsTo t key span → span.next ≡ Some next → IsBefore origin next
+pub behind_origin : (t : TreeView) (key : Key) (span : Region) (next : Key) → FallsTo t key span → span.next ≡ Some next → IsBefore origin next
 behind_origin t key span next falls is = le_before origin span.first next (not_before_origin span.first) (begins_before t key span next falls is)

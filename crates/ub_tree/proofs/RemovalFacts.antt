@@ -9,7 +9,7 @@ use Rattle.ub_region.specs.Regions.{AreRegions, firsts_of, index_holding, remove
 use Rattle.ub_region.specs.Rows.{has_key, remove_row}
 use Rattle.ub_store.specs.Facts.{IsHonest, page_count}
 use Rattle.ub_store.specs.declared.fault.StoreFault.TheVariants as store
-use Rattle.ub_table.specs.Region.{Region, IsRegion}
+use Rattle.ub_table.specs.Region.{RegionRows, IsRegion}
 use Rattle.ub_table.specs.declared.row.Key.{Key}
 use Rattle.ub_table.specs.declared.row.Row.{Row}
 use Rattle.ub_tree.proofs.EffectFacts.{sound_stored}
@@ -22,7 +22,7 @@ use Rattle.ub_tree.specs.Others.{DropsEntry, KeepsEntries, WritesIndex, WritesPa
 use Rattle.ub_tree.specs.Placed.{Placed, entry_of, regions_in}
 use Rattle.ub_tree.specs.Effects.{IsReadFault, IsTakenIn}
 use Rattle.ub_tree.specs.Removal.{IsRemovalFault, IsRemoved}
-use Rattle.ub_tree.specs.Spans.{first_keys, Region as Span}
+use Rattle.ub_tree.specs.Spans.{first_keys, Region}
 use Rattle.ub_tree.specs.Told.{FallsTo, IsRegionOf, KeepsTold}
 use Rattle.ub_tree.specs.View.{TreeView, IsSound, region_count, regions, tree_rows}
 use Rattle.ub_tree.specs.declared.fault.TreeFault.{TreeFault}
@@ -32,7 +32,7 @@ use Rattle.ub_writing.specs.Marks.{HasMark}
 use Rattle.ub_zaddr.specs.Address.{last_address}
 
 -- the rows that were read of the next region are put to these, where a page holds both
-pub joins_next : (a s m : TreeView) (i : ℕ) (next : Span) (rows new more : List Row) (fit : Bool) (c : ℕ) → s ≡ a → m ≡ s → IsRegionIn a (i + 1) next
+pub joins_next : (a s m : TreeView) (i : ℕ) (next : Region) (rows new more : List Row) (fit : Bool) (c : ℕ) → s ≡ a → m ≡ s → IsRegionIn a (i + 1) next
     → ((j : ℕ) (p : Placed) → IsHonest s.store → IsRegionIn s j next → slice_get s.placed j ≡ Some p → more ≡ p.region.rows) → c ≡ m.schema.page_rows → fit ≡ nat_le (length rows + length more) c
     → new ≡ (if fit then rows ++ more else rows) → IsHonest a.store → JoinsNext a.schema.page_rows i rows new fit (regions a)
 joins_next a s m i next rows new more fit c one two at read count fits made honest =
@@ -46,7 +46,7 @@ joins_next a s m i next rows new more fit c one two at read count fits made hone
     join_with a.schema.page_rows i rows new fit b.region (regions a) (region_get a.placed (suc i) b there) (rw (← same, ← count_a) fits) (rw (← same) made)
 
 -- and so those of the region before
-pub joins_one : (a s m : TreeView) (i j : ℕ) (span before : Span) (rows new more : List Row) (fit : Bool) (c : ℕ) → s ≡ a → m ≡ s → i ≡ j + 1 → IsRegionIn a j before → IsRegionIn a i span
+pub joins_one : (a s m : TreeView) (i j : ℕ) (span before : Region) (rows new more : List Row) (fit : Bool) (c : ℕ) → s ≡ a → m ≡ s → i ≡ j + 1 → IsRegionIn a j before → IsRegionIn a i span
     → ((k : ℕ) (p : Placed) → IsHonest s.store → IsRegionIn s k before → slice_get s.placed k ≡ Some p → more ≡ p.region.rows) → c ≡ m.schema.page_rows → fit ≡ nat_le (length more + length rows) c
     → new ≡ (if fit then more ++ rows else rows) → IsHonest a.store → JoinsBefore a.schema.page_rows i rows new fit (regions a)
 joins_one a s m i j span before rows new more fit c one two is at_before at read count fits made honest =
@@ -63,11 +63,11 @@ joins_one a s m i j span before rows new more fit c one two is at_before at read
     join_one a.schema.page_rows i rows new fit b.region (regions a) later (region_get a.placed (i - 1) b there) (omega arith) (rw (← same, ← count_a) fits) (rw (← same) made)
 
 -- what the rows of the region of a span, put on its page, make of the regions
-abbrev pub Rewrites : Result (Unit {0}) TreeFault → Span → List Row → TreeView → TreeView → Type 0
+abbrev pub Rewrites : Result (Unit {0}) TreeFault → Region → List Row → TreeView → TreeView → Type 0
 Rewrites r span rows old new = (i : ℕ) → IsStored old → IsRegionIn old i span
     → OnOk r (IsStored new × (new.placed ≡ placed_with i (record { page = span.page; region = record { first = span.first; rows = rows } } ∷ []) old.placed))
 
-pub rewritten_alone : (a b : TreeView) (r : Result (Unit {0}) TreeFault) (i : ℕ) (span : Span) (rows : List Row) → IsStored a → IsRegionIn a i span → Rewrites r span rows a b
+pub rewritten_alone : (a b : TreeView) (r : Result (Unit {0}) TreeFault) (i : ℕ) (span : Region) (rows : List Row) → IsStored a → IsRegionIn a i span → Rewrites r span rows a b
     → OnOk r (IsStored b × (regions b ≡ put_rows i false rows (regions a)))
 rewritten_alone a b (Err e) i span rows stored at written = tt
 rewritten_alone a b (Ok x) i span rows stored at written =
@@ -80,14 +80,14 @@ rewritten_alone a b (Ok x) i span rows stored at written =
     )
 
 -- of regions the same by another name
-as_same : (d : TreeView) (r : Result (Unit {0}) TreeFault) (xs ys : List Region) → xs ≡ ys → OnOk r (IsStored d × (regions d ≡ xs)) → OnOk r (IsStored d × (regions d ≡ ys))
-as_same d r xs ys same h = subst (λ (zs : List Region). OnOk r (IsStored d × (regions d ≡ zs))) same h
+as_same : (d : TreeView) (r : Result (Unit {0}) TreeFault) (xs ys : List RegionRows) → xs ≡ ys → OnOk r (IsStored d × (regions d ≡ xs)) → OnOk r (IsStored d × (regions d ≡ ys))
+as_same d r xs ys same h = subst (λ (zs : List RegionRows). OnOk r (IsStored d × (regions d ≡ zs))) same h
 
-module _ (a : TreeView) (i : ℕ) (span : Span) (rows : List Row) (stored : IsStored a) (at : IsRegionIn a i span) where
+module _ (a : TreeView) (i : ℕ) (span : Region) (rows : List Row) (stored : IsStored a) (at : IsRegionIn a i span) where
   within : i < length (regions a)
   within = (let lt = within_placed a.placed i span at in let long = length-regions a.placed in omega arith)
 
-  abbrev settled : List Region
+  abbrev settled : List RegionRows
   settled = settle a.schema.page_rows i (put_rows i false rows (regions a))
 
   -- rows that are not few stay alone
@@ -107,12 +107,12 @@ module _ (a : TreeView) (i : ℕ) (span : Span) (rows : List Row) (stored : IsSt
       (rewritten_alone a d r i span new stored at (subst (λ (v : TreeView). Rewrites r span new v d) (two ∙ one) written))
 
   -- what two regions that are joined make of the regions
-  abbrev Joins : Result (Unit {0}) TreeFault → Span → Span → List Row → TreeView → TreeView → Type 0
+  abbrev Joins : Result (Unit {0}) TreeFault → Region → Region → List Row → TreeView → TreeView → Type 0
   Joins r first second new old d = (j : ℕ) → IsStored old → IsRegionIn old j first → IsRegionIn old (j + 1) second → AllByRecursion (IsRegion old.schema) (put_rows j true new (regions old))
       → OnOk r (IsStored d × (regions d ≡ put_rows j true new (regions old)))
 
   -- few rows that fit on a page with those of the next region
-  pub settled_next : (m d : TreeView) (r : Result (Unit {0}) TreeFault) (next : Span) (new : List Row) → nat_lt (length rows) (a.schema.page_rows / 2) ≡ true → m ≡ a
+  pub settled_next : (m d : TreeView) (r : Result (Unit {0}) TreeFault) (next : Region) (new : List Row) → nat_lt (length rows) (a.schema.page_rows / 2) ≡ true → m ≡ a
       → JoinsNext a.schema.page_rows i rows new true (regions a) → IsRegionIn a (i + 1) next → Joins r span next new m d
       → AllByRecursion (IsRegion a.schema) settled → OnOk r (IsStored d × (regions d ≡ settled))
   settled_next m d r next new few one joins at_next written all =
@@ -121,7 +121,7 @@ module _ (a : TreeView) (i : ℕ) (span : Span) (rows : List Row) (stored : IsSt
       (subst (λ (v : TreeView). Joins r span next new v d) one written i stored at at_next (subst (AllByRecursion (IsRegion a.schema)) (sym same) all))
 
   -- few rows that fit on the page of the region before
-  pub settled_before : (m b d : TreeView) (r : Result (Unit {0}) TreeFault) (before : Span) (left new : List Row) → nat_lt (length rows) (a.schema.page_rows / 2) ≡ true → m ≡ a → b ≡ m
+  pub settled_before : (m b d : TreeView) (r : Result (Unit {0}) TreeFault) (before : Region) (left new : List Row) → nat_lt (length rows) (a.schema.page_rows / 2) ≡ true → m ≡ a → b ≡ m
       → JoinsNext a.schema.page_rows i rows left false (regions a)
       → ((j : ℕ) → IsStored m → IsRegionIn m j span → JoinsBefore m.schema.page_rows j left new true (regions m))
       → ((j : ℕ) → IsStored m → IsRegionIn m j span → (k : ℕ) × (j ≡ k + 1) × IsRegionIn m k before)
@@ -146,7 +146,7 @@ module _ {T : Type 0} (r : Result T TreeFault) (a b d : TreeView) (same : b ≡ 
       by_result (Err e) f h = tt
 
   -- a region from which a row was taken, alone or joined with a neighbour
-  pub taken_alone : (span : Span) → OnOk r (IsPut b d) → OnOk r (KeepsTold b d) → Writes span b d r → OnOk r (TakesAt span a d)
+  pub taken_alone : (span : Region) → OnOk r (IsPut b d) → OnOk r (KeepsTold b d) → Writes span b d r → OnOk r (TakesAt span a d)
   taken_alone span put told w = subst (λ (v : TreeView). OnOk r (TakesAt span v d)) same (both_ok put told)
     where
       taken : IsPut b d → KeepsTold b d → TakesAt span b d
@@ -162,25 +162,25 @@ module _ {T : Type 0} (r : Result T TreeFault) (a b d : TreeView) (same : b ≡ 
           by_both (Ok x) p k f = f p k
           by_both (Err e) p k f = tt
 
-  pub taken_joined : (span first : Span) → IsThatOrBefore a span first → OnOk r (JoinsAt first b d) → OnOk r (TakesAt span a d)
+  pub taken_joined : (span first : Region) → IsThatOrBefore a span first → OnOk r (JoinsAt first b d) → OnOk r (TakesAt span a d)
   taken_joined span first is joined = subst (λ (v : TreeView). IsThatOrBefore v span first → OnOk r (TakesAt span v d)) same
       (λ here. on_ok (λ (h : JoinsAt first b d). record { same = h.same; shrunk = inr (first, here, h.others, h.dropped) }) joined) is
 
 -- how many rows are counted says nothing of regions and pages
-told_counted : (t : TreeView) (n : ℕ) (region : Span) → IsRegionOf t region → IsRegionOf (record t { rows = n }) region
+told_counted : (t : TreeView) (n : ℕ) (region : Region) → IsRegionOf t region → IsRegionOf (record t { rows = n }) region
 told_counted t n region h = record { key = h.key; falls = h.falls }
 
-told_uncounted : (t : TreeView) (n : ℕ) (region : Span) → IsRegionOf (record t { rows = n }) region → IsRegionOf t region
+told_uncounted : (t : TreeView) (n : ℕ) (region : Region) → IsRegionOf (record t { rows = n }) region → IsRegionOf t region
 told_uncounted t n region h = record { key = h.key; falls = h.falls }
 
-pub shrinks_by : (a b mid d : TreeView) (key : Key) (span : Span) (n : ℕ) → b ≡ a → d ≡ record mid { rows = n } → FallsTo a key span → TakesAt span b mid → ShrinksAt key a d
+pub shrinks_by : (a b mid d : TreeView) (key : Key) (span : Region) (n : ℕ) → b ≡ a → d ≡ record mid { rows = n } → FallsTo a key span → TakesAt span b mid → ShrinksAt key a d
 shrinks_by a b mid d key span n same is falls h =
     subst (λ (v : TreeView). ShrinksAt key a v) (sym is)
     (subst (λ (v : TreeView). FallsTo v key span → ShrinksAt key v (record mid { rows = n })) same (λ here. record { span = span; falls = here; others = by_case h.shrunk }) falls)
   where
-    by_case : (WritesPage span.page b mid × KeepsEntries b mid) ⊎ ((first : Span) × IsThatOrBefore b span first × WritesIndex first.page b mid × DropsEntry b mid)
+    by_case : (WritesPage span.page b mid × KeepsEntries b mid) ⊎ ((first : Region) × IsThatOrBefore b span first × WritesIndex first.page b mid × DropsEntry b mid)
         → (WritesPage span.page b (record mid { rows = n }) × KeepsEntries b (record mid { rows = n }))
-        ⊎ ((first : Span) × IsThatOrBefore b span first × WritesIndex first.page b (record mid { rows = n }) × DropsEntry b (record mid { rows = n }))
+        ⊎ ((first : Region) × IsThatOrBefore b span first × WritesIndex first.page b (record mid { rows = n }) × DropsEntry b (record mid { rows = n }))
     by_case (inl k) = inl (
       k.0,
       (
@@ -191,18 +191,18 @@ shrinks_by a b mid d key span n same is falls h =
     by_case (inr k) = inr (k.0, k.1, k.2, k.3)
 
 -- the rows of the region that holds a key, which are those of a span
-pub record IsHolder (a : TreeView) (key : Key) (span : Span) (rows : List Row) : Type 0 where
+pub record IsHolder (a : TreeView) (key : Key) (span : Region) (rows : List Row) : Type 0 where
   pub at : IsStored a → IsRegionIn a (index_holding key (first_keys (map entry_of a.placed))) span
   pub rows_are : (i : ℕ) (p : Placed) → IsHonest a.store → IsRegionIn a i span → slice_get a.placed i ≡ Some p → rows ≡ p.region.rows
 
-pub holder : (a s : TreeView) (key : Key) (span : Span) (rows : List Row) → s ≡ a → (IsStored a → IsRegionIn a (index_holding key (first_keys (map entry_of a.placed))) span)
+pub holder : (a s : TreeView) (key : Key) (span : Region) (rows : List Row) → s ≡ a → (IsStored a → IsRegionIn a (index_holding key (first_keys (map entry_of a.placed))) span)
     → ((i : ℕ) (p : Placed) → IsHonest s.store → IsRegionIn s i span → slice_get s.placed i ≡ Some p → rows ≡ p.region.rows) → IsHolder a key span rows
 holder a s key span rows same at read = record {
   at = at;
   rows_are = subst (λ (v : TreeView). (i : ℕ) (p : Placed) → IsHonest v.store → IsRegionIn v i span → slice_get v.placed i ≡ Some p → rows ≡ p.region.rows) same read;
 }
 
-module _ (a : TreeView) (key : Key) (span : Span) (rows : List Row) (h : IsHolder a key span rows) (sound : IsSound a) where
+module _ (a : TreeView) (key : Key) (span : Region) (rows : List Row) (h : IsHolder a key span rows) (sound : IsSound a) where
   abbrev index : ℕ
   index = index_holding key (first_keys (map entry_of a.placed))
 
@@ -233,7 +233,7 @@ module _ (a : TreeView) (key : Key) (span : Span) (rows : List Row) (h : IsHolde
       sym (length_permutation (rows_of (regions a)) (taken.row ∷ rows_of (remove a.schema.dims a.schema.page_rows key (regions a))) taken.rows)
 
 -- no row has the key
-pub none_removed : (a b : TreeView) (key : Key) (span : Span) (rows : List Row) → IsHolder a key span rows → b ≡ a → has_key a.schema.dims key rows ≡ false → IsSound a → IsRemoved key false a b
+pub none_removed : (a b : TreeView) (key : Key) (span : Region) (rows : List Row) → IsHolder a key span rows → b ≡ a → has_key a.schema.dims key rows ≡ false → IsSound a → IsRemoved key false a b
 none_removed a b key span rows h same has sound = subst (IsRemoved key false a) (sym same) (record {
   found_is = sym (found_is a key span rows h sound ∙ has);
   schema = refl;
@@ -245,14 +245,14 @@ none_removed a b key span rows h same has sound = subst (IsRemoved key false a) 
 })
 
 -- a sound tree with a row counts one
-pub some_counted : (a : TreeView) (key : Key) (span : Span) (rows : List Row) → IsHolder a key span rows → has_key a.schema.dims key rows ≡ true → a.rows ≡ 0 → ¬ (IsSound a)
+pub some_counted : (a : TreeView) (key : Key) (span : Region) (rows : List Row) → IsHolder a key span rows → has_key a.schema.dims key rows ≡ true → a.rows ≡ 0 → ¬ (IsSound a)
 some_counted a key span rows h has none sound =
     let less = one_less a key span rows h sound has in
     let counted = sound.rows_are in
     absurd (omega arith)
 
 -- a row was taken out of a sound tree
-pub shrunk : (a b after d : TreeView) (key : Key) (span : Span) (rows : List Row) → IsHolder a key span rows → b ≡ a → has_key a.schema.dims key rows ≡ true
+pub shrunk : (a b after d : TreeView) (key : Key) (span : Region) (rows : List Row) → IsHolder a key span rows → b ≡ a → has_key a.schema.dims key rows ≡ true
     → IsElsewhereSame b after → (IsSound b → after.is_changed ≡ true → HasMark b.schema after.store.pages) → after.inner.index.last ≡ last_address after.schema.dims → region_count after < 2 ^ 32
     → d ≡ record after { rows = after.rows - 1 }
     → ((i : ℕ) → IsStored b → IsRegionIn b i span → AllByRecursion (IsRegion b.schema) (settle b.schema.page_rows i (put_rows i false (remove_row b.schema.dims key rows) (regions b)))
@@ -275,7 +275,7 @@ shrunk a b after d key span rows h same has changed marks last few lowered writt
     subst (λ (v : TreeView). HasMark v.schema after.store.pages) same (marks (subst IsSound (sym same) sound) (ap (λ (v : TreeView). v.is_changed) whole)) in
     let less = one_less a key span rows h sound has in
     let counted = sound.rows_are in
-    let long : length (rows_of (regions_in after.placed)) ≡ length (rows_of new) = ap (λ (rs : List Region). length (rows_of rs)) are in
+    let long : length (rows_of (regions_in after.placed)) ≡ length (rows_of new) = ap (λ (rs : List RegionRows). length (rows_of rs)) are in
     let count = stored.count_is in
     subst (IsRemoved key true a) (sym (lowered ∙ ap (λ (v : TreeView). record v { rows = v.rows - 1 }) whole)) (record {
       found_is = sym (found_is a key span rows h sound ∙ has);
@@ -310,14 +310,14 @@ passing_only (Ok x) e is h = tt
 passing_only (Err f) e is h = rw is h
 
 -- where no span is found for the key
-pub unled_removal : (a : TreeView) (key : Key) (r : Result Bool TreeFault) (e : TreeFault) → IsErrAnd r (λ x. x ≡ e) → ((span : Span) → IsHonest a.store → FallsTo a key span → IsPassing e)
+pub unled_removal : (a : TreeView) (key : Key) (r : Result Bool TreeFault) (e : TreeFault) → IsErrAnd r (λ x. x ≡ e) → ((span : Region) → IsHonest a.store → FallsTo a key span → IsPassing e)
     → IsHonest a.store → AnswersRemoval a key r
 unled_removal a key r e told led honest page region falls =
     let passing = led falls.span honest falls.falls in
     (λ has none. passing_either r e _ told passing, λ none. passing_only r e told passing, no_answer r e _ told)
 
 -- a region that was read stands there
-pub read_there : (a s : TreeView) (key : Key) (span : Span) (rows : List Row) → s ≡ a → FallsTo a key span → span.page < page_count s.store → IsTakenIn s span (record { first = span.first; rows = rows }) → IsRegionThere s span
+pub read_there : (a s : TreeView) (key : Key) (span : Region) (rows : List Row) → s ≡ a → FallsTo a key span → span.page < page_count s.store → IsTakenIn s span (record { first = span.first; rows = rows }) → IsRegionThere s span
 read_there a s key span rows same falls there on = record {
   told = subst (λ (v : TreeView). IsRegionOf v span) (sym same) (record { key = key; falls = falls });
   there = there;

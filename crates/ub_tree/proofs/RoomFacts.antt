@@ -7,13 +7,13 @@ use Rattle.ub_index.proofs.Laws.{same_key}
 use Rattle.ub_index.proofs.KeyFacts.{le_before}
 use Rattle.ub_index.specs.Preparing.{IsWithinRegion}
 use Rattle.ub_index.specs.Way.{HoldsKey}
-use Rattle.ub_region.specs.declared.region.Region.{Region as Span}
+use Rattle.ub_region.specs.declared.region.Region.{Region}
 use Rattle.ub_region.proofs.Laws.{IsFilled, two_chain, all_append, all_drop, all_left, all_more, all_right, before_or_same, upto_before, IsBeforeNext, up_append, up_head, up_tail, up_cons, up_remove, keys_append, all_keys, all_of_keys, all_insert, all_remove, length-insert_row, length-remove_row}
 use Rattle.ub_region.specs.Regions.{rows_of, two_regions}
 use Rattle.ub_region.specs.Rows.{has_key, insert_row, remove_row, cut, split}
 use Rattle.ub_table.proofs.Laws.{before_of, before_trans, precedes_of}
 use Rattle.ub_table.specs.Keys.{IsBefore, AreKeysAscending, is_same, precedes}
-use Rattle.ub_table.specs.Region.{Region, IsRegion, IsRow, AreFrom, key_of, keys_of, measures_of}
+use Rattle.ub_table.specs.Region.{RegionRows, IsRegion, IsRow, AreFrom, key_of, keys_of, measures_of}
 use Rattle.ub_table.specs.declared.row.Key.{Key}
 use Rattle.ub_table.specs.declared.row.Row.{Row}
 use Rattle.ub_table.specs.declared.row.TheConstants.{MAX_ROW_NUMBER}
@@ -66,7 +66,7 @@ some_before : (dims : ℕ) (sep next : Key) (rows : List Row) → 1 ≤ length r
 some_before dims sep next [] some from before = absurd (omega arith)
 some_before dims sep next (row ∷ rows) some from before = upto_before sep (key_of dims row) next from.0 before.0
 
-between : (schema : Schema) (region : Region) (n : ℕ) → IsFilled schema region → 1 ≤ n → n < length region.rows → n ≤ schema.page_rows → length region.rows ≤ schema.page_rows + n
+between : (schema : Schema) (region : RegionRows) (n : ℕ) → IsFilled schema region → 1 ≤ n → n < length region.rows → n ≤ schema.page_rows → length region.rows ≤ schema.page_rows + n
     → IsBetween schema.dims region.first (cut schema.dims n region.rows).first region.rows
 between schema region zero filled some lt left right = absurd (omega arith)
 between schema region (suc n) filled some lt left right =
@@ -137,7 +137,7 @@ within_for schema first next row rows are holds good none over =
     let few = are.0.few in
     let long = length-insert_row dims row rows in
     let some = schema.counts.some_rows in
-    let whole : Region = record { first = first; rows = insert_row dims row rows } in
+    let whole : RegionRows = record { first = first; rows = insert_row dims row rows } in
     let filled = filled_with schema first next row rows are holds good none in
     let sep = between schema whole ((schema.page_rows + 2) / 2) filled (omega arith) (omega arith) (omega arith) (omega arith) in
     let below : IfSome next (λ end. AllByRecursion (λ k. IsBefore k end) (keys_of dims (insert_row dims row rows))) =
@@ -153,7 +153,7 @@ within_for schema first next row rows are holds good none over =
     }
 
 -- so they can stand in the place of a region's own
-pub can_stand : (t : TreeView) (span : Span) (row : Row) (rows : List Row) → t.inner.index.last ≡ last_address t.schema.dims → AreRowsFrom t.schema span.first span.next rows
+pub can_stand : (t : TreeView) (span : Region) (row : Row) (rows : List Row) → t.inner.index.last ≡ last_address t.schema.dims → AreRowsFrom t.schema span.first span.next rows
     → HoldsKey (key_of t.schema.dims row) span.first span.next → IsRow t.schema.dims (measures_of t.schema) row → has_key t.schema.dims (key_of t.schema.dims row) rows ≡ false
     → CanStand t span (insert_row t.schema.dims row rows)
 can_stand t span row rows last are holds good none = record {
@@ -163,16 +163,16 @@ can_stand t span row rows last are holds good none = record {
 }
 
 -- rows that can stand in place of a region's are one, where a page holds them, and else two
-pub one_stands : (t : TreeView) (span : Span) (rows : List Row) → CanStand t span rows → length rows ≤ t.schema.page_rows → IsRegion t.schema (record { first = span.first; rows = rows })
+pub one_stands : (t : TreeView) (span : Region) (rows : List Row) → CanStand t span rows → length rows ≤ t.schema.page_rows → IsRegion t.schema (record { first = span.first; rows = rows })
 one_stands t span rows can few = let fits = le-leb (length rows) t.schema.page_rows few in let one = rw fits at can.each in one.0
 
-pub two_stand : (t : TreeView) (span : Span) (rows : List Row) → CanStand t span rows → t.schema.page_rows < length rows
+pub two_stand : (t : TreeView) (span : Region) (rows : List Row) → CanStand t span rows → t.schema.page_rows < length rows
     → IsRegion t.schema (record { first = span.first; rows = (split t.schema.dims t.schema.page_rows rows).left })
     × IsRegion t.schema (record { first = (split t.schema.dims t.schema.page_rows rows).first; rows = (split t.schema.dims t.schema.page_rows rows).right })
 two_stand t span rows can over = let many = lt-leb (length rows) t.schema.page_rows over in let two = rw many at can.each in (two.0, two.1.0)
 
 -- the rows of a region that was read
-pub rows_on : (t : TreeView) (span : Span) (region : Region) → IsTakenIn t span region → AreRowsFrom t.schema span.first span.next region.rows
+pub rows_on : (t : TreeView) (span : Region) (region : RegionRows) → IsTakenIn t span region → AreRowsFrom t.schema span.first span.next region.rows
 rows_on t span region on = (subst (λ (k : Key). IsRegion t.schema (record { first = k; rows = region.rows })) on.1.0 on.0, on.1.1)
 
 -- and so they are with one of them taken out
@@ -209,10 +209,10 @@ joined_region schema first second rows more left right before below fit =
     }
 
 -- a span to which some key falls ends after it begins
-pub begins_before : (t : TreeView) (key : Key) (span : Span) (next : Key) → FallsTo t key span → span.next ≡ Some next → IsBefore span.first next
+pub begins_before : (t : TreeView) (key : Key) (span : Region) (next : Key) → FallsTo t key span → span.next ≡ Some next → IsBefore span.first next
 begins_before t key span next falls is = le_before span.first key next falls.holds.from (subst (λ (o : Option Key). IfSome o (IsBefore key)) is falls.holds.to)
 
-pub next_region : (t : TreeView) (key : Key) (span next : Span) (rows more : List Row) → FallsTo t key span → span.next ≡ Some next.first → AreRowsFrom t.schema span.first span.next rows
+pub next_region : (t : TreeView) (key : Key) (span next : Region) (rows more : List Row) → FallsTo t key span → span.next ≡ Some next.first → AreRowsFrom t.schema span.first span.next rows
     → AreRowsFrom t.schema next.first next.next more → length rows + length more ≤ t.schema.page_rows
     → IsRegion t.schema (record { first = span.first; rows = rows ++ more })
 next_region t key span next rows more falls is are are_more fit =
@@ -235,9 +235,9 @@ found_row dims key (row ∷ rows) has = elim (cases_Bool (is_same key (key_of di
   | inr f ↦ let found = found_row dims key rows (rw f at has) in (found.0, suc found.1, found.2, found.3)
 ]
 
-pub rows_each : (P : Row → Type 0) (regions : List Region) (index : ℕ) (r : Region) → slice_get regions index ≡ Some r → AllByRecursion P (rows_of regions) → AllByRecursion P r.rows
+pub rows_each : (P : Row → Type 0) (regions : List RegionRows) (index : ℕ) (r : RegionRows) → slice_get regions index ≡ Some r → AllByRecursion P (rows_of regions) → AllByRecursion P r.rows
 rows_each P [] index r at all = cc
-rows_each P (x ∷ regions) zero r at all = let same : x ≡ r = cc in subst (λ (y : Region). AllByRecursion P y.rows) same (all_left P x.rows (rows_of regions) all)
+rows_each P (x ∷ regions) zero r at all = let same : x ≡ r = cc in subst (λ (y : RegionRows). AllByRecursion P y.rows) same (all_left P x.rows (rows_of regions) all)
 rows_each P (x ∷ regions) (suc index) r at all = rows_each P regions index r at (all_right P x.rows (rows_of regions) all)
 
 -- whether a row has the key is seen in the rows' keys

@@ -12,7 +12,7 @@ use Rattle.ub_index.specs.View.{IndexView, Stops}
 use Rattle.ub_index.specs.Way.{HoldsKey}
 use Rattle.ub_index.specs.declared.fault.IndexFault.{IndexFault}
 use Rattle.ub_index.specs.declared.fault.IndexFault.TheVariants as index
-use Rattle.ub_region.specs.declared.region.Region.{Region as Span}
+use Rattle.ub_region.specs.declared.region.Region.{Region}
 use Rattle.ub_store.specs.Facts.{StoreFacts, IsHonest}
 use Rattle.ub_store.specs.View.{PagerView}
 use Rattle.ub_store.specs.declared.fault.StoreFault.TheVariants as store
@@ -73,7 +73,7 @@ before_all a b None h k = tt
 before_all a b (Some end) h k = before_trans a b end h k
 
 -- over an honest store two regions to which keys fall are one, where each begins before the other ends
-pub overlaps : (t : TreeView) (one_key other_key : Key) (one other : Span) → FallsTo t one_key one → FallsTo t other_key other → ¬ (one ≡ other)
+pub overlaps : (t : TreeView) (one_key other_key : Key) (one other : Region) → FallsTo t one_key one → FallsTo t other_key other → ¬ (one ≡ other)
     → IfSome one.next (IsBefore one.first) → IfSome one.next (IsBefore other.first) → IfSome other.next (IsBefore one.first) → IfSome other.next (IsBefore other.first)
     → ¬ (IsHonest t.store)
 overlaps t one_key other_key one other falls other_falls apart within one_within other_within within_other honest =

@@ -9,7 +9,7 @@ use Rattle.ub_region.specs.Regions.{AreRegions, change_from, firsts_of, fits_nex
 use Rattle.ub_region.specs.Rows.{has_key, remove_row}
 use Rattle.ub_table.proofs.Laws.{before_of, precedes_of}
 use Rattle.ub_table.specs.Keys.{IsBefore, precedes, is_same}
-use Rattle.ub_table.specs.Region.{Region, key_of}
+use Rattle.ub_table.specs.Region.{RegionRows, key_of}
 use Rattle.ub_table.specs.declared.row.Key.{Key}
 use Rattle.ub_table.specs.declared.row.Row.{Row}
 use Rattle.ub_table.specs.declared.schema.Schema.{Schema}
@@ -36,74 +36,74 @@ pub placed_without : (index : ℕ) (placed : List Placed) → placed_with index 
 placed_without index placed = ap (λ (ps : List Placed). ps ++ drop (suc index) placed) (append-nil (take index placed))
 
 -- the row of a key taken from the region at an index
-pub removed_put : (dims : ℕ) (key : Key) (index : ℕ) (r : Region) (rs : List Region) → slice_get rs index ≡ Some r
+pub removed_put : (dims : ℕ) (key : Key) (index : ℕ) (r : RegionRows) (rs : List RegionRows) → slice_get rs index ≡ Some r
     → change_from index (remove_first dims key) rs ≡ put_rows index false (remove_row dims key r.rows) rs
 removed_put dims key index r [] at = cc
-removed_put dims key zero r (a ∷ rs) at = let same : a ≡ r = cc in ap (λ (x : Region). record { first = a.first; rows = remove_row dims key x.rows } ∷ rs) same
-removed_put dims key (suc index) r (a ∷ rs) at = ap (λ (xs : List Region). a ∷ xs) (removed_put dims key index r rs at)
+removed_put dims key zero r (a ∷ rs) at = let same : a ≡ r = cc in ap (λ (x : RegionRows). record { first = a.first; rows = remove_row dims key x.rows } ∷ rs) same
+removed_put dims key (suc index) r (a ∷ rs) at = ap (λ (xs : List RegionRows). a ∷ xs) (removed_put dims key index r rs at)
 
-pub put_alone : (index : ℕ) (rows : List Row) (r : Region) (rs : List Region) → slice_get rs index ≡ Some r
+pub put_alone : (index : ℕ) (rows : List Row) (r : RegionRows) (rs : List RegionRows) → slice_get rs index ≡ Some r
     → regions_with index (record { first = r.first; rows = rows } ∷ []) rs ≡ put_rows index false rows rs
 put_alone index rows r [] at = cc
-put_alone zero rows r (a ∷ rs) at = let same : a ≡ r = cc in ap (λ (x : Region). record { first = x.first; rows = rows } ∷ rs) (sym same)
-put_alone (suc index) rows r (a ∷ rs) at = ap (λ (xs : List Region). a ∷ xs) (put_alone index rows r rs at)
+put_alone zero rows r (a ∷ rs) at = let same : a ≡ r = cc in ap (λ (x : RegionRows). record { first = x.first; rows = rows } ∷ rs) (sym same)
+put_alone (suc index) rows r (a ∷ rs) at = ap (λ (xs : List RegionRows). a ∷ xs) (put_alone index rows r rs at)
 
-pub put_joined : (index : ℕ) (rows : List Row) (r : Region) (rs : List Region) → slice_get rs index ≡ Some r
+pub put_joined : (index : ℕ) (rows : List Row) (r : RegionRows) (rs : List RegionRows) → slice_get rs index ≡ Some r
     → remove_at_index (regions_with index (record { first = r.first; rows = rows } ∷ []) rs) (suc index) ≡ put_rows index true rows rs
 put_joined index rows r [] at = cc
-put_joined zero rows r (a ∷ rs) at = let same : a ≡ r = cc in ap (λ (x : Region). record { first = x.first; rows = rows } ∷ drop 1 rs) (sym same)
-put_joined (suc index) rows r (a ∷ rs) at = ap (λ (xs : List Region). a ∷ xs) (put_joined index rows r rs at)
+put_joined zero rows r (a ∷ rs) at = let same : a ≡ r = cc in ap (λ (x : RegionRows). record { first = x.first; rows = rows } ∷ drop 1 rs) (sym same)
+put_joined (suc index) rows r (a ∷ rs) at = ap (λ (xs : List RegionRows). a ∷ xs) (put_joined index rows r rs at)
 
 -- the region at an index and the next one
-small_put : (c index : ℕ) (rows : List Row) (rs : List Region) → index < length rs → is_small c (drop index (put_rows index false rows rs)) ≡ nat_lt (length rows) (c / 2)
+small_put : (c index : ℕ) (rows : List Row) (rs : List RegionRows) → index < length rs → is_small c (drop index (put_rows index false rows rs)) ≡ nat_lt (length rows) (c / 2)
 small_put c index rows [] lt = absurd (omega arith)
 small_put c zero rows (a ∷ rs) lt = refl
 small_put c (suc index) rows (a ∷ rs) lt = small_put c index rows rs (omega arith)
 
-fits_put : (c index : ℕ) (rows : List Row) (b : Region) (rs : List Region) → slice_get rs (suc index) ≡ Some b
+fits_put : (c index : ℕ) (rows : List Row) (b : RegionRows) (rs : List RegionRows) → slice_get rs (suc index) ≡ Some b
     → fits_next c (drop index (put_rows index false rows rs)) ≡ nat_le (length rows + length b.rows) c
 fits_put c index rows b [] at = cc
 fits_put c zero rows b (a ∷ []) at = cc
-fits_put c zero rows b (a ∷ x ∷ rs) at = let same : x ≡ b = cc in ap (λ (y : Region). nat_le (length rows + length y.rows) c) same
+fits_put c zero rows b (a ∷ x ∷ rs) at = let same : x ≡ b = cc in ap (λ (y : RegionRows). nat_le (length rows + length y.rows) c) same
 fits_put c (suc index) rows b (a ∷ rs) at = fits_put c index rows b rs at
 
-fits_none : (c index : ℕ) (rows : List Row) (rs : List Region) → length rs ≡ suc index → fits_next c (drop index (put_rows index false rows rs)) ≡ false
+fits_none : (c index : ℕ) (rows : List Row) (rs : List RegionRows) → length rs ≡ suc index → fits_next c (drop index (put_rows index false rows rs)) ≡ false
 fits_none c index rows [] long = absurd (omega arith)
 fits_none c zero rows (a ∷ []) long = refl
 fits_none c zero rows (a ∷ x ∷ rs) long = absurd (omega arith)
 fits_none c (suc index) rows (a ∷ rs) long = fits_none c index rows rs (omega arith)
 
-joins_put : (index : ℕ) (rows : List Row) (b : Region) (rs : List Region) → slice_get rs (suc index) ≡ Some b
+joins_put : (index : ℕ) (rows : List Row) (b : RegionRows) (rs : List RegionRows) → slice_get rs (suc index) ≡ Some b
     → put_rows index true (rows ++ b.rows) rs ≡ change_from index join_first (put_rows index false rows rs)
 joins_put index rows b [] at = cc
 joins_put zero rows b (a ∷ []) at = cc
-joins_put zero rows b (a ∷ x ∷ rs) at = let same : x ≡ b = cc in ap (λ (y : Region). record { first = a.first; rows = rows ++ y.rows } ∷ rs) (sym same)
-joins_put (suc index) rows b (a ∷ rs) at = ap (λ (xs : List Region). a ∷ xs) (joins_put index rows b rs at)
+joins_put zero rows b (a ∷ x ∷ rs) at = let same : x ≡ b = cc in ap (λ (y : RegionRows). record { first = a.first; rows = rows ++ y.rows } ∷ rs) (sym same)
+joins_put (suc index) rows b (a ∷ rs) at = ap (λ (xs : List RegionRows). a ∷ xs) (joins_put index rows b rs at)
 
 -- the region at an index and the one before
-fits_before : (c index : ℕ) (rows : List Row) (a : Region) (rs : List Region) → slice_get rs index ≡ Some a → suc index < length rs
+fits_before : (c index : ℕ) (rows : List Row) (a : RegionRows) (rs : List RegionRows) → slice_get rs index ≡ Some a → suc index < length rs
     → fits_next c (drop index (put_rows (suc index) false rows rs)) ≡ nat_le (length a.rows + length rows) c
 fits_before c index rows a [] at lt = cc
 fits_before c zero rows a (x ∷ []) at lt = absurd (omega arith)
-fits_before c zero rows a (x ∷ y ∷ rs) at lt = let same : x ≡ a = cc in ap (λ (z : Region). nat_le (length z.rows + length rows) c) same
+fits_before c zero rows a (x ∷ y ∷ rs) at lt = let same : x ≡ a = cc in ap (λ (z : RegionRows). nat_le (length z.rows + length rows) c) same
 fits_before c (suc index) rows a (x ∷ rs) at lt = fits_before c index rows a rs at (omega arith)
 
-joins_before : (index : ℕ) (rows : List Row) (a : Region) (rs : List Region) → slice_get rs index ≡ Some a → suc index < length rs
+joins_before : (index : ℕ) (rows : List Row) (a : RegionRows) (rs : List RegionRows) → slice_get rs index ≡ Some a → suc index < length rs
     → put_rows index true (a.rows ++ rows) rs ≡ change_from index join_first (put_rows (suc index) false rows rs)
 joins_before index rows a [] at lt = cc
 joins_before zero rows a (x ∷ []) at lt = absurd (omega arith)
-joins_before zero rows a (x ∷ y ∷ rs) at lt = let same : x ≡ a = cc in ap (λ (z : Region). record { first = x.first; rows = z.rows ++ rows } ∷ rs) (sym same)
-joins_before (suc index) rows a (x ∷ rs) at lt = ap (λ (xs : List Region). x ∷ xs) (joins_before index rows a rs at (omega arith))
+joins_before zero rows a (x ∷ y ∷ rs) at lt = let same : x ≡ a = cc in ap (λ (z : RegionRows). record { first = x.first; rows = z.rows ++ rows } ∷ rs) (sym same)
+joins_before (suc index) rows a (x ∷ rs) at lt = ap (λ (xs : List RegionRows). x ∷ xs) (joins_before index rows a rs at (omega arith))
 
-pub join_last : (c index : ℕ) (rows : List Row) (rs : List Region) → length rs ≡ suc index → JoinsNext c index rows rows false rs
+pub join_last : (c index : ℕ) (rows : List Row) (rs : List RegionRows) → length rs ≡ suc index → JoinsNext c index rows rows false rs
 join_last c index rows rs long = record { fits = sym (fits_none c index rows rs long); rows = refl }
 
-pub join_with : (c index : ℕ) (rows new : List Row) (fit : Bool) (b : Region) (rs : List Region) → slice_get rs (suc index) ≡ Some b → fit ≡ nat_le (length rows + length b.rows) c
+pub join_with : (c index : ℕ) (rows new : List Row) (fit : Bool) (b : RegionRows) (rs : List RegionRows) → slice_get rs (suc index) ≡ Some b → fit ≡ nat_le (length rows + length b.rows) c
     → new ≡ (if fit then rows ++ b.rows else rows) → JoinsNext c index rows new fit rs
 join_with c index rows new true b rs at is made = record { fits = is ∙ sym (fits_put c index rows b rs at); rows = rw made (joins_put index rows b rs at) }
 join_with c index rows new false b rs at is made = record { fits = is ∙ sym (fits_put c index rows b rs at); rows = rw made refl }
 
-join_after : (c index : ℕ) (rows new : List Row) (fit : Bool) (a : Region) (rs : List Region) → slice_get rs index ≡ Some a → suc index < length rs
+join_after : (c index : ℕ) (rows new : List Row) (fit : Bool) (a : RegionRows) (rs : List RegionRows) → slice_get rs index ≡ Some a → suc index < length rs
     → fit ≡ nat_le (length a.rows + length rows) c → new ≡ (if fit then a.rows ++ rows else rows) → JoinsBefore c (suc index) rows new fit rs
 join_after c index rows new true a rs at lt is made =
     let fits : fits_next c (drop index (put_rows (suc index) false rows rs)) ≡ true = fits_before c index rows a rs at lt ∙ sym is in
@@ -113,7 +113,7 @@ join_after c index rows new false a rs at lt is made =
     let over : fits_next c (drop index (put_rows (suc index) false rows rs)) ≡ false = fits_before c index rows a rs at lt ∙ sym is in
     rw (over, made) refl
 
-pub join_one : (c index : ℕ) (rows new : List Row) (fit : Bool) (a : Region) (rs : List Region) → index ≢ 0 → slice_get rs (index - 1) ≡ Some a → index < length rs
+pub join_one : (c index : ℕ) (rows new : List Row) (fit : Bool) (a : RegionRows) (rs : List RegionRows) → index ≢ 0 → slice_get rs (index - 1) ≡ Some a → index < length rs
     → fit ≡ nat_le (length a.rows + length rows) c → new ≡ (if fit then a.rows ++ rows else rows) → JoinsBefore c index rows new fit rs
 join_one c zero rows new fit a rs some at lt is made = absurd (some refl)
 join_one c (suc index) rows new fit a rs some at lt is made =
@@ -128,20 +128,20 @@ pub map_removed : {X Y : Type 0} (f : X → Y) (i : ℕ) (xs : List X) → map f
 map_removed f i xs = map-append f (take i xs) (drop (suc i) xs) ∙ rw (take-map f i xs, drop-map f (suc i) xs) refl
 
 -- what the settling of a region is
-pub settle_large : (c index : ℕ) (rows : List Row) (rs : List Region) → index < length rs → nat_lt (length rows) (c / 2) ≡ false
+pub settle_large : (c index : ℕ) (rows : List Row) (rs : List RegionRows) → index < length rs → nat_lt (length rows) (c / 2) ≡ false
     → put_rows index false rows rs ≡ settle c index (put_rows index false rows rs)
 settle_large c index rows rs lt large =
     let is : is_small c (drop index (put_rows index false rows rs)) ≡ false = small_put c index rows rs lt ∙ large in
     rw is refl
 
-pub settle_next : (c index : ℕ) (old new : List Row) (rs : List Region) → index < length rs → nat_lt (length old) (c / 2) ≡ true → JoinsNext c index old new true rs
+pub settle_next : (c index : ℕ) (old new : List Row) (rs : List RegionRows) → index < length rs → nat_lt (length old) (c / 2) ≡ true → JoinsNext c index old new true rs
     → put_rows index true new rs ≡ settle c index (put_rows index false old rs)
 settle_next c index old new rs lt few joins =
     let is : is_small c (drop index (put_rows index false old rs)) ≡ true = small_put c index old rs lt ∙ few in
     let fits : fits_next c (drop index (put_rows index false old rs)) ≡ true = sym joins.fits in
     rw (is, fits) joins.rows
 
-pub settle_before : (c index : ℕ) (old left new : List Row) (fit : Bool) (rs : List Region) → index < length rs → nat_lt (length old) (c / 2) ≡ true → JoinsNext c index old left false rs
+pub settle_before : (c index : ℕ) (old left new : List Row) (fit : Bool) (rs : List RegionRows) → index < length rs → nat_lt (length old) (c / 2) ≡ true → JoinsNext c index old left false rs
     → JoinsBefore c index left new fit rs → put_rows (if fit then index - 1 else index) fit new rs ≡ settle c index (put_rows index false old rs)
 settle_before c index old left new fit rs lt few over joins =
     let is : is_small c (drop index (put_rows index false old rs)) ≡ true = small_put c index old rs lt ∙ few in
@@ -153,11 +153,11 @@ or_false : (b : Bool) → (b || false) ≡ b
 or_false true = refl
 or_false false = refl
 
-has_here : (schema : Schema) (key : Key) (region : Region) (rs : List Region) (r : Region) → IsChain schema (region ∷ rs)
+has_here : (schema : Schema) (key : Key) (region : RegionRows) (rs : List RegionRows) (r : RegionRows) → IsChain schema (region ∷ rs)
     → slice_get (region ∷ rs) (index_holding key (firsts_of (region ∷ rs))) ≡ Some r → has_key schema.dims key (rows_of (region ∷ rs)) ≡ has_key schema.dims key r.rows
 has_here schema key region [] r chain at =
     let same : region ≡ r = cc in
-    has_append schema.dims key region.rows [] ∙ or_false (has_key schema.dims key region.rows) ∙ ap (λ (x : Region). has_key schema.dims key x.rows) same
+    has_append schema.dims key region.rows [] ∙ or_false (has_key schema.dims key region.rows) ∙ ap (λ (x : RegionRows). has_key schema.dims key x.rows) same
 has_here schema key region (next ∷ rs) r chain at = elim (cases_Bool (precedes key next.first)) [
   | inl t ↦
       let before = before_of key next.first t in
@@ -165,7 +165,7 @@ has_here schema key region (next ∷ rs) r chain at = elim (cases_Bool (precedes
       (λ row from. other_key (λ k. IsBefore k next.first) key (key_of schema.dims row) before from) (rows_of (next ∷ rs)) (all_from schema next rs chain.2)) in
       let first : slice_get (region ∷ next ∷ rs) 0 ≡ Some r = rw t at at in
       let same : region ≡ r = cc in
-      has_append schema.dims key region.rows (rows_of (next ∷ rs)) ∙ rw others (or_false (has_key schema.dims key region.rows)) ∙ ap (λ (x : Region). has_key schema.dims key x.rows) same
+      has_append schema.dims key region.rows (rows_of (next ∷ rs)) ∙ rw others (or_false (has_key schema.dims key region.rows)) ∙ ap (λ (x : RegionRows). has_key schema.dims key x.rows) same
   | inr f ↦
       let later : ¬ (IsBefore key next.first) = (λ h. let t = precedes_of key next.first h in cc) in
       let here = has_none schema.dims key region.rows (all_more (λ row. IsBefore (key_of schema.dims row) next.first) (λ row. is_same key (key_of schema.dims row) ≡ false)
@@ -173,12 +173,12 @@ has_here schema key region (next ∷ rs) r chain at = elim (cases_Bool (precedes
       has_append schema.dims key region.rows (rows_of (next ∷ rs)) ∙ rw here (has_here schema key next rs r chain.2 (rw f at at))
 ]
 
-pub has_at : (schema : Schema) (n : ℕ) (key : Key) (rs : List Region) (index : ℕ) (r : Region) → AreRegions schema n rs → index ≡ index_holding key (firsts_of rs) → slice_get rs index ≡ Some r
+pub has_at : (schema : Schema) (n : ℕ) (key : Key) (rs : List RegionRows) (index : ℕ) (r : RegionRows) → AreRegions schema n rs → index ≡ index_holding key (firsts_of rs) → slice_get rs index ≡ Some r
     → has_key schema.dims key (rows_of rs) ≡ has_key schema.dims key r.rows
 has_at schema n key [] index r h is at = cc
 has_at schema n key (region ∷ rs) index r h is at =
     has_here schema key region rs r (chain_of schema (region ∷ rs) h.each h.ascending h.apart) (subst (λ (i : ℕ). slice_get (region ∷ rs) i ≡ Some r) is at)
 
-pub removed_at : (dims c : ℕ) (key : Key) (rs : List Region) (index : ℕ) (r : Region) → has_key dims key (rows_of rs) ≡ true → index ≡ index_holding key (firsts_of rs) → slice_get rs index ≡ Some r
+pub removed_at : (dims c : ℕ) (key : Key) (rs : List RegionRows) (index : ℕ) (r : RegionRows) → has_key dims key (rows_of rs) ≡ true → index ≡ index_holding key (firsts_of rs) → slice_get rs index ≡ Some r
     → remove dims c key rs ≡ settle c index (put_rows index false (remove_row dims key r.rows) rs)
 removed_at dims c key rs index r has is at = rw (has, ← is) (ap (settle c index) (removed_put dims key index r rs at))

@@ -18,8 +18,8 @@ use Rattle.ub_index.specs.Making.{IsCommitted, PutsSheets, StayOutside, changed}
 use Rattle.ub_index.specs.Preparing.{ChangeView, IsForeign, MakesIndex}
 use Rattle.ub_index.specs.Standing.{AreOwnPages, AreRegionsThere, region_pages}
 use Rattle.ub_index.specs.View.{IndexView, IsIndexOn, IsRegionAt, entries_in, entry_at}
-use Rattle.ub_region.specs.declared.region.Region.{Region as Span}
-use Rattle.ub_page.specs.declared.entries.Entry.{Entry}
+use Rattle.ub_region.specs.declared.region.Region.{Region}
+use Rattle.ub_region.specs.declared.entry.Entry.{Entry}
 use Rattle.ub_region.proofs.Laws.{all_left, all_more, all_right}
 use Rattle.ub_store.specs.Facts.{StoreFacts, IsHonest, page_count}
 use Rattle.ub_table.specs.declared.schema.Schema.{Schema}
@@ -105,7 +105,7 @@ module _ (schema : Schema) (index : IndexView) (a : StoreFacts) (placed : List P
   spelled_entries = subst (AllByRecursion (IsSpelled schema a.pages)) viewed spelled
 
   -- what is known of the page of a span, and of those of the other regions, where a change is made
-  module _ (from : ℕ) (far : page_count a ≤ from) (change : ChangeView) (i : ℕ) (span : Span) (at : IsRegionAt (map entry_of placed) i span) where
+  module _ (from : ℕ) (far : page_count a ≤ from) (change : ChangeView) (i : ℕ) (span : Region) (at : IsRegionAt (map entry_of placed) i span) where
     at_of : IsRegionAt entries i span
     at_of = subst (λ (es : List Entry). IsRegionAt es i span) (sym entries_are) at
 
@@ -129,7 +129,7 @@ module _ (schema : Schema) (index : IndexView) (a : StoreFacts) (placed : List P
     after_regions = apart_after (pages_under a.pages index.levels (top index.root)) (region_pages (take i entries)) (region_pages (drop (suc i) entries)) span.page (page_count a) own_parts less_parts
 
   -- a change of the index of which this is known, made over a store that had grown, on which some pages were put
-  module _ (from : ℕ) (far : page_count a ≤ from) (change : ChangeView) (i : ℕ) (span : Span) (at : IsRegionAt (map entry_of placed) i span) (fs : List Entry)
+  module _ (from : ℕ) (far : page_count a ≤ from) (change : ChangeView) (i : ℕ) (span : Region) (at : IsRegionAt (map entry_of placed) i span) (fs : List Entry)
       (makes : MakesIndex index a from change (Replaces (entry_at span) fs (entries_in index a)))
       (grown filled new : StoreFacts) (grows : Grows a grown) (honest_filled : IsHonest filled) (honest_new : IsHonest new)
       (numbers : List ℕ) (others : StayOutside numbers grown.pages filled.pages) (foreign : AllByRecursion (IsForeign index a from change) numbers)

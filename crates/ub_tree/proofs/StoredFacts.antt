@@ -5,10 +5,10 @@ use Rattle.std.proofs.lemmas.List.Elements.{All-from_recursion}
 use Rattle.std.specs.List.{All, AllByRecursion}
 use Rattle.std.specs.Option.{unwrap_or}
 use Rattle.ub_check.proofs.PlacedFacts.{placed_append, placed_at}
-use Rattle.ub_page.specs.Region.{region_on, region_page}
-use Rattle.ub_page.specs.declared.entries.Entry.{Entry}
+use Rattle.ub_region.specs.RegionPage.{region_on, region_page}
+use Rattle.ub_region.specs.declared.entry.Entry.{Entry}
 use Rattle.ub_region.proofs.Laws.{all_more, all_append}
-use Rattle.ub_table.specs.Region.{Region}
+use Rattle.ub_table.specs.Region.{RegionRows}
 use Rattle.ub_table.specs.declared.schema.Schema.{Schema}
 use Rattle.ub_tree.specs.Placed.{Placed, placed_of, entry_of}
 
@@ -45,7 +45,7 @@ placed_told schema pages [] told = refl
 placed_told schema pages (p ∷ news) told =
     let page : slice_index_or pages p.page [] ≡ region_page schema p.region = get_or_from_slice_get pages p.page (region_page schema p.region) [] told.0.0 in
     let rows : (region_on schema (slice_index_or pages p.page [])).rows ≡ p.region.rows =
-    ap (λ (q : List ℕ). (region_on schema q).rows) page ∙ ap (λ (r : Region). r.rows) told.0.1 in
+    ap (λ (q : List ℕ). (region_on schema q).rows) page ∙ ap (λ (r : RegionRows). r.rows) told.0.1 in
     ap (λ rows. record { page = p.page; region = record { first = p.region.first; rows = rows } } ∷ placed_of schema pages (map entry_of news)) rows
     ∙ ap (λ (ps : List Placed). p ∷ ps) (placed_told schema pages news told.1)
 

@@ -2,17 +2,17 @@
 use Rattle.std.proofs.Common.{◌≡◌, ◌∙◌, ℕ, Bool, List, Some, sym, ap, subst, refl, slice_get}
 use Rattle.std.specs.List.{Contains}
 use Rattle.ub_index.specs.View.{IndexView, entry_at}
-use Rattle.ub_page.specs.Region.{region_on}
-use Rattle.ub_page.specs.declared.entries.Entry.{Entry}
+use Rattle.ub_region.specs.RegionPage.{region_on}
+use Rattle.ub_region.specs.declared.entry.Entry.{Entry}
 use Rattle.ub_store.specs.Facts.{IsHonest}
 use Rattle.ub_store.specs.View.{PagerView}
-use Rattle.ub_table.specs.Region.{Region}
+use Rattle.ub_table.specs.Region.{RegionRows}
 use Rattle.ub_table.specs.declared.schema.Schema.{Schema}
 use Rattle.ub_tree.proofs.SearchFacts.{known_is}
 use Rattle.ub_tree.proofs.TreeFacts.{IsKnown, entries_back, rows_read, span_known, spans_are}
 use Rattle.ub_tree.specs.Indexed.{entries_on, reserved}
 use Rattle.ub_tree.specs.Placed.{Placed, ArePlaced, placed_of}
-use Rattle.ub_tree.specs.Spans.{Region as Span}
+use Rattle.ub_tree.specs.Spans.{Region}
 use Rattle.ub_tree.specs.Tree.{known_pages, tree_view}
 use Rattle.ub_tree.specs.View.{TreeView, IsSound, spans_of}
 use Rattle.ub_tree.specs.inner.Change.{IsRegionIn}
@@ -27,7 +27,7 @@ module _ (schema : Schema) (index : IndexView) (count next rows : ℕ) (changed 
   abbrev entries : List Entry
   entries = entries_on index pages
 
-  pub tree_known : (span : Span) → IsSound tree → Contains (spans_of tree) span → (p : Placed) × IsKnown schema entries pages span p
+  pub tree_known : (span : Region) → IsSound tree → Contains (spans_of tree) span → (p : Placed) × IsKnown schema entries pages span p
   tree_known span sound there =
       let known = known_is pager.store sound.honest in
       let placed : ArePlaced schema (placed_of schema pages entries) (reserved index pager.store.pages) pages =
@@ -36,7 +36,7 @@ module _ (schema : Schema) (index : IndexView) (count next rows : ℕ) (changed 
       span_known schema entries pages next index.last (reserved index pager.store.pages) span sound.regions_are placed (rw (← spans) at there)
 
   -- the rows that the page of a span tells are those of its region
-  pub rows_there : (i : ℕ) (span : Span) (page : List ℕ) (region : Region) (p : Placed) → IsHonest pager.store → IsRegionIn tree i span → slice_get tree.placed i ≡ Some p
+  pub rows_there : (i : ℕ) (span : Region) (page : List ℕ) (region : RegionRows) (p : Placed) → IsHonest pager.store → IsRegionIn tree i span → slice_get tree.placed i ≡ Some p
       → slice_get pager.store.pages span.page ≡ Some page → region ≡ region_on schema page → region.rows ≡ p.region.rows
   rows_there i span page region p honest at there at_page on =
       let known = known_is pager.store honest in

@@ -7,17 +7,17 @@ use Rattle.ub_check.proofs.PlacedFacts.{placed_at}
 use Rattle.ub_check.proofs.StandingFacts.{each_get}
 use Rattle.ub_check.specs.Standing.{IsHeldBy}
 use Rattle.ub_zaddr.specs.Address.{last_address}
-use Rattle.ub_page.specs.Region.{region_on, region_page}
+use Rattle.ub_region.specs.RegionPage.{region_on, region_page}
 use Rattle.ub_index.specs.View.{IsRegionAt}
-use Rattle.ub_page.specs.declared.entries.Entry.{Entry}
+use Rattle.ub_region.specs.declared.entry.Entry.{Entry}
 use Rattle.ub_region.specs.Regions.{AreRegions, AreApart, firsts_of}
 use Rattle.ub_region.specs.Spans.{span_end}
 use Rattle.ub_table.specs.Keys.{IsBefore}
-use Rattle.ub_table.specs.Region.{Region, IsRegion, keys_of}
+use Rattle.ub_table.specs.Region.{RegionRows, IsRegion, keys_of}
 use Rattle.ub_table.specs.declared.row.Key.{Key}
 use Rattle.ub_table.specs.declared.row.Row.{Row}
 use Rattle.ub_table.specs.declared.schema.Schema.{Schema}
-use Rattle.ub_tree.specs.Spans.{first_keys, regions_of, Region as Span}
+use Rattle.ub_tree.specs.Spans.{first_keys, regions_of, Region}
 use Rattle.ub_tree.specs.Placed.{Placed, ArePlaced, placed_of, regions_in, entry_of}
 use Rattle.ub_tree.specs.View.{spans_in}
 use Rattle.ub_index.proofs.Laws.{region_with}
@@ -58,7 +58,7 @@ module _ {X : Type 0} (P : X → Type 0) where
   if_some (Some y) x e h = let same : y ≡ x = cc in subst P same h
 
 -- each row's key is before the first key of the next region
-pub apart_next : (dims : ℕ) (regions : List Region) (i : ℕ) (r : Region) → AreApart dims regions → slice_get regions i ≡ Some r
+pub apart_next : (dims : ℕ) (regions : List RegionRows) (i : ℕ) (r : RegionRows) → AreApart dims regions → slice_get regions i ≡ Some r
     → IfSome (slice_get (firsts_of regions) (suc i)) (λ next. AllByRecursion (λ key. IsBefore key next) (keys_of dims r.rows))
 apart_next dims [] i r apart at = cc
 apart_next dims (a ∷ []) zero r apart at = tt
@@ -67,7 +67,7 @@ apart_next dims (a ∷ b ∷ regions) zero r apart at = let same : a ≡ r = cc 
 apart_next dims (a ∷ b ∷ regions) (suc i) r apart at = apart_next dims (b ∷ regions) i r apart.1 at
 
 -- what is known of the region of a span, on a sound tree
-pub record IsKnown (schema : Schema) (entries : List Entry) (pages : List (List ℕ)) (span : Span) (p : Placed) : Type 0 where
+pub record IsKnown (schema : Schema) (entries : List Entry) (pages : List (List ℕ)) (span : Region) (p : Placed) : Type 0 where
   pub there : Contains (placed_of schema pages entries) p
   pub page : p.page ≡ span.page
   pub first : p.region.first ≡ span.first
@@ -75,16 +75,16 @@ pub record IsKnown (schema : Schema) (entries : List Entry) (pages : List (List 
   pub region : IsRegion schema p.region
   pub held : IsHeldBy schema.dims span.first span.next p.region
 
-pub span_entry : (last : ℕ) (entries : List Entry) (i : ℕ) (r : Span) → slice_get (regions_of last entries) i ≡ Some r
+pub span_entry : (last : ℕ) (entries : List Entry) (i : ℕ) (r : Region) → slice_get (regions_of last entries) i ≡ Some r
     → (entry : Entry) × (slice_get entries i ≡ Some entry) × (entry.first ≡ r.first) × (entry.page ≡ r.page) × (r.next ≡ slice_get (first_keys entries) (suc i))
 span_entry last [] i r at = cc
 span_entry last (e ∷ entries) zero r at =
-    let whole : Span = region_with (span_end last (first_keys entries)) (slice_get (first_keys entries) 0) e in
+    let whole : Region = region_with (span_end last (first_keys entries)) (slice_get (first_keys entries) 0) e in
     let same : whole ≡ r = cc in
-    (e, refl, ap (λ (q : Span). q.first) same, ap (λ (q : Span). q.page) same, sym (ap (λ (q : Span). q.next) same))
+    (e, refl, ap (λ (q : Region). q.first) same, ap (λ (q : Region). q.page) same, sym (ap (λ (q : Region). q.next) same))
 span_entry last (e ∷ entries) (suc i) r at = span_entry last entries i r at
 
-pub span_known : (schema : Schema) (entries : List Entry) (pages : List (List ℕ)) (next last : ℕ) (reserved : List ℕ) (span : Span)
+pub span_known : (schema : Schema) (entries : List Entry) (pages : List (List ℕ)) (next last : ℕ) (reserved : List ℕ) (span : Region)
     → AreRegions schema next (regions_in (placed_of schema pages entries))
     → ArePlaced schema (placed_of schema pages entries) reserved pages → Contains (regions_of last entries) span
     → (p : Placed) × IsKnown schema entries pages span p
@@ -112,10 +112,10 @@ span_known schema entries pages next last reserved span regions placed found =
     )
 
 -- the region of a span
-pub within_placed : (placed : List Placed) (i : ℕ) (span : Span) → IsRegionAt (map entry_of placed) i span → i < length placed
+pub within_placed : (placed : List Placed) (i : ℕ) (span : Region) → IsRegionAt (map entry_of placed) i span → i < length placed
 within_placed placed i span h = (let lt = h.within in let long = length-map placed entry_of in omega arith)
 
-pub placed_there : (placed : List Placed) (i : ℕ) (span : Span) → IsRegionAt (map entry_of placed) i span
+pub placed_there : (placed : List Placed) (i : ℕ) (span : Region) → IsRegionAt (map entry_of placed) i span
     → (p : Placed) × (slice_get placed i ≡ Some p) × (p.page ≡ span.page) × (p.region.first ≡ span.first)
 placed_there placed i span h = by_index placed i h.entry
   where
@@ -150,14 +150,14 @@ entry_known schema entries pages next reserved i e regions placed at =
       held = (refl, rw (← firsts_back schema pages entries) apart);
     }
 
-pub rows_read : (schema : Schema) (pages : List (List ℕ)) (entries : List Entry) (index : ℕ) (e : Entry) (page : List ℕ) (rows : List Row) (region : Region) (p : Placed)
+pub rows_read : (schema : Schema) (pages : List (List ℕ)) (entries : List Entry) (index : ℕ) (e : Entry) (page : List ℕ) (rows : List Row) (region : RegionRows) (p : Placed)
     → slice_get entries index ≡ Some e → slice_get pages e.page ≡ Some page → rows ≡ region.rows → region ≡ region_on schema page
     → slice_get (placed_of schema pages entries) index ≡ Some p → rows ≡ p.region.rows
 rows_read schema pages entries index e page rows region p at at_page same on there =
     let here = placed_get schema pages entries index e at in
     let one : placed_at schema pages e ≡ p = cc in
     let read : slice_index_or pages e.page [] ≡ page = get_or_from_slice_get pages e.page page [] at_page in
-    same ∙ ap (λ (r : Region). r.rows) on ∙ ap (λ (q : List ℕ). (region_on schema q).rows) (sym read) ∙ ap (λ (q : Placed). q.region.rows) one
+    same ∙ ap (λ (r : RegionRows). r.rows) on ∙ ap (λ (q : List ℕ). (region_on schema q).rows) (sym read) ∙ ap (λ (q : Placed). q.region.rows) one
 
 -- the first keys of a tree's entries are those of its regions
 pub firsts_placed : (placed : List Placed) → first_keys (map entry_of placed) ≡ firsts_of (regions_in placed)

@@ -8,7 +8,7 @@ use Rattle.ub_index.specs.Index.{top}
 use Rattle.ub_index.specs.View.{IndexView}
 use Rattle.ub_page.proofs.PageLaws.{region_parts}
 use Rattle.ub_page.specs.Header.{header_page_of}
-use Rattle.ub_page.specs.Region.{region_page}
+use Rattle.ub_region.specs.RegionPage.{region_page}
 use Rattle.ub_page.specs.declared.header.OldHeader.{OldHeader}
 use Rattle.ub_region.specs.Regions.{AreRegions, rows_of}
 use Rattle.ub_store.specs.Facts.{StoreFacts, IsHonest, page_count}

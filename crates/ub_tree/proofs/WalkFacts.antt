@@ -6,7 +6,7 @@ use Rattle.ub_region.specs.Those.{AreThose}
 use Rattle.ub_table.proofs.Laws.{not_both_before, not_before_self}
 use Rattle.ub_table.specs.Keys.{IsBefore}
 use Rattle.ub_tree.proofs.MeetFacts.{contained_at, contains_at}
-use Rattle.ub_tree.specs.Spans.{First, IsLater, Meets, Region as Span}
+use Rattle.ub_tree.specs.Spans.{First, IsLater, Meets, Region}
 use Rattle.ub_tree.specs.Told.{AreAnswers, GivesNext}
 use Rattle.ub_tree.specs.View.{TreeView, spans_of}
 
@@ -39,10 +39,10 @@ module _ {X : Type 0} where
         inr (before 0 x (omega arith) refl, those_first xs n found more at has (λ m y lt at_m. before (suc m) y (omega arith) at_m) rest)
 
 -- of a tree that gives the first later region that meets the boxes, and whose first keys ascend
-module _ (boxes : List Corners) (t : TreeView) (firsts : (after found : Option Span) → GivesNext boxes t after found → First (λ r. IsLater after r × Meets boxes r) (spans_of t) found)
-    (up : (i j : ℕ) (a b : Span) → i < j → slice_get (spans_of t) i ≡ Some a → slice_get (spans_of t) j ≡ Some b → IsBefore a.first b.first) where
+module _ (boxes : List Corners) (t : TreeView) (firsts : (after found : Option Region) → GivesNext boxes t after found → First (λ r. IsLater after r × Meets boxes r) (spans_of t) found)
+    (up : (i j : ℕ) (a b : Region) → i < j → slice_get (spans_of t) i ≡ Some a → slice_get (spans_of t) j ≡ Some b → IsBefore a.first b.first) where
   -- later than the one at an index are those from the next index on
-  later_from : (k i : ℕ) (a r : Span) → slice_get (spans_of t) k ≡ Some a → slice_get (spans_of t) i ≡ Some r → IsBefore a.first r.first ↔ (suc k ≤ i)
+  later_from : (k i : ℕ) (a r : Region) → slice_get (spans_of t) k ≡ Some a → slice_get (spans_of t) i ≡ Some r → IsBefore a.first r.first ↔ (suc k ≤ i)
   later_from k i a r at_k at_i = (to, λ after. up k i a r (omega arith) at_k at_i)
     where
       to : IsBefore a.first r.first → suc k ≤ i
@@ -52,12 +52,12 @@ module _ (boxes : List Corners) (t : TreeView) (firsts : (after found : Option S
           | inl e ↦
               let again : slice_get (spans_of t) k ≡ Some r = ap (slice_get (spans_of t)) (sym e) ∙ at_i in
               let same : a ≡ r = cc in
-              absurd (not_before_self a.first (subst (λ (s : Span). IsBefore a.first s.first) (sym same) before))
+              absurd (not_before_self a.first (subst (λ (s : Region). IsBefore a.first s.first) (sym same) before))
           | inr ne ↦ absurd (not_both_before a.first r.first before (up i k r a (omega arith) at_i at_k))
         ]
       ]
 
-  answered : (answers : List Span) (after : Option Span) (index : ℕ) → ((i : ℕ) (r : Span) → slice_get (spans_of t) i ≡ Some r → IsLater after r ↔ (index ≤ i))
+  answered : (answers : List Region) (after : Option Region) (index : ℕ) → ((i : ℕ) (r : Region) → slice_get (spans_of t) i ≡ Some r → IsLater after r ↔ (index ≤ i))
       → AreAnswers boxes t after answers → AreThose (Meets boxes) (drop index (spans_of t)) answers
   answered [] after index later gives = those_none (Meets boxes) (drop index (spans_of t)) (λ i r at has.
       let at_i : slice_get (spans_of t) (index + i) ≡ Some r = sym (drop_get index i (spans_of t)) ∙ at in
@@ -73,13 +73,13 @@ module _ (boxes : List Corners) (t : TreeView) (firsts : (after found : Option S
       (λ m r lt at has.
       let at_m : slice_get (spans_of t) (index + m) ≡ Some r = sym (drop_get index m (spans_of t)) ∙ at in
       first.2 r (contains_at (spans_of t) (index + m) r at_m) ((later (index + m) r at_m).1 (omega arith), has) (up (index + m) k r found (omega arith) at_m at_k))
-      (subst (λ (xs : List Span). AreThose (Meets boxes) xs more) (dropped index (k - index) k (spans_of t) (sym again)) (answered more (Some found) (suc k) (λ i r at. later_from k i found r at_k at) rest))
+      (subst (λ (xs : List Region). AreThose (Meets boxes) xs more) (dropped index (k - index) k (spans_of t) (sym again)) (answered more (Some found) (suc k) (λ i r at. later_from k i found r at_k at) rest))
     where
-      dropped : (n m k : ℕ) (xs : List Span) → k ≡ n + m → drop (suc k) xs ≡ drop (suc m) (drop n xs)
+      dropped : (n m k : ℕ) (xs : List Region) → k ≡ n + m → drop (suc k) xs ≡ drop (suc m) (drop n xs)
       dropped zero m k xs is = let same : k ≡ m = omega arith in ap (λ (j : ℕ). drop (suc j) xs) same
       dropped (suc n) m zero xs is = absurd (omega arith)
       dropped (suc n) m (suc k) [] is = refl
       dropped (suc n) m (suc k) (x ∷ xs) is = dropped n m k xs (omega arith)
 
-  pub answers_are_those : (answers : List Span) → AreAnswers boxes t None answers → AreThose (Meets boxes) (spans_of t) answers
+  pub answers_are_those : (answers : List Region) → AreAnswers boxes t None answers → AreThose (Meets boxes) (spans_of t) answers
   answers_are_those answers are = answered answers None 0 (λ i r at. (λ _. omega arith, λ _. tt)) are

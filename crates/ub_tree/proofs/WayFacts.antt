@@ -11,7 +11,7 @@ use Rattle.ub_index.proofs.KeyFacts.{before_le}
 use Rattle.ub_index.proofs.Lists.{ascend_right}
 use Rattle.ub_index.proofs.WayFacts.{named_not_refused}
 use Rattle.ub_index.proofs.WaysFacts.{compare, first_up_to}
-use Rattle.ub_index_page.proofs.Laws.{node_not_refused}
+use Rattle.ub_page.proofs.IndexLaws.{node_not_refused}
 use Rattle.ub_index.specs.Changing.{IsOutside, Mends, Spelled, Spreads, Turns, sheet_of, so_far}
 use Rattle.ub_index.specs.Fitting.{FallsTo}
 use Rattle.ub_index.specs.Index.{AscendTo, Fits, IsIndexPage, NamesFitting, entries_of, first_or, page_in, pages_under}
@@ -21,12 +21,12 @@ use Rattle.ub_index.specs.declared.told.Told.{Told}
 use Rattle.ub_index.specs.declared.told.Told.TheVariants.{Same, Gone, One, Two}
 use Rattle.ub_page.proofs.PageLaws.{region_parts}
 use Rattle.ub_page.specs.Entries.{IsEntry}
-use Rattle.ub_page.specs.Region.{region_page}
-use Rattle.ub_page.specs.declared.entries.Entry.{Entry}
+use Rattle.ub_region.specs.RegionPage.{region_page}
+use Rattle.ub_region.specs.declared.entry.Entry.{Entry}
 use Rattle.ub_region.proofs.Laws.{all_right}
 use Rattle.ub_table.specs.Keys.{IsBefore}
-use Rattle.ub_index_page.specs.Index.{IsIndexFault, IsIndexKind, node_on}
-use Rattle.ub_table.specs.Region.{Region, IsRegion}
+use Rattle.ub_page.specs.Index.{IsIndexFault, IsIndexKind, node_on}
+use Rattle.ub_table.specs.Region.{RegionRows, IsRegion}
 use Rattle.ub_table.specs.declared.fault.PageFault.TheVariants.{BadCount, OutOfRegion, WrongKind}
 use Rattle.ub_table.specs.declared.fault.PageFault.{PageFault}
 use Rattle.ub_table.specs.declared.row.Key.{Key}
@@ -132,14 +132,14 @@ module _ (last : ℕ) (small : last < 256 ^ 16) (old new : List (List ℕ)) (kee
       )
 
 -- the page of a region is none of an index
-pub region_no_index : (last : ℕ) → last < 2 ^ 128 → (schema : Schema) (region : Region) → IsRegion schema region → ¬ (IsIndexPage last (region_page schema region))
+pub region_no_index : (last : ℕ) → last < 2 ^ 128 → (schema : Schema) (region : RegionRows) → IsRegion schema region → ¬ (IsIndexPage last (region_page schema region))
 region_no_index last small schema region is h =
     let page = region_page schema region in
     let kind = (region_parts schema region page is refl).kind in
     node_not_refused (node_on page) page last small h.is h.spelled WrongKind (λ other. let e = sym kind ∙ other in absurd (omega arith))
 
 -- nor is it so by its first byte
-pub region_no_kind : (schema : Schema) (region : Region) → IsRegion schema region → ¬ (IsIndexKind (region_page schema region))
+pub region_no_kind : (schema : Schema) (region : RegionRows) → IsRegion schema region → ¬ (IsIndexKind (region_page schema region))
 region_no_kind schema region is other =
     let kind = (region_parts schema region (region_page schema region) is refl).kind in
     let e = sym kind ∙ other in

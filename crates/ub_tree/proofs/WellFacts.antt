@@ -14,8 +14,8 @@ use Rattle.ub_index.specs.Index.{EachTo, IsUnder, pages_under, top, under}
 use Rattle.ub_index.specs.View.{IndexView, IsIndexOn}
 use Rattle.ub_page.specs.Entries.{IsEntry}
 use Rattle.ub_page.specs.Header.{header_page}
-use Rattle.ub_page.specs.Region.{region_page}
-use Rattle.ub_page.specs.declared.entries.Entry.{Entry}
+use Rattle.ub_region.specs.RegionPage.{region_page}
+use Rattle.ub_region.specs.declared.entry.Entry.{Entry}
 use Rattle.ub_region.proofs.Laws.{all_more, ascending_of}
 use Rattle.ub_region.specs.Regions.{AreApart, AreRegions, firsts_of, rows_of}
 use Rattle.ub_store.specs.Facts.{StoreFacts, IsHonest}

@@ -3,7 +3,7 @@ use Rattle.std.specs.Prelude.{true, false, ◌≡◌, ℕ, [], ◌∷◌, IsTrue
 use Rattle.ub_store.specs.Facts.{StoreFacts, IsHonest, page_count}
 use Rattle.ub_store.specs.View.{untouched}
 use Rattle.ub_table.specs.Keys.{origin}
-use Rattle.ub_table.specs.Region.{Region}
+use Rattle.ub_table.specs.Region.{RegionRows}
 use Rattle.ub_table.specs.declared.schema.Schema.{Schema}
 use Rattle.ub_tree.specs.Grown.{IsOnlyGrown}
 use Rattle.ub_tree.specs.Placed.{Placed}
@@ -13,7 +13,7 @@ use Rattle.ub_tree.specs.declared.fault.TreeFault.TheVariants.{Store, Memory}
 use Rattle.ub_store.specs.declared.fault.StoreFault.TheVariants as store
 
 -- the region stands at this page
-abbrev pub StandsAt : List Placed → ℕ → Region → Type 0
+abbrev pub StandsAt : List Placed → ℕ → RegionRows → Type 0
 StandsAt placed page region = (p : Placed) × Contains placed p × (p.page ≡ page) × (p.region ≡ region)
 
 -- what creation over a store with these facts makes: a tree of this schema with no rows, on three pages, in one region that

@@ -7,13 +7,13 @@ use Rattle.ub_index.specs.Lowering.{IsDropFault}
 use Rattle.ub_index.specs.Preparing.{HasFullWay, NeedsPages}
 use Rattle.ub_index.specs.View.{Stops}
 use Rattle.ub_index.specs.declared.fault.IndexFault.TheVariants as index
-use Rattle.ub_index_page.specs.declared.index.TheConstants.{MAX_LEVEL}
+use Rattle.ub_page.specs.declared.header.TheConstants.{MAX_LEVEL}
 use Rattle.ub_store.specs.Facts.{StoreFacts, IsHonest, IsPage, page_count, raised}
 use Rattle.ub_store.specs.View as trace
 use Rattle.ub_store.specs.View.{Notes}
 use Rattle.ub_table.specs.declared.row.TheConstants.{MAX_ROW_NUMBER}
-use Rattle.ub_page.specs.Region.{region_page}
-use Rattle.ub_table.specs.Region.{Region, IsRegion}
+use Rattle.ub_region.specs.RegionPage.{region_page}
+use Rattle.ub_table.specs.Region.{RegionRows, IsRegion}
 use Rattle.ub_table.specs.declared.fault.PageFault.{PageFault}
 use Rattle.ub_table.specs.declared.fault.PageFault.TheVariants.{BadCount, BadOrder}
 use Rattle.ub_table.specs.declared.row.Key.{Key}
@@ -24,7 +24,7 @@ use Rattle.ub_tree.specs.Told.{IsRegionOf, TellsStill}
 use Rattle.ub_tree.specs.View.{TreeView, IsSound, KeepsTrace, region_count}
 use Rattle.ub_tree.specs.declared.fault.TreeFault.{TreeFault}
 use Rattle.ub_tree.specs.declared.fault.TreeFault.TheVariants.{Full, Page, Store, Failed, Memory}
-use Rattle.ub_tree.specs.Spans.{Region as Span}
+use Rattle.ub_tree.specs.Spans.{Region}
 use Rattle.ub_store.specs.declared.fault.StoreFault.TheVariants as store
 
 -- a count of failures after a call with this fault, and after one with this result: Device raises it by one
@@ -52,7 +52,7 @@ IsIndexRefused t number fault = IsHonest t.store → (key : Key) × Stops t.inne
 abbrev pub IsPageRefused : TreeView → ℕ → PageFault → Type 0
 IsPageRefused t number fault =
     IsIndexRefused t number fault
-    ⊎ ((span : Span) × IsRegionOf t span × (span.page ≡ number) × (page : List ℕ) × IsPage t.store number page
+    ⊎ ((span : Region) × IsRegionOf t span × (span.page ≡ number) × (page : List ℕ) × IsPage t.store number page
     × IsRegionRefused t.schema span.first span.next page fault)
 
 -- a way to some key stops at a page that the store doesn't have
@@ -65,7 +65,7 @@ IsStopped t =
 abbrev pub IsPageMissing : TreeView → Type 0
 IsPageMissing t =
     IsStopped t
-    ⊎ ((span : Span) × IsRegionOf t span × (page_count t.store ≤ span.page))
+    ⊎ ((span : Region) × IsRegionOf t span × (page_count t.store ≤ span.page))
 
 -- what a call can answer that only reads: `Failed` where the tree has, the device's fault where the store can fail, and a fault
 -- of a page, or that there is none, only where the tree isn't sound
@@ -93,7 +93,7 @@ abbrev pub HasNoted : ℕ → TreeView → TreeView → Type 0
 HasNoted page old new = Notes page old.trace new.trace
 
 -- what the reading of a region answers, also of one that isn't the tree's: then by what that one says
-abbrev pub IsSpanFault : Span → TreeView → TreeFault → Type 0
+abbrev pub IsSpanFault : Region → TreeView → TreeFault → Type 0
 IsSpanFault span old Failed = IsTrue old.is_failed
 IsSpanFault span old Memory = Unit {0}
 IsSpanFault span old (Page number fault) =
@@ -104,13 +104,13 @@ IsSpanFault span old (Store store.NoPage) = page_count old.store ≤ span.page
 IsSpanFault span old _ = ⊥
 
 -- the region that is taken in is the one that this one's page spells; it begins as this one does, and stands before the next one
-abbrev pub IsTakenIn : TreeView → Span → Region → Type 0
+abbrev pub IsTakenIn : TreeView → Region → RegionRows → Type 0
 IsTakenIn t span region =
     IsRegion t.schema region × IsHeldBy t.schema.dims span.first span.next region × IsPage t.store span.page (region_page t.schema region)
 
 -- a call that reads this region, whose page is noted first: want of memory comes before that only where the trace has no room;
 -- which region of the tree it is the caller says
-pub record ReadsRegion {A : Type 0} (span : Span) (old new : TreeView) (result : Result A TreeFault) : Type 0 where
+pub record ReadsRegion {A : Type 0} (span : Region) (old new : TreeView) (result : Result A TreeFault) : Type 0 where
   pub same : new ≡ record old { store = read_store result old.store; trace = new.trace }
   pub noted : (KeepsTrace old new × ((result ≡ Err Failed) ⊎ ((result ≡ Err Memory) × trace.IsFull old.trace))) ⊎ HasNoted span.page old new
   pub listed : OnOk result (HasNoted span.page old new)
@@ -156,8 +156,8 @@ HasMissed old new = new ≡ record old { store = record old.store { failed_reads
 -- the region that the tree tells of on this page has a row already of the number that the next row gets
 abbrev pub IsNumberTaken : TreeView → ℕ → Type 0
 IsNumberTaken t number =
-    (span : Span) × IsRegionOf t span × (span.page ≡ number)
-    × (region : Region) × IsTakenIn t span region × (row : Row) × Contains region.rows row × (row.number ≡ t.next)
+    (span : Region) × IsRegionOf t span × (span.page ≡ number)
+    × (region : RegionRows) × IsTakenIn t span region × (row : Row) × Contains region.rows row × (row.number ≡ t.next)
 
 -- an index that some key's region can't leave: the page of this number is refused then, or no region would be left
 abbrev pub IsDropRefused : TreeView → ℕ → PageFault → Type 0

@@ -3,11 +3,11 @@ use Rattle.std.specs.Prelude.{◌≡◌, ◌≢◌, ◌+◌, ◌<◌, ◌⊎◌,
 use Rattle.std.specs.Result.{IsErrAnd}
 use Rattle.ub_index.specs.Preparing.{HasFullWay}
 use Rattle.ub_index.specs.Searching.{key_before}
-use Rattle.ub_index_page.specs.declared.index.TheConstants.{MAX_LEVEL}
+use Rattle.ub_page.specs.declared.header.TheConstants.{MAX_LEVEL}
 use Rattle.ub_region.specs.Rows.{has_key}
 use Rattle.ub_store.specs.Facts.{IsHonest}
 use Rattle.ub_store.specs.declared.fault.StoreFault.TheVariants as store
-use Rattle.ub_table.specs.Region.{Region}
+use Rattle.ub_table.specs.Region.{RegionRows}
 use Rattle.ub_table.specs.declared.fault.PageFault.{PageFault}
 use Rattle.ub_table.specs.declared.fault.PageFault.TheVariants.{BadCount, BadOrder}
 use Rattle.ub_table.specs.declared.row.Key.{Key}
@@ -15,15 +15,15 @@ use Rattle.ub_table.specs.declared.row.TheConstants.{MAX_ROW_NUMBER}
 use Rattle.ub_tree.specs.Effects.{IsTakenIn}
 use Rattle.ub_tree.specs.Opened.{IsPassing}
 use Rattle.ub_tree.specs.Others.{AddsEntry, DropsEntry, KeepsEntries, WritesIndex, WritesPage}
-use Rattle.ub_tree.specs.Spans.{Region as Span}
+use Rattle.ub_tree.specs.Spans.{Region}
 use Rattle.ub_tree.specs.Told.{FallsTo}
 use Rattle.ub_tree.specs.View.{TreeView, region_count}
 use Rattle.ub_tree.specs.declared.fault.TreeFault.{TreeFault}
 use Rattle.ub_tree.specs.declared.fault.TreeFault.TheVariants.{Full, Page, Store}
 
 -- a key falls into the region that the page of this number spells, in its place
-pub record FallsInto (t : TreeView) (key : Key) (page : ℕ) (region : Region) : Type 0 where
-  pub span : Span
+pub record FallsInto (t : TreeView) (key : Key) (page : ℕ) (region : RegionRows) : Type 0 where
+  pub span : Region
   pub falls : FallsTo t key span
   pub page_is : span.page ≡ page
   pub taken : IsTakenIn t span region
@@ -31,24 +31,24 @@ pub record FallsInto (t : TreeView) (key : Key) (page : ℕ) (region : Region) :
 -- a row was put into the region that a key falls to, of any tree: its page alone was written; or a region and its page are more,
 -- and those of the index were written; and that is so just where that region was full
 pub record GrowsAt (key : Key) (old new : TreeView) : Type 0 where
-  pub span : Span
+  pub span : Region
   pub falls : FallsTo old key span
   pub others : (WritesPage span.page old new × KeepsEntries old new) ⊎ (WritesIndex span.page old new × AddsEntry span.first old new)
-  pub full : (page : ℕ) (region : Region) → IsHonest old.store → FallsInto old key page region → length region.rows ≡ old.schema.page_rows → AddsEntry span.first old new
-  pub spare : (page : ℕ) (region : Region) → IsHonest old.store → FallsInto old key page region → length region.rows < old.schema.page_rows → KeepsEntries old new
+  pub full : (page : ℕ) (region : RegionRows) → IsHonest old.store → FallsInto old key page region → length region.rows ≡ old.schema.page_rows → AddsEntry span.first old new
+  pub spare : (page : ℕ) (region : RegionRows) → IsHonest old.store → FallsInto old key page region → length region.rows < old.schema.page_rows → KeepsEntries old new
 
 -- a region, or the one before it, which the greatest key before it falls to
-abbrev pub IsThatOrBefore : TreeView → Span → Span → Type 0
+abbrev pub IsThatOrBefore : TreeView → Region → Region → Type 0
 IsThatOrBefore t span first =
     (first ≡ span) ⊎ ((key : Key) × (key_before span.first.z span.first.number ≡ Some key) × FallsTo t key first)
 
 -- a row was taken out of the region that a key falls to, of any tree: its page alone was written; or two neighbours, one of which is
 -- that region, were joined into the first of them, whose page was written, and those of the index
 pub record ShrinksAt (key : Key) (old new : TreeView) : Type 0 where
-  pub span : Span
+  pub span : Region
   pub falls : FallsTo old key span
   pub others : (WritesPage span.page old new × KeepsEntries old new)
-      ⊎ ((first : Span) × IsThatOrBefore old span first × WritesIndex first.page old new × DropsEntry old new)
+      ⊎ ((first : Region) × IsThatOrBefore old span first × WritesIndex first.page old new × DropsEntry old new)
 
 -- the answer is this fault, unless memory was refused or the device failed
 abbrev pub Answers : {A : Type 0} → Result A TreeFault → TreeFault → Type 0
@@ -61,7 +61,7 @@ HasNoRoom fault = (fault ≡ Full) ⊎ ((fault ≡ Store store.BadSize) ⊎ IsPa
 -- what an insertion into a region must answer, where that is full just if this is so: BadCount of the first page where another
 -- region is needed and there are as many as can be counted, and no page is refused otherwise; and where the index has 16 levels, each
 -- page of which on the way there is full, that there is no room
-abbrev pub AnswersAt : {A : Type 0} → Type 0 → TreeView → Span → Result A TreeFault → Type 0
+abbrev pub AnswersAt : {A : Type 0} → Type 0 → TreeView → Region → Result A TreeFault → Type 0
 AnswersAt IsFull t span result =
     (IsFull → region_count t ≡ 4294967295 → result ≡ Err (Page 0 BadCount))
     × (IsHonest t.store → FallsTo t span.first span → (page : ℕ) (fault : PageFault) → result ≡ Err (Page page fault) → IsFull × (region_count t ≡ 4294967295))
@@ -74,7 +74,7 @@ AnswersAt IsFull t span result =
 -- each page of which on the way to the key is full
 abbrev pub AnswersKey : {A : Type 0} → TreeView → Key → Result A TreeFault → Type 0
 AnswersKey t key result =
-    (number : ℕ) (region : Region) → FallsInto t key number region
+    (number : ℕ) (region : RegionRows) → FallsInto t key number region
     → (has_key t.schema.dims key region.rows ≡ true → Answers result (Page number BadOrder))
     × (has_key t.schema.dims key region.rows ≡ false → length region.rows ≡ t.schema.page_rows → region_count t ≡ 4294967295
     → Answers result (Page 0 BadCount))
@@ -93,7 +93,7 @@ AnswersRow t key result =
 -- and no row is counted; no refusal where it hasn't it; and whether it has it
 abbrev pub AnswersRemoval : TreeView → Key → Result Bool TreeFault → Type 0
 AnswersRemoval t key result =
-    (number : ℕ) (region : Region) → FallsInto t key number region
+    (number : ℕ) (region : RegionRows) → FallsInto t key number region
     → (has_key t.schema.dims key region.rows ≡ true → t.rows ≡ 0 → Answers result (Page 0 BadCount))
     × (has_key t.schema.dims key region.rows ≡ false → IfErr result IsPassing)
     × IfOk result (λ found. found ≡ has_key t.schema.dims key region.rows)

@@ -2,7 +2,7 @@
 use Rattle.std.specs.Prelude.{◌≡◌, ◌≤◌, ℕ, List, ◌∷◌, None}
 use Rattle.ub_index.specs.Index.{IsUnder, pages_under, top, under}
 use Rattle.ub_index.specs.View.{IndexView}
-use Rattle.ub_page.specs.declared.entries.Entry.{Entry}
+use Rattle.ub_region.specs.declared.entry.Entry.{Entry}
 
 -- where the root of the index stands, and of which level it is; and how many regions the tree counts
 pub record Inner : Type 0 where

@@ -7,7 +7,7 @@ use Rattle.ub_bigmin.specs.Box.{Corners, HoldsAny}
 use Rattle.ub_index.specs.Way.{HoldsKey}
 use Rattle.ub_region.specs.Those.{AreThose}
 use Rattle.ub_table.specs.Keys.{IsBefore}
-use Rattle.ub_table.specs.Region.{Region, key_of}
+use Rattle.ub_table.specs.Region.{RegionRows, key_of}
 use Rattle.ub_table.specs.declared.row.Key.{Key}
 use Rattle.ub_table.specs.declared.row.Row.{Row}
 use Rattle.ub_store.specs.Facts.{StoreFacts, IsHonest}
@@ -16,7 +16,7 @@ use Rattle.ub_tree.specs.Checking.{IsFirstFault, IsWell}
 use Rattle.ub_tree.specs.Effects.{IsIndexFull}
 use Rattle.ub_tree.specs.Grown.{IsOnlyGrown}
 use Rattle.ub_tree.specs.Opened.{IsOpened}
-use Rattle.ub_tree.specs.Spans.{First, IsLater, Meets, Region as Span}
+use Rattle.ub_tree.specs.Spans.{First, IsLater, Meets, Region}
 use Rattle.ub_tree.specs.Stored.{AreSoundPages}
 use Rattle.ub_tree.specs.Told.{AreAnswers, GivesNext, IsRegionOf}
 use Rattle.ub_tree.specs.View.{TreeView, IsSound, spans_of}
@@ -25,66 +25,66 @@ use Rattle.ub_zaddr.specs.Address.{last_address}
 
 -- of two regions the later one begins with the later key
 abbrev pub SpansAscend : Type 0
-SpansAscend = (t : TreeView) (i j : ℕ) (a b : Span) → IsSound t → i < j
+SpansAscend = (t : TreeView) (i j : ℕ) (a b : Region) → IsSound t → i < j
     → slice_get (spans_of t) i ≡ Some a → slice_get (spans_of t) j ≡ Some b → IsBefore a.first b.first
 
 -- no two regions stand on one page
 abbrev pub PagesDiffer : Type 0
-PagesDiffer = (t : TreeView) (i j : ℕ) (a b : Span) → IsSound t
+PagesDiffer = (t : TreeView) (i j : ℕ) (a b : Region) → IsSound t
     → slice_get (spans_of t) i ≡ Some a → slice_get (spans_of t) j ≡ Some b → a.page ≡ b.page → i ≡ j
 
 -- an address lies in a span
-abbrev pub LiesIn : Span → ℕ → Type 0
+abbrev pub LiesIn : Region → ℕ → Type 0
 LiesIn span z = (span.from ≤ z) × (z ≤ span.to)
 
 -- each address of the space lies in the span of some region
 abbrev pub SpansCoverTheSpace : Type 0
 SpansCoverTheSpace = (t : TreeView) (z : ℕ) → IsSound t → z ≤ last_address t.schema.dims
-    → (span : Span) × Contains (spans_of t) span × LiesIn span z
+    → (span : Region) × Contains (spans_of t) span × LiesIn span z
 
 -- each row's address lies in the span of the row's region
 abbrev pub RowsLieInSpans : Type 0
-RowsLieInSpans = (t : TreeView) (span : Span) (region : Region) (row : Row) → IsSound t → Contains (spans_of t) span
+RowsLieInSpans = (t : TreeView) (span : Region) (region : RegionRows) (row : Row) → IsSound t → Contains (spans_of t) span
     → StandsAt t.placed span.page region → Contains region.rows row → LiesIn span (key_of t.schema.dims row).z
 
 -- a sound tree tells of its regions, each with its span, and of no others
 abbrev pub RegionsAreTold : Type 0
-RegionsAreTold = (t : TreeView) (span : Span) → IsSound t → IsRegionOf t span ↔ Contains (spans_of t) span
+RegionsAreTold = (t : TreeView) (span : Region) → IsSound t → IsRegionOf t span ↔ Contains (spans_of t) span
 
 -- of a sound tree `next_meeting` gives the first of its regions, later than the one given, that meets the boxes, or none
 abbrev pub NextIsTheFirst : Type 0
-NextIsTheFirst = (t : TreeView) (boxes : List Corners) (after found : Option Span) → IsSound t
+NextIsTheFirst = (t : TreeView) (boxes : List Corners) (after found : Option Region) → IsSound t
     → GivesNext boxes t after found → First (λ r. IsLater after r × Meets boxes r) (spans_of t) found
 
 -- what it gives of any tree is a region that the tree tells of; it begins later than the one given, and meets the boxes
 abbrev pub NextIsLater : Type 0
-NextIsLater = (t : TreeView) (boxes : List Corners) (after : Option Span) (span : Span)
+NextIsLater = (t : TreeView) (boxes : List Corners) (after : Option Region) (span : Region)
     → GivesNext boxes t after (Some span) → IsRegionOf t span × IsLater after span × Meets boxes span
 
 -- so `next_meeting` of a sound tree, from the beginning on, answers the regions that meet the boxes, each once and in order,
 -- and no others
 abbrev pub AnswersAreThoseThatMeet : Type 0
-AnswersAreThoseThatMeet = (t : TreeView) (boxes : List Corners) (answers : List Span) → IsSound t
+AnswersAreThoseThatMeet = (t : TreeView) (boxes : List Corners) (answers : List Region) → IsSound t
     → AreAnswers boxes t None answers → AreThose (Meets boxes) (spans_of t) answers
 
 -- over any tree it answers, from the beginning on, regions that the tree tells of and that meet the boxes
 abbrev pub AnswersAreRegionsThatMeet : Type 0
-AnswersAreRegionsThatMeet = (t : TreeView) (boxes : List Corners) (answers : List Span) → AreAnswers boxes t None answers
+AnswersAreRegionsThatMeet = (t : TreeView) (boxes : List Corners) (answers : List Region) → AreAnswers boxes t None answers
     → AllByRecursion (λ r. IsRegionOf t r × Meets boxes r) answers
 
 -- over any tree, of two answers of `next_meeting`, from the beginning on, the later one begins with the later key, so that none
 -- comes twice
 abbrev pub AnswersAscend : Type 0
-AnswersAscend = (t : TreeView) (boxes : List Corners) (answers : List Span) (i j : ℕ) (a b : Span)
+AnswersAscend = (t : TreeView) (boxes : List Corners) (answers : List Region) (i j : ℕ) (a b : Region)
     → AreAnswers boxes t None answers → i < j
     → slice_get answers i ≡ Some a → slice_get answers j ≡ Some b → IsBefore a.first b.first
 
 -- over an honest store, of the answers from the beginning on, until there is none, each key of the space whose address is in
 -- the boxes is held by one of them, so that no page that is refused is passed over
 abbrev pub AnswersCover : Type 0
-AnswersCover = (t : TreeView) (boxes : List Corners) (answers : List Span) (key : Key) → IsHonest t.store
+AnswersCover = (t : TreeView) (boxes : List Corners) (answers : List Region) (key : Key) → IsHonest t.store
     → AreAnswers boxes t None answers → HoldsAny boxes key.z → key.z ≤ t.inner.index.last
-    → (span : Span) × Contains answers span × HoldsKey key span.first span.next
+    → (span : Region) × Contains answers span × HoldsKey key span.first span.next
 
 -- the index of a sound tree into which rows were only put isn't full: there would be more regions than can be counted
 abbrev pub GrownIsNotFull : Type 0

@@ -2,12 +2,12 @@
 use Rattle.std.specs.Prelude.{◌≡◌, ◌≤◌, ◌+◌, ◌<◌, ◌⊎◌, ◌++◌, ℕ, List, [], ◌∷◌, length, slice_get}
 use Rattle.ub_index.specs.Changing.{IsOutside}
 use Rattle.ub_index.specs.Preparing.{NeedsPages}
-use Rattle.ub_index_page.specs.declared.index.TheConstants.{MAX_LEVEL}
+use Rattle.ub_page.specs.declared.header.TheConstants.{MAX_LEVEL}
 use Rattle.ub_store.specs.Facts.{StoreFacts, IsHonest, page_count}
 use Rattle.ub_table.specs.declared.row.Key.{Key}
 use Rattle.ub_tree.specs.Indexed.{reserved}
 use Rattle.ub_tree.specs.Told.{IsRegionOf, KeepsTold}
-use Rattle.ub_tree.specs.Spans.{Region as Span}
+use Rattle.ub_tree.specs.Spans.{Region}
 use Rattle.ub_tree.specs.View.{TreeView, region_count}
 
 -- the pages that there were are as they were, but for those of these numbers
@@ -30,7 +30,7 @@ WritesIndex page old new = KeepsOthers (reserved old.inner.index old.store.pages
 -- of the pages that there were only the first, that of one region that the tree tells of, and those of the index are written
 abbrev pub WritesOneRegion : TreeView → TreeView → Type 0
 WritesOneRegion old new =
-    (page : ℕ) × ((page ≡ 0) ⊎ ((span : Span) × IsRegionOf old span × (span.page ≡ page))) × WritesIndex page old new
+    (page : ℕ) × ((page ≡ 0) ⊎ ((span : Region) × IsRegionOf old span × (span.page ≡ page))) × WritesIndex page old new
 
 -- the tree tells of the same regions, and the store has as many pages
 abbrev pub KeepsEntries : TreeView → TreeView → Type 0

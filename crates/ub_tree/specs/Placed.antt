@@ -2,8 +2,8 @@
 use Rattle.std.specs.Prelude.{◌≡◌, ◌<◌, ℕ, List, ◌++◌, Some, length, map, slice_get, All}
 use Rattle.std.specs.List.{IsDistinct}
 use Rattle.std.specs.Bool.{nat_eq}
-use Rattle.ub_page.specs.Region.{region_page}
-use Rattle.ub_page.specs.declared.entries.Entry.{Entry}
+use Rattle.ub_region.specs.RegionPage.{region_page}
+use Rattle.ub_region.specs.declared.entry.Entry.{Entry}
 use Rattle.ub_table.specs.declared.schema.Schema.{Schema}
 pub use Rattle.ub_check.specs.Placed.{Placed, placed_of, regions_in}
 

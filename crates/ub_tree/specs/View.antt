@@ -5,14 +5,14 @@ use Rattle.ub_table.specs.declared.row.TheConstants.{MAX_ROW_NUMBER}
 use Rattle.ub_zaddr.specs.Address.{last_address}
 use Rattle.ub_store.specs.Facts.{StoreFacts, IsHonest}
 use Rattle.ub_store.specs.View.{Trace}
-use Rattle.ub_table.specs.Region.{Region}
+use Rattle.ub_table.specs.Region.{RegionRows}
 use Rattle.ub_table.specs.declared.row.Row.{Row}
 use Rattle.ub_table.specs.declared.schema.Schema.{Schema}
 use Rattle.ub_tree.specs.Placed.{Placed, ArePlaced, regions_in, entry_of}
 use Rattle.ub_tree.specs.Spans as spans
 use Rattle.ub_tree.specs.Stored.{AreSoundPages}
 use Rattle.ub_writing.specs.Marks.{HasMark}
-use Rattle.ub_tree.specs.Spans.{Region as Span}
+use Rattle.ub_tree.specs.Spans.{Region}
 use Rattle.ub_tree.specs.Indexed.{Inner, HasIndex, reserved}
 
 -- a tree: its schema; its regions in order; how many rows it counts; the next row number; whether it has changed since it was
@@ -29,7 +29,7 @@ pub record TreeView : Type 0 where
   pub inner : Inner
 
 -- the regions of a tree, and its rows, one region after the other
-abbrev pub regions : TreeView → List Region
+abbrev pub regions : TreeView → List RegionRows
 regions t = regions_in t.placed
 
 abbrev pub tree_rows : TreeView → List Row
@@ -44,10 +44,10 @@ abbrev pub level_count : TreeView → ℕ
 level_count t = t.inner.index.levels
 
 -- the regions with their spans, in order
-abbrev pub spans_in : Schema → List Placed → List Span
+abbrev pub spans_in : Schema → List Placed → List Region
 spans_in schema placed = spans.regions_of (last_address schema.dims) (map entry_of placed)
 
-abbrev pub spans_of : TreeView → List Span
+abbrev pub spans_of : TreeView → List Region
 spans_of t = spans_in t.schema t.placed
 
 -- a tree is sound where it hasn't failed, its store is honest, an index of its regions stands there, each of them stands on a page

@@ -2,7 +2,7 @@ ghost use Rattle.std.specs.Prelude.{◌≡◌, ◌≢◌, ◌↔◌, ℕ, Some, 
 ghost use Rattle.ub_index.specs.Preparing.{HasFullWay};
 ghost use Rattle.ub_index.specs.Searching.{key_before};
 ghost use Rattle.ub_index.specs.View.{IsNextRegion, IsPreviousRegion};
-ghost use Rattle.ub_index_page.specs.declared.index.TheConstants.{MAX_LEVEL};
+ghost use Rattle.ub_page.specs.declared.header.TheConstants.{MAX_LEVEL};
 ghost use Rattle.ub_region.specs.Regions.{index_holding};
 ghost use Rattle.ub_store.specs.Facts.{IsHonest};
 ghost use Rattle.ub_table.specs.Keys.{IsBefore, origin};
@@ -12,7 +12,7 @@ ghost use Rattle.ub_tree.specs.Holding.{HasNoRoom};
 ghost use Rattle.ub_tree.specs.Opened.{IsPassing};
 ghost use Rattle.ub_tree.specs.Placed.{entry_of};
 ghost use Rattle.ub_tree.specs.Removal.{IsRemovalFault};
-ghost use Rattle.ub_tree.specs.Spans.{first_keys, Region as Span};
+ghost use Rattle.ub_tree.specs.Spans.{first_keys, Region};
 ghost use Rattle.ub_tree.specs.Told.{FallsTo, IsRegionOf};
 ghost use Rattle.ub_tree.specs.View.{region_count};
 ghost use Rattle.ub_tree.specs.inner.Change.{IsAddReady, IsDropReady, IsRegionIn, IsStored, MakesReady};
@@ -30,7 +30,7 @@ impl<S: PageStore> Tree<S> {
         ensures falls { IfOk result (FallsTo self.old key.now) }
         ensures region { IsStored self.old → IfOk result (IsRegionIn self.old
             (index_holding key.now (first_keys (map entry_of self.old.placed)))) }
-        ensures led { (span : Span) → IsHonest self.old.store → FallsTo self.old key.now span
+        ensures led { (span : Region) → IsHonest self.old.store → FallsTo self.old key.now span
             → MatchResult result (λ found. found ≡ span) IsPassing }
         ensures effect { Searches self.old self.new result }
     {

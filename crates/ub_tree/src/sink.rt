@@ -1,7 +1,7 @@
 ghost use Rattle.std.specs.Prelude.{◌∷◌, [], List, OnOk};
 ghost use Rattle.ub_bigmin.specs.Box.{Corners};
 ghost use Rattle.ub_tree.specs.Handing.{Began, TakesThese};
-ghost use Rattle.ub_tree.specs.Spans.{Meets, Region as RegionView};
+ghost use Rattle.ub_tree.specs.Spans.{Meets, Region};
 
 use std::alloc::AllocError;
 use ub_bigmin::ZBox;
@@ -11,7 +11,7 @@ use ub_region::Region;
 ///
 /// A proof sees which regions it has taken between two of its states: `Takes`.
 pub trait RegionSink {
-    ghost Takes: { List Corners → Self → List RegionView → Self → Type 0 };
+    ghost Takes: { List Corners → Self → List Region → Self → Type 0 };
 
     /// Takes one more region that meets the boxes. After a refusal the sink is used no more.
     fn push(&mut self, boxes: &[ZBox], region: &Region) -> Result<(), AllocError>

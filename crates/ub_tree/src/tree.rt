@@ -1,6 +1,6 @@
 ghost use Rattle.std.specs.Prelude.{◌≡◌, ◌≤◌, [], false, IsTrue, Err, length, IfOk, IfSome, OnOk, option_copied};
 ghost use Rattle.std.specs.List.{Contains};
-ghost use Rattle.ub_page.specs.Region.{empty_region};
+ghost use Rattle.ub_region.specs.RegionPage.{empty_region};
 ghost use Rattle.ub_store.specs.View.{emptied};
 ghost use Rattle.ub_tree.specs.Calls.{StandsAt};
 ghost use Rattle.ub_tree.specs.Effects.{IsTakenIn, ReadsRegion, Searches};

@@ -1,7 +1,7 @@
 ghost use Rattle.std.specs.Prelude.{List, OnOk};
 ghost use Rattle.ub_tree.specs.Handing.{AreMetBy, Began, TakesThese};
 ghost use Rattle.ub_tree.specs.Reading.{SearchesTree};
-ghost use Rattle.ub_tree.specs.Spans.{Region as RegionView};
+ghost use Rattle.ub_tree.specs.Spans.{Region};
 
 use crate::read_fault::ReadFault;
 use crate::sink::RegionSink;
@@ -21,7 +21,7 @@ impl<S: PageStore> Tree<S> {
         sink: &mut T,
     ) -> Result<(), ReadFault>
         requires { Began (T.Takes boxes.now) sink.old }
-        ensures met { OnOk result ((met : List RegionView) × AreMetBy boxes.now self.old met
+        ensures met { OnOk result ((met : List Region) × AreMetBy boxes.now self.old met
             × TakesThese (T.Takes boxes.now) sink.old sink.new met) }
         ensures effect { SearchesTree self.old self.new result }
     {

@@ -1,9 +1,9 @@
 -- The lowest level of the index while the directory is read.
 use Rattle.std.proofs.Common.{◌≡◌, ◌≤◌, ◌<◌, ◌+◌, ◌-◌, ◌^◌, ◌++◌, ◌∙◌, ℕ, List, [], ◌∷◌, Some, None, Result, Ok, Err, IfErr, true, false, ap, arith, length, refl, subst, sym}
 use Rattle.std.proofs.lemmas.List.{length-append}
-use Rattle.ub_index_page.specs.Index.{index_page}
+use Rattle.ub_page.specs.Index.{index_page}
 use Rattle.ub_page.specs.Directory.{Listing, IsListing, directory_page}
-use Rattle.ub_page.specs.declared.entries.Entry.{Entry}
+use Rattle.ub_region.specs.declared.entry.Entry.{Entry}
 use Rattle.ub_region.proofs.Laws.{all_append}
 use Rattle.ub_store.specs.Facts.{StoreFacts, IsHonest, IsPage, page_count, raised}
 use Rattle.std.specs.Result.{IsErrAnd}

@@ -10,11 +10,11 @@ use Rattle.ub_index.proofs.Numbers.{StandApart, distinct_apart, distinct_cons, d
 use Rattle.ub_index.specs.Changed.{IsTold, PagesStay}
 use Rattle.ub_index.specs.Changing.{IsOutside}
 use Rattle.ub_index.specs.Index.{AscendTo, EachTo, IsUnder, entries_of, first_or, page_in, pages_under, top, under}
-use Rattle.ub_index_page.proofs.Laws.{length-node_on, node_get, node_parts}
-use Rattle.ub_index_page.specs.Index.{IsNode, Node, index_page, node_on}
-use Rattle.ub_page.specs.Bytes.{number_at}
+use Rattle.ub_page.proofs.IndexLaws.{length-node_on, node_get, node_parts}
+use Rattle.ub_page.specs.Index.{IsNode, Node, index_page, node_on}
+use Rattle.ub_bytes.specs.Bytes.{number_at}
 use Rattle.ub_page.specs.Entries.{AreAscending, IsEntry, entry_on, key_on}
-use Rattle.ub_page.specs.declared.entries.Entry.{Entry}
+use Rattle.ub_region.specs.declared.entry.Entry.{Entry}
 use Rattle.ub_region.proofs.Laws.{all_append, all_left, all_more, all_right}
 use Rattle.ub_table.proofs.Laws.{before_of}
 use Rattle.ub_table.specs.Keys.{IsBefore, are_ascending, origin}

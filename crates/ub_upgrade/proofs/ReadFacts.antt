@@ -7,7 +7,7 @@ use Rattle.std.specs.List.{All, AllByRecursion}
 use Rattle.ub_zaddr.specs.Address.{last_address}
 use Rattle.ub_page.specs.Directory.{Listing, IsListing, directory_page}
 use Rattle.ub_page.specs.Entries.{AreAscending, IsEntry}
-use Rattle.ub_page.specs.declared.entries.Entry.{Entry}
+use Rattle.ub_region.specs.declared.entry.Entry.{Entry}
 use Rattle.ub_region.proofs.Laws.{all_more, all_append}
 use Rattle.ub_store.specs.Facts.{StoreFacts, IsHonest, IsPage, page_count}
 use Rattle.ub_table.proofs.Laws.{precedes_of}

@@ -10,7 +10,7 @@ use Rattle.ub_zaddr.specs.Address.{last_address}
 use Rattle.ub_page.proofs.PageLaws.{listing_not_refused, listing_parts}
 use Rattle.ub_page.specs.Directory.{Listing, IsListing, directory_page}
 use Rattle.ub_page.specs.Entries.{AreAscending, IsEntry}
-use Rattle.ub_page.specs.declared.entries.Entry.{Entry}
+use Rattle.ub_region.specs.declared.entry.Entry.{Entry}
 use Rattle.ub_region.proofs.Laws.{all_drop, all_right, all_take}
 use Rattle.ub_store.specs.Facts.{StoreFacts, IsHonest, page_count}
 use Rattle.ub_table.proofs.Laws.{before_of}

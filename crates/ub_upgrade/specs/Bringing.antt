@@ -1,7 +1,7 @@
 -- What is read of the first page of an old store, and what of the others is brought over.
 use Rattle.std.specs.Prelude.{◌≡◌, ◌≤◌, ◌<◌, ◌+◌, ◌⊎◌, ℕ, false, IsTrue, List, length, slice_get}
 use Rattle.ub_page.specs.Header.{IsOldHeader, IsOldHeaderFault, header_page_of}
-use Rattle.ub_page.specs.declared.entries.Entry.{Entry}
+use Rattle.ub_region.specs.declared.entry.Entry.{Entry}
 use Rattle.ub_page.specs.declared.header.Header.{Header}
 use Rattle.ub_page.specs.declared.header.OldHeader.{OldHeader}
 use Rattle.ub_store.specs.Facts.{StoreFacts, IsPage, page_count}

@@ -1,7 +1,7 @@
 -- What the two calls do: pages are copied, and an index is built of an old directory.
 use Rattle.std.specs.Prelude.{◌≡◌, ◌≤◌, ◌<◌, ◌+◌, ◌⊎◌, ℕ, IsTrue, List, slice_get}
-use Rattle.ub_index_page.specs.declared.index.TheConstants.{MAX_LEVEL}
-use Rattle.ub_page.specs.declared.entries.Entry.{Entry}
+use Rattle.ub_page.specs.declared.header.TheConstants.{MAX_LEVEL}
+use Rattle.ub_region.specs.declared.entry.Entry.{Entry}
 use Rattle.ub_store.specs.Facts.{StoreFacts, IsPage, page_count}
 use Rattle.ub_store.specs.declared.fault.StoreFault.TheVariants as store
 use Rattle.ub_store.specs.declared.store.TheConstants.{MAX_PAGES}

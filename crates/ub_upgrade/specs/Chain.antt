@@ -1,7 +1,7 @@
 -- The pages of a directory of format 1: a chain, each page of which names the next one.
 use Rattle.std.specs.Prelude.{◌≡◌, ◌≤◌, ℕ, List, [], ◌∷◌, Some, length, take, drop, slice_get}
 use Rattle.ub_page.specs.Directory.{directory_page}
-use Rattle.ub_page.specs.declared.entries.Entry.{Entry}
+use Rattle.ub_region.specs.declared.entry.Entry.{Entry}
 use Rattle.ub_page.specs.declared.entries.TheConstants.{MAX_ENTRIES}
 
 -- the pages of this chain spell the entries, 170 on each but the last, each naming the next page

@@ -2,9 +2,9 @@
 use Rattle.std.specs.Prelude.{◌≡◌, ◌≤◌, ◌<◌, ◌+◌, ◌^◌, ◌/◌, ◌++◌, ℕ, zero, suc, List, [], ◌∷◌, Some, None, length, slice_get, if◌then◌else◌, nat_eq, nat_le}
 use Rattle.std.specs.List.{AllByRecursion, IsDistinct, flat_map}
 use Rattle.ub_index.specs.Index.{AscendTo, EachTo, IsUnder, first_or, page_in, pages_under, top, under}
-use Rattle.ub_index_page.specs.Index.{index_page}
+use Rattle.ub_page.specs.Index.{index_page}
 use Rattle.ub_page.specs.Entries.{key_on}
-use Rattle.ub_page.specs.declared.entries.Entry.{Entry}
+use Rattle.ub_region.specs.declared.entry.Entry.{Entry}
 use Rattle.ub_page.specs.declared.entries.TheConstants.{MAX_ENTRIES}
 use Rattle.ub_page.specs.Entries.{IsEntry}
 use Rattle.ub_store.specs.Facts.{StoreFacts, page_count}

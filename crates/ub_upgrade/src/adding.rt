@@ -1,15 +1,15 @@
 // Pages that are added to the new store, and the first keys of those that were.
 ghost use Rattle.std.specs.Prelude.{◌≡◌, ◌<◌, ◌≤◌, ◌+◌, length, take, IfErr, IfOk, OnOk};
 ghost use Rattle.ub_index.specs.Making.{IsGrowFault};
-ghost use Rattle.ub_index_page.specs.Index.{index_page};
-ghost use Rattle.ub_index_page.specs.declared.index.TheConstants.{MAX_LEVEL};
+ghost use Rattle.ub_page.specs.Index.{index_page};
+ghost use Rattle.ub_page.specs.declared.header.TheConstants.{MAX_LEVEL};
 ghost use Rattle.ub_page.specs.declared.entries.TheConstants.{MAX_ENTRIES};
 ghost use Rattle.ub_store.specs.Facts.{Appends, IsHonest, page_count};
 ghost use Rattle.ub_upgrade.specs.Effects.{AddsPages, Counts};
 ghost use Rattle.ub_upgrade.specs.Levels.{name_of, names_of};
 
-use ub_index_page::{Draft, Entry, MAX_ENTRIES, Page, write_index};
 use ub_page::entries::read_key;
+use ub_page::{Draft, Entry, MAX_ENTRIES, Page, write_index};
 use ub_region::ORIGIN;
 use ub_store::{PageStore, Pager, StoreFault};
 

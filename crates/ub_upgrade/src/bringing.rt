@@ -1,8 +1,8 @@
 // The header of an old table, and all its pages but the first.
 ghost use Rattle.std.specs.Prelude.{◌≡◌, ◌≤◌, ◌+◌, ℕ, List, IfErr, IfOk, MatchResult, OnOk};
-ghost use Rattle.ub_index_page.specs.declared.index.TheConstants.{MAX_LEVEL};
+ghost use Rattle.ub_page.specs.declared.header.TheConstants.{MAX_LEVEL};
 ghost use Rattle.ub_page.specs.Header.{IsOldHeader};
-ghost use Rattle.ub_page.specs.declared.entries.Entry as entry;
+ghost use Rattle.ub_region.specs.declared.entry.Entry as entry;
 ghost use Rattle.ub_page.specs.declared.header.OldHeader as spec;
 ghost use Rattle.ub_store.specs.Facts.{IsHonest, page_count};
 ghost use Rattle.ub_upgrade.specs.Bringing.{HasIndexOf, HasOldHeader, IsBringFault, IsBrought, IsHeadFault, directory_of};

@@ -1,6 +1,6 @@
 // An index that is built of an old directory, behind all pages of the new store, level by level.
 ghost use Rattle.std.specs.Prelude.{◌≡◌, ◌≤◌, ◌<◌, ◌+◌, ℕ, List, MatchResult, IfErr, IfOk, OnOk};
-ghost use Rattle.ub_page.specs.declared.entries.Entry as spec;
+ghost use Rattle.ub_region.specs.declared.entry.Entry as spec;
 ghost use Rattle.ub_store.specs.Facts.{IsHonest, page_count};
 ghost use Rattle.ub_upgrade.specs.Building.{AreLeaves, HasBuilt, IsBuildFault, IsBuilt, IsPassing, IsRoot, IsThere};
 ghost use Rattle.ub_upgrade.specs.Effects.{BringsOver};

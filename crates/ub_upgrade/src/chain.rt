@@ -3,7 +3,7 @@
 ghost use Rattle.std.specs.Prelude.{◌≡◌, ◌≤◌, ◌<◌, ◌+◌, ◌-◌, ◌++◌, ◌↔◌, ℕ, List, length, slice_get, IfErr, IfOk, IsTrue};
 ghost use Rattle.ub_page.specs.Directory.{IsListing, directory_page};
 ghost use Rattle.ub_page.specs.Entries.{AreAscending};
-ghost use Rattle.ub_page.specs.declared.entries.Entry as spec;
+ghost use Rattle.ub_region.specs.declared.entry.Entry as spec;
 ghost use Rattle.ub_store.specs.Facts.{IsPage, StoreFacts, page_count};
 ghost use Rattle.ub_upgrade.specs.Building.{IsBuildFault, IsThere};
 ghost use Rattle.ub_upgrade.specs.Effects.{counted_old};

@@ -1,7 +1,7 @@
 // The levels of an index above its lowest one.
 ghost use Rattle.std.specs.Prelude.{◌≡◌, ◌<◌, ◌≤◌, ◌+◌, IfErr, IfOk, OnOk};
 ghost use Rattle.ub_index.specs.Making.{IsGrowFault};
-ghost use Rattle.ub_index_page.specs.declared.index.TheConstants.{MAX_LEVEL};
+ghost use Rattle.ub_page.specs.declared.header.TheConstants.{MAX_LEVEL};
 ghost use Rattle.ub_store.specs.Facts.{IsHonest, page_count};
 ghost use Rattle.ub_upgrade.specs.Building.{IsRoot};
 ghost use Rattle.ub_upgrade.specs.Effects.{AddsPages, Counts};
@@ -9,7 +9,7 @@ ghost use Rattle.ub_upgrade.specs.Levels.{Cut, IsLast, IsRaised, names_of, pages
 
 use crate::adding::add_names;
 use crate::building::Root;
-use ub_index_page::MAX_ENTRIES;
+use ub_page::MAX_ENTRIES;
 use ub_store::{PageStore, Pager, StoreFault};
 
 /// A level of an index: the number of its first page, and how many pages it has. Their numbers follow each other, and they are the

@@ -1,16 +1,16 @@
 -- The first pages of a table.
 use Rattle.std.specs.Prelude.{◌≡◌, ◌≤◌, ◌⊎◌, List, ℕ, [], Some, IsTrue, length, slice_get}
-use Rattle.ub_page.specs.Region.{region_on, region_page}
+use Rattle.ub_region.specs.RegionPage.{region_on, region_page}
 use Rattle.ub_store.specs.Facts.{StoreFacts, page_count}
 use Rattle.ub_store.specs.declared.fault.StoreFault.{StoreFault}
 use Rattle.ub_store.specs.declared.fault.StoreFault.TheVariants.{Device, Memory}
 use Rattle.ub_table.specs.Keys.{origin}
-use Rattle.ub_table.specs.Region.{Region}
+use Rattle.ub_table.specs.Region.{RegionRows}
 use Rattle.ub_table.specs.declared.schema.Schema.{Schema}
 use Rattle.ub_writing.specs.Marks.{HasMark}
 
 -- a region with no rows that begins with the least key of all
-abbrev pub empty_region : Region
+abbrev pub empty_region : RegionRows
 empty_region = record { first = origin; rows = [] }
 
 -- three pages, of which the first marks the table as changed, and the second spells an empty region, and tells of it

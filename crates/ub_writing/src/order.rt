@@ -10,7 +10,7 @@
 
 ghost use Rattle.std.specs.Prelude.{◌≡◌, ◌⊎◌, ◌<◌, ◌≤◌, [], ◌∷◌, false, IfErr, OnOk, OnErr, IsErrOf};
 ghost use Rattle.ub_page.specs.Header.{AreInRange, IsHeader, header_page, numbers_of};
-ghost use Rattle.ub_page.specs.Region.{region_on, region_page};
+ghost use Rattle.ub_region.specs.RegionPage.{region_on, region_page};
 ghost use Rattle.ub_store.specs.Cache.{Renews};
 ghost use Rattle.ub_store.specs.Facts.{page_count, IsHonest, WritesAt};
 ghost use Rattle.ub_store.specs.View.{SameTrace};

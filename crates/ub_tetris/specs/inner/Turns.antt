@@ -6,7 +6,7 @@ use Rattle.ub_planning.specs.Plan.{PlanView}
 use Rattle.ub_planning.specs.Visits.{is_past}
 use Rattle.ub_filter.specs.declared.choice.Choice.{Choice}
 use Rattle.ub_query.specs.Lead.{swept_order}
-use Rattle.ub_table.specs.Region.{Region}
+use Rattle.ub_table.specs.Region.{RegionRows}
 use Rattle.ub_table.specs.declared.row.Row.{Row}
 use Rattle.ub_tetris.specs.Sweep.{AwaitedRegion, SweepView}
 use Rattle.ub_tetris.specs.declared.course.Course.{Course}
@@ -57,7 +57,7 @@ pub record HasAskedNext (t new : TreeView) (s : State) : Type 0 where
   pub noted : KeepsTrace t new ⊎ HasNoted next.region.page t new
 
 -- the region at the sweep's place was read: this is it
-pub record HasReadNext (t new : TreeView) (s : State) (region : Region) : Type 0 where
+pub record HasReadNext (t new : TreeView) (s : State) (region : RegionRows) : Type 0 where
   pub next : Awaited
   pub at : slice_get s.queue.items s.fetched ≡ Some next
   pub same : new ≡ record t { trace = new.trace }
@@ -68,14 +68,14 @@ pub record HasReadNext (t new : TreeView) (s : State) (region : Region) : Type 0
 
 -- these are its rows that are chosen
 pub record HasHandedNext (plan : PlanView) (t new : TreeView) (s : State) (rows : List Row) : Type 0 where
-  pub region : Region
+  pub region : RegionRows
   pub read : HasReadNext t new s region
   pub choice : Choice
   pub rows_are : rows ≡ filter (is_chosen choice t.schema plan) region.rows
 
 -- the region at the sweep's place was fetched, and its rows that are chosen are held too
 pub record HasFetchedNext (plan : PlanView) (t new : TreeView) (s new_s : State) : Type 0 where
-  pub region : Region
+  pub region : RegionRows
   pub read : HasReadNext t new s region
   pub choice : Choice
   pub rows : HoldsAlso t.schema (swept_order plan.asked.group plan.asked.order) (filter (is_chosen choice t.schema plan) region.rows) s.held new_s.held

@@ -9,13 +9,13 @@ use Rattle.ub_index.specs.Making.{IsPutFault}
 use Rattle.ub_index.specs.Preparing.{ChangeView, IsWithinRegion, MakesIndex, TakesNeeded, added_at}
 use Rattle.ub_index.specs.View.{IsRegionAt, entries_in, entry_at}
 use Rattle.ub_index.specs.declared.sheet.Sheet.{Sheet}
-use Rattle.ub_page.specs.Region.{RegionView, region_page}
+use Rattle.ub_region.specs.RegionPage.{RegionView, region_page}
 use Rattle.ub_region.specs.Regions.{split_region}
 use Rattle.ub_region.specs.Rows.{Halves, split}
 use Rattle.ub_store.specs.Facts.{StoreFacts, IsHonest, page_count}
 use Rattle.ub_store.specs.declared.fault.StoreFault.TheVariants as store
 use Rattle.ub_table.specs.Keys.{IsBefore, origin}
-use Rattle.ub_table.specs.Region.{Region, IsRegion, keys_of}
+use Rattle.ub_table.specs.Region.{RegionRows, IsRegion, keys_of}
 use Rattle.ub_table.specs.declared.row.Key.{Key}
 use Rattle.ub_table.specs.declared.row.Row.{Row}
 use Rattle.ub_table.specs.declared.schema.Schema.{Schema}
@@ -25,7 +25,7 @@ use Rattle.ub_tree.specs.Holding.{IsThatOrBefore}
 use Rattle.ub_tree.specs.Indexed.{HasIndex, reserved}
 use Rattle.ub_tree.specs.Others.{AddsEntry, DropsEntry, KeepsEntries, KeepsOthers, WritesIndex, WritesPage}
 use Rattle.ub_tree.specs.Placed.{Placed, ArePlaced, entry_of}
-use Rattle.ub_tree.specs.Spans.{Region as Span}
+use Rattle.ub_tree.specs.Spans.{Region}
 use Rattle.ub_tree.specs.Told.{FallsTo, IsRegionOf}
 use Rattle.ub_tree.specs.View.{TreeView, IsSound, region_count, regions}
 use Rattle.ub_tree.specs.declared.fault.TreeFault.{TreeFault}
@@ -50,23 +50,23 @@ abbrev pub IsElsewhereSame : TreeView → TreeView → Type 0
 IsElsewhereSame old new = new ≡ record old { placed = new.placed; store = new.store; is_changed = true; inner = new.inner }
 
 -- the same, and a region, which had so many rows, was written anew; it was split where its page was full
-pub record StoresAt (span : Span) (count : ℕ) (old new : TreeView) : Type 0 where
+pub record StoresAt (span : Region) (count : ℕ) (old new : TreeView) : Type 0 where
   pub same : IsElsewhereSame old new
   pub others : (WritesPage span.page old new × KeepsEntries old new) ⊎ (WritesIndex span.page old new × AddsEntry span.first old new)
   pub full : count ≡ old.schema.page_rows → AddsEntry span.first old new
   pub spare : count < old.schema.page_rows → KeepsEntries old new
 
 -- the same, and a region was written anew, with the rows of the next one, which is no more
-pub record JoinsAt (span : Span) (old new : TreeView) : Type 0 where
+pub record JoinsAt (span : Region) (old new : TreeView) : Type 0 where
   pub same : IsElsewhereSame old new
   pub others : WritesIndex span.page old new
   pub dropped : DropsEntry old new
 
 -- the same, and a row was taken out of a region
-pub record TakesAt (span : Span) (old new : TreeView) : Type 0 where
+pub record TakesAt (span : Region) (old new : TreeView) : Type 0 where
   pub same : IsElsewhereSame old new
   pub shrunk : (WritesPage span.page old new × KeepsEntries old new)
-      ⊎ ((first : Span) × IsThatOrBefore old span first × WritesIndex first.page old new × DropsEntry old new)
+      ⊎ ((first : Region) × IsThatOrBefore old span first × WritesIndex first.page old new × DropsEntry old new)
 
 -- in place of the region at an index stand these
 abbrev pub placed_with : ℕ → List Placed → List Placed → List Placed
@@ -82,7 +82,7 @@ IsWriteFault old new (Store store.Device) = IsTrue old.store.can_fail × HasStop
 IsWriteFault old new _ = ⊥
 
 -- a call within that only writes, and of the pages but the first only that of a region
-pub record Writes {A : Type 0} (span : Span) (old new : TreeView) (result : Result A TreeFault) : Type 0 where
+pub record Writes {A : Type 0} (span : Region) (old new : TreeView) (result : Result A TreeFault) : Type 0 where
   pub frame : new ≡ record old { placed = new.placed; is_changed = new.is_changed; is_failed = new.is_failed; store = written_store result old.store new.store }
   pub marked : IsMarkedFirst old new
   pub done : OnOk result (new.is_failed ≡ old.is_failed)
@@ -91,25 +91,25 @@ pub record Writes {A : Type 0} (span : Span) (old new : TreeView) (result : Resu
   pub count : page_count new.store ≡ page_count old.store
 
 -- the region of this index, whatever its span is
-abbrev pub IsRegionIn : TreeView → ℕ → Span → Type 0
+abbrev pub IsRegionIn : TreeView → ℕ → Region → Type 0
 IsRegionIn t i span = IsRegionAt (map entry_of t.placed) i span
 
 -- a region that the tree tells of, which stands there in its place
-pub record IsRegionThere (t : TreeView) (span : Span) : Type 0 where
+pub record IsRegionThere (t : TreeView) (span : Region) : Type 0 where
   pub told : IsRegionOf t span
   pub there : span.page < page_count t.store
-  pub region : Region
+  pub region : RegionRows
   pub on : IsTakenIn t span region
 
 -- where the page spells rows, they are those of the region now
-abbrev pub PutsRows : {A : Type 0} → Span → List ℕ → TreeView → TreeView → Result A TreeFault → Type 0
+abbrev pub PutsRows : {A : Type 0} → Region → List ℕ → TreeView → TreeView → Result A TreeFault → Type 0
 PutsRows span page old new result =
     (i : ℕ) (rows : List Row) → IsStored old → IsRegionIn old i span → IsRegion old.schema (record { first = span.first; rows = rows })
     → page ≡ region_page old.schema (record { first = span.first; rows = rows })
     → OnOk result (IsStored new × (new.placed ≡ placed_with i (record { page = span.page; region = record { first = span.first; rows = rows } } ∷ []) old.placed))
 
 -- a region was read
-pub record IsReadAt (t : TreeView) (span : Span) (page : RegionView) : Type 0 where
+pub record IsReadAt (t : TreeView) (span : Region) (page : RegionView) : Type 0 where
   pub dims : page.dims ≡ t.schema.dims
   pub on : IsTakenIn t span page.region
 
@@ -125,7 +125,7 @@ pub record IsSpelledAt (t : TreeView) (from : ℕ) (change : ChangeView) (sheet 
   pub there : (sheet.number < page_count t.store) ⊎ ((from ≤ sheet.number) × (sheet.number < change.next))
 
 -- what is prepared for a region that comes behind another one, with this first key
-pub record IsAddReady (t : TreeView) (span : Span) (first : Key) (change : ChangeView) : Type 0 where
+pub record IsAddReady (t : TreeView) (span : Region) (first : Key) (change : ChangeView) : Type 0 where
   pub start : change.start ≡ page_count t.store
   pub some : page_count t.store + 1 ≤ change.next
   pub few : change.next ≤ page_count t.store + 1 + (t.inner.index.levels + 1)
@@ -140,7 +140,7 @@ pub record IsAddReady (t : TreeView) (span : Span) (first : Key) (change : Chang
       → KeepsFilled t.inner.index t.store change
 
 -- what is prepared for a region that goes
-pub record IsDropReady (t : TreeView) (span : Span) (change : ChangeView) : Type 0 where
+pub record IsDropReady (t : TreeView) (span : Region) (change : ChangeView) : Type 0 where
   pub spelled : IsHonest t.store → AllByRecursion (IsSpelledAt t (page_count t.store) change) change.sheets
   pub pages : IsHonest t.store → AreIndexPages t.inner.index.last change.sheets
   pub next : IsHonest t.store → change.next ≡ page_count t.store
@@ -176,7 +176,7 @@ pub record GrowsTo {A : Type 0} (count : ℕ) (old new : TreeView) (result : Res
 
 -- a call within that only writes, and of the pages but the first only that of this number and that of a region; a table that was
 -- marked as changed, or is now, has the mark on its first page
-pub record WritesBoth {A : Type 0} (number : ℕ) (span : Span) (old new : TreeView) (result : Result A TreeFault) : Type 0 where
+pub record WritesBoth {A : Type 0} (number : ℕ) (span : Region) (old new : TreeView) (result : Result A TreeFault) : Type 0 where
   pub frame : new ≡ record old { placed = new.placed; is_changed = new.is_changed; is_failed = new.is_failed; store = written_store result old.store new.store }
   pub kept : KeepsUnless new.is_changed old.store new.store
   pub marked : number ≢ 0 → span.page ≢ 0 → IsHonest old.store → (old.is_changed ≡ true → HasMark old.schema old.store.pages) → new.is_changed ≡ true → HasMark old.schema new.store.pages
@@ -194,26 +194,26 @@ abbrev pub KeepsGrown : TreeView → TreeView → Type 0
 KeepsGrown old new = IsOnlyGrown old → IsOnlyGrown new
 
 -- in place of the region at an index stand two, the second on a page of its own
-abbrev pub IsSplitAt : ℕ → Span → Halves → TreeView → TreeView → Type 0
+abbrev pub IsSplitAt : ℕ → Region → Halves → TreeView → TreeView → Type 0
 IsSplitAt index span halves old new =
     (n : ℕ) × (new.placed ≡ placed_with index (record { page = span.page; region = record { first = span.first; rows = halves.left } } ∷ record { page = n; region = record { first = halves.first; rows = halves.right } } ∷ []) old.placed)
 
 -- what becomes of a region that begins with this key, of these rows
-abbrev pub split_of : Schema → Key → List Row → List Region
+abbrev pub split_of : Schema → Key → List Row → List RegionRows
 split_of schema first rows = split_region schema.dims schema.page_rows (record { first = first; rows = rows })
 
 -- rows that can stand in place of those of a region: they make a region, or two, and the second begins there
-pub record CanStand (t : TreeView) (span : Span) (rows : List Row) : Type 0 where
+pub record CanStand (t : TreeView) (span : Region) (rows : List Row) : Type 0 where
   pub each : AllByRecursion (IsRegion t.schema) (split_of t.schema span.first rows)
   pub within : t.schema.page_rows < length rows → IsWithinRegion t.inner.index.last span.first span.next (split t.schema.dims t.schema.page_rows rows).first
 
 -- in place of the region at an index these
-abbrev pub regions_with : ℕ → List Region → List Region → List Region
+abbrev pub regions_with : ℕ → List RegionRows → List RegionRows → List RegionRows
 regions_with index news regions = take index regions ++ news ++ drop (suc index) regions
 
 -- a region has these rows now, or it and a new one have them, where they are more than a page holds; and where rows were
 -- only put in before, that is so still
-abbrev pub StoresRows : {A : Type 0} → Span → List Row → TreeView → TreeView → Result A TreeFault → Type 0
+abbrev pub StoresRows : {A : Type 0} → Region → List Row → TreeView → TreeView → Result A TreeFault → Type 0
 StoresRows span rows old new result =
     (i : ℕ) → IsStored old → IsRegionIn old i span → AllByRecursion (IsRegion old.schema) (split_of old.schema span.first rows)
     → OnOk result (IsStored new × (regions new ≡ regions_with i (split_of old.schema span.first rows) (regions old)) × KeepsGrown old new)

@@ -3,7 +3,7 @@ use Rattle.std.proofs.lemmas.Option.{slice_get-get_or}
 use Rattle.ub_index.proofs.HeldFacts.{keeps_on}
 use Rattle.ub_index.specs.Descending.{Steps}
 use Rattle.ub_index.specs.Index.{NamesFitting, first_or}
-use Rattle.ub_page.specs.declared.entries.Entry.{Entry}
+use Rattle.ub_region.specs.declared.entry.Entry.{Entry}
 use Rattle.ub_check.proofs.CheckingFacts.{below_stops, page_stops, page_taken, walked_more, walked_none}
 use Rattle.ub_check.proofs.CheckingFacts.{refused_none}
 use Rattle.ub_store.specs.View.{PagerView}

@@ -1,6 +1,6 @@
 use Rattle.std.proofs.Common.{◌∙◌, ◌-◌, ◌++◌, Bool, Err, List, Ok, Some, ℕ, ap, refl, rules, subst, sym}
 use Rattle.ub_index.specs.Held.{KeepsChecked}
-use Rattle.ub_region.specs.declared.region.Region.{Region as Span}
+use Rattle.ub_region.specs.declared.region.Region.{Region}
 use Rattle.ub_store.specs.Facts.{IsHonest}
 use Rattle.ub_store.specs.View.{IsCached, PagerView}
 use Rattle.ub_check.proofs.CheckingFacts.{keyed, pager_read, refused_none, region_checked, region_not_new, region_refused, region_taken, region_unread, walks_by}
@@ -18,14 +18,14 @@ returns-in_err-bring-clause-effect g c =
 
 pub take_region-requires : goal.take_region-requires
 take_region-requires g c =
-    subst (λ (n : ℕ). IsCached c.bring.new.self n) (sym (ap (λ (r : Span). r.page) c.region_at-region.ensures.region)) c.in_ok-bring.ensures.cached
+    subst (λ (n : ℕ). IsCached c.bring.new.self n) (sym (ap (λ (r : Region). r.page) c.region_at-region.ensures.region)) c.in_ok-bring.ensures.cached
 
 pub returns-in_err-take_region-clause-taken : goal.returns-in_err-take_region-clause-taken
 returns-in_err-take_region-clause-taken g c = refused_none _ c.from_residual-in_err-take_region.result _ c.from_residual-in_err-take_region.ensures.1
 
 pub returns-in_err-take_region-clause-effect : goal.returns-in_err-take_region-clause-effect
 returns-in_err-take_region-clause-effect g c =
-    let refused = subst (λ (r : Span). TakesIn {A = Unit {0}} c.args.schema.now r c.bring.new.self c.take_region.new.pager c.take_region.new.page (Err c.in_err-take_region.field-0.0)) c.region_at-region.ensures.region
+    let refused = subst (λ (r : Region). TakesIn {A = Unit {0}} c.args.schema.now r c.bring.new.self c.take_region.new.pager c.take_region.new.page (Err c.in_err-take_region.field-0.0)) c.region_at-region.ensures.region
     c.in_err-take_region.ensures in
     let why = refused.refused in
     walks_by c.args.schema.now c.args.last c.args.entry.now c.args.end c.args.walk.now c.args.pager.now c.take_region.new.pager c.from_residual-in_err-take_region.result c.in_err-take_region.field-0.0
@@ -36,7 +36,7 @@ returns-in_err-take_region-clause-effect g c =
 
 pub returns-then-not-put_numbers-clause-effect : goal.returns-then-not-put_numbers-clause-effect
 returns-then-not-put_numbers-clause-effect g c =
-    let taken = subst (λ (r : Span). TakesIn {A = Unit {0}} c.args.schema.now r c.bring.new.self c.take_region.new.pager c.take_region.new.page (Ok tt)) c.region_at-region.ensures.region
+    let taken = subst (λ (r : Region). TakesIn {A = Unit {0}} c.args.schema.now r c.bring.new.self c.take_region.new.pager c.take_region.new.page (Ok tt)) c.region_at-region.ensures.region
     c.in_ok-take_region.ensures in
     let region = c.take_region.new.page.region in
     let stands : (count : ℕ) → IsHonest c.args.pager.now.store → StandsHere (asked_by c.args.schema.now c.args.last count c.args.walk.now c.args.pager.now.store) c.args.entry.now c.args.end region =
@@ -58,7 +58,7 @@ returns-then-not-put_numbers-clause-effect g c =
 
 pub returns-clause-taken : goal.returns-clause-taken
 returns-clause-taken g c =
-    let taken = subst (λ (r : Span). TakesIn {A = Unit {0}} c.args.schema.now r c.bring.new.self c.take_region.new.pager c.take_region.new.page (Ok tt)) c.region_at-region.ensures.region
+    let taken = subst (λ (r : Region). TakesIn {A = Unit {0}} c.args.schema.now r c.bring.new.self c.take_region.new.pager c.take_region.new.page (Ok tt)) c.region_at-region.ensures.region
     c.in_ok-take_region.ensures in
     let region = c.take_region.new.page.region in
     let stands : (count : ℕ) → IsHonest c.args.pager.now.store → StandsHere (asked_by c.args.schema.now c.args.last count c.args.walk.now c.args.pager.now.store) c.args.entry.now c.args.end region =
@@ -79,7 +79,7 @@ returns-clause-taken g c =
 
 pub returns-clause-effect : goal.returns-clause-effect
 returns-clause-effect g c =
-    let taken = subst (λ (r : Span). TakesIn {A = Unit {0}} c.args.schema.now r c.bring.new.self c.take_region.new.pager c.take_region.new.page (Ok tt)) c.region_at-region.ensures.region
+    let taken = subst (λ (r : Region). TakesIn {A = Unit {0}} c.args.schema.now r c.bring.new.self c.take_region.new.pager c.take_region.new.page (Ok tt)) c.region_at-region.ensures.region
     c.in_ok-take_region.ensures in
     let region = c.take_region.new.page.region in
     record {

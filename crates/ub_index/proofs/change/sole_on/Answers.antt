@@ -1,5 +1,5 @@
 use Rattle.std.proofs.Common.{subst, ℕ, ◌≢◌}
-use Rattle.ub_page.specs.Bytes.{number_at}
+use Rattle.ub_bytes.specs.Bytes.{number_at}
 use Rattle.ub_index.proofs.LowerFacts.{sole_none}
 use Rattle.ub_index.proofs.change.sole_on.Goals as goal
 

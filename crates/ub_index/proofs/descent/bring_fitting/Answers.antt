@@ -1,5 +1,5 @@
 use Rattle.std.proofs.Common.{◌≡◌, ◌∙◌, List, ℕ, inl, refl, subst, sym}
-use Rattle.ub_index_page.specs.Index.{head_on}
+use Rattle.ub_page.specs.Index.{head_on}
 use Rattle.ub_index.specs.Index.{Fits, IsIndexPage}
 use Rattle.ub_index.proofs.FitFacts.{page_is, same_page}
 use Rattle.ub_index.proofs.HeldFacts.{keeps_but, keeps_gone}

@@ -3,7 +3,7 @@ use Rattle.ub_store.specs.Facts.{IsHonest}
 use Rattle.ub_index.specs.Descending.{IsForgotten}
 use Rattle.ub_index.specs.Held.{AreChecked, WasChecked}
 use Rattle.ub_index.specs.declared.fault.IndexFault.TheVariants.{Store}
-use Rattle.ub_index_page.specs.Index.{head_on}
+use Rattle.ub_page.specs.Index.{head_on}
 use Rattle.ub_index.specs.Fitting.{FitsAtEnds}
 use Rattle.ub_index.specs.Index.{IsIndexPage}
 use Rattle.ub_index.proofs.FitFacts.{is_refused, same_page}

@@ -1,7 +1,7 @@
 use Rattle.std.proofs.Common.{◌-◌, ◌∙◌, IfSome, ap, subst, sym}
 use Rattle.ub_index.proofs.Laws.{same_key}
-use Rattle.ub_index_page.specs.Slots.{first_in}
-use Rattle.ub_index_page.specs.declared.index.Head.{Head}
+use Rattle.ub_page.specs.Slots.{first_in}
+use Rattle.ub_page.specs.declared.index.Head.{Head}
 use Rattle.ub_table.specs.Keys.{IsBefore}
 use Rattle.ub_table.specs.declared.row.Key.{Key}
 use Rattle.ub_index.proofs.descent.fits_at_ends.Goals as goal

@@ -1,5 +1,5 @@
 use Rattle.std.proofs.Common.{◌≡◌, ◌≤◌, ap, subst, sym}
-use Rattle.ub_index_page.specs.declared.index.Head.{Head}
+use Rattle.ub_page.specs.declared.index.Head.{Head}
 use Rattle.ub_store.specs.View.{PagerView}
 use Rattle.ub_index.proofs.BehindFacts.{below_holds}
 use Rattle.ub_index.proofs.FitFacts.{falls_there, same_page}

@@ -2,7 +2,7 @@ use Rattle.std.proofs.Common.{◌∙◌, ap}
 use Rattle.ub_index.specs.Descending.{IsForgotten}
 use Rattle.ub_index.specs.declared.fault.IndexFault.TheVariants.{Store}
 use Rattle.ub_store.specs.declared.fault.StoreFault.TheVariants.{Memory}
-use Rattle.ub_index_page.specs.declared.index.Head.{Head}
+use Rattle.ub_page.specs.declared.index.Head.{Head}
 use Rattle.ub_index.proofs.FitFacts.{few_count}
 use Rattle.ub_index.proofs.StepFacts.{brought_page, entries_there, if_err, none_ok, step_fits, step_memory, step_misfits}
 use Rattle.ub_index.proofs.entries.entries_at.Goals as goal

@@ -2,7 +2,7 @@ use Rattle.std.proofs.Common.{◌+◌, ◌-◌, ◌≤◌, ◌<◌, ◌∙◌, [
 use Rattle.ub_index.specs.Changing.{IsAtMostOne, IsNoGrowth, Mends, NeedsNoGrowth, Turns, with_added}
 use Rattle.ub_index.specs.declared.told.Told.{Told}
 use Rattle.ub_index.specs.declared.turning.Opened.{Opened}
-use Rattle.ub_page.specs.declared.entries.Entry.{Entry}
+use Rattle.ub_region.specs.declared.entry.Entry.{Entry}
 use Rattle.ub_store.specs.Facts.{StoreFacts, IsHonest}
 use Rattle.ub_store.specs.View.{PagerView}
 use Rattle.ub_index.proofs.ClimbFacts.{below_refused, mend_refused, open_refused, turned_so, turns_on}

@@ -1,5 +1,5 @@
 use Rattle.std.proofs.Common.{ap}
-use Rattle.ub_index_page.specs.declared.index.Head.{Head}
+use Rattle.ub_page.specs.declared.index.Head.{Head}
 use Rattle.ub_index.proofs.FitFacts.{few_count, opens_page, some_count}
 use Rattle.ub_index.specs.Descending.{IsForgotten}
 use Rattle.ub_index.specs.declared.fault.IndexFault.TheVariants.{Store}

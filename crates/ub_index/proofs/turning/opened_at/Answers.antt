@@ -1,8 +1,8 @@
 use Rattle.std.proofs.Common.{◌≡◌, ◌∙◌, ℕ, List, ap, arith, length, take, drop, ◌+◌}
-use Rattle.ub_index_page.specs.Index.{node_on}
-use Rattle.ub_index_page.proofs.Laws.{length-node_on}
+use Rattle.ub_page.specs.Index.{node_on}
+use Rattle.ub_page.proofs.IndexLaws.{length-node_on}
 use Rattle.ub_page.specs.Entries.{entries_on}
-use Rattle.ub_page.specs.declared.entries.Entry.{Entry}
+use Rattle.ub_region.specs.declared.entry.Entry.{Entry}
 use Rattle.ub_index.proofs.FitFacts.{falls_around}
 use Rattle.ub_index.proofs.turning.opened_at.Goals as goal
 

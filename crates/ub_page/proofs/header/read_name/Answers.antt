@@ -1,5 +1,5 @@
 use Rattle.std.proofs.Common.{◌≡◌, ◌≤◌, ◌+◌, ◌-◌, ◌∙◌, refl, sym, arith}
-use Rattle.ub_page.specs.Bytes.{number_at}
+use Rattle.ub_bytes.specs.Bytes.{number_at}
 use Rattle.ub_page.proofs.HeaderFacts.{named}
 use Rattle.ub_page.proofs.header.read_name.Goals as goal
 

@@ -1,7 +1,7 @@
 use Rattle.std.proofs.Common.{[], ◌∷◌, ◌≤◌, ◌∙◌, Bool, IsTrue, ℕ, ap, arith, subst}
 use Rattle.ub_index.proofs.HeldFacts.{keeps_on}
 use Rattle.ub_index.specs.Held.{KeepsChecked}
-use Rattle.ub_page.specs.Region.{region_page}
+use Rattle.ub_region.specs.RegionPage.{region_page}
 use Rattle.ub_store.specs.Facts.{StoreFacts}
 use Rattle.ub_tree.proofs.CreationFacts.{empty_is_region}
 use Rattle.ub_tree.proofs.HeldFacts.{written_checked}

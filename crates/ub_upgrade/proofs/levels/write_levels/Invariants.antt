@@ -1,5 +1,5 @@
 use Rattle.std.proofs.Common.{◌≡◌, ◌≤◌, ◌<◌, ◌+◌, ◌-◌, ◌^◌, ℕ, List}
-use Rattle.ub_page.specs.declared.entries.Entry.{Entry}
+use Rattle.ub_region.specs.declared.entry.Entry.{Entry}
 use Rattle.ub_store.specs.Facts.{IsHonest, page_count}
 use Rattle.ub_upgrade.specs.Effects.{AddsPages, HasNotFailed}
 use Rattle.ub_upgrade.specs.Levels.{IsLast, IsLevel, most_pages, names_of, pages_above}

@@ -3,7 +3,7 @@ use Rattle.ub_index.specs.Changing.{IsAtMostOne}
 use Rattle.ub_index.specs.Preparing.{IsSettleFault, Settles}
 use Rattle.ub_index.specs.declared.told.Told.{Told}
 use Rattle.ub_index.specs.declared.told.Told.TheVariants.{Two}
-use Rattle.ub_page.specs.declared.entries.Entry.{Entry}
+use Rattle.ub_region.specs.declared.entry.Entry.{Entry}
 use Rattle.ub_index.proofs.change.Change.settled.Goals as goal
 
 some_more : (told : Told) (left right : Entry) (n : ℕ) → told ≡ Two left right → IsAtMostOne told ⊎ (1 ≤ n) → 1 ≤ n

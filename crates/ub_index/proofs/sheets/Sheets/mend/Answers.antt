@@ -1,5 +1,5 @@
 use Rattle.std.proofs.Common.{◌≢◌, ◌∙◌, ap, arith, length, List, refl, subst, sym}
-use Rattle.ub_page.specs.declared.entries.Entry.{Entry}
+use Rattle.ub_region.specs.declared.entry.Entry.{Entry}
 use Rattle.ub_index.specs.Changing.{IsNoGrowth, IsSpreadFault, Mends, Spreads}
 use Rattle.ub_index.specs.declared.fault.IndexFault.TheVariants.{Store}
 use Rattle.ub_index.specs.declared.told.Told.{Told}

@@ -5,7 +5,7 @@ use Rattle.ub_region.specs.Regions.{index_holding}
 use Rattle.ub_region.specs.Rows.{has_key}
 use Rattle.ub_store.specs.Facts.{IsHonest, page_count}
 use Rattle.ub_table.specs.Keys.{is_same}
-use Rattle.ub_table.specs.Region.{Region, IsRow, key_of, keys_of, measures_of}
+use Rattle.ub_table.specs.Region.{RegionRows, IsRow, key_of, keys_of, measures_of}
 use Rattle.ub_table.specs.declared.fault.PageFault.TheVariants.{BadOrder}
 use Rattle.ub_table.specs.declared.row.Key.{Key}
 use Rattle.ub_tree.proofs.EffectFacts.{counted_anew, left_by, refused_all, refused_none, searched_by, then_changed, unchanged}
@@ -64,7 +64,7 @@ returns-then-has_key-clause-refused g c =
     subst (λ (k : Key). has_key a.schema.dims k region.rows ≡ true) is
     (sym (any_key a.schema.dims c.key-key.result region.rows) ∙ ap (λ (ks : List Key). list_any (is_same c.key-key.result) ks) (sym keys) ∙ sym c.has_key.ensures ∙ c.if-has_key.true) in
     key_is_there a s (key_of a.schema.dims row) span c.in_ok-region.ensures.effect.same falls region.rows
-    (λ honest q on. ap (λ (r : Region). r.rows) (c.in_ok-read_at.ensures.taken honest q on)) ℕ span.page refl has
+    (λ honest q on. ap (λ (r : RegionRows). r.rows) (c.in_ok-read_at.ensures.taken honest q on)) ℕ span.page refl has
 
 pub returns-then-has_key-clause-effect : goal.returns-then-has_key-clause-effect
 returns-then-has_key-clause-effect g c =
@@ -136,7 +136,7 @@ returns-in_err-store_with-clause-refused g c =
     let none : has_key a.schema.dims (key_of a.schema.dims row) region.rows ≡ false =
     subst (λ (k : Key). has_key a.schema.dims k region.rows ≡ false) is
     (sym (any_key a.schema.dims c.key-key.result region.rows) ∙ ap (λ (ks : List Key). list_any (is_same c.key-key.result) ks) (sym keys) ∙ sym c.has_key.ensures ∙ c.if-has_key.false) in
-    let taken = subst (λ (v : TreeView). IsHonest v.store → (q : Region) → IsTakenIn v span q → region ≡ q) (sym c.in_ok-read_at.ensures.effect.same) c.in_ok-read_at.ensures.taken in
+    let taken = subst (λ (v : TreeView). IsHonest v.store → (q : RegionRows) → IsTakenIn v span q → region ≡ q) (sym c.in_ok-read_at.ensures.effect.same) c.in_ok-read_at.ensures.taken in
     added_answers a b (key_of a.schema.dims row) span region c.from_residual-in_err-store_with.result same falls taken none
     (answers_err_at {U = Unit {0}} (length region.rows ≡ b.schema.page_rows) b span c.from_residual-in_err-store_with.result c.in_err-store_with.field-0.0 c.from_residual-in_err-store_with.ensures.1
     c.in_err-store_with.ensures.counted)
@@ -191,7 +191,7 @@ returns-clause-counted g c =
     let after = c.store_with.new.self in
     let d : TreeView = tree_view u.schema u.index u.count (u.next + 1) (u.rows + 1) (is_written u.mark) u.is_failed u.pager in
     let d_is : d ≡ record after { next = after.next + 1; rows = after.rows + 1 } = ap (λ (v : TreeView). record v { next = v.next + 1; rows = v.rows + 1 }) c.self-2.view_is in
-    let taken = subst (λ (v : TreeView). IsHonest v.store → (q : Region) → IsTakenIn v span q → region ≡ q) (sym c.in_ok-read_at.ensures.effect.same) c.in_ok-read_at.ensures.taken in
+    let taken = subst (λ (v : TreeView). IsHonest v.store → (q : RegionRows) → IsTakenIn v span q → region ≡ q) (sym c.in_ok-read_at.ensures.effect.same) c.in_ok-read_at.ensures.taken in
     let whole = d_is
     ∙ ap (λ (v : TreeView). record v { next = v.next + 1; rows = v.rows + 1 }) c.in_ok-store_with.ensures.same.same
     ∙ ap (λ (v : TreeView). record v { placed = after.placed; store = after.store; is_changed = true; inner = after.inner; next = v.next + 1; rows = v.rows + 1 }) same in (
@@ -218,7 +218,7 @@ returns-clause-refused g c =
     let none : has_key a.schema.dims (key_of a.schema.dims row) region.rows ≡ false =
     subst (λ (k : Key). has_key a.schema.dims k region.rows ≡ false) is
     (sym (any_key a.schema.dims c.key-key.result region.rows) ∙ ap (λ (ks : List Key). list_any (is_same c.key-key.result) ks) (sym keys) ∙ sym c.has_key.ensures ∙ c.if-has_key.false) in
-    let taken = subst (λ (v : TreeView). IsHonest v.store → (q : Region) → IsTakenIn v span q → region ≡ q) (sym c.in_ok-read_at.ensures.effect.same) c.in_ok-read_at.ensures.taken in
+    let taken = subst (λ (v : TreeView). IsHonest v.store → (q : RegionRows) → IsTakenIn v span q → region ≡ q) (sym c.in_ok-read_at.ensures.effect.same) c.in_ok-read_at.ensures.taken in
     added_answers a b (key_of a.schema.dims row) span region (Ok c.args.row.now.number) same falls taken none
     (answers_ok_at (length region.rows ≡ b.schema.page_rows) b span tt c.args.row.now.number c.in_ok-store_with.ensures.counted)
 

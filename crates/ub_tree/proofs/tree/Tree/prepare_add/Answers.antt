@@ -2,7 +2,7 @@ use Rattle.std.proofs.Common.{◌<◌, ◌+◌, ◌^◌, List, Some, subst, sym,
 use Rattle.ub_index.specs.Index.{top}
 use Rattle.ub_index.specs.Preparing.{added_at}
 use Rattle.ub_index.specs.View.{IsRegionAt}
-use Rattle.ub_page.specs.declared.entries.Entry.{Entry}
+use Rattle.ub_region.specs.declared.entry.Entry.{Entry}
 use Rattle.ub_store.specs.Facts.{page_count}
 use Rattle.ub_tree.proofs.CallFacts.{last_small, stored_on}
 use Rattle.ub_tree.proofs.IndexedFacts.{reached_once}

@@ -2,7 +2,7 @@ use Rattle.std.proofs.Common.{◌≢◌, ◌<◌, ◌^◌, List, map, subst, sym
 use Rattle.ub_index.proofs.DropFacts.{roots_taken}
 use Rattle.ub_index.specs.Lowering.{IsDropFault}
 use Rattle.ub_index.specs.View.{IsRegionAt}
-use Rattle.ub_page.specs.declared.entries.Entry.{Entry}
+use Rattle.ub_region.specs.declared.entry.Entry.{Entry}
 use Rattle.ub_region.specs.Regions.{index_holding}
 use Rattle.ub_store.specs.Facts.{page_count}
 use Rattle.ub_tree.proofs.CallFacts.{last_small, stored_on}

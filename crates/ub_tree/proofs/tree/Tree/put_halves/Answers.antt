@@ -1,5 +1,5 @@
 use Rattle.std.proofs.Common.{ap, ◌<◌, ◌∙◌, ◌∷◌, [], ℕ, List, true, Ok, Err, subst, sym, refl, length, Bool, IsTrue}
-use Rattle.ub_page.specs.Bytes.{padded}
+use Rattle.ub_bytes.specs.Bytes.{padded}
 use Rattle.ub_store.specs.Facts.{StoreFacts, page_count}
 use Rattle.ub_store.specs.declared.fault.StoreFault.{StoreFault}
 use Rattle.ub_tree.proofs.PartFacts.{marks_then}
@@ -8,7 +8,7 @@ use Rattle.ub_tree.proofs.WriteFacts.{ended_by, others_written, put_is, write_re
 use Rattle.ub_tree.specs.Tree.{tree_view}
 use Rattle.ub_tree.specs.View.{TreeView}
 use Rattle.ub_tree.specs.declared.fault.TreeFault.TheVariants.{Store}
-use Rattle.ub_index_page.specs.Index.{IsIndexKind}
+use Rattle.ub_page.specs.Index.{IsIndexKind}
 use Rattle.ub_tree.proofs.HeldFacts.{tree_written, written_checked}
 use Rattle.ub_tree.proofs.WayFacts.{region_no_kind}
 use Rattle.ub_writing.specs.Marks.{is_written}

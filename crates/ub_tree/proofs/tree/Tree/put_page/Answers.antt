@@ -1,5 +1,5 @@
 use Rattle.std.proofs.Common.{◌≡◌, ◌<◌, ◌^◌, ◌∙◌, ◌∷◌, [], true, Ok, Err, ap, subst, sym, refl, length, Bool, IsTrue, List, ℕ}
-use Rattle.ub_page.specs.Region.{region_page}
+use Rattle.ub_region.specs.RegionPage.{region_page}
 use Rattle.ub_store.specs.Facts.{StoreFacts}
 use Rattle.ub_store.specs.declared.fault.StoreFault.{StoreFault}
 use Rattle.ub_table.specs.Region.{IsRegion}
@@ -12,7 +12,7 @@ use Rattle.ub_tree.specs.Tree.{tree_view}
 use Rattle.ub_tree.specs.View.{TreeView}
 use Rattle.ub_tree.specs.declared.fault.TreeFault.TheVariants.{Store}
 use Rattle.ub_tree.specs.inner.Change.{IsRegionThere}
-use Rattle.ub_index_page.specs.Index.{IsIndexKind}
+use Rattle.ub_page.specs.Index.{IsIndexKind}
 use Rattle.ub_tree.proofs.HeldFacts.{tree_written, written_checked}
 use Rattle.ub_tree.proofs.WayFacts.{region_no_kind}
 use Rattle.ub_writing.specs.Marks.{is_written}

@@ -3,7 +3,7 @@ use Rattle.std.proofs.lemmas.Option.{slice_get_within}
 use Rattle.ub_check.proofs.StandingFacts.{page_still}
 use Rattle.ub_check.specs.Standing.{IsRegionRefused}
 use Rattle.ub_index.specs.Held.{KeepsChecked}
-use Rattle.ub_page.specs.Region.{RegionView, region_page}
+use Rattle.ub_region.specs.RegionPage.{RegionView, region_page}
 use Rattle.ub_store.specs.Facts.{IsHonest, IsPage, page_count}
 use Rattle.ub_tree.proofs.EffectFacts.{refused_none}
 use Rattle.ub_tree.proofs.ReadingFacts.{missing_there, page_refused_by, passing_there, read_page_by, read_there, refused_there, searched_tree, sound_span, store_refused, told_above}

@@ -3,7 +3,7 @@ use Rattle.std.proofs.lemmas.Option.{slice_get_within}
 use Rattle.ub_check.proofs.StandingFacts.{page_still}
 use Rattle.ub_check.specs.Standing.{IsRegionRefused}
 use Rattle.ub_index.specs.Held.{KeepsChecked}
-use Rattle.ub_page.specs.Region.{region_page}
+use Rattle.ub_region.specs.RegionPage.{region_page}
 use Rattle.ub_store.specs.Facts.{page_count}
 use Rattle.ub_tree.proofs.ReadingFacts.{if_told, never_failed, page_refused, read_page, read_there, read_tree, sound_span, span_refused, span_unread, store_refused, told_failed}
 use Rattle.ub_tree.proofs.SearchFacts.{known_is}

@@ -1,5 +1,5 @@
 use Rattle.std.proofs.Common.{◌<◌, ◌^◌, inl, inr, Option, subst, sym}
-use Rattle.ub_region.specs.declared.region.Region.{Region as Span}
+use Rattle.ub_region.specs.declared.region.Region.{Region}
 use Rattle.ub_tree.proofs.CallFacts.{last_small}
 use Rattle.ub_tree.proofs.EffectFacts.{refused_all}
 use Rattle.ub_tree.proofs.NeighbourFacts.{given_next, next_begins, search_apart}
@@ -15,7 +15,7 @@ pub returns-in_err-next-clause-effect : goal.returns-in_err-next-clause-effect
 returns-in_err-next-clause-effect g c =
     let t = c.self.inside in
     let small = subst (λ n. n < 2 ^ 128) (sym c.self.invariant.last_is) (last_small t.schema.dims t.schema.counts.few_dims) in
-    rw (← c.self.view_is) (search_refused t.schema t.index t.count t.next t.rows (is_written t.mark) t.is_failed t.pager c.after.new.pager _ (Option Span) c.from_residual.result c.in_err-next.field-0.0 small c.self.invariant.checked
+    rw (← c.self.view_is) (search_refused t.schema t.index t.count t.next t.rows (is_written t.mark) t.is_failed t.pager c.after.new.pager _ (Option Region) c.from_residual.result c.in_err-next.field-0.0 small c.self.invariant.checked
     c.from_residual.ensures.1 c.in_err-next.ensures.effect)
 
 pub returns-else-begins_at-clause-effect : goal.returns-else-begins_at-clause-effect
@@ -29,7 +29,7 @@ returns-else-begins_at-clause-effect g c =
       | inl same ↦ let no = c.if-begins_at.ensures.1 same in cc
       | inr over ↦ over
     ] in
-    rw (← c.self.view_is) (search_apart t.schema t.index t.count t.next t.rows (is_written t.mark) t.is_failed t.pager c.after.new.pager _ (Option Span) c.in_ok-next.field-0 c.apart.result
+    rw (← c.self.view_is) (search_apart t.schema t.index t.count t.next t.rows (is_written t.mark) t.is_failed t.pager c.after.new.pager _ (Option Region) c.in_ok-next.field-0 c.apart.result
     c.in_ok-next.ensures.effect c.apart.ensures over)
 
 pub returns-in_err-next-clause-begins : goal.returns-in_err-next-clause-begins

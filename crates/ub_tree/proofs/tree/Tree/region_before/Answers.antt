@@ -1,9 +1,9 @@
 use Rattle.std.proofs.Common.{◌≡◌, ◌<◌, ◌^◌, inl, inr, ℕ, List, Option, Some, subst, sym}
 use Rattle.ub_index.specs.Searching.{key_before}
-use Rattle.ub_region.specs.declared.region.Region.{Region as Span}
+use Rattle.ub_region.specs.declared.region.Region.{Region}
 use Rattle.ub_table.specs.declared.row.Key.{Key}
 use Rattle.ub_index.specs.View.{IsIndexOn, IsPreviousRegion, IsRegionAt, entries_in}
-use Rattle.ub_page.specs.declared.entries.Entry.{Entry}
+use Rattle.ub_region.specs.declared.entry.Entry.{Entry}
 use Rattle.ub_tree.proofs.CallFacts.{last_small, stored_on}
 use Rattle.ub_tree.proofs.HoldingFacts.{no_answer}
 use Rattle.ub_tree.proofs.NeighbourFacts.{before_ends, few_of, given_next, search_apart}
@@ -20,7 +20,7 @@ pub returns-in_err-before-clause-effect : goal.returns-in_err-before-clause-effe
 returns-in_err-before-clause-effect g c =
     let t = c.self.inside in
     let small = subst (λ n. n < 2 ^ 128) (sym c.self.invariant.last_is) (last_small t.schema.dims t.schema.counts.few_dims) in
-    rw (← c.self.view_is) (search_refused t.schema t.index t.count t.next t.rows (is_written t.mark) t.is_failed t.pager c.before-2.new.pager _ (Option Span) c.from_residual.result c.in_err-before.field-0.0 small c.self.invariant.checked
+    rw (← c.self.view_is) (search_refused t.schema t.index t.count t.next t.rows (is_written t.mark) t.is_failed t.pager c.before-2.new.pager _ (Option Region) c.from_residual.result c.in_err-before.field-0.0 small c.self.invariant.checked
     c.from_residual.ensures.1 c.in_err-before.ensures.effect)
 
 pub returns-else-begins_at-clause-effect : goal.returns-else-begins_at-clause-effect
@@ -37,7 +37,7 @@ returns-else-begins_at-clause-effect g c =
       | inl same ↦ let no = c.if-begins_at.ensures.1 same in cc
       | inr over ↦ over
     ] in
-    rw (← c.self.view_is) (search_apart t.schema t.index t.count t.next t.rows (is_written t.mark) t.is_failed t.pager c.before-2.new.pager _ (Option Span) c.in_ok-before.field-0 c.apart.result
+    rw (← c.self.view_is) (search_apart t.schema t.index t.count t.next t.rows (is_written t.mark) t.is_failed t.pager c.before-2.new.pager _ (Option Region) c.in_ok-before.field-0 c.apart.result
     c.in_ok-before.ensures.effect c.apart.ensures over)
 
 pub returns-in_err-before-clause-ends : goal.returns-in_err-before-clause-ends
@@ -68,7 +68,7 @@ returns-in_default-clause-before g c = λ i stored at.
 pub returns-in_default-clause-effect : goal.returns-in_default-clause-effect
 returns-in_default-clause-effect g c =
     let t = c.self.inside in
-    rw (← c.self.view_is) (searched_there t.schema t.index t.count t.next t.rows (is_written t.mark) t.is_failed t.pager c.before-2.new.pager _ (Option Span) _ c.in_ok-before.field-0 c.in_ok-before.ensures.effect)
+    rw (← c.self.view_is) (searched_there t.schema t.index t.count t.next t.rows (is_written t.mark) t.is_failed t.pager c.before-2.new.pager _ (Option Region) _ c.in_ok-before.field-0 c.in_ok-before.ensures.effect)
 
 pub returns-then-begins_at-clause-falls : goal.returns-then-begins_at-clause-falls
 returns-then-begins_at-clause-falls g c =
@@ -92,7 +92,7 @@ returns-then-begins_at-clause-before g c = λ i stored at.
 pub returns-then-begins_at-clause-effect : goal.returns-then-begins_at-clause-effect
 returns-then-begins_at-clause-effect g c =
     let t = c.self.inside in
-    rw (← c.self.view_is) (searched_there t.schema t.index t.count t.next t.rows (is_written t.mark) t.is_failed t.pager c.before-2.new.pager _ (Option Span) _ c.in_ok-before.field-0 c.in_ok-before.ensures.effect)
+    rw (← c.self.view_is) (searched_there t.schema t.index t.count t.next t.rows (is_written t.mark) t.is_failed t.pager c.before-2.new.pager _ (Option Region) _ c.in_ok-before.field-0 c.in_ok-before.ensures.effect)
 
 pub returns-else-begins_at-clause-ends : goal.returns-else-begins_at-clause-ends
 returns-else-begins_at-clause-ends g c = tt

@@ -1,8 +1,8 @@
 use Rattle.std.proofs.Common.{◌≡◌, ◌<◌, ◌^◌, List, subst, sym}
 use Rattle.ub_index.specs.Searching.{Gives, IsWayFault}
 use Rattle.ub_index.specs.View.{IsIndexOn, IsRegionAt, entries_in}
-use Rattle.ub_region.specs.declared.region.Region.{Region as Span}
-use Rattle.ub_page.specs.declared.entries.Entry.{Entry}
+use Rattle.ub_region.specs.declared.region.Region.{Region}
+use Rattle.ub_region.specs.declared.entry.Entry.{Entry}
 use Rattle.ub_region.specs.Regions.{index_holding}
 use Rattle.ub_tree.proofs.CallFacts.{holding_refused, last_small, one_falls, stored_on}
 use Rattle.ub_tree.proofs.SearchFacts.{search_refused, searched_there}
@@ -42,10 +42,10 @@ pub returns-in_err-region-clause-effect : goal.returns-in_err-region-clause-effe
 returns-in_err-region-clause-effect g c =
     let t = c.self.inside in
     let small = subst (λ n. n < 2 ^ 128) (sym c.self.invariant.last_is) (last_small t.schema.dims t.schema.counts.few_dims) in
-    rw (← c.self.view_is) (search_refused t.schema t.index t.count t.next t.rows (is_written t.mark) t.is_failed t.pager c.region_holding.new.pager _ Span c.from_residual.result c.in_err-region.field-0.0 small c.self.invariant.checked
+    rw (← c.self.view_is) (search_refused t.schema t.index t.count t.next t.rows (is_written t.mark) t.is_failed t.pager c.region_holding.new.pager _ Region c.from_residual.result c.in_err-region.field-0.0 small c.self.invariant.checked
     c.from_residual.ensures.1 c.in_err-region.ensures.effect)
 
 pub returns-clause-effect : goal.returns-clause-effect
 returns-clause-effect g c =
     let t = c.self.inside in
-    rw (← c.self.view_is) (searched_there t.schema t.index t.count t.next t.rows (is_written t.mark) t.is_failed t.pager c.region_holding.new.pager _ Span _ c.in_ok-region.region c.in_ok-region.ensures.effect)
+    rw (← c.self.view_is) (searched_there t.schema t.index t.count t.next t.rows (is_written t.mark) t.is_failed t.pager c.region_holding.new.pager _ Region _ c.in_ok-region.region c.in_ok-region.ensures.effect)

@@ -2,8 +2,8 @@ use Rattle.std.proofs.Common.{◌≡◌, ◌≤◌, ◌+◌, ◌-◌, ◌∙◌,
 use Rattle.ub_store.specs.Facts.{StoreFacts, IsHonest, page_count}
 use Rattle.ub_index.specs.Making.{changed}
 use Rattle.ub_index.specs.View.{IndexView}
-use Rattle.ub_index_page.specs.declared.index.TheConstants.{MAX_LEVEL}
-use Rattle.ub_page.specs.Region.{region_page}
+use Rattle.ub_page.specs.declared.header.TheConstants.{MAX_LEVEL}
+use Rattle.ub_region.specs.RegionPage.{region_page}
 use Rattle.ub_table.specs.declared.schema.Schema.{Schema}
 use Rattle.ub_tree.proofs.AddFacts.{parts_stored}
 use Rattle.ub_tree.proofs.EffectFacts.{ready_by, refused_none, unchanged}
@@ -16,7 +16,7 @@ use Rattle.ub_tree.specs.declared.fault.TreeFault.TheVariants.{Page}
 use Rattle.ub_tree.specs.inner.Change.{GrowsTo, IsGrowthLeft, IsIndexFault, IsWriteFault}
 use Rattle.ub_index.proofs.LeadFacts.{ways_hold}
 use Rattle.ub_index.specs.Changing.{AreIndexPages}
-use Rattle.ub_index_page.specs.Index.{IsIndexKind}
+use Rattle.ub_page.specs.Index.{IsIndexKind}
 use Rattle.ub_tree.proofs.WayFacts.{region_no_kind}
 use Rattle.ub_writing.specs.Marks.{is_written}
 use Rattle.ub_tree.proofs.tree.Tree.split.Goals as goal

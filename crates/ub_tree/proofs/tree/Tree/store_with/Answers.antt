@@ -2,12 +2,12 @@ use Rattle.std.proofs.Common.{◌≡◌, ◌<◌, ◌≤◌, ◌∙◌, ℕ, Lis
 use Rattle.std.proofs.lemmas.Bool.{le-leb}
 use Rattle.std.proofs.lemmas.List.{length-map}
 use Rattle.std.specs.List.{insert}
-use Rattle.ub_page.specs.Bytes.{padded}
-use Rattle.ub_page.specs.Region.{RegionView, region_page}
+use Rattle.ub_bytes.specs.Bytes.{padded}
+use Rattle.ub_region.specs.RegionPage.{RegionView, region_page}
 use Rattle.ub_region.proofs.Laws.{length-insert_row}
 use Rattle.ub_region.specs.Rows.{insert_row}
 use Rattle.ub_table.specs.Keys.{AreKeysAscending}
-use Rattle.ub_table.specs.Region.{IsRegion, Region, key_of, keys_of}
+use Rattle.ub_table.specs.Region.{IsRegion, RegionRows, key_of, keys_of}
 use Rattle.ub_table.specs.declared.row.Key.{Key}
 use Rattle.ub_table.specs.declared.row.Row.{Row}
 use Rattle.ub_tree.proofs.EffectFacts.{changed_by}
@@ -131,7 +131,7 @@ write-requires g c =
     ap (λ (v : RegionView). v.region) c.insert_at.ensures
     ∙ ap (λ (k : Key). record { first = k; rows = insert rows c.index_in-index.result row }) c.requires.read.on.1.0
     ∙ ap (λ (rs : List Row). record { first = c.args.region.now.first; rows = rs }) (sym made) in
-    subst (λ (r : Region). IsRegion c.self.inside.schema r) (sym region)
+    subst (λ (r : RegionRows). IsRegion c.self.inside.schema r) (sym region)
     (subst (λ (v : TreeView). IsRegion v.schema (record { first = c.args.region.now.first; rows = new })) (sym c.self.view_is) good)
 
 pub put_page-requires-clause-there : goal.put_page-requires-clause-there

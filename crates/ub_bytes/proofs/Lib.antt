@@ -1,0 +1,4 @@
+pub mod BytesFacts
+pub mod DraftFacts
+pub mod WriteFacts
+pub mod ZeroFacts

@@ -1,2 +1,0 @@
-pub mod IndexFacts
-pub mod Laws

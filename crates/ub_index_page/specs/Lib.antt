@@ -1,3 +1,0 @@
-pub mod Index
-pub mod Named
-pub mod Slots

@@ -1,5 +1,0 @@
-use Rattle.ub_page.specs.Lanes.{IsMaskBelow}
-use Rattle.ub_page.proofs.laws.mask_between.Given as goal
-
-abbrev pub invariant-loop-dim : goal.invariant-loop-dim
-invariant-loop-dim l = IsMaskBelow l.len l.dims l.lo l.hi l.dim l.mask

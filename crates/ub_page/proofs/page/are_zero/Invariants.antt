@@ -1,5 +1,0 @@
-use Rattle.ub_page.proofs.ZeroFacts.{AreZero}
-use Rattle.ub_page.proofs.page.are_zero.Given as goal
-
-abbrev pub invariant-loop-i : goal.invariant-loop-i
-invariant-loop-i l = AreZero l.bytes l.joined l.i

@@ -1,6 +1,0 @@
-use Rattle.ub_page.proofs.ColumnFacts.{row_there}
-use Rattle.ub_page.proofs.region.RegionPage.row.Goals as goal
-
-pub returns : goal.returns
-returns c = rw (← c.self.view_is, c.row_at.ensures)
-    (row_there c.self.inside.keys c.self.inside.dims c.self.inside.measures c.self.inside.len c.args.i (rw (← c.self.view_is) at c.requires))

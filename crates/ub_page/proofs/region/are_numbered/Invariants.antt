@@ -1,7 +1,0 @@
-use Rattle.std.proofs.Common.{◌↔◌, IsTrue, drop}
-use Rattle.std.specs.List.{AllByRecursion}
-use Rattle.ub_page.proofs.region.are_numbered.Given as goal
-use Rattle.ub_page.specs.Columns.{IsKeyNumbered}
-
-abbrev pub invariant-loop-key : goal.invariant-loop-key
-invariant-loop-key l = AllByRecursion IsKeyNumbered l.keys ↔ (IsTrue l.are_numbered × AllByRecursion IsKeyNumbered (drop l.key-index l.keys))

@@ -1,9 +1,0 @@
-use Rattle.std.proofs.Common.{◌≡◌, ◌+◌, ◌*◌, ◌++◌, length}
-use Rattle.ub_page.specs.Columns.{dims_in}
-use Rattle.ub_page.proofs.region.put_dims.Given as goal
-
-abbrev pub invariant-loop-dim : goal.invariant-loop-dim
-invariant-loop-dim l = record {
-  bytes : l.draft ≡ l.initial.draft ++ dims_in l.columns l.dim l.count;
-  len : length l.draft ≡ length l.initial.draft + 4 * (l.count * l.dim);
-}

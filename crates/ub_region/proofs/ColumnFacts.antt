@@ -1,0 +1,156 @@
+-- What the columns of a region hold at an index.
+use Rattle.std.proofs.Common.{◌≡◌, ◌<◌, ◌≤◌, ◌+◌, ◌-◌, ◌*◌, ℕ, ℤ, pos, zero, suc, List, [], ◌∷◌, length, map, take, replicate, get_or, Some, refl, sym, ap, arith, inl, inr, ◌∙◌}
+use Rattle.std.proofs.Math.Seq.{get_or-take, take-append_seam}
+use Rattle.std.proofs.lemmas.Bool.{cases_order}
+use Rattle.std.proofs.lemmas.List.{get_or_append_left, get_or-append_right, get_or-replicate, length-append, length-replicate}
+use Rattle.std.proofs.lemmas.List.FromFn.{length-map-range_with_len, get_or-map-range_with_len}
+use Rattle.std.proofs.lemmas.Option.{slice_get-get_or}
+use Rattle.std.proofs.lemmas.Simd.{map-map}
+use Rattle.std.specs.Int.{w64, cast_signed}
+use Rattle.std.specs.List.{range_with_len, slice_get}
+use Rattle.ub_region.proofs.LaneFacts.{sorted}
+use Rattle.ub_bytes.specs.Bytes.{number_at}
+use Rattle.ub_region.proofs.BlankRow.{blank_row}
+use Rattle.ub_region.specs.Columns.{block, blank_dims, blank_measures, across, point_in, values_in, row_in, key_in}
+use Rattle.ub_bytes.specs.Numbers.{blank_key}
+use Rattle.ub_region.specs.RegionPage.{places, row_on}
+use Rattle.ub_table.specs.Region.{key_of, keys_of}
+use Rattle.ub_table.specs.declared.row.Key.{Key}
+
+module _ {A : Type 0} where
+  -- an index that holds a value
+  pub block_at : (total : ℕ) (blank : A) (f : ℕ → A) (n i : ℕ) (d : A) → i < n → get_or (block total blank f n) i d ≡ f i
+  block_at total blank f n i d less =
+      let front : List A = map f (range_with_len 0 n) in
+      let long : length front ≡ n = length-map-range_with_len f 0 n in
+      get_or_append_left front (replicate (total - n) blank) d i (omega arith) ∙ get_or-map-range_with_len f 0 n i i d less (omega arith)
+
+  -- the places that hold values
+  pub take_block : (total : ℕ) (blank : A) (f : ℕ → A) (n : ℕ) → take n (block total blank f n) ≡ map f (range_with_len 0 n)
+  take_block total blank f n =
+      let front : List A = map f (range_with_len 0 n) in
+      let long : length front ≡ n = length-map-range_with_len f 0 n in
+      ap (λ (k : ℕ). take k (block total blank f n)) (sym long) ∙ take-append_seam front (replicate (total - n) blank)
+
+  pub length-block : (total : ℕ) (blank : A) (f : ℕ → A) (n : ℕ) → n ≤ total → length (block total blank f n) ≡ total
+  length-block total blank f n within =
+      let front : List A = map f (range_with_len 0 n) in
+      let back : List A = replicate (total - n) blank in
+      omega (arith, length-append front back, length-map-range_with_len f 0 n, length-replicate {A = A} (total - n) blank)
+
+  -- two functions that agree below n
+  pub map_same : (f g : ℕ → A) (a n : ℕ) → ((i : ℕ) → i < n → f (a + i) ≡ g (a + i)) → map f (range_with_len a n) ≡ map g (range_with_len a n)
+  map_same f g a zero h = refl
+  map_same f g a (suc n) h =
+      let here : a + 0 ≡ a = omega arith in
+      let first : f a ≡ g a = ap f (sym here) ∙ h 0 (omega arith) ∙ ap g here in
+      let more = map_same f g (a + 1) n (λ i less. let same : a + 1 + i ≡ a + suc i = omega arith in ap f same ∙ h (suc i) (omega arith) ∙ ap g (sym same)) in
+      rw (first, more) refl
+
+  pub all_same : (f g : ℕ → A) (n : ℕ) → ((i : ℕ) → i < n → f i ≡ g i) → map f (range_with_len 0 n) ≡ map g (range_with_len 0 n)
+  all_same f g n h = map_same f g 0 n (λ i less. let same : 0 + i ≡ i = omega arith in ap f same ∙ h i less ∙ ap g (sym same))
+
+  four : {a b c d e f g h : A} → a ≡ e → b ≡ f → c ≡ g → d ≡ h → a ∷ b ∷ c ∷ d ∷ [] ≡ e ∷ f ∷ g ∷ h ∷ []
+  four p q r s = rw (p, q, r, s) refl
+
+  -- columns of blocks hold, at the index of a row, the values of those columns that are used
+  pub across_block : (rest : A) (g : ℕ → ℕ → A) (count used i : ℕ) → used ≤ 4 → i < count → count ≤ 64
+      → across rest (block 4 (replicate 64 rest) (λ d. block 64 rest (g d) count) used) i ≡ places rest (λ d. g d i) used
+  across_block rest g count zero i few less small =
+      let blank : get_or (replicate 64 rest) i rest ≡ rest = get_or-replicate 64 i rest rest (omega arith) in
+      four blank blank blank blank
+  across_block rest g count (suc zero) i few less small =
+      let blank : get_or (replicate 64 rest) i rest ≡ rest = get_or-replicate 64 i rest rest (omega arith) in
+      let used : (d : ℕ) → get_or (block 64 rest (g d) count) i rest ≡ g d i = λ d. block_at 64 rest (g d) count i rest less in
+      four (used 0) blank blank blank
+  across_block rest g count (suc (suc zero)) i few less small =
+      let blank : get_or (replicate 64 rest) i rest ≡ rest = get_or-replicate 64 i rest rest (omega arith) in
+      let used : (d : ℕ) → get_or (block 64 rest (g d) count) i rest ≡ g d i = λ d. block_at 64 rest (g d) count i rest less in
+      four (used 0) (used 1) blank blank
+  across_block rest g count (suc (suc (suc zero))) i few less small =
+      let blank : get_or (replicate 64 rest) i rest ≡ rest = get_or-replicate 64 i rest rest (omega arith) in
+      let used : (d : ℕ) → get_or (block 64 rest (g d) count) i rest ≡ g d i = λ d. block_at 64 rest (g d) count i rest less in
+      four (used 0) (used 1) (used 2) blank
+  across_block rest g count (suc (suc (suc (suc zero)))) i few less small =
+      let used : (d : ℕ) → get_or (block 64 rest (g d) count) i rest ≡ g d i = λ d. block_at 64 rest (g d) count i rest less in
+      four (used 0) (used 1) (used 2) (used 3)
+  across_block rest g count (suc (suc (suc (suc (suc used))))) i few less small = absurd (omega arith)
+
+-- each column has so many places
+pub columns_long : (g : ℕ → ℕ → ℕ) (count used d : ℕ) → count ≤ 64 → used ≤ 4 → d < 4 → length (get_or (block 4 blank_dims (λ d. block 64 0 (g d) count) used) d []) ≡ 64
+columns_long g count used d small few less = elim (sorted d used (cases_order d used)) [
+  | inl there ↦ ap length (block_at 4 blank_dims (λ d. block 64 0 (g d) count) used d [] there) ∙ length-block 64 0 (g d) count small
+  | inr from ↦
+      let front : List (List ℕ) = map (λ d. block 64 0 (g d) count) (range_with_len 0 used) in
+      let long : length front ≡ used = length-map-range_with_len (λ d. block 64 0 (g d) count) 0 used in
+      ap length (get_or-append_right front (replicate (4 - used) blank_dims) used d [] long from ∙ get_or-replicate (4 - used) (d - used) blank_dims [] (omega arith))
+      ∙ length-replicate {A = ℕ} 64 0
+]
+
+-- the columns hold what stands on a page that tells of so many rows
+pub record AreRead (dims measures count : ℕ) (page : List ℕ) (keys : List Key) (points : List (List ℕ)) (values : List (List ℤ)) : Type 0 where
+  pub few_dims : dims ≤ 4
+  pub few_measures : measures ≤ 4
+  pub few : count ≤ 64
+  pub keys_are : take count keys ≡ map (key_in dims page points) (range_with_len 0 count)
+  pub points_are : points ≡ block 4 blank_dims (λ d. block 64 0 (λ i. number_at 4 (24 + 4 * count + 4 * (count * d + i)) page) count) dims
+  pub values_are : values
+      ≡ block 4 blank_measures (λ m. block 64 (pos 0) (λ i. cast_signed w64 (number_at 8 (24 + 4 * count + 4 * (count * dims) + 8 * (count * m + i)) page)) count) measures
+
+-- the same with each number under the name that the code has for it
+pub are_read : (dims measures count used many shape : ℕ) (page : List ℕ) (keys : List Key) (points : List (List ℕ)) (values : List (List ℤ)) → dims ≤ 4 → measures ≤ 4 → count ≤ 64
+    → used ≡ dims → many ≡ measures → shape ≡ dims
+    → take count keys ≡ map (key_in shape page points) (range_with_len 0 count)
+    → points ≡ block 4 blank_dims (λ d. block 64 0 (λ i. number_at 4 (24 + 4 * count + 4 * (count * d + i)) page) count) used
+    → values ≡ block 4 blank_measures (λ m. block 64 (pos 0) (λ i. cast_signed w64 (number_at 8 (24 + 4 * count + 4 * (count * used) + 8 * (count * m + i)) page)) count) many
+    → AreRead dims measures count page keys points values
+are_read dims measures count used many shape page keys points values few_dims few_measures few is_used is_many is_shape ks ps vs = record {
+  few_dims = few_dims;
+  few_measures = few_measures;
+  few = few;
+  keys_are = rw is_shape at ks;
+  points_are = rw is_used at ps;
+  values_are = rw (is_used, is_many) at vs;
+}
+
+number_read : (dims measures count : ℕ) (page : List ℕ) (keys : List Key) (points : List (List ℕ)) (values : List (List ℤ)) → AreRead dims measures count page keys points values
+    → (i : ℕ) → i < count → get_or keys i blank_key ≡ key_in dims page points i
+number_read dims measures count page keys points values read i less =
+    sym (get_or-take count keys i blank_key less) ∙ ap (λ (ks : List Key). get_or ks i blank_key) read.keys_are
+    ∙ get_or-map-range_with_len (key_in dims page points) 0 count i i blank_key less (omega arith)
+
+row_read : (dims measures count : ℕ) (page : List ℕ) (keys : List Key) (points : List (List ℕ)) (values : List (List ℤ)) → AreRead dims measures count page keys points values
+    → (i : ℕ) → i < count → row_in keys points values i ≡ row_on dims measures count page i
+unfolding row_on
+row_read dims measures count page keys points values read i less =
+    let number : (get_or keys i blank_key).number ≡ number_at 4 (24 + 4 * i) page = ap (λ (key : Key). key.number) (number_read dims measures count page keys points values read i less) in
+    let point : point_in points i ≡ places 0 (λ d. number_at 4 (24 + 4 * count + 4 * (count * d + i)) page) dims
+    = ap (λ (ps : List (List ℕ)). point_in ps i) read.points_are ∙ across_block 0 (λ d i. number_at 4 (24 + 4 * count + 4 * (count * d + i)) page) count dims i read.few_dims less read.few in
+    let value : values_in values i ≡ places (pos 0) (λ m. cast_signed w64 (number_at 8 (24 + 4 * count + 4 * (count * dims) + 8 * (count * m + i)) page)) measures
+    = ap (λ (vs : List (List ℤ)). values_in vs i) read.values_are
+    ∙ across_block (pos 0) (λ m i. cast_signed w64 (number_at 8 (24 + 4 * count + 4 * (count * dims) + 8 * (count * m + i)) page)) count measures i read.few_measures less read.few in
+    rw (number, point, value) refl
+
+-- the rows in the columns are those on the page
+pub rows_read : (dims measures count : ℕ) (page : List ℕ) (keys : List Key) (points : List (List ℕ)) (values : List (List ℤ)) → AreRead dims measures count page keys points values
+    → map (row_in keys points values) (range_with_len 0 count) ≡ map (row_on dims measures count page) (range_with_len 0 count)
+rows_read dims measures count page keys points values read =
+    all_same (row_in keys points values) (row_on dims measures count page) count (row_read dims measures count page keys points values read)
+
+-- and the keys are theirs
+pub keys_read : (dims measures count : ℕ) (page : List ℕ) (keys : List Key) (points : List (List ℕ)) (values : List (List ℤ)) → AreRead dims measures count page keys points values
+    → take count keys ≡ keys_of dims (map (row_in keys points values) (range_with_len 0 count))
+keys_read dims measures count page keys points values read =
+    read.keys_are
+    ∙ all_same (key_in dims page points) (λ i. key_of dims (row_in keys points values i)) count
+    (λ i less. let number : number_at 4 (24 + 4 * i) page ≡ (get_or keys i blank_key).number
+    = sym (ap (λ (key : Key). key.number) (number_read dims measures count page keys points values read i less)) in rw number refl)
+    ∙ sym (map-map (key_of dims) (row_in keys points values) (range_with_len 0 count))
+
+-- a row is that of its columns
+pub row_there : (keys : List Key) (points : List (List ℕ)) (values : List (List ℤ)) (count i : ℕ) → i < length (map (row_in keys points values) (range_with_len 0 count))
+    → slice_get (map (row_in keys points values) (range_with_len 0 count)) i ≡ Some (row_in keys points values i)
+row_there keys points values count i less =
+    let long : length (map (row_in keys points values) (range_with_len 0 count)) ≡ count = length-map-range_with_len (row_in keys points values) 0 count in
+    slice_get-get_or (map (row_in keys points values) (range_with_len 0 count)) i blank_row less
+    ∙ ap Some (get_or-map-range_with_len (row_in keys points values) 0 count i i blank_row (omega arith) (omega arith))

@@ -1,0 +1,6 @@
+use Rattle.ub_region.proofs.ColumnFacts.{row_there}
+use Rattle.ub_region.proofs.region_page.RegionPage.row.Goals as goal
+
+pub returns : goal.returns
+returns c = rw (← c.self.view_is, c.row_at.ensures)
+    (row_there c.self.inside.keys c.self.inside.dims c.self.inside.measures c.self.inside.len c.args.i (rw (← c.self.view_is) at c.requires))

@@ -1,0 +1,213 @@
+// The rows of a region's page in columns of host order: their keys, dimensions and measures, each column in 64 places. The
+// places of dimensions and measures that no row uses are blank; in those of keys anything stands.
+ghost use Rattle.std.specs.Prelude.{◌≡◌, ℕ, ◌+◌, ◌*◌, ◌<◌, ◌≤◌, ◌-◌, [], pos, length, map, take, slice_index_or};
+ghost use Rattle.std.specs.List.{insert, range_with_len};
+ghost use Rattle.std.specs.Int.{w64, cast_signed};
+ghost use Rattle.ub_bytes.specs.Bytes.{number_at};
+ghost use Rattle.ub_region.specs.Columns.{block, blank_dims, blank_measures, point_in, values_in, key_in, row_in};
+
+use byteorder::{BigEndian, ByteOrder};
+use ub_bytes::page::u32_at;
+use ub_bytes::{Keys, Page};
+use ub_table::{Key, MAX_ROWS, Row};
+use ub_zaddr::{Shape, interleave_first};
+
+/// The first dimension of each row, then the second, and so on.
+pub type Dims = [[u32; MAX_ROWS]; 4];
+
+/// The first measure of each row, then the second, and so on.
+pub type Measures = [[i64; MAX_ROWS]; 4];
+
+/// Puts in the columns the dimensions of so many rows, the first of which begin at an offset of the
+/// page.
+pub fn read_dims(columns: &mut Dims, page: &Page, dims: usize, offset: usize, count: usize)
+    requires dims { dims ≤ 4 }
+    requires offset { offset ≤ 280 }
+    requires count { count ≤ MAX_ROWS }
+    ensures { columns.new ≡ block 4 blank_dims (λ d. block MAX_ROWS 0
+        (λ i. number_at 4 (offset + 4 * (count * d + i)) page.now) count) dims }
+{
+    *columns = [[0; MAX_ROWS]; 4];
+    for dim in 0..dims {
+        read_dim(&mut columns[dim], page, dim, offset, count);
+    }
+}
+
+// One dimension of them, in a column that is blank.
+fn read_dim(column: &mut [u32; MAX_ROWS], page: &Page, dim: usize, offset: usize, count: usize)
+    requires dim { dim < 4 }
+    requires offset { offset ≤ 280 }
+    requires count { count ≤ MAX_ROWS }
+    requires blank { column.old ≡ blank_dims }
+    ensures { column.new
+        ≡ block MAX_ROWS 0 (λ i. number_at 4 (offset + 4 * (count * dim + i)) page.now) count }
+{
+    let start = offset + 4 * (count * dim);
+    BigEndian::read_u32_into(&page[start..start + 4 * count], &mut column[..count]);
+}
+
+/// Puts in the columns the measures of so many rows, the first of which begin at an offset of the
+/// page.
+pub fn read_measures(
+    columns: &mut Measures,
+    page: &Page,
+    measures: usize,
+    offset: usize,
+    count: usize,
+)
+    requires measures { measures ≤ 4 }
+    requires offset { offset ≤ 1304 }
+    requires count { count ≤ MAX_ROWS }
+    ensures { columns.new ≡ block 4 blank_measures (λ m. block MAX_ROWS (pos 0)
+        (λ i. cast_signed w64 (number_at 8 (offset + 8 * (count * m + i)) page.now)) count)
+        measures }
+{
+    *columns = [[0; MAX_ROWS]; 4];
+    for measure in 0..measures {
+        read_measure(&mut columns[measure], page, measure, offset, count);
+    }
+}
+
+// One measure of them, in a column that is blank.
+fn read_measure(
+    column: &mut [i64; MAX_ROWS],
+    page: &Page,
+    measure: usize,
+    offset: usize,
+    count: usize,
+)
+    requires measure { measure < 4 }
+    requires offset { offset ≤ 1304 }
+    requires count { count ≤ MAX_ROWS }
+    requires blank { column.old ≡ blank_measures }
+    ensures { column.new ≡ block MAX_ROWS (pos 0)
+        (λ i. cast_signed w64 (number_at 8 (offset + 8 * (count * measure + i)) page.now)) count }
+{
+    let start = offset + 8 * (count * measure);
+    BigEndian::read_i64_into(&page[start..start + 8 * count], &mut column[..count]);
+}
+
+/// Puts in the first places the keys of so many rows with these dimensions: the address of each is
+/// made here, once for a page, by the loop for their number of dimensions.
+pub fn read_keys(keys: &mut Keys, page: &Page, shape: Shape, dims: &Dims, count: usize)
+    requires { count ≤ MAX_ROWS }
+    ensures keys { take count keys.new
+        ≡ map (key_in shape page.now dims.now) (range_with_len 0 count) }
+    ensures long { length keys.new ≡ MAX_ROWS }
+{
+    match shape.dims() {
+        1 => read_keys_in::<1>(keys, page, dims, count),
+        2 => read_keys_in::<2>(keys, page, dims, count),
+        3 => read_keys_in::<3>(keys, page, dims, count),
+        _ => read_keys_in::<4>(keys, page, dims, count),
+    }
+}
+
+// The same in a space of D dimensions.
+fn read_keys_in<const D: usize>(keys: &mut Keys, page: &Page, dims: &Dims, count: usize)
+    requires some { 1 ≤ D }
+    requires within { D ≤ 4 }
+    requires few { count ≤ MAX_ROWS }
+    ensures keys { take count keys.new
+        ≡ map (key_in D page.now dims.now) (range_with_len 0 count) }
+    ensures long { length keys.new ≡ MAX_ROWS }
+{
+    for i in 0..count {
+        keys[i] = read_key::<D>(page, dims, i);
+    }
+}
+
+// The key of the row at an index, in such a space.
+fn read_key<const D: usize>(page: &Page, dims: &Dims, i: usize) -> Key
+    requires some { 1 ≤ D }
+    requires within { D ≤ 4 }
+    requires at { i < MAX_ROWS }
+    ensures { result ≡ key_in D page.now dims.now i }
+{
+    Key {
+        z: interleave_first::<D>(&point_at(dims, i)),
+        number: u32_at(page, 24 + 4 * i),
+    }
+}
+
+// The dimensions of the row at an index.
+fn point_at(dims: &Dims, i: usize) -> [u32; 4]
+    requires { i < MAX_ROWS }
+    ensures { result ≡ point_in dims.now i }
+{
+    [dims[0][i], dims[1][i], dims[2][i], dims[3][i]]
+}
+
+// The measures of the row at an index.
+fn values_at(measures: &Measures, i: usize) -> [i64; 4]
+    requires { i < MAX_ROWS }
+    ensures { result ≡ values_in measures.now i }
+{
+    [
+        measures[0][i],
+        measures[1][i],
+        measures[2][i],
+        measures[3][i],
+    ]
+}
+
+/// The row at an index of the columns.
+pub fn row_at(keys: &Keys, dims: &Dims, measures: &Measures, i: usize) -> Row
+    requires { i < MAX_ROWS }
+    ensures { result ≡ row_in keys.now dims.now measures.now i }
+{
+    Row {
+        number: keys[i].number,
+        dims: point_at(dims, i),
+        measures: values_at(measures, i),
+    }
+}
+
+/// Puts a value in at an index of the first so many of a column, before those that stand from there on.
+pub fn put_in<T: Copy>(column: &mut [T; MAX_ROWS], len: usize, index: usize, value: T)
+    requires room { len < MAX_ROWS }
+    requires within { index ≤ len }
+    ensures long { length column.new ≡ MAX_ROWS }
+    ensures put { take (len + 1) column.new ≡ insert (take len column.old) index value }
+    ensures below { (j : ℕ) (d : T) → j < index
+        → slice_index_or column.new j d ≡ slice_index_or column.old j d }
+    ensures at { (d : T) → slice_index_or column.new index d ≡ value }
+    ensures above { (j : ℕ) (d : T) → index ≤ j → j < len
+        → slice_index_or column.new (j + 1) d ≡ slice_index_or column.old j d }
+{
+    if index < len {
+        column.copy_within(index..len, index + 1);
+    }
+    column[index] = value;
+}
+
+/// Puts the dimensions of a row in at an index of the first so many.
+pub fn put_point(columns: &mut Dims, len: usize, index: usize, point: &[u32; 4])
+    requires room { len < MAX_ROWS }
+    requires within { index ≤ len }
+    ensures long { (d : ℕ) → d < 4 → length (slice_index_or columns.new d []) ≡ MAX_ROWS }
+    ensures below { (j : ℕ) → j < index → point_in columns.new j ≡ point_in columns.old j }
+    ensures at { point_in columns.new index ≡ point.now }
+    ensures above { (j : ℕ) → index ≤ j → j < len
+        → point_in columns.new (j + 1) ≡ point_in columns.old j }
+{
+    put_in(&mut columns[0], len, index, point[0]);
+    put_in(&mut columns[1], len, index, point[1]);
+    put_in(&mut columns[2], len, index, point[2]);
+    put_in(&mut columns[3], len, index, point[3]);
+}
+
+/// Puts the measures of a row in at an index of the first so many.
+pub fn put_values(columns: &mut Measures, len: usize, index: usize, values: &[i64; 4])
+    requires room { len < MAX_ROWS }
+    requires within { index ≤ len }
+    ensures below { (j : ℕ) → j < index → values_in columns.new j ≡ values_in columns.old j }
+    ensures at { values_in columns.new index ≡ values.now }
+    ensures above { (j : ℕ) → index ≤ j → j < len
+        → values_in columns.new (j + 1) ≡ values_in columns.old j }
+{
+    put_in(&mut columns[0], len, index, values[0]);
+    put_in(&mut columns[1], len, index, values[1]);
+    put_in(&mut columns[2], len, index, values[2]);
+    put_in(&mut columns[3], len, index, values[3]);
+}
