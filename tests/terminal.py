@@ -32,6 +32,8 @@ class Terminal:
         self.seen = ""
         self.child, self.end = pty.fork()
         if self.child == 0:
+            # A shell that runs this in the background has Ctrl-C ignored, by all that it starts.
+            signal.signal(signal.SIGINT, signal.SIG_DFL)
             # So wide that no line is shown in part.
             fcntl.ioctl(0, termios.TIOCSWINSZ, struct.pack("HHHH", 50, 400, 0, 0))
             os.execve(ASK, [ASK, *words], env)
