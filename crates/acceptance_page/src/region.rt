@@ -1,86 +1,346 @@
-// The rows of a region, which are put in, taken out, split and joined.
+// The rows of a region in memory, which are put in, taken out, split and joined.
+ghost use Rattle.std.specs.Prelude.{◌≤◌};
+
 use crate::samples::row;
-use ub_region::Rows;
-use ub_region::rows::MAX_LEN;
+use ub_region::RegionPage;
 use ub_table::{Key, Row};
 use ub_zaddr::Shape;
 
-// Rows of these numbers and coordinates.
-fn rows(all: &[(u32, u32, u32)]) -> Rows {
-    let mut rows = Rows::new();
-    for (number, x, y) in all {
-        if rows.as_slice().len() < MAX_LEN {
-            rows.push(row(*number, *x, *y, 0));
-        }
-    }
-    rows
+// The key that the first region of a table begins with.
+const ORIGIN: Key = Key { z: 0, number: 0 };
+
+// Rows of a space of four dimensions in the order of their keys: the number, the coordinates, and
+// the address, in which bit k of the coordinates stands at the bits 4 * k + 3 to 4 * k. Three of
+// them are at one address.
+const SAMPLES: [(u32, [u32; 4], u128); 7] = [
+    (7, [0, 0, 0, 1], 1),
+    (2, [0, 1, 0, 2], 20),
+    (3, [1, 2, 3, 4], 362),
+    (5, [1, 2, 3, 4], 362),
+    (6, [1, 2, 3, 4], 362),
+    (1, [8, 0, 1, 0], 32_770),
+    (4, [0, 16, 0, 5], 262_401),
+];
+
+// The places in SAMPLES of a page's rows and of one more, how many of them stay in the left half,
+// and the first key of the right one: two, three and four rows on a page.
+const HALVES: &[(&[usize], usize, (u128, u32))] = &[
+    (&[0, 1, 2], 2, (362, 0)),
+    (&[1, 2, 3], 2, (362, 5)),
+    (&[2, 3, 4], 2, (362, 6)),
+    (&[3, 4, 5], 2, (32_770, 0)),
+    (&[0, 1, 2, 6], 2, (362, 0)),
+    (&[1, 2, 3, 4], 2, (362, 5)),
+    (&[0, 1, 2, 5, 6], 3, (32_770, 0)),
+    (&[1, 2, 3, 4, 5], 3, (362, 6)),
+];
+
+// Four places.
+const FOUR: [usize; 4] = [0, 1, 3, 6];
+
+// Those that are left where the first of them is taken out, the second, the third, the last.
+const THREE: [[usize; 3]; 4] = [[1, 3, 6], [0, 3, 6], [0, 1, 6], [0, 1, 3]];
+
+// The key of an address and a number.
+fn key(z: u128, number: u32) -> Key {
+    Key { z, number }
 }
 
-// Whether these rows have these numbers.
-fn numbers_are(rows: &[Row], numbers: &[u32]) -> bool {
-    if rows.len() != numbers.len() {
+// The row at a place of SAMPLES, and its address.
+fn sample(place: usize) -> (Row, u128) {
+    let (number, dims, z) = SAMPLES[place % 7];
+    let m = i64::from(number);
+    let measures = [m, -m, i64::MIN + m, i64::MAX - m];
+    let row = Row {
+        number,
+        dims,
+        measures,
+    };
+    (row, z)
+}
+
+// Puts the row of a place in, where there is room for it.
+fn put(region: &mut RegionPage, index: usize, place: usize) {
+    if region.len() < 64 && index <= region.len() {
+        region.insert_at(index, &sample(place).0);
+    }
+}
+
+// A region of the rows of these places.
+fn region_of(shape: Shape, places: &[usize]) -> RegionPage {
+    let mut region = RegionPage::empty(shape);
+    for place in places {
+        let end = region.len();
+        put(&mut region, end, *place);
+    }
+    region
+}
+
+// Whether a region of four dimensions has this first key, and the rows of these places with their
+// keys.
+fn is_region(region: &RegionPage, first: Key, places: &[usize]) -> bool {
+    if region.len() != places.len() {
         return false;
     }
-    for i in 0..rows.len() {
-        if rows[i].number != numbers[i] {
+    for i in 0..region.len() {
+        let (row, z) = sample(places[i]);
+        if region.row(i) != row || region.key(i) != key(z, row.number) {
+            return false;
+        }
+    }
+    region.first() == first && region.shape().dims() == 4
+}
+
+// Splits the rows of a region, two or more, with one more at an index.
+fn split(left: &mut RegionPage, index: usize, row: &Row, right: &mut RegionPage) -> bool {
+    if left.len() < 2 || left.len() < index {
+        return false;
+    }
+    left.split_with(index, row, right);
+    true
+}
+
+// Joins a region with the next one of its space, and tells whether a page holds both.
+fn join(region: &mut RegionPage, next: &RegionPage, page_rows: u32) -> bool {
+    page_rows <= 64 && next.shape() == region.shape() && region.join(next, page_rows)
+}
+
+// Whether the rows of these places are split so, whichever of them is put in among the others. The
+// region of the right half was another one before.
+fn are_halves(
+    shape: Shape,
+    right: &mut RegionPage,
+    places: &[usize],
+    count: usize,
+    first: Key,
+) -> bool {
+    let count = count.min(places.len());
+    for index in 0..places.len() {
+        let mut left = region_of(shape, &places[..index]);
+        for place in &places[index + 1..] {
+            let end = left.len();
+            put(&mut left, end, *place);
+        }
+        if !split(&mut left, index, &sample(places[index]).0, right)
+            || !is_region(&left, ORIGIN, &places[..count])
+            || !is_region(right, first, &places[count..])
+        {
             return false;
         }
     }
     true
 }
 
-// Whether three rows, where a page holds two, have these numbers in the left half and in the right
-// one, which begins with this key.
-fn are_split(shape: Shape, all: &Rows, left: &[u32], right: &[u32], first: Key) -> bool {
-    if all.as_slice().len() != 3 {
+#[test]
+fn halves_of_a_page_and_a_row(rt: HostRuntime) {
+    let shape = Shape::new(4).expect(&rt, "four dimensions");
+    let line = Shape::new(1).expect(&rt, "a line");
+    let mut right = region_of(line, &FOUR);
+    for (places, count, first) in HALVES {
+        let first = key(first.0, first.1);
+        let is_right = are_halves(shape, &mut right, places, *count, first);
+        assert!(rt; is_right, "{first:?}");
+    }
+}
+
+// Whether a right half that is split again begins where it did, and also once rows are taken out of
+// it, put in and joined.
+fn is_split_again(first: &mut RegionPage, second: &mut RegionPage, third: &mut RegionPage) -> bool {
+    let begin = key(362, 5);
+    if !split(first, 3, &sample(4).0, second) || !split(second, 2, &sample(6).0, third) {
         return false;
     }
-    let halves = all.split(shape, 2);
-    numbers_are(halves.left, left) & numbers_are(halves.right, right) & (halves.first == first)
+    let is_right = is_region(first, ORIGIN, &[1, 2])
+        && is_region(second, begin, &[3, 4])
+        && is_region(third, key(262_401, 0), &[6])
+        && second.remove(&key(362, 6))
+        && is_region(second, begin, &[3]);
+    put(second, 1, 5);
+    is_right
+        && is_region(second, begin, &[3, 5])
+        && join(second, third, 3)
+        && is_region(second, begin, &[3, 5, 6])
+        && join(first, second, 5)
+        && is_region(first, ORIGIN, &[1, 2, 3, 5, 6])
 }
 
 #[test]
-fn halves_of_three(rt: HostRuntime) {
-    let shape = Shape::new(2).expect(&rt, "a plane");
-    let apart = rows(&[(1, 1, 1), (3, 3, 0), (2, 2, 3)]);
-    let together = rows(&[(1, 7, 7), (2, 7, 7), (3, 7, 7)]);
-    let is_right = are_split(shape, &apart, &[1, 3], &[2], Key { z: 13, number: 0 })
-        && are_split(shape, &together, &[1, 2], &[3], Key { z: 63, number: 3 });
-    assert!(rt; is_right);
+fn halves_of_a_half(rt: HostRuntime) {
+    let shape = Shape::new(4).expect(&rt, "four dimensions");
+    let mut first = region_of(shape, &[1, 2, 3]);
+    let mut second = region_of(shape, &FOUR);
+    let mut third = region_of(shape, &[]);
+    assert!(rt; is_split_again(&mut first, &mut second, &mut third));
 }
 
-// Whether a row is put in between two, and rows at addresses 3 and 13 are taken out where they are,
-// and only then.
-fn are_put_in_and_taken_out(shape: Shape, all: &mut Rows) -> bool {
-    if all.as_slice().len() != 2 {
+// The row at an index of a line: their numbers begin with 1, and they are at every second address.
+fn on_line(i: usize) -> Row
+    requires { i ≤ 128 }
+{
+    row(i as u32 + 1, 2 * i as u32, 0, i as i64)
+}
+
+// Whether a region has this first key, and so many rows of the line from an index on.
+fn is_line(region: &RegionPage, first: Key, from: usize, count: usize) -> bool
+    requires { from ≤ 64 }
+{
+    for i in 0..region.len() {
+        let row = on_line(from + i);
+        let z = u128::from(row.dims[0]);
+        if region.row(i) != row || region.key(i) != key(z, row.number) {
+            return false;
+        }
+    }
+    region.len() == count && region.first() == first
+}
+
+// Whether a page of 64 rows is split by a 65th one at an index, and the halves are joined only once
+// they have a row less.
+fn is_full_page_split(line: Shape, index: usize) -> bool
+    requires { index ≤ 64 }
+{
+    let mut left = RegionPage::empty(line);
+    let mut right = RegionPage::empty(line);
+    for i in 0..65usize {
+        let end = left.len();
+        if i != index && end < 64 {
+            left.insert_at(end, &on_line(i));
+        }
+    }
+    if !split(&mut left, index, &on_line(index), &mut right)
+        || !is_line(&left, ORIGIN, 0, 33)
+        || !is_line(&right, key(66, 0), 33, 32)
+        || join(&mut left, &right, 64)
+        || left.len() == 0
+    {
         return false;
     }
-    all.insert_at(1, row(3, 3, 0, 0));
-    numbers_are(all.as_slice(), &[1, 3, 2])
-        && !all.remove(shape, &Key { z: 13, number: 1 })
-        && all.remove(shape, &Key { z: 13, number: 2 })
-        && all.remove(shape, &Key { z: 3, number: 1 })
-        && numbers_are(all.as_slice(), &[3])
+    left.remove_at(0);
+    is_line(&left, ORIGIN, 1, 32) && join(&mut left, &right, 64) && is_line(&left, ORIGIN, 1, 64)
+}
+
+#[test]
+fn halves_of_a_full_page(rt: HostRuntime) {
+    let line = Shape::new(1).expect(&rt, "a line");
+    for index in [0, 1, 32, 33, 63, 64] {
+        assert!(rt; is_full_page_split(line, index), "{index}");
+    }
+}
+
+// Whether a row is taken out of a region of FOUR, and put in again.
+fn is_taken_out(shape: Shape, index: usize) -> bool {
+    let mut region = region_of(shape, &FOUR);
+    if 4 <= index || region.len() <= index {
+        return false;
+    }
+    region.remove_at(index);
+    let is_out = is_region(&region, ORIGIN, &THREE[index]);
+    put(&mut region, index, FOUR[index]);
+    is_out && is_region(&region, ORIGIN, &FOUR)
+}
+
+#[test]
+fn rows_taken_out_and_put_in(rt: HostRuntime) {
+    let shape = Shape::new(4).expect(&rt, "four dimensions");
+    for index in 0..4usize {
+        assert!(rt; is_taken_out(shape, index), "{index}");
+    }
+}
+
+// Whether it is told of which keys there are rows, by number and address both.
+fn has_keys(region: &RegionPage) -> bool {
+    region.has(&key(1, 7))
+        && region.has(&key(362, 5))
+        && region.has(&key(362, 6))
+        && !region.has(&key(362, 7))
+        && !region.has(&key(20, 3))
+        && !region.has(&key(1, 0))
+}
+
+// Whether rows are taken out by their keys, where they are, and only then: by number and address
+// both, among others of one address, and to the last one.
+fn are_taken_out(region: &mut RegionPage) -> bool {
+    !region.remove(&key(362, 7))
+        && !region.remove(&key(20, 3))
+        && !region.remove(&key(361, 3))
+        && !region.remove(&key(362, 0))
+        && is_region(region, ORIGIN, &[0, 2, 3, 4])
+        && region.remove(&key(362, 5))
+        && is_region(region, ORIGIN, &[0, 2, 4])
+        && !region.remove(&key(362, 5))
+        && region.remove(&key(1, 7))
+        && is_region(region, ORIGIN, &[2, 4])
+        && region.remove(&key(362, 6))
+        && is_region(region, ORIGIN, &[2])
+        && region.remove(&key(362, 3))
+        && is_region(region, ORIGIN, &[])
+        && !region.remove(&key(362, 3))
+}
+
+#[test]
+fn rows_taken_out_by_key(rt: HostRuntime) {
+    let shape = Shape::new(4).expect(&rt, "four dimensions");
+    let mut region = region_of(shape, &[0, 2, 3, 4]);
+    assert!(rt; has_keys(&region) && are_taken_out(&mut region) && !region.has(&key(362, 3)));
+}
+
+// Whether no row, one and two are few where pages hold so many.
+fn are_told_few(none: &RegionPage, one: &RegionPage, two: &RegionPage) -> bool {
+    none.are_few(2)
+        && none.are_few(3)
+        && !one.are_few(2)
+        && !one.are_few(3)
+        && one.are_few(4)
+        && !two.are_few(4)
+        && !two.are_few(5)
+        && two.are_few(6)
 }
 
 // Whether two regions of a row each are joined where a page holds two, and not where it holds one;
-// and the two rows with one before them where it holds three, and not where it holds two.
-fn are_joined(all: &mut Rows, other: &Rows) -> bool {
-    all.are_few(4)
-        && !all.are_few(2)
-        && !all.join(other, 1)
-        && all.join(other, 2)
-        && !all.join_before(other, 2)
-        && all.join_before(other, 3)
-        && numbers_are(all.as_slice(), &[4, 3, 4])
+// and the one before with these where it holds three, and not where it holds two.
+fn are_joined(before: &mut RegionPage, region: &mut RegionPage, next: &RegionPage) -> bool {
+    !join(region, next, 1)
+        && is_region(region, ORIGIN, &[2])
+        && join(region, next, 2)
+        && is_region(region, ORIGIN, &[2, 5])
+        && !join(before, region, 2)
+        && is_region(before, ORIGIN, &[0])
+        && join(before, region, 3)
+        && is_region(before, ORIGIN, &[0, 2, 5])
+        && is_region(region, ORIGIN, &[2, 5])
+        && is_region(next, ORIGIN, &[5])
 }
 
 #[test]
-fn rows_taken_out_and_joined(rt: HostRuntime) {
-    let shape = Shape::new(2).expect(&rt, "a plane");
-    let mut all = rows(&[(1, 1, 1), (2, 2, 3)]);
-    let other = rows(&[(4, 0, 2)]);
-    let is_right = are_put_in_and_taken_out(shape, &mut all) && are_joined(&mut all, &other);
-    all.clear();
-    assert!(rt; is_right && all.as_slice().is_empty());
+fn few_rows_joined(rt: HostRuntime) {
+    let shape = Shape::new(4).expect(&rt, "four dimensions");
+    let mut before = region_of(shape, &[0]);
+    let mut region = region_of(shape, &[2]);
+    let next = region_of(shape, &[5]);
+    let none = region_of(shape, &[]);
+    let two = region_of(shape, &[1, 6]);
+    assert!(rt; are_told_few(&none, &next, &two));
+    assert!(rt; are_joined(&mut before, &mut region, &next));
+}
+
+// Whether the rows of some places stand behind those of others.
+fn are_appended(shape: Shape, places: &[usize], next: &[usize], all: &[usize]) -> bool {
+    let mut region = region_of(shape, places);
+    let next = region_of(shape, next);
+    if next.shape() != region.shape() || 64 < region.len() + next.len() {
+        return false;
+    }
+    region.append(&next);
+    is_region(&region, ORIGIN, all)
+}
+
+#[test]
+fn rows_appended(rt: HostRuntime) {
+    let shape = Shape::new(4).expect(&rt, "four dimensions");
+    let is_right = are_appended(shape, &[], &[], &[])
+        && are_appended(shape, &[0, 1], &[], &[0, 1])
+        && are_appended(shape, &[], &[2, 6], &[2, 6])
+        && are_appended(shape, &[0], &[1, 4, 5], &[0, 1, 4, 5])
+        && are_appended(shape, &[0, 1, 2], &[6], &[0, 1, 2, 6]);
+    assert!(rt; is_right);
 }

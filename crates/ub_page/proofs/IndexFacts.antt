@@ -37,7 +37,7 @@ parts node page last small is e =
     record {
       kind = has.kind_is;
       on = rw (level, count, entries) refl;
-      blank = rw count (record { four = has.next_is; eight = has.zeros; behind = has.behind });
+      blank = rw count (record { free = (has.next_is, has.zeros); behind = has.behind });
     }
 
 abbrev node_of : ℕ → List Entry → Node
@@ -110,7 +110,7 @@ spelled page long small kind head blank =
     let end : ℕ = 16 + 24 * count in
     let counted : count ≡ length entries = sym (length-entries_on 16 count page) in
     let heads : layout (page_fields 0x49 level (length entries) 0) ≡ take 16 (drop 0 page) =
-    layout_back (page_fields 0x49 level (length entries) 0) 0 page small (omega arith) (kind, (refl, (counted, (blank.four, (blank.eight, tt))))) in
+    layout_back (page_fields 0x49 level (length entries) 0) 0 page small (omega arith) (kind, (refl, (counted, (blank.free.0, (blank.free.1, tt))))) in
     let body : flat_map entry_bytes entries ≡ take (24 * count) (drop 16 page) = entries_back 16 count page small (omega arith) in
     let both : layout (page_fields 0x49 level (length entries) 0) ++ flat_map entry_bytes entries ≡ take end page = joined 0 16 (24 * count) 16 page _ _ refl heads body in
     let used = length-take-le end page (omega arith) in

@@ -24,7 +24,7 @@ pub record IsNode (last : ℕ) (node : Node) : Type 0 where
   pub entries : AllByRecursion (IsEntry last) node.entries
   pub ascending : AreAscending node.entries
 
--- the one spelling of a page of an index: 'I', the level, the count of entries, zeros, and the entries
+-- the one spelling of a page of an index: 'I', the level, the count of entries, twelve bytes that are free, and the entries
 unfoldable pub index_page : Node → List ℕ
 index_page node = entries_page 0x49 node.level 0 node.entries
 
@@ -53,10 +53,10 @@ HasNodeEntries last page = AllByRecursion (IsEntry last) (node_on page).entries
 abbrev pub HasNodeOrder : List ℕ → Type 0
 HasNodeOrder page = AreAscending (node_on page).entries
 
--- the bytes that no field uses, those of the head and those behind so many entries, are zero
+-- the bytes that no field uses are zero: the free ones of the head, 4 to 15, where a further mark of the page can stand, and
+-- those behind so many entries
 pub record IsBlankBehind (count : ℕ) (page : List ℕ) : Type 0 where
-  pub four : number_at 4 4 page ≡ 0
-  pub eight : number_at 8 8 page ≡ 0
+  pub free : (number_at 4 4 page ≡ 0) × (number_at 8 8 page ≡ 0)
   pub behind : drop (16 + 24 * count) page ≡ replicate (4096 - (16 + 24 * count)) 0
 
 -- the refusal of its first four bytes is the first that holds of them

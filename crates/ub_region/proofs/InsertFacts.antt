@@ -1,5 +1,5 @@
 -- Insertion keeps the regions of a table, and adds its row to theirs.
-use Rattle.std.proofs.Common.{◌≡◌, ◌<◌, ◌≤◌, ◌+◌, ◌-◌, ◌/◌, inl, inr, ℕ, zero, suc, List, [], ◌∷◌, ◌++◌, false, Some, length, map, take, drop, get_or, nat_eq, nat_le, ◌∙◌, sym, ap, refl, arith, subst}
+use Rattle.std.proofs.Common.{◌≡◌, ◌<◌, ◌≤◌, ◌+◌, ◌-◌, inl, inr, ℕ, zero, suc, List, [], ◌∷◌, ◌++◌, false, Some, length, map, take, drop, get_or, nat_eq, nat_le, ◌∙◌, sym, ap, refl, arith, subst}
 use Rattle.std.proofs.lemmas.Bool.{cases_Bool, cases_eq, cases_lt, leb-true, leb-false, ne_eqb, lt-ltb, le-ltb}
 use Rattle.std.proofs.lemmas.List.{length-take, length-drop, take-append-drop, append-nil}
 use Rattle.std.proofs.lemmas.List.Elements.{All-from_recursion, recursion_from_All}
@@ -13,7 +13,7 @@ use Rattle.ub_table.specs.Region.{RegionRows, IsRegion, IsRow, IsFirst, AreFrom,
 use Rattle.ub_table.specs.declared.row.Key.{Key}
 use Rattle.ub_table.specs.declared.row.Row.{Row}
 use Rattle.ub_table.specs.declared.schema.Schema.{Schema}
-use Rattle.ub_region.specs.Rows.{insert_row, separator, cut}
+use Rattle.ub_region.specs.Rows.{insert_row, left_half, separator, cut}
 use Rattle.ub_region.specs.Regions.{firsts_of, rows_of, AreRegions, two_regions, split_region, insert_first, insert}
 use Rattle.ub_region.proofs.KeyLists.{all_more, all_left, all_right, all_take, all_drop, upto_before, upto_upto, IsBeforeNext, up_take, up_drop, IsCut, is_cut}
 use Rattle.ub_region.proofs.RowFacts.{all_keys, all_of_keys, all_insert, up_insert, length-insert_row, moved_insert}
@@ -116,7 +116,7 @@ split_chain schema region regions filled below chain = elim (cases_Bool (nat_le 
       let many = leb-false (length region.rows) schema.page_rows f in
       let most = filled.most in
       let some = schema.counts.some_rows in
-      rw f (halves ((schema.page_rows + 2) / 2) (omega arith) (omega arith) (omega arith) (omega arith))
+      rw f (halves (left_half schema.page_rows) (omega arith) (omega arith) (omega arith) (omega arith))
 ]
   where
     halves : (n : ℕ) → 1 ≤ n → n < length region.rows → n ≤ schema.page_rows → length region.rows ≤ schema.page_rows + n
@@ -135,7 +135,7 @@ split_begins dims c region regions = elim (cases_Bool (nat_le (length region.row
 split_rows : (dims c : ℕ) (region : RegionRows) → rows_of (split_region dims c region) ≡ region.rows
 split_rows dims c region = elim (cases_Bool (nat_le (length region.rows) c)) [
   | inl t ↦ rw t (append-nil region.rows)
-  | inr f ↦ rw f (ap (λ (rest : List Row). take ((c + 2) / 2) region.rows ++ rest) (append-nil (drop ((c + 2) / 2) region.rows)) ∙ take-append-drop ((c + 2) / 2) region.rows)
+  | inr f ↦ rw f (ap (λ (rest : List Row). take (left_half c) region.rows ++ rest) (append-nil (drop (left_half c) region.rows)) ∙ take-append-drop (left_half c) region.rows)
 ]
 
 module _ (schema : Schema) (row : Row) (good : IsRow schema.dims (measures_of schema) row) where

@@ -3,6 +3,7 @@ pub mod BlankRow
 pub mod ChainFacts
 pub mod ColumnFacts
 pub mod CutFacts
+pub mod HeldFacts
 pub mod IndexFacts
 pub mod InsertFacts
 pub mod KeyLists
@@ -11,12 +12,12 @@ pub mod LaneFacts
 pub mod Laws
 pub mod MaskFacts
 pub mod PlacesFacts
-pub mod PutFacts
 pub mod RegionFacts
 pub mod RemoveFacts
 pub mod RowFacts
 pub mod ShiftFacts
 pub mod SpanFacts
 pub mod SpelledFacts
+pub mod SplitFacts
 pub mod TableFacts
 pub mod WriteFacts

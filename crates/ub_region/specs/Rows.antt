@@ -42,6 +42,10 @@ cut dims n rows = record {
   right = drop n rows;
 }
 
--- c + 1 rows, where a page holds c, cut in halves, of which the left one can be the larger
+-- of c + 1 rows, where a page holds c, so many are the left half, which can be the larger
+abbrev pub left_half : ℕ → ℕ
+left_half c = (c + 2) / 2
+
+-- they are cut in halves
 abbrev pub split : ℕ → ℕ → List Row → Halves
-split dims c rows = cut dims ((c + 2) / 2) rows
+split dims c rows = cut dims (left_half c) rows

@@ -211,3 +211,95 @@ pub fn put_values(columns: &mut Measures, len: usize, index: usize, values: &[i6
     put_in(&mut columns[2], len, index, values[2]);
     put_in(&mut columns[3], len, index, values[3]);
 }
+
+/// Takes out what stands at an index of the first so many of a column: those behind it follow.
+pub fn take_out<T: Copy>(column: &mut [T; MAX_ROWS], len: usize, index: usize)
+    requires few { len ≤ MAX_ROWS }
+    requires within { index < len }
+    ensures long { length column.new ≡ MAX_ROWS }
+    ensures below { (j : ℕ) (d : T) → j < index
+        → slice_index_or column.new j d ≡ slice_index_or column.old j d }
+    ensures above { (j : ℕ) (d : T) → index ≤ j → j + 1 < len
+        → slice_index_or column.new j d ≡ slice_index_or column.old (j + 1) d }
+{
+    column.copy_within(index + 1..len, index);
+}
+
+/// Takes out the dimensions at an index of the first so many.
+pub fn take_point_out(columns: &mut Dims, len: usize, index: usize)
+    requires few { len ≤ MAX_ROWS }
+    requires within { index < len }
+    ensures long { (d : ℕ) → d < 4 → length (slice_index_or columns.new d []) ≡ MAX_ROWS }
+    ensures below { (j : ℕ) → j < index → point_in columns.new j ≡ point_in columns.old j }
+    ensures above { (j : ℕ) → index ≤ j → j + 1 < len
+        → point_in columns.new j ≡ point_in columns.old (j + 1) }
+{
+    take_out(&mut columns[0], len, index);
+    take_out(&mut columns[1], len, index);
+    take_out(&mut columns[2], len, index);
+    take_out(&mut columns[3], len, index);
+}
+
+/// Takes out the measures at an index of the first so many.
+pub fn take_values_out(columns: &mut Measures, len: usize, index: usize)
+    requires few { len ≤ MAX_ROWS }
+    requires within { index < len }
+    ensures below { (j : ℕ) → j < index → values_in columns.new j ≡ values_in columns.old j }
+    ensures above { (j : ℕ) → index ≤ j → j + 1 < len
+        → values_in columns.new j ≡ values_in columns.old (j + 1) }
+{
+    take_out(&mut columns[0], len, index);
+    take_out(&mut columns[1], len, index);
+    take_out(&mut columns[2], len, index);
+    take_out(&mut columns[3], len, index);
+}
+
+/// Puts so many values of another column, from an index of it on, in the place of those from an index on.
+pub fn copy_in<T: Copy>(
+    column: &mut [T; MAX_ROWS],
+    at: usize,
+    other: &[T; MAX_ROWS],
+    from: usize,
+    count: usize,
+)
+    requires room { at + count ≤ MAX_ROWS }
+    requires there { from + count ≤ MAX_ROWS }
+    ensures long { length column.new ≡ MAX_ROWS }
+    ensures below { (j : ℕ) (d : T) → j < at
+        → slice_index_or column.new j d ≡ slice_index_or column.old j d }
+    ensures copied { (j : ℕ) (d : T) → j < count
+        → slice_index_or column.new (at + j) d ≡ slice_index_or other.now (from + j) d }
+{
+    let values = &other[..];
+    let places = &mut column[..];
+    places[at..at + count].copy_from_slice(&values[from..from + count]);
+}
+
+/// Puts so many dimensions of other columns, from an index of them on, in the place of those from an index on.
+pub fn copy_points(columns: &mut Dims, at: usize, other: &Dims, from: usize, count: usize)
+    requires room { at + count ≤ MAX_ROWS }
+    requires there { from + count ≤ MAX_ROWS }
+    ensures long { (d : ℕ) → d < 4 → length (slice_index_or columns.new d []) ≡ MAX_ROWS }
+    ensures below { (j : ℕ) → j < at → point_in columns.new j ≡ point_in columns.old j }
+    ensures copied { (j : ℕ) → j < count
+        → point_in columns.new (at + j) ≡ point_in other.now (from + j) }
+{
+    copy_in(&mut columns[0], at, &other[0], from, count);
+    copy_in(&mut columns[1], at, &other[1], from, count);
+    copy_in(&mut columns[2], at, &other[2], from, count);
+    copy_in(&mut columns[3], at, &other[3], from, count);
+}
+
+/// Puts so many measures of other columns, from an index of them on, in the place of those from an index on.
+pub fn copy_values(columns: &mut Measures, at: usize, other: &Measures, from: usize, count: usize)
+    requires room { at + count ≤ MAX_ROWS }
+    requires there { from + count ≤ MAX_ROWS }
+    ensures below { (j : ℕ) → j < at → values_in columns.new j ≡ values_in columns.old j }
+    ensures copied { (j : ℕ) → j < count
+        → values_in columns.new (at + j) ≡ values_in other.now (from + j) }
+{
+    copy_in(&mut columns[0], at, &other[0], from, count);
+    copy_in(&mut columns[1], at, &other[1], from, count);
+    copy_in(&mut columns[2], at, &other[2], from, count);
+    copy_in(&mut columns[3], at, &other[3], from, count);
+}

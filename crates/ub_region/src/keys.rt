@@ -5,21 +5,13 @@ ghost use Rattle.ub_table.specs.Region.{key_of, keys_of};
 ghost use Rattle.ub_table.specs.declared.row.Row.{Row as RowView};
 ghost use Rattle.ub_region.specs.Rows.{separator, insert_row};
 
-use ub_table::{Key, Row};
-use ub_zaddr::Shape;
+use ub_table::Key;
 
 /// Whether two keys are one: by row number first, in which most differ.
 pub fn is_equal(a: &Key, b: &Key) -> bool
     ensures { result ≡ is_same a.now b.now }
 {
     a.number == b.number && a.z == b.z
-}
-
-/// Whether this is the key of a row, whose address is made only where the number is the key's.
-pub fn is_key_of(key: &Key, row: &Row, shape: Shape) -> bool
-    ensures { result ≡ is_same key.now (key_of shape row.now) }
-{
-    key.number == row.number && is_equal(key, &row.key(shape))
 }
 
 /// The first key of a region whose first row has the key `right`, where that of the row before is `left`: it begins with

@@ -1,14 +1,15 @@
 // The regions of a UB-tree (Bayer 1997), without a store: which keys a region holds, where a row goes in, how a region is split
 // and joined (the definitions stand in specs/: `Regions`, `Rows`, `Joins`, `Spans`; the functions of `law` ensure their laws);
-// what those that look for a region are told of it (`Region`), and what an entry of an index says (`Entry`); the rows of one region
-// in memory; and the page of one (`RegionPage`), which has one spelling (`RegionPage` in specs/): a reader takes what the writer
-// spells and refuses all else.
+// what those that look for a region are told of it (`Region`), and what an entry of an index says (`Entry`); and one region in
+// memory (`RegionPage`), in columns, from its page and back to it, by which it is put in, taken out, split and joined (`changes`).
+// Its page has one spelling (`RegionPage` in specs/): a reader takes what the writer spells and refuses all else.
 //
 // What belongs here is one region, or regions as lists. Where a region's page is, and where pages are kept, stands above; what names,
 // rows and keys are, and the bytes of a page, below. Nothing in this crate takes memory.
 
 #![tactic(auto)]
 
+mod changes;
 mod columns;
 pub mod entry;
 pub mod keys;
@@ -16,10 +17,8 @@ pub mod law;
 pub mod masks;
 pub mod region;
 pub mod region_page;
-pub mod rows;
 
 pub use entry::Entry;
-pub use keys::{first_between, index_in, is_equal, is_key_of};
+pub use keys::{first_between, index_in, is_equal};
 pub use region::{ORIGIN, Region};
 pub use region_page::{RegionPage, write_region};
-pub use rows::{Halves, Rows};

@@ -1,4 +1,4 @@
-ghost use Rattle.std.specs.Prelude.{◌≡◌, ◌+◌, ◌-◌, ◌*◌, ◌≤◌, ◌<◌, [], ◌++◌, ◌↔◌, ℕ, Ok, Some, length, slice_get, IsTrue, IsOk, IfOk, IfErr, OnOk, OnErr};
+ghost use Rattle.std.specs.Prelude.{◌≡◌, ◌+◌, ◌-◌, ◌*◌, ◌≤◌, ◌<◌, [], ◌++◌, ◌↔◌, ℕ, Ok, Some, length, take, drop, slice_get, IsTrue, IsOk, IfOk, IfErr, OnOk, OnErr};
 ghost use Rattle.std.specs.Int.{bit_at};
 ghost use Rattle.std.specs.List.{AllByRecursion, insert};
 ghost use Rattle.ub_bytes.specs.Bytes.{number_at, layout, padded};
@@ -8,7 +8,8 @@ ghost use Rattle.ub_table.specs.Keys.{AreKeysAscending};
 ghost use Rattle.ub_table.specs.Region.{RegionRows, keys_of, measures_of, IsNumbered, IsFirst, AreFrom, IsRegion};
 
 use crate::columns::{
-    Dims, Measures, put_in, put_point, put_values, read_dims, read_keys, read_measures, row_at,
+    Dims, Measures, copy_in, copy_points, copy_values, put_in, put_point, put_values, read_dims,
+    read_keys, read_measures, row_at, take_out, take_point_out, take_values_out,
 };
 use crate::masks::mask_between;
 use crate::region::ORIGIN;
@@ -104,19 +105,10 @@ impl RegionPage {
         match self.take_in(schema, page) {
             Ok(()) => Ok(()),
             Err(fault) => {
-                self.clear(schema.shape());
+                self.restart(schema.shape(), ORIGIN);
                 Err(fault)
             }
         }
-    }
-
-    // Leaves no rows.
-    fn clear(&mut self, shape: Shape)
-        ensures { self.new ≡ empty_region shape }
-    {
-        self.shape = shape;
-        self.first = ORIGIN;
-        self.len = 0;
     }
 
     // Takes in what stands on the page, where all of it is in range and in order.
@@ -198,6 +190,13 @@ impl RegionPage {
         self.first
     }
 
+    /// The shape of its space.
+    pub fn shape(&self) -> Shape
+        ensures { result ≡ self.now.dims }
+    {
+        self.shape
+    }
+
     /// How many rows there are: at most 64.
     pub fn len(&self) -> usize
         ensures len { result ≡ length self.now.region.rows }
@@ -256,6 +255,78 @@ impl RegionPage {
         put_point(&mut self.dims, len, index, &row.dims);
         put_values(&mut self.measures, len, index, &row.measures);
         self.len += 1;
+    }
+
+    /// Takes out the row at an index, from 0, of those there are. Takes no memory.
+    pub fn remove_at(&mut self, index: usize)
+        requires { index < length self.old.region.rows }
+        ensures { self.new ≡ record {
+          dims = self.old.dims;
+          region = record {
+            first = self.old.region.first;
+            rows = take index self.old.region.rows ++ drop (index + 1) self.old.region.rows;
+          };
+        } }
+    {
+        let len = self.len;
+        take_out(&mut self.keys, len, index);
+        take_point_out(&mut self.dims, len, index);
+        take_values_out(&mut self.measures, len, index);
+        self.len -= 1;
+    }
+
+    // Puts so many rows of another region of the same space, from an index of them on, in the place of its own from an
+    // index on. A page has room for them.
+    pub(crate) fn take_over(&mut self, at: usize, other: &RegionPage, from: usize, count: usize)
+        requires space { other.now.dims ≡ self.old.dims }
+        requires within { at ≤ length self.old.region.rows }
+        requires there { from + count ≤ length other.now.region.rows }
+        requires room { at + count ≤ MAX_ROWS }
+        ensures { self.new ≡ record {
+          dims = self.old.dims;
+          region = record {
+            first = self.old.region.first;
+            rows = take at self.old.region.rows ++ take count (drop from other.now.region.rows);
+          };
+        } }
+    {
+        copy_in(&mut self.keys, at, &other.keys, from, count);
+        copy_points(&mut self.dims, at, &other.dims, from, count);
+        copy_values(&mut self.measures, at, &other.measures, from, count);
+        self.len = at + count;
+    }
+
+    // Keeps so many of the rows, the first ones.
+    pub(crate) fn truncate(&mut self, count: usize)
+        requires { count ≤ length self.old.region.rows }
+        ensures { self.new ≡ record {
+          dims = self.old.dims;
+          region = record {
+            first = self.old.region.first;
+            rows = take count self.old.region.rows;
+          };
+        } }
+    {
+        self.len = count;
+    }
+
+    // Leaves no rows, in a space of this shape, from a first key on.
+    pub(crate) fn restart(&mut self, shape: Shape, first: Key)
+        ensures { self.new ≡ record { dims = shape; region = record { first = first; rows = [] } } }
+    {
+        self.shape = shape;
+        self.first = first;
+        self.len = 0;
+    }
+
+    // Gives it another first key. The keys are not compared.
+    pub(crate) fn start_at(&mut self, first: Key)
+        ensures { self.new ≡ record {
+          dims = self.old.dims;
+          region = record { first = first; rows = self.old.region.rows };
+        } }
+    {
+        self.first = first;
     }
 
     // The region of these rows from a first key on. The keys are not compared.

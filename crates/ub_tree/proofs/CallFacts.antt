@@ -1,5 +1,5 @@
 -- What the searches of the index answer, as answers of the tree.
-use Rattle.std.proofs.Common.{◌≡◌, ◌<◌, ◌≤◌, ◌*◌, ◌^◌, map, inl, inr, Result, Ok, Err, MatchResult, ℕ, List, [], Option, Some, None, IfSome, ◌∙◌, ap, subst, sym, refl, arith}
+use Rattle.std.proofs.Common.{◌≡◌, ◌<◌, ◌≤◌, ◌*◌, ◌^◌, map, inl, inr, Result, Ok, Err, MatchResult, ℕ, List, Option, Some, None, IfSome, ◌∙◌, ap, subst, sym, refl, arith}
 use Rattle.std.specs.Result.{IsErrAnd}
 use Rattle.std.proofs.Math.Pow.{pow-lt}
 use Rattle.std.proofs.lemmas.Bool.{cases_Bool, cases_lt}

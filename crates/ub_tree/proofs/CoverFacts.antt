@@ -1,5 +1,5 @@
 -- Over an honest store a tree that is asked for the next region again and again, until there is none, leaves out no key of the boxes.
-use Rattle.std.proofs.Common.{◌≡◌, ◌≤◌, ◌<◌, ◌⊎◌, ◌∙◌, inl, inr, ℕ, zero, suc, List, [], ◌∷◌, Option, Some, None, IfSome, ap, arith, sym, subst, refl}
+use Rattle.std.proofs.Common.{◌≡◌, ◌≤◌, ◌⊎◌, ◌∙◌, inl, inr, ℕ, suc, List, [], ◌∷◌, Option, Some, None, IfSome, ap, arith, sym, subst, refl}
 use Rattle.std.proofs.lemmas.Bool.{cases_Bool, cases_lt}
 use Rattle.std.specs.Prelude.{Contains}
 use Rattle.ub_bigmin.specs.Box.{Corners, HoldsAny}
@@ -14,7 +14,7 @@ use Rattle.ub_table.specs.Keys.{IsBefore, origin, precedes}
 use Rattle.ub_table.specs.declared.row.Key.{Key}
 use Rattle.ub_tree.proofs.MeetFacts.{contained_at, contains_at}
 use Rattle.ub_tree.specs.Spans.{Region}
-use Rattle.ub_tree.specs.Told.{AreAnswers, GivesNext}
+use Rattle.ub_tree.specs.Told.{AreAnswers}
 use Rattle.ub_tree.specs.View.{TreeView}
 
 module _ (boxes : List Corners) (tree : TreeView) (honest : IsHonest tree.store) (key : Key) (inside : HoldsAny boxes key.z) (upto : key.z ≤ tree.inner.index.last) where

@@ -1,5 +1,5 @@
 -- A row put into a tree: where its region's rows come to stand, what becomes of the table, and what a call tells of it.
-use Rattle.std.proofs.Common.{◌≡◌, ◌≢◌, ◌<◌, ◌≤◌, ◌+◌, ◌^◌, ◌∙◌, ◌++◌, ◌⊎◌, inl, inr, ℕ, zero, suc, true, false, List, [], ◌∷◌, Ok, Err, Result, IfErr, OnOk, Option, None, Some, IfSome, length, map, take, drop, nat_le, sym, ap, subst, refl, arith, slice_get, append_assoc}
+use Rattle.std.proofs.Common.{◌≡◌, ◌≢◌, ◌<◌, ◌+◌, ◌^◌, ◌∙◌, ◌++◌, ◌⊎◌, inl, inr, ℕ, zero, suc, true, false, List, [], ◌∷◌, Ok, Err, Result, IfErr, OnOk, Option, None, Some, IfSome, length, map, take, drop, nat_le, sym, ap, subst, refl, arith, slice_get, append_assoc}
 use Rattle.std.proofs.lemmas.List.Sorted.{length_permutation}
 use Rattle.std.specs.List.{AllByRecursion}
 use Rattle.std.specs.Result.{IsErrAnd}
@@ -21,9 +21,8 @@ use Rattle.ub_table.specs.declared.fault.PageFault.{PageFault}
 use Rattle.ub_table.specs.declared.fault.PageFault.TheVariants.{BadCount}
 use Rattle.ub_table.specs.declared.row.Key.{Key}
 use Rattle.ub_table.specs.declared.row.Row.{Row}
-use Rattle.ub_tree.proofs.CallFacts.{one_falls}
 use Rattle.ub_tree.proofs.EffectFacts.{sound_stored}
-use Rattle.ub_tree.proofs.HoldingFacts.{on_region}
+use Rattle.ub_tree.proofs.HoldingFacts.{on_region, read_region}
 use Rattle.ub_tree.proofs.RemovalFacts.{IsHolder, region_stands}
 use Rattle.ub_tree.proofs.RoomFacts.{found_row, number_free, rows_each}
 use Rattle.ub_tree.proofs.ShrinkFacts.{regions_put}
@@ -40,7 +39,8 @@ use Rattle.ub_tree.specs.Told.{FallsTo, IsRegionOf, KeepsTold}
 use Rattle.ub_tree.specs.View.{TreeView, IsSound, region_count, regions}
 use Rattle.ub_tree.specs.declared.fault.TreeFault.{TreeFault}
 use Rattle.ub_tree.specs.declared.fault.TreeFault.TheVariants.{Page, Store}
-use Rattle.ub_tree.specs.inner.Change.{IsElsewhereSame, IsPut, IsRegionIn, IsSplitAt, IsStored, KeepsGrown, StoresAt, Writes, placed_with, regions_with, split_of}
+use Rattle.ub_region.specs.RegionPage.{RegionView}
+use Rattle.ub_tree.specs.inner.Change.{HasReadAt, IsElsewhereSame, IsPut, IsRegionIn, IsSplitAt, IsStored, KeepsGrown, StoresAt, Writes, placed_with, regions_with, split_of}
 use Rattle.ub_writing.specs.Marks.{HasMark}
 use Rattle.ub_zaddr.specs.Address.{last_address}
 
@@ -155,11 +155,11 @@ abbrev counted_more : TreeView → TreeView
 counted_more t = record t { next = t.next + 1; rows = t.rows + 1 }
 
 -- where a row was put, which then is counted
-pub grows_by : (a b mid d : TreeView) (key : Key) (span : Region) (read : RegionRows) → b ≡ a → d ≡ record mid { next = mid.next + 1; rows = mid.rows + 1 } → FallsTo a key span
-    → (IsHonest b.store → (r : RegionRows) → IsTakenIn b span r → read ≡ r) → length read.rows ≤ b.schema.page_rows → StoresAt span (length read.rows) b mid → GrowsAt key a d
-grows_by a b mid d key span read same counted falls taken few h =
+pub grows_by : (a b mid d : TreeView) (key : Key) (span : Region) (page : RegionView) → b ≡ a → d ≡ record mid { next = mid.next + 1; rows = mid.rows + 1 } → HasReadAt a key span page
+    → StoresAt span (length page.region.rows) b mid → GrowsAt key a d
+grows_by a b mid d key span page same counted read h =
     subst (λ (v : TreeView). GrowsAt key a v) (sym counted)
-    (subst (λ (v : TreeView). FallsTo v key span → GrowsAt key v (counted_more mid)) same by_b falls)
+    (subst (λ (v : TreeView). HasReadAt v key span page → GrowsAt key v (counted_more mid)) same by_b read)
   where
     kept : KeepsEntries b mid → KeepsEntries b (counted_more mid)
     kept k = (
@@ -178,13 +178,13 @@ grows_by a b mid d key span read same counted falls taken few h =
     others (inl k) = inl (k.0, kept k.1)
     others (inr k) = inr (k.0, added k.1)
 
-    by_b : FallsTo b key span → GrowsAt key b (counted_more mid)
-    by_b here = record {
+    by_b : HasReadAt b key span page → GrowsAt key b (counted_more mid)
+    by_b read = record {
       span = span;
-      falls = here;
+      falls = read.falls;
       others = others h.others;
-      full = λ page region honest into full. added (h.full (ap (λ (r : RegionRows). length r.rows) (taken honest region (on_region b key page region span honest into here).0) ∙ full));
-      spare = λ page region honest into spare. kept (h.spare (subst (λ (r : RegionRows). length r.rows < b.schema.page_rows) (sym (taken honest region (on_region b key page region span honest into here).0)) spare));
+      full = λ number region honest into full. added (h.full (ap length (read_region b key span page read honest number region into).0 ∙ full));
+      spare = λ number region honest into spare. kept (h.spare (subst (λ (rs : List Row). length rs < b.schema.page_rows) (sym (read_region b key span page read honest number region into).0) spare));
     }
 
 -- the key of a new row stands in the region on a span already
@@ -287,21 +287,17 @@ answers_ok_at IsFull t span x y h = (
 )
 
 -- the region that the key falls into was read, and hasn't the key
-pub added_answers : {A : Type 0} (a b : TreeView) (key : Key) (span : Region) (read : RegionRows) (r : Result A TreeFault) → b ≡ a → FallsTo a key span
-    → (IsHonest b.store → (q : RegionRows) → IsTakenIn b span q → read ≡ q) → has_key a.schema.dims key read.rows ≡ false → AnswersAt (length read.rows ≡ b.schema.page_rows) b span r
-    → IsHonest a.store → AnswersKey a key r
-added_answers {A} a b key span read r same to taken none answers honest number region into =
-    let on = on_region a key number region span honest into to in
-    let taken_a = subst (λ (v : TreeView). IsHonest v.store → (q : RegionRows) → IsTakenIn v span q → read ≡ q) same taken in
-    let read_is : read ≡ region = taken_a honest region on.0 in
-    let h = subst (λ (v : TreeView). AnswersAt (length read.rows ≡ v.schema.page_rows) v span r) same answers in
-    let one : span ≡ into.span = one_falls a key span into.span honest to into.falls in
-    let sure_key : FallsTo a key span = subst (λ (s : Region). FallsTo a key s) (sym one) into.falls in
-    let leads = sure_key.way honest in
+pub added_answers : {A : Type 0} (a b : TreeView) (key : Key) (span : Region) (page : RegionView) (r : Result A TreeFault) → b ≡ a → HasReadAt a key span page
+    → has_key a.schema.dims key page.region.rows ≡ false → AnswersAt (length page.region.rows ≡ b.schema.page_rows) b span r → IsHonest a.store → AnswersKey a key r
+added_answers {A} a b key span page r same read none answers honest number region into =
+    let on = on_region a key number region span honest into read.falls in
+    let read_is : page.region ≡ region = read.taken honest region on.0 in
+    let h = subst (λ (v : TreeView). AnswersAt (length page.region.rows ≡ v.schema.page_rows) v span r) same answers in
+    let leads = read.falls.way honest in
     let holds = ways_hold a.inner.index a.store key span leads in
-    let sure : FallsTo a span.first span = record { holds = holds.1; from = sure_key.from; to = sure_key.to; way = λ _. holds.2 span.first holds.1 } in
+    let sure : FallsTo a span.first span = record { holds = holds.1; from = read.falls.from; to = read.falls.to; way = λ _. holds.2 span.first holds.1 } in
     let here : has_key a.schema.dims key region.rows ≡ false = subst (λ (q : RegionRows). has_key a.schema.dims key q.rows ≡ false) read_is none in
-    let long : length read.rows ≡ length region.rows = ap (λ (q : RegionRows). length q.rows) read_is in (
+    let long : length page.region.rows ≡ length region.rows = ap (λ (q : RegionRows). length q.rows) read_is in (
       λ has. absurd (let bad : true ≡ false = sym has ∙ here in cc),
       λ free full many. subst (λ (q : Result A TreeFault). Answers q (Page 0 BadCount)) (sym (h.0 (long ∙ full) many)) (inl refl),
       λ free page fault told. (let only = h.1 honest sure page fault told in (sym long ∙ only.0, only.1)),

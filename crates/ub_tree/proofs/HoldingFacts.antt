@@ -1,5 +1,5 @@
 -- The region that a key falls into, and what calls must answer.
-use Rattle.std.proofs.Common.{◌≡◌, ◌≢◌, ◌<◌, ◌^◌, ◌++◌, inl, inr, ℕ, Bool, true, false, List, [], ◌∷◌, Result, Ok, Err, IfErr, MatchResult, length, map, ◌∙◌, sym, ap, subst, refl, arith, nat_eq, IfOk}
+use Rattle.std.proofs.Common.{◌≡◌, ◌<◌, ◌^◌, ◌++◌, inl, inr, ℕ, Bool, true, false, List, [], ◌∷◌, Result, Ok, Err, IfErr, MatchResult, length, map, ◌∙◌, sym, ap, subst, refl, arith, nat_eq, IfOk}
 use Rattle.std.proofs.lemmas.Bool.{cases_Bool, eqb-true}
 use Rattle.std.proofs.lemmas.List.{length-append, length-map}
 use Rattle.std.proofs.lemmas.List.Elements.{recursion_from_All}
@@ -7,9 +7,7 @@ use Rattle.std.proofs.lemmas.Map.Steps.{length-le_from_distinct_below}
 use Rattle.std.proofs.lemmas.Option.{slice_get_within}
 use Rattle.std.specs.List.{AllByRecursion, list_any}
 use Rattle.std.specs.Result.{IsErrAnd, IsErrOf}
-use Rattle.ub_index.specs.Preparing.{HasFullWay}
 use Rattle.ub_region.specs.declared.region.Region.{Region}
-use Rattle.ub_page.specs.declared.header.TheConstants.{MAX_LEVEL}
 use Rattle.ub_region.proofs.Laws.{all_append}
 use Rattle.ub_region.specs.Rows.{has_key}
 use Rattle.ub_store.specs.Facts.{IsHonest, page_count}
@@ -34,6 +32,8 @@ use Rattle.ub_tree.specs.View.{TreeView, IsSound, region_count}
 use Rattle.ub_tree.specs.declared.fault.TreeFault.{TreeFault}
 use Rattle.ub_tree.specs.declared.fault.TreeFault.TheVariants.{Page}
 use Rattle.ub_tree.specs.Effects.{IsTakenIn}
+use Rattle.ub_tree.specs.inner.Change.{HasReadAt}
+use Rattle.ub_region.specs.RegionPage.{RegionView}
 
 each_below : (n q : ℕ) (xs : List ℕ) → AllByRecursion (λ m. m < n) xs → list_any (nat_eq q) xs ≡ true → q < n
 each_below n q [] all t = cc
@@ -91,7 +91,7 @@ passing_no_room : {A : Type 0} (r : Result A TreeFault) (e : TreeFault) → IsEr
 passing_no_room (Ok x) e is h = absurd is
 passing_no_room (Err f) e is h = rw is (inr (inr h))
 
-passing_fault : {A : Type 0} (r : Result A TreeFault) (e : TreeFault) → IsErrAnd r (λ x. x ≡ e) → IsPassing e → IfErr r IsPassing
+pub passing_fault : {A : Type 0} (r : Result A TreeFault) (e : TreeFault) → IsErrAnd r (λ x. x ≡ e) → IsPassing e → IfErr r IsPassing
 passing_fault (Ok x) e is h = tt
 passing_fault (Err f) e is h = rw is h
 
@@ -115,68 +115,44 @@ pub no_answer : {A : Type 0} (r : Result A TreeFault) (e : TreeFault) (P : A →
 no_answer (Ok x) e P is = absurd is
 no_answer (Err f) e P is = tt
 
--- a span was found, the tree is as it was, and the rows of its region are read where its page spells it
-module _ (a b : TreeView) (key : Key) (span : Region) (same : b ≡ a) (to : FallsTo a key span) where
-  falls_on : IsHonest a.store → (page : ℕ) (region : RegionRows) → FallsInto a key page region → IsHonest b.store × IsTakenIn b span region × (span.page ≡ page)
-  falls_on honest page region falls =
-      let on = on_region a key page region span honest falls to in
-      (subst (λ (v : TreeView). IsHonest v.store) (sym same) honest, subst (λ (v : TreeView). IsTakenIn v span region) (sym same) on.0, on.1)
+-- where memory was refused or the device failed nothing more is asked of a removal
+pub passing_removal : (a : TreeView) (key : Key) (r : Result Bool TreeFault) (e : TreeFault) → IsErrAnd r (λ x. x ≡ e)
+    → ((number : ℕ) (region : RegionRows) → IsHonest a.store → FallsInto a key number region → IsPassing e) → IsHonest a.store → AnswersRemoval a key r
+passing_removal a key r e told led honest number region into =
+    let passing = led number region honest into in
+    (λ has none. passing_answers r e _ told passing, λ none. passing_fault r e told passing, no_answer r e _ told)
 
-  -- where it can't be read
-  pub unread_key : {A : Type 0} (r : Result A TreeFault) (e : TreeFault) → IsErrAnd r (λ x. x ≡ e) → (IsHonest b.store → (q : RegionRows) → IsTakenIn b span q → IsPassing e)
-      → IsHonest a.store → AnswersKey a key r
-  unread_key r e told taken honest page region falls =
-      let on = falls_on honest page region falls in
-      let passing = taken on.0 region on.1 in (
-        λ has. passing_answers r e _ told passing,
-        λ none full many. passing_answers r e _ told passing,
-        λ none number fault same. absurd (passing_no_page r e number fault told passing same),
-        λ none full few levels way. passing_no_room r e told passing,
+-- the region that a key falls to was read
+module _ (a : TreeView) (key : Key) (span : Region) (page : RegionView) (read : HasReadAt a key span page) where
+  -- it is the one that the key falls into
+  pub read_region : IsHonest a.store → (number : ℕ) (region : RegionRows) → FallsInto a key number region → (page.region.rows ≡ region.rows) × (span.page ≡ number)
+  read_region honest number region into =
+      let on = on_region a key number region span honest into read.falls in
+      (ap (λ (r : RegionRows). r.rows) (read.taken honest region on.0), on.1)
+
+  pub key_is_there : (A : Type 0) → has_key a.schema.dims key page.region.rows ≡ true → IsHonest a.store → AnswersKey {A = A} a key (Err (Page span.page BadOrder))
+  key_is_there A there honest number region into =
+      let on = read_region honest number region into in
+      let here : has_key a.schema.dims key region.rows ≡ true = rw (← on.0) there in (
+        λ has. inl (ap (λ (n : ℕ). Page n BadOrder) on.1),
+        λ none full many. absurd (let bad : true ≡ false = sym here ∙ none in cc),
+        λ none page fault is. absurd (let bad : true ≡ false = sym here ∙ none in cc),
+        λ none full few levels way. absurd (let bad : true ≡ false = sym here ∙ none in cc),
       )
 
-  pub unread_removal : (r : Result Bool TreeFault) (e : TreeFault) → IsErrAnd r (λ x. x ≡ e) → (IsHonest b.store → (q : RegionRows) → IsTakenIn b span q → IsPassing e)
+  pub removal_answers : (r : Result Bool TreeFault) → (has_key a.schema.dims key page.region.rows ≡ true → a.rows ≡ 0 → IsErrAnd r (λ x. x ≡ Page 0 BadCount))
+      → (has_key a.schema.dims key page.region.rows ≡ false → IfErr r IsPassing) → IfOk r (λ found. found ≡ has_key a.schema.dims key page.region.rows)
       → IsHonest a.store → AnswersRemoval a key r
-  unread_removal r e told taken honest page region falls =
-      let on = falls_on honest page region falls in
-      let passing = taken on.0 region on.1 in
-      (λ has none. passing_answers r e _ told passing, λ none. passing_fault r e told passing, no_answer r e _ told)
+  removal_answers r none passing found honest number region into =
+      let same = (read_region honest number region into).0 in (
+        λ has zero. fault_answers r (Page 0 BadCount) (none (rw same has) zero),
+        λ free. passing (rw same free),
+        subst (λ (rs : List Row). IfOk r (λ found. found ≡ has_key a.schema.dims key rs)) same found,
+      )
 
-  module _ (rows : List Row) (taken : IsHonest b.store → (q : RegionRows) → IsTakenIn b span q → rows ≡ q.rows) where
-    pub key_is_there : (A : Type 0) (number : ℕ) → number ≡ span.page → has_key a.schema.dims key rows ≡ true → IsHonest a.store → AnswersKey {A = A} a key (Err (Page number BadOrder))
-    key_is_there A number at there honest there_page region falls =
-        let on = falls_on honest there_page region falls in
-        let read = taken on.0 region on.1 in
-        let here : has_key a.schema.dims key region.rows ≡ true = rw (← read) there in (
-          λ has. inl (ap (λ (n : ℕ). Page n BadOrder) (at ∙ on.2)),
-          λ none full many. absurd (let bad : true ≡ false = sym here ∙ none in cc),
-          λ none page fault is. absurd (let bad : true ≡ false = sym here ∙ none in cc),
-          λ none full few levels way. absurd (let bad : true ≡ false = sym here ∙ none in cc),
-        )
-
-    pub key_isnt_there : {A : Type 0} (r : Result A TreeFault) → has_key a.schema.dims key rows ≡ false
-        → (length rows ≡ a.schema.page_rows → region_count a ≡ 4294967295 → IsErrAnd r (λ x. x ≡ Page 0 BadCount))
-        → ((page : ℕ) (fault : PageFault) → r ≡ Err (Page page fault) → (length rows ≡ a.schema.page_rows) × (region_count a ≡ 4294967295))
-        → (length rows ≡ a.schema.page_rows → region_count a ≢ 4294967295 → a.inner.index.levels ≡ MAX_LEVEL → HasFullWay a.inner.index a.store key → IsErrAnd r HasNoRoom)
-        → IsHonest a.store → AnswersKey a key r
-    key_isnt_there r none most only room honest number region falls =
-        let on = falls_on honest number region falls in
-        let read = taken on.0 region on.1 in
-        let here : has_key a.schema.dims key region.rows ≡ false = rw (← read) none in (
-          λ has. absurd (let bad : true ≡ false = sym has ∙ here in cc),
-          λ free full many. fault_answers r (Page 0 BadCount) (most (ap length read ∙ full) many),
-          λ free page fault is. let where_full = only page fault is in (sym (ap length read) ∙ where_full.0, where_full.1),
-          λ free full few levels way. room (ap length read ∙ full) few levels way,
-        )
-
-    pub removal_answers : (r : Result Bool TreeFault) → (has_key a.schema.dims key rows ≡ true → a.rows ≡ 0 → IsErrAnd r (λ x. x ≡ Page 0 BadCount))
-        → (has_key a.schema.dims key rows ≡ false → IfErr r IsPassing) → IfOk r (λ found. found ≡ has_key a.schema.dims key rows) → IsHonest a.store → AnswersRemoval a key r
-    removal_answers r none passing found honest page region falls =
-        let on = falls_on honest page region falls in
-        let read = taken on.0 region on.1 in (
-          λ has zero. fault_answers r (Page 0 BadCount) (none (rw read has) zero),
-          λ free. passing (rw read free),
-          subst (λ (rs : List Row). IfOk r (λ found. found ≡ has_key a.schema.dims key rs)) read found,
-        )
+-- whether the region has the key, which was told by other names
+pub has_told : {read_dims dims : ℕ} {own key : Key} {told is : Bool} (rows : List Row) → read_dims ≡ dims → own ≡ key → told ≡ has_key read_dims own rows → told ≡ is → has_key dims key rows ≡ is
+has_told rows same_dims same_key told is = rw (← same_dims, ← same_key) (sym told ∙ is)
 
 -- the key of the row that is put in
 pub next_key : (t a : TreeView) (shape : ℕ) (row : Row) (key : Key) → t ≡ a → shape ≡ t.schema.dims → key ≡ key_of shape row → key ≡ key_of a.schema.dims row

@@ -1,5 +1,5 @@
 -- The regions beside one, over any pages: where what is found isn't its neighbour, two regions overlap.
-use Rattle.std.proofs.Common.{◌≡◌, ◌<◌, ◌^◌, ◌∙◌, ◌⊎◌, inl, inr, ℕ, zero, suc, List, Bool, Option, Some, None, IfSome, Ok, Err, ap, sym, subst, refl, arith}
+use Rattle.std.proofs.Common.{◌≡◌, ◌<◌, ◌^◌, ◌∙◌, ◌⊎◌, inl, inr, ℕ, zero, suc, Bool, Option, Some, None, IfSome, Ok, Err, ap, sym, subst, refl, arith}
 use Rattle.std.proofs.lemmas.Bool.{cases_lt}
 use Rattle.ub_index.proofs.KeyFacts.{le_before}
 use Rattle.ub_index.specs.Searching.{GivesAny, GoesDown, key_before}

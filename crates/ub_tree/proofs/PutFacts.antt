@@ -1,5 +1,5 @@
 -- What putting the page of a region leaves of a tree: its index, and the regions, each on its page.
-use Rattle.std.proofs.Common.{◌≡◌, ◌≢◌, ◌<◌, ◌≤◌, ◌∙◌, ◌++◌, ◌^◌, ◌⊎◌, inl, inr, ℕ, zero, suc, Bool, List, [], ◌∷◌, Option, Some, None, length, map, take, drop, nat_eq, sym, ap, subst, refl, arith, slice_get, append_assoc}
+use Rattle.std.proofs.Common.{◌≡◌, ◌≢◌, ◌<◌, ◌≤◌, ◌∙◌, ◌++◌, ◌^◌, inl, inr, ℕ, zero, suc, Bool, List, [], ◌∷◌, Option, Some, None, length, map, take, drop, nat_eq, sym, ap, subst, refl, arith, slice_get, append_assoc}
 use Rattle.std.proofs.lemmas.Bool.{cases_eq}
 use Rattle.std.proofs.lemmas.List.{map-append, take-map, drop-map, length-map}
 use Rattle.std.proofs.lemmas.List.Elements.{recursion_from_All}
@@ -7,13 +7,13 @@ use Rattle.std.proofs.lemmas.Option.{slice_get_within}
 use Rattle.std.specs.List.{All, AllByRecursion, IsDistinct}
 use Rattle.ub_check.proofs.PlacedFacts.{placed_at}
 use Rattle.ub_index.proofs.FirstFacts.{below_some}
-use Rattle.ub_index.proofs.Changes.{kept_named, kept_index, kept_under, same_page, same_entries as under_same}
+use Rattle.ub_index.proofs.Changes.{kept_named, kept_index, kept_under, same_entries as under_same}
 use Rattle.ub_index.proofs.HeldFacts.{ends_of}
 use Rattle.ub_index.proofs.Numbers.{distinct_apart, distinct_first, kept_pages}
 use Rattle.ub_index.specs.Changed.{PagesStay}
 use Rattle.ub_index.specs.Changing.{IsOutside}
 use Rattle.ub_index.specs.Fitting.{FallsTo}
-use Rattle.ub_index.specs.Index.{NamesFitting, Fits, page_in, pages_under, top}
+use Rattle.ub_index.specs.Index.{NamesFitting, page_in, pages_under, top}
 use Rattle.ub_index.specs.Standing.{region_pages}
 use Rattle.ub_index.specs.View.{IndexView, IsRegionAt, entry_at}
 use Rattle.ub_index.specs.Way.{LeadsTo}

@@ -1,18 +1,16 @@
 -- What a tree keeps over several calls that read it.
-use Rattle.std.proofs.Common.{◌≡◌, ◌≢◌, ◌≤◌, ◌∙◌, inl, inr, ℕ, IsTrue, List, Option, Some, None, Result, Ok, Err, IfErr, subst, sym, ap, refl}
+use Rattle.std.proofs.Common.{◌≡◌, ◌≢◌, ◌≤◌, ◌∙◌, inl, inr, ℕ, IsTrue, List, Option, None, Result, Ok, Err, IfErr, subst, sym, ap, refl}
 use Rattle.std.specs.Result.{IsErrAnd}
-use Rattle.ub_bigmin.specs.Box.{Corners, HoldsAny}
-use Rattle.ub_bigmin.specs.Extremes.{LeastFrom}
+use Rattle.ub_bigmin.specs.Box.{Corners}
 use Rattle.ub_check.specs.Standing.{IsRegionRefused}
 use Rattle.ub_store.specs.declared.fault.StoreFault.TheVariants as store
-use Rattle.ub_index.specs.Searching.{Gives, GivesFrom, IsFrom}
+use Rattle.ub_index.specs.Searching.{Gives}
 use Rattle.ub_index.specs.Index.{top}
 use Rattle.ub_index.specs.Way.{LeadsTo}
 use Rattle.ub_store.specs.Facts.{IsPage, page_count}
 use Rattle.ub_index.specs.View.{entry_at}
 use Rattle.ub_store.specs.View.{Trace, emptied}
 use Rattle.ub_table.specs.declared.fault.PageFault.{PageFault}
-use Rattle.ub_table.specs.declared.row.Key.{Key}
 use Rattle.ub_tree.specs.Effects.{IsReadFault, IsIndexRefused, IsPageRefused, IsPageMissing, IsStopped, raised_by}
 use Rattle.ub_tree.specs.Indexed.{Inner}
 use Rattle.ub_tree.specs.Reading.{IsGiven, ReadsTree, SearchesTree, counted, fault_of_tree}

@@ -13,11 +13,9 @@ use Rattle.ub_table.specs.Region.{RegionRows, IsRegion}
 use Rattle.ub_table.specs.declared.row.Key.{Key}
 use Rattle.ub_table.specs.declared.row.Row.{Row}
 use Rattle.ub_tree.proofs.EffectFacts.{sound_stored}
-use Rattle.ub_tree.proofs.HoldingFacts.{no_answer}
 use Rattle.ub_tree.proofs.ShrinkFacts.{has_at, join_one, join_with, length-regions, put_alone, regions_put, removed_at, settle_before, settle_large, settle_next}
 use Rattle.ub_tree.proofs.TreeFacts.{firsts_placed, region_get, placed_there, within_placed}
-use Rattle.ub_tree.specs.Holding.{Answers, AnswersRemoval, IsThatOrBefore, ShrinksAt}
-use Rattle.ub_tree.specs.Opened.{IsPassing}
+use Rattle.ub_tree.specs.Holding.{IsThatOrBefore, ShrinksAt}
 use Rattle.ub_tree.specs.Others.{DropsEntry, KeepsEntries, WritesIndex, WritesPage}
 use Rattle.ub_tree.specs.Placed.{Placed, entry_of, regions_in}
 use Rattle.ub_tree.specs.Effects.{IsReadFault, IsTakenIn}
@@ -27,7 +25,8 @@ use Rattle.ub_tree.specs.Told.{FallsTo, IsRegionOf, KeepsTold}
 use Rattle.ub_tree.specs.View.{TreeView, IsSound, region_count, regions, tree_rows}
 use Rattle.ub_tree.specs.declared.fault.TreeFault.{TreeFault}
 use Rattle.ub_tree.specs.declared.fault.TreeFault.TheVariants.{Full, Page, Store, Failed as HasFailed, Memory}
-use Rattle.ub_tree.specs.inner.Change.{IsElsewhereSame, IsPut, IsRegionIn, IsRegionThere, IsStored, JoinsAt, TakesAt, Writes, placed_with, regions_with}
+use Rattle.ub_region.specs.RegionPage.{RegionView}
+use Rattle.ub_tree.specs.inner.Change.{HasReadAt, IsElsewhereSame, IsPut, IsRegionIn, IsRegionThere, IsStored, JoinsAt, TakesAt, Writes, placed_with, regions_with}
 use Rattle.ub_writing.specs.Marks.{HasMark}
 use Rattle.ub_zaddr.specs.Address.{last_address}
 
@@ -195,12 +194,8 @@ pub record IsHolder (a : TreeView) (key : Key) (span : Region) (rows : List Row)
   pub at : IsStored a → IsRegionIn a (index_holding key (first_keys (map entry_of a.placed))) span
   pub rows_are : (i : ℕ) (p : Placed) → IsHonest a.store → IsRegionIn a i span → slice_get a.placed i ≡ Some p → rows ≡ p.region.rows
 
-pub holder : (a s : TreeView) (key : Key) (span : Region) (rows : List Row) → s ≡ a → (IsStored a → IsRegionIn a (index_holding key (first_keys (map entry_of a.placed))) span)
-    → ((i : ℕ) (p : Placed) → IsHonest s.store → IsRegionIn s i span → slice_get s.placed i ≡ Some p → rows ≡ p.region.rows) → IsHolder a key span rows
-holder a s key span rows same at read = record {
-  at = at;
-  rows_are = subst (λ (v : TreeView). (i : ℕ) (p : Placed) → IsHonest v.store → IsRegionIn v i span → slice_get v.placed i ≡ Some p → rows ≡ p.region.rows) same read;
-}
+pub holder : (a : TreeView) (key : Key) (span : Region) (page : RegionView) → HasReadAt a key span page → IsHolder a key span page.region.rows
+holder a key span page read = record { at = read.region; rows_are = read.rows }
 
 module _ (a : TreeView) (key : Key) (span : Region) (rows : List Row) (h : IsHolder a key span rows) (sound : IsSound a) where
   abbrev index : ℕ
@@ -301,27 +296,12 @@ shrunk a b after d key span rows h same has changed marks last few lowered writt
       };
     })
 
-passing_either : (r : Result Bool TreeFault) (e told : TreeFault) → IsErrAnd r (λ x. x ≡ e) → IsPassing e → Answers r told
-passing_either (Ok x) e told is h = absurd is
-passing_either (Err f) e told is h = rw is (inr h)
-
-passing_only : (r : Result Bool TreeFault) (e : TreeFault) → IsErrAnd r (λ x. x ≡ e) → IsPassing e → IfErr r IsPassing
-passing_only (Ok x) e is h = tt
-passing_only (Err f) e is h = rw is h
-
--- where no span is found for the key
-pub unled_removal : (a : TreeView) (key : Key) (r : Result Bool TreeFault) (e : TreeFault) → IsErrAnd r (λ x. x ≡ e) → ((span : Region) → IsHonest a.store → FallsTo a key span → IsPassing e)
-    → IsHonest a.store → AnswersRemoval a key r
-unled_removal a key r e told led honest page region falls =
-    let passing = led falls.span honest falls.falls in
-    (λ has none. passing_either r e _ told passing, λ none. passing_only r e told passing, no_answer r e _ told)
-
 -- a region that was read stands there
-pub read_there : (a s : TreeView) (key : Key) (span : Region) (rows : List Row) → s ≡ a → FallsTo a key span → span.page < page_count s.store → IsTakenIn s span (record { first = span.first; rows = rows }) → IsRegionThere s span
-read_there a s key span rows same falls there on = record {
+pub read_there : (a s : TreeView) (key : Key) (span : Region) (region : RegionRows) → s ≡ a → FallsTo a key span → span.page < page_count s.store → IsTakenIn s span region → IsRegionThere s span
+read_there a s key span region same falls there on = record {
   told = subst (λ (v : TreeView). IsRegionOf v span) (sym same) (record { key = key; falls = falls });
   there = there;
-  region = record { first = span.first; rows = rows };
+  region = region;
   on = on;
 }
 

@@ -2,15 +2,15 @@
 use Rattle.std.proofs.Common.{◌≡◌, ◌<◌, ◌≤◌, ◌+◌, ◌-◌, ◌/◌, inl, inr, ℕ, zero, suc, true, false, List, [], ◌∷◌, ◌++◌, Option, Some, None, IfSome, length, nat_le, take, drop, ◌∙◌, sym, ap, subst, refl, arith, slice_get, length-append}
 use Rattle.std.proofs.lemmas.Bool.{cases_Bool, and_from, eq-eqb, le-leb, lt-leb, leb-true, leb-false}
 use Rattle.std.proofs.lemmas.List.{length-drop}
-use Rattle.std.specs.List.{AllByRecursion, list_any}
+use Rattle.std.specs.List.{AllByRecursion}
 use Rattle.ub_index.proofs.Laws.{same_key}
 use Rattle.ub_index.proofs.KeyFacts.{le_before}
-use Rattle.ub_index.specs.Preparing.{IsWithinRegion}
+use Rattle.ub_index.specs.Preparing.{ChangeView, IsWithinRegion}
 use Rattle.ub_index.specs.Way.{HoldsKey}
 use Rattle.ub_region.specs.declared.region.Region.{Region}
 use Rattle.ub_region.proofs.Laws.{IsFilled, two_chain, all_append, all_drop, all_left, all_more, all_right, before_or_same, upto_before, IsBeforeNext, up_append, up_head, up_tail, up_cons, up_remove, keys_append, all_keys, all_of_keys, all_insert, all_remove, length-insert_row, length-remove_row}
 use Rattle.ub_region.specs.Regions.{rows_of, two_regions}
-use Rattle.ub_region.specs.Rows.{has_key, insert_row, remove_row, cut, split}
+use Rattle.ub_region.specs.Rows.{left_half, has_key, insert_row, remove_row, cut, split}
 use Rattle.ub_table.proofs.Laws.{before_of, before_trans, precedes_of}
 use Rattle.ub_table.specs.Keys.{IsBefore, AreKeysAscending, is_same, precedes}
 use Rattle.ub_table.specs.Region.{RegionRows, IsRegion, IsRow, AreFrom, key_of, keys_of, measures_of}
@@ -20,7 +20,7 @@ use Rattle.ub_table.specs.declared.row.TheConstants.{MAX_ROW_NUMBER}
 use Rattle.ub_table.specs.declared.schema.Schema.{Schema}
 use Rattle.ub_tree.specs.Told.{FallsTo}
 use Rattle.ub_tree.specs.View.{TreeView}
-use Rattle.ub_tree.specs.inner.Change.{AreRowsFrom, CanStand, split_of}
+use Rattle.ub_tree.specs.inner.Change.{AreRowsFrom, CanStand, IsAddReady, split_of}
 use Rattle.ub_tree.specs.Effects.{IsTakenIn}
 use Rattle.ub_zaddr.specs.Address.{last_address}
 
@@ -99,7 +99,7 @@ filled_each schema first rows filled = elim (cases_Bool (nat_le (length rows) sc
       let many = leb-false (length rows) schema.page_rows f in
       let most = filled.most in
       let some = schema.counts.some_rows in
-      rw f (halves ((schema.page_rows + 2) / 2) (omega arith) (omega arith) (omega arith) (omega arith))
+      rw f (halves (left_half schema.page_rows) (omega arith) (omega arith) (omega arith) (omega arith))
 ]
   where
     halves : (n : ℕ) → 1 ≤ n → n < length rows → n ≤ schema.page_rows → length rows ≤ schema.page_rows + n → AllByRecursion (IsRegion schema) (two_regions first (cut schema.dims n rows))
@@ -139,7 +139,7 @@ within_for schema first next row rows are holds good none over =
     let some = schema.counts.some_rows in
     let whole : RegionRows = record { first = first; rows = insert_row dims row rows } in
     let filled = filled_with schema first next row rows are holds good none in
-    let sep = between schema whole ((schema.page_rows + 2) / 2) filled (omega arith) (omega arith) (omega arith) (omega arith) in
+    let sep = between schema whole (left_half schema.page_rows) filled (omega arith) (omega arith) (omega arith) (omega arith) in
     let below : IfSome next (λ end. AllByRecursion (λ k. IsBefore k end) (keys_of dims (insert_row dims row rows))) =
     if_some_both (λ end. AllByRecursion (λ k. IsBefore k end) (keys_of dims rows)) (λ end. IsBefore key end) (λ end. AllByRecursion (λ k. IsBefore k end) (keys_of dims (insert_row dims row rows)))
     next
@@ -240,18 +240,11 @@ rows_each P [] index r at all = cc
 rows_each P (x ∷ regions) zero r at all = let same : x ≡ r = cc in subst (λ (y : RegionRows). AllByRecursion P y.rows) same (all_left P x.rows (rows_of regions) all)
 rows_each P (x ∷ regions) (suc index) r at all = rows_each P regions index r at (all_right P x.rows (rows_of regions) all)
 
--- whether a row has the key is seen in the rows' keys
-pub any_key : (dims : ℕ) (key : Key) (rows : List Row) → list_any (is_same key) (keys_of dims rows) ≡ has_key dims key rows
-any_key dims key [] = refl
-any_key dims key (row ∷ rows) = rw (any_key dims key rows) refl
-
 next_taken : (rows : List Row) (i : ℕ) (row : Row) → slice_get rows i ≡ Some row → take (suc i) rows ≡ take i rows ++ row ∷ []
 next_taken [] i row is = cc
 next_taken (r ∷ rows) zero row is = let same : r ≡ row = cc in ap (λ (x : Row). x ∷ []) same
 next_taken (r ∷ rows) (suc i) row is = ap (λ (rs : List Row). r ∷ rs) (next_taken rows i row is)
 
--- the rows so far, with the next one
-pub listed_more : (rows old new : List Row) (i : ℕ) (row : Row) → old ≡ take i rows → slice_get rows i ≡ Some row → new ≡ old ++ row ∷ [] → new ≡ take (i + 1) rows
-listed_more rows old new i row so_far is pushed =
-    let one : i + 1 ≡ suc i = omega arith in
-    pushed ∙ ap (λ (rs : List Row). rs ++ row ∷ []) so_far ∙ sym (next_taken rows i row is) ∙ ap (λ (n : ℕ). take n rows) (sym one)
+-- what is prepared for a region that begins with a key, whatever that is called
+pub ready_for : {t : TreeView} {span : Region} {first named : Key} {change : ChangeView} → named ≡ first → IsAddReady t span named change → IsAddReady t span first change
+ready_for {t} {span} {first} {named} {change} same ready = subst (λ (k : Key). IsAddReady t span k change) same ready

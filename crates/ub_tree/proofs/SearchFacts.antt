@@ -1,5 +1,5 @@
 -- Searches in the index of a tree, as calls of the tree.
-use Rattle.std.proofs.Common.{◌≡◌, ◌<◌, ◌^◌, ◌∙◌, ◌⊎◌, inl, inr, ℕ, Bool, List, [], Option, Some, None, IfSome, Result, Ok, Err, if◌then◌else◌, ap, refl, subst, sym}
+use Rattle.std.proofs.Common.{◌≡◌, ◌<◌, ◌^◌, ◌∙◌, inl, inr, ℕ, Bool, Option, Some, None, IfSome, Result, Ok, Err, if◌then◌else◌, ap, refl}
 use Rattle.std.proofs.lemmas.Bool.{cases_Bool}
 use Rattle.std.specs.Result.{IsErrAnd}
 use Rattle.ub_index.proofs.KeyFacts.{le_before}

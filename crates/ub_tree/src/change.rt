@@ -1,6 +1,6 @@
 ghost use Rattle.std.specs.Int.{w64};
 ghost use Rattle.std.specs.Prelude.{FitsSigned, ℕ, map, ◌≡◌, ◌≢◌, ◌+◌, ◌-◌, pos, replicate, ◌<◌, ◌≤◌, ◌++◌, ◌∷◌, [], true, false, IsTrue, Some, Err, length, slice_get, IfOk, IfErr, MatchResult, OnOk};
-ghost use Rattle.std.specs.List.{AllByRecursion, insert, list_any};
+ghost use Rattle.std.specs.List.{AllByRecursion, insert};
 ghost use Rattle.ub_index.specs.Changing.{AreIndexPages, AreOnce, Stand};
 ghost use Rattle.ub_index.specs.Making.{PutsSheets, changed};
 ghost use Rattle.ub_index.specs.Preparing.{IsWithinRegion};
@@ -10,13 +10,12 @@ ghost use Rattle.ub_region.specs.RegionPage.{region_page};
 ghost use Rattle.ub_region.specs.Rows.{insert_row};
 ghost use Rattle.ub_store.specs.Facts as facts;
 ghost use Rattle.ub_store.specs.Facts.{page_count};
-ghost use Rattle.ub_table.specs.Keys.{is_same};
 ghost use Rattle.ub_table.specs.Region.{RegionRows, IsRegion, key_of, measures_of};
 ghost use Rattle.ub_tree.specs.Change as spec;
 ghost use Rattle.ub_tree.specs.Change.{IsInserted, Suits, numbered};
-ghost use Rattle.ub_tree.specs.inner.Change.{CanStand, GrowsTo, HasStopped, IsIndexFault, IsPut, IsReadAt, IsRegionIn, IsRegionThere, IsSplitAt, IsStored, KeepsGrown, PutsRows, StoresAt, StoresRows, Writes, WritesBoth, placed_with};
+ghost use Rattle.ub_tree.specs.inner.Change.{CanStand, GrowsTo, HasReadAt, HasStopped, IsIndexFault, IsPut, IsReadAt, IsRegionIn, IsRegionThere, IsSplitAt, IsStored, KeepsGrown, PutsRows, StoresAt, StoresRows, Writes, WritesBoth, placed_with};
 ghost use Rattle.ub_tree.specs.Effects.{Searches, Changes, IsTakenIn};
-ghost use Rattle.ub_tree.specs.Holding.{AnswersKey, AnswersRow, AnswersAt, GrowsAt};
+ghost use Rattle.ub_tree.specs.Holding.{AnswersKey, AnswersRow, AnswersAt, FallsInto, GrowsAt};
 ghost use Rattle.ub_tree.specs.Opened.{IsPassing};
 ghost use Rattle.ub_tree.specs.Placed.{Placed};
 ghost use Rattle.ub_tree.specs.Told.{KeepsTold, IsRegionOf};
@@ -24,12 +23,12 @@ ghost use Rattle.ub_tree.specs.View.{IsSound, region_count};
 ghost use Rattle.ub_writing.specs.Puts.{PutsTwo};
 
 use crate::fault::{TreeFault, bad_count};
-use crate::room::{Drafts, Room, list_rows, new_room};
+use crate::room::{Drafts, Room, new_room};
 use crate::tree::Tree;
 use ub_check::take_region;
 use ub_index::Change;
-use ub_page::{Draft, Page, RegionPage, write_region};
-use ub_region::{Halves, Region, Rows, index_in, is_equal};
+use ub_page::{Page, RegionPage};
+use ub_region::{Region, index_in};
 use ub_store::{MAX_PAGES, PageStore, StoreFault};
 use ub_table::{Key, MAX_ROW_NUMBER, PageFault, Row};
 use ub_writing::{write_page, write_pages};
@@ -59,30 +58,6 @@ impl<S: PageStore> Tree<S> {
         Ok(new_room(self.alloc, self.schema.shape())?)
     }
 
-    // Lists the rows of a region, which is read into this page.
-    pub(crate) fn rows_at(
-        &mut self,
-        region: &Region,
-        page: &mut RegionPage,
-        rows: &mut Rows,
-    ) -> Result<(), TreeFault>
-        requires { IsRegionOf self.old region.now }
-        ensures on { OnOk result (IsTakenIn self.old region.now
-            (record { first = region.now.first; rows = rows.new })) }
-        ensures there { OnOk result (region.now.page < page_count self.old.store) }
-        ensures rows { (i : ℕ) (p : Placed) → facts.IsHonest self.old.store
-            → IsRegionIn self.old i region.now → slice_get self.old.placed i ≡ Some p
-            → OnOk result (rows.new ≡ p.region.rows) }
-        ensures taken { facts.IsHonest self.old.store → (r : RegionRows)
-            → IsTakenIn self.old region.now r
-            → MatchResult result (λ _. rows.new ≡ r.rows) IsPassing }
-        ensures effect { Searches self.old self.new result }
-    {
-        self.read_at(region, page)?;
-        list_rows(page, rows);
-        Ok(())
-    }
-
     // Reads a region. After a fault any region may stand in `page`. A page that is refused isn't held after it.
     pub(crate) fn read_at(
         &mut self,
@@ -105,28 +80,45 @@ impl<S: PageStore> Tree<S> {
         Ok(())
     }
 
-    // Puts these rows on the page of a region. After a fault the tree has failed.
+    // Reads the region that holds a key. After a fault any region may stand in `page`.
+    pub(crate) fn read_holding(
+        &mut self,
+        key: &Key,
+        page: &mut RegionPage,
+    ) -> Result<Region, TreeFault>
+        ensures read { IfOk result (λ region. HasReadAt self.old key.now region page.new) }
+        ensures led { (number : ℕ) (region : RegionRows) → facts.IsHonest self.old.store
+            → FallsInto self.old key.now number region → IfErr result IsPassing }
+        ensures effect { Searches self.old self.new result }
+    {
+        let region = self.region_holding(key)?;
+        self.read_at(&region, page)?;
+        Ok(region)
+    }
+
+    // Puts this region on the page of the one that it was made of. After a fault the tree has failed.
     pub(crate) fn rewrite(
         &mut self,
         region: &Region,
-        rows: &[Row],
+        page: &RegionPage,
         drafts: &mut Drafts,
     ) -> Result<(), TreeFault>
         requires there { IsRegionThere self.old region.now }
+        requires first { page.now.region.first ≡ region.now.first }
         requires region { IsRegion self.old.schema
-            (record { first = region.now.first; rows = rows.now }) }
+            (record { first = region.now.first; rows = page.now.region.rows }) }
         ensures same { OnOk result (IsPut self.old self.new) }
         ensures written { (i : ℕ) → IsStored self.old → IsRegionIn self.old i region.now
             → OnOk result (IsStored self.new × (self.new.placed ≡ placed_with i (record {
               page = region.now.page;
-              region = record { first = region.now.first; rows = rows.now };
+              region = record { first = region.now.first; rows = page.now.region.rows };
             } ∷ []) self.old.placed)) }
         ensures told { OnOk result (KeepsTold self.old self.new) }
         ensures faults { IfErr result (λ fault. fault ≡ TreeFault.Store StoreFault.Device) }
         ensures stays { self.old.is_changed ≡ true → self.new.is_changed ≡ true }
         ensures effect { Writes region.now self.old self.new result }
     {
-        write_region(&self.schema, region.first, rows, &mut drafts.page);
+        page.write(&self.schema, &mut drafts.page);
         self.put_page(region, drafts.page.page())
     }
 
@@ -227,29 +219,30 @@ impl<S: PageStore> Tree<S> {
         }
     }
 
-    // Puts these halves of the rows of a region on its page and on a new one, and that into the index. All that can be
+    // Puts the left half of a region on its page and the right one on a new one, and that into the index. All that can be
     // refused comes before the first page is written, and before the store has a page more. After a failure of the device that comes
     // later the tree has failed.
     fn split(
         &mut self,
         region: &Region,
-        halves: &Halves<'_>,
+        left: &RegionPage,
+        right: &RegionPage,
         drafts: &mut Drafts,
     ) -> Result<(), TreeFault>
         requires there { IsRegionThere self.old region.now }
+        requires first { left.now.region.first ≡ region.now.first }
         requires within { IsWithinRegion self.old.inner.index.last region.now.first region.now.next
-            halves.now.first }
+            right.now.region.first }
         requires left { IsRegion self.old.schema
-            (record { first = region.now.first; rows = halves.now.left.now }) }
-        requires right { IsRegion self.old.schema
-            (record { first = halves.now.first; rows = halves.now.right.now }) }
+            (record { first = region.now.first; rows = left.now.region.rows }) }
+        requires right { IsRegion self.old.schema right.now.region }
         ensures same { OnOk result (StoresAt region.now self.old.schema.page_rows
             self.old self.new) }
         ensures written { (i : ℕ) → IsStored self.old → IsRegionIn self.old i region.now
             → OnOk result (IsStored self.new × IsSplitAt i region.now (record {
-              left = halves.now.left.now;
-              first = halves.now.first;
-              right = halves.now.right.now;
+              left = left.now.region.rows;
+              first = right.now.region.first;
+              right = right.now.region.rows;
             }) self.old self.new × KeepsGrown self.old self.new) }
         ensures counted { AnswersAt (Unit {0}) self.old region.now result }
         ensures effect { Changes self.old self.new result }
@@ -259,9 +252,9 @@ impl<S: PageStore> Tree<S> {
         if self.count == MAX_PAGES {
             return Err(self.uncounted());
         }
-        let change = self.prepare_add(region, &halves.first)?;
-        write_region(&self.schema, region.first, halves.left, &mut drafts.page);
-        write_region(&self.schema, halves.first, halves.right, &mut drafts.other);
+        let change = self.prepare_add(region, &right.first())?;
+        left.write(&self.schema, &mut drafts.page);
+        right.write(&self.schema, &mut drafts.other);
         self.grow(&change)?;
         self.put_halves(region, change.page(), drafts)?;
         self.put_index(&change)?;
@@ -313,6 +306,7 @@ impl<S: PageStore> Tree<S> {
         room: &mut Room,
     ) -> Result<(), TreeFault>
         requires there { IsRegionThere self.old region.now }
+        requires read { IsReadAt self.old region.now room.old.region }
         requires full { length room.old.region.region.rows ≡ self.old.schema.page_rows }
         requires within { index ≤ length room.old.region.region.rows }
         requires rows { CanStand self.old region.now
@@ -324,12 +318,8 @@ impl<S: PageStore> Tree<S> {
         ensures counted { AnswersAt (Unit {0}) self.old region.now result }
         ensures effect { Changes self.old self.new result }
     {
-        list_rows(&room.region, &mut room.rows);
-        room.rows.insert_at(index, *row);
-        let halves = room
-            .rows
-            .split(self.schema.shape(), self.schema.page_rows());
-        self.split(region, &halves, &mut room.drafts)
+        room.region.split_with(index, row, &mut room.other);
+        self.split(region, &room.region, &room.other, &mut room.drafts)
     }
 
     /// Puts a row in, with these coordinates and measures, and gives its number: one more than the last row got.
@@ -407,9 +397,8 @@ impl<S: PageStore> Tree<S> {
         ensures effect { Changes self.old self.new result }
     {
         let key = row.key(self.schema.shape());
-        let region = self.region_holding(&key)?;
-        self.read_at(&region, &mut room.region)?;
-        if has_key(room.region.keys(), &key) {
+        let region = self.read_holding(&key, &mut room.region)?;
+        if room.region.has(&key) {
             return Err(TreeFault::Page {
                 page: region.page,
                 fault: PageFault::BadOrder,
@@ -457,11 +446,4 @@ fn four_measures(measures: &[i64]) -> [i64; 4]
         all[i] = *x;
     }
     all
-}
-
-// Whether this is one of the keys.
-fn has_key(keys: &[Key], key: &Key) -> bool
-    ensures { result ≡ list_any (is_same key.now) keys.now }
-{
-    keys.iter().any(|other| is_equal(key, other))
 }

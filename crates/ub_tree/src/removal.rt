@@ -7,7 +7,7 @@ ghost use Rattle.ub_store.specs.Facts as facts;
 ghost use Rattle.ub_store.specs.Facts.{page_count};
 ghost use Rattle.ub_table.specs.Region.{IsRegion};
 ghost use Rattle.ub_table.specs.declared.row.Key as key;
-ghost use Rattle.ub_tree.specs.inner.Change.{AreRowsFrom, IsRegionIn, IsRegionThere, IsStored, JoinsAt, TakesAt};
+ghost use Rattle.ub_tree.specs.inner.Change.{IsMadeOf, IsRegionIn, IsRegionThere, IsStored, JoinsAt, TakesAt};
 ghost use Rattle.ub_tree.specs.Effects.{Searches, Changes};
 ghost use Rattle.ub_tree.specs.Holding.{AnswersRemoval, ShrinksAt};
 ghost use Rattle.ub_tree.specs.Removal.{IsRemoved, IsRemovalFault};
@@ -17,31 +17,35 @@ ghost use Rattle.ub_tree.specs.View.{IsSound, regions};
 use crate::fault::{TreeFault, bad_count};
 use crate::room::{Drafts, Room};
 use crate::tree::Tree;
+use std::mem::swap;
+use ub_page::RegionPage;
 use ub_region::Region;
 use ub_store::PageStore;
-use ub_table::{Key, Row};
+use ub_table::Key;
 
 impl<S: PageStore> Tree<S> {
-    // Puts rows on the page of a region, among them those of the next region, which is then no more. After a fault of a
-    // write the tree has failed.
+    // Puts a region with the rows of the next one too on the page of the one that it was made of; the next one is then no
+    // more. After a fault of a write the tree has failed.
     fn join_at(
         &mut self,
         region: &Region,
         next: &Region,
-        rows: &[Row],
+        page: &RegionPage,
         drafts: &mut Drafts,
     ) -> Result<(), TreeFault>
         requires there { IsRegionThere self.old region.now }
         requires next { IsRegionOf self.old next.now × (region.now.next ≡ Some next.now.first) }
+        requires first { page.now.region.first ≡ region.now.first }
         requires region { IsRegion self.old.schema
-            (record { first = region.now.first; rows = rows.now }) }
+            (record { first = region.now.first; rows = page.now.region.rows }) }
         ensures same { OnOk result (JoinsAt region.now self.old self.new) }
         ensures written { (i : ℕ) → IsStored self.old → IsRegionIn self.old i region.now
             → IsRegionIn self.old (i + 1) next.now
             → AllByRecursion (IsRegion self.old.schema)
-            (put_rows i true rows.now (regions self.old))
+            (put_rows i true page.now.region.rows (regions self.old))
             → OnOk result (IsStored self.new
-            × (regions self.new ≡ put_rows i true rows.now (regions self.old))) }
+            × (regions self.new
+            ≡ put_rows i true page.now.region.rows (regions self.old))) }
         ensures effect { Changes self.old self.new result }
         ensures faults { IfErr result (IsRemovalFault self.old) }
         ensures stays { self.old.is_changed ≡ true → self.new.is_changed ≡ true }
@@ -50,7 +54,7 @@ impl<S: PageStore> Tree<S> {
             return Err(self.uncounted());
         }
         let change = self.prepare_drop(next)?;
-        self.rewrite(region, rows, drafts)?;
+        self.rewrite(region, page, drafts)?;
         self.put_index(&change)?;
         self.count -= 1;
         Ok(())
@@ -60,25 +64,27 @@ impl<S: PageStore> Tree<S> {
     // together with these, and then gives that.
     fn join_next(&mut self, region: &Region, room: &mut Room) -> Result<Option<Region>, TreeFault>
         requires told { IsRegionOf self.old region.now }
-        requires rows { AreRowsFrom self.old.schema region.now.first region.now.next room.old.rows }
-        ensures rows { IfOk result (λ found. MatchOption found (room.new.rows ≡ room.old.rows)
-            (λ _. IsRegion self.old.schema
-            (record { first = region.now.first; rows = room.new.rows }))) }
+        requires rows { IsMadeOf self.old.schema region.now room.old.region }
+        ensures rows { IfOk result (λ found. MatchOption found
+            (room.new.region ≡ room.old.region)
+            (λ _. (room.new.region.region.first ≡ region.now.first)
+            × IsRegion self.old.schema
+            (record { first = region.now.first; rows = room.new.region.region.rows }))) }
         ensures found { IfOk result (λ found. IfSome found (λ next.
             IsRegionOf self.old next × (region.now.next ≡ Some next.first))) }
         ensures next { (i : ℕ) → IsStored self.old → IsRegionIn self.old i region.now
             → IfOk result (λ found. IfSome found (IsRegionIn self.old (i + 1))) }
         ensures joined { (i : ℕ) → IsStored self.old → IsRegionIn self.old i region.now
             → IfOk result (λ found. JoinsNext self.old.schema.page_rows i
-            room.old.rows room.new.rows (is_some found) (regions self.old)) }
+            room.old.region.region.rows room.new.region.region.rows (is_some found) (regions self.old)) }
         ensures effect { Searches self.old self.new result }
     {
         let next = match self.region_after(region)? {
             Some(next) => next,
             None => return Ok(None),
         };
-        self.rows_at(&next, &mut room.region, &mut room.others)?;
-        if room.rows.join(&room.others, self.schema.page_rows()) {
+        self.read_at(&next, &mut room.other)?;
+        if room.region.join(&room.other, self.schema.page_rows()) {
             Ok(Some(next))
         } else {
             Ok(None)
@@ -89,10 +95,12 @@ impl<S: PageStore> Tree<S> {
     // holds them together, and then gives that.
     fn join_before(&mut self, region: &Region, room: &mut Room) -> Result<Option<Region>, TreeFault>
         requires told { IsRegionOf self.old region.now }
-        requires rows { AreRowsFrom self.old.schema region.now.first region.now.next room.old.rows }
-        ensures rows { IfOk result (λ found. MatchOption found (room.new.rows ≡ room.old.rows)
-            (λ before. IsRegion self.old.schema
-            (record { first = before.first; rows = room.new.rows }))) }
+        requires rows { IsMadeOf self.old.schema region.now room.old.region }
+        ensures rows { IfOk result (λ found. MatchOption found
+            (room.new.region ≡ room.old.region)
+            (λ before. (room.new.region.region.first ≡ before.first)
+            × IsRegion self.old.schema
+            (record { first = before.first; rows = room.new.region.region.rows }))) }
         ensures there { IfOk result (λ found. IfSome found (IsRegionThere self.old)) }
         ensures ends { IfOk result (λ found. IfSome found
             (λ before. before.next ≡ Some region.now.first)) }
@@ -104,15 +112,16 @@ impl<S: PageStore> Tree<S> {
             × IsRegionIn self.old j before)) }
         ensures joined { (i : ℕ) → IsStored self.old → IsRegionIn self.old i region.now
             → IfOk result (λ found. JoinsBefore self.old.schema.page_rows i
-            room.old.rows room.new.rows (is_some found) (regions self.old)) }
+            room.old.region.region.rows room.new.region.region.rows (is_some found) (regions self.old)) }
         ensures effect { Searches self.old self.new result }
     {
         let before = match self.region_before(region)? {
             Some(before) => before,
             None => return Ok(None),
         };
-        self.rows_at(&before, &mut room.region, &mut room.others)?;
-        if room.rows.join_before(&room.others, self.schema.page_rows()) {
+        self.read_at(&before, &mut room.other)?;
+        if room.other.join(&room.region, self.schema.page_rows()) {
+            swap(&mut room.region, &mut room.other);
             Ok(Some(before))
         } else {
             Ok(None)
@@ -123,27 +132,29 @@ impl<S: PageStore> Tree<S> {
     // those of the next region, or else of the one before, where a page holds both.
     fn settle(&mut self, region: &Region, room: &mut Room) -> Result<(), TreeFault>
         requires there { IsRegionThere self.old region.now }
-        requires rows { AreRowsFrom self.old.schema region.now.first region.now.next room.old.rows }
+        requires rows { IsMadeOf self.old.schema region.now room.old.region }
         ensures same { OnOk result (TakesAt region.now self.old self.new) }
         ensures written { (i : ℕ) → IsStored self.old → IsRegionIn self.old i region.now
             → AllByRecursion (IsRegion self.old.schema)
-            (settle self.old.schema.page_rows i (put_rows i false room.old.rows (regions self.old)))
-            → OnOk result (IsStored self.new × (regions self.new ≡
-            settle self.old.schema.page_rows i (put_rows i false room.old.rows (regions self.old)))) }
+            (settle self.old.schema.page_rows i
+            (put_rows i false room.old.region.region.rows (regions self.old)))
+            → OnOk result (IsStored self.new × (regions self.new
+            ≡ settle self.old.schema.page_rows i
+            (put_rows i false room.old.region.region.rows (regions self.old)))) }
         ensures effect { Changes self.old self.new result }
         ensures faults { IfErr result (IsRemovalFault self.old) }
         ensures stays { self.old.is_changed ≡ true → self.new.is_changed ≡ true }
     {
-        if !room.rows.are_few(self.schema.page_rows()) {
-            return self.rewrite(region, room.rows.as_slice(), &mut room.drafts);
+        if !room.region.are_few(self.schema.page_rows()) {
+            return self.rewrite(region, &room.region, &mut room.drafts);
         }
         if let Some(next) = self.join_next(region, room)? {
-            return self.join_at(region, &next, room.rows.as_slice(), &mut room.drafts);
+            return self.join_at(region, &next, &room.region, &mut room.drafts);
         }
         if let Some(before) = self.join_before(region, room)? {
-            return self.join_at(&before, region, room.rows.as_slice(), &mut room.drafts);
+            return self.join_at(&before, region, &room.region, &mut room.drafts);
         }
-        self.rewrite(region, room.rows.as_slice(), &mut room.drafts)
+        self.rewrite(region, &room.region, &mut room.drafts)
     }
 
     /// Takes out the row with this key, and tells whether there is one; where there is none nothing is written. A region
@@ -193,9 +204,8 @@ impl<S: PageStore> Tree<S> {
         ensures stays { self.old.is_changed ≡ true → self.new.is_changed ≡ true }
         ensures marks { IfOk result (λ found. found ≡ true → self.new.is_changed ≡ true) }
     {
-        let region = self.region_holding(key)?;
-        self.rows_at(&region, &mut room.region, &mut room.rows)?;
-        if !room.rows.remove(self.schema.shape(), key) {
+        let region = self.read_holding(key, &mut room.region)?;
+        if !room.region.remove(key) {
             return Ok(false);
         }
         if self.rows == 0 {

@@ -1,19 +1,14 @@
-ghost use Rattle.std.specs.Prelude.{◌≡◌};
-
 use std::alloc::{AllocError, Global};
 use ub_page::{Draft, RegionPage};
-use ub_region::Rows;
 use ub_zaddr::Shape;
 
-/// Room for what a tree changes: the region that it read, rows, and the pages that it writes.
+/// Room for what a tree changes: the regions that it reads, and the pages that it writes.
 #[derive(Drop)]
 pub struct Room {
-    /// The region that was read last.
+    /// The region that is changed.
     pub region: RegionPage,
-    /// The rows of the region that is changed.
-    pub rows: Rows,
-    /// Those of the region after it, or before it.
-    pub others: Rows,
+    /// The right half of it, the one after it, or the one before it.
+    pub other: RegionPage,
     /// The pages.
     pub drafts: Drafts,
 }
@@ -33,22 +28,11 @@ pub fn new_room(alloc: Global, shape: Shape) -> Result<Box<Room>, AllocError> {
         alloc,
         Room {
             region: RegionPage::empty(shape),
-            rows: Rows::new(),
-            others: Rows::new(),
+            other: RegionPage::empty(shape),
             drafts: Drafts {
                 page: Draft::new(),
                 other: Draft::new(),
             },
         },
     )?)
-}
-
-/// Lists the rows of a region that was read.
-pub fn list_rows(region: &RegionPage, rows: &mut Rows)
-    ensures { rows.new ≡ region.now.region.rows }
-{
-    rows.clear();
-    for i in 0..region.len() {
-        rows.push(region.row(i));
-    }
 }

@@ -1,5 +1,5 @@
 -- What the steps of a change of one region do to a tree, and what they need.
-use Rattle.std.specs.Prelude.{IfSome, ◌≡◌, ◌≢◌, ◌+◌, ◌<◌, ◌≤◌, ◌++◌, ◌⊎◌, ℕ, suc, true, false, List, [], ◌∷◌, Option, IsTrue, Result, Err, IfErr, OnOk, length, map, take, drop}
+use Rattle.std.specs.Prelude.{IfSome, ◌≡◌, ◌≢◌, ◌+◌, ◌<◌, ◌≤◌, ◌++◌, ◌⊎◌, ℕ, suc, true, false, List, [], ◌∷◌, Option, IsTrue, Result, Err, IfErr, OnOk, Some, length, map, take, drop, slice_get}
 use Rattle.std.specs.List.{AllByRecursion}
 use Rattle.ub_store.specs.Writing.{Grows}
 use Rattle.ub_index.specs.Changed.{Replaces}
@@ -10,7 +10,7 @@ use Rattle.ub_index.specs.Preparing.{ChangeView, IsWithinRegion, MakesIndex, Tak
 use Rattle.ub_index.specs.View.{IsRegionAt, entries_in, entry_at}
 use Rattle.ub_index.specs.declared.sheet.Sheet.{Sheet}
 use Rattle.ub_region.specs.RegionPage.{RegionView, region_page}
-use Rattle.ub_region.specs.Regions.{split_region}
+use Rattle.ub_region.specs.Regions.{index_holding, split_region}
 use Rattle.ub_region.specs.Rows.{Halves, split}
 use Rattle.ub_store.specs.Facts.{StoreFacts, IsHonest, page_count}
 use Rattle.ub_store.specs.declared.fault.StoreFault.TheVariants as store
@@ -25,7 +25,7 @@ use Rattle.ub_tree.specs.Holding.{IsThatOrBefore}
 use Rattle.ub_tree.specs.Indexed.{HasIndex, reserved}
 use Rattle.ub_tree.specs.Others.{AddsEntry, DropsEntry, KeepsEntries, KeepsOthers, WritesIndex, WritesPage}
 use Rattle.ub_tree.specs.Placed.{Placed, ArePlaced, entry_of}
-use Rattle.ub_tree.specs.Spans.{Region}
+use Rattle.ub_tree.specs.Spans.{Region, first_keys}
 use Rattle.ub_tree.specs.Told.{FallsTo, IsRegionOf}
 use Rattle.ub_tree.specs.View.{TreeView, IsSound, region_count, regions}
 use Rattle.ub_tree.specs.declared.fault.TreeFault.{TreeFault}
@@ -113,11 +113,27 @@ pub record IsReadAt (t : TreeView) (span : Region) (page : RegionView) : Type 0 
   pub dims : page.dims ≡ t.schema.dims
   pub on : IsTakenIn t span page.region
 
+-- the region that holds a key was read: of stored pages it is the one that the key falls to, and over an honest store it is the
+-- one that the page spells
+pub record HasReadAt (t : TreeView) (key : Key) (span : Region) (page : RegionView) : Type 0 where
+  pub falls : FallsTo t key span
+  pub there : span.page < page_count t.store
+  pub read : IsReadAt t span page
+  pub region : IsStored t → IsRegionIn t (index_holding key (first_keys (map entry_of t.placed))) span
+  pub rows : (i : ℕ) (p : Placed) → IsHonest t.store → IsRegionIn t i span → slice_get t.placed i ≡ Some p → page.region.rows ≡ p.region.rows
+  pub taken : IsHonest t.store → (r : RegionRows) → IsTakenIn t span r → page.region ≡ r
+
 -- the rows are those of a region which begins with this key, and they stand before the next one
 abbrev pub AreRowsFrom : Schema → Key → Option Key → List Row → Type 0
 AreRowsFrom schema first next rows =
     IsRegion schema (record { first = first; rows = rows })
     × IfSome next (λ end. AllByRecursion (λ key. IsBefore key end) (keys_of schema.dims rows))
+
+-- a region in memory has rows that can stand in one that the tree tells of, in the same space and from the same key on
+pub record IsMadeOf (schema : Schema) (span : Region) (page : RegionView) : Type 0 where
+  pub dims : page.dims ≡ schema.dims
+  pub first : page.region.first ≡ span.first
+  pub rows : AreRowsFrom schema span.first span.next page.region.rows
 
 -- each page that is spelled is one of the index, which the store has, or one that the change brings
 pub record IsSpelledAt (t : TreeView) (from : ℕ) (change : ChangeView) (sheet : Sheet) : Type 0 where

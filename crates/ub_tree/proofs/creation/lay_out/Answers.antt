@@ -1,4 +1,4 @@
-use Rattle.std.proofs.Common.{[], ◌∷◌, ◌≤◌, ◌∙◌, Bool, IsTrue, ℕ, ap, arith, subst}
+use Rattle.std.proofs.Common.{[], ◌∷◌, ◌∙◌, Bool, IsTrue, ℕ, ap, arith, subst}
 use Rattle.ub_index.proofs.HeldFacts.{keeps_on}
 use Rattle.ub_index.specs.Held.{KeepsChecked}
 use Rattle.ub_region.specs.RegionPage.{region_page}

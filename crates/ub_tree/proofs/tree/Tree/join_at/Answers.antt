@@ -77,7 +77,7 @@ returns-clause-written g c = λ i stored at at_next each.
     let b = c.prepare_drop.new.self in
     let span = c.args.region.now in
     let next = c.args.next.now in
-    let rows = c.args.rows.now in
+    let rows = c.args.page.now.region.rows in
     let change = c.in_ok-change.change in
     let same = c.in_ok-change.ensures.effect.same in
     let there = subst (λ (v : TreeView). IsRegionThere v span) (sym same) c.requires.there in
@@ -145,7 +145,10 @@ pub rewrite-requires-clause-there : goal.rewrite-requires-clause-there
 rewrite-requires-clause-there g c = subst (λ (v : TreeView). IsRegionThere v c.args.region.now) (sym c.in_ok-change.ensures.effect.same) c.requires.there
 
 pub rewrite-requires-clause-region : goal.rewrite-requires-clause-region
-rewrite-requires-clause-region g c = subst (λ (v : TreeView). IsRegion v.schema (record { first = c.args.region.now.first; rows = c.args.rows.now })) (sym c.in_ok-change.ensures.effect.same) c.requires.region
+rewrite-requires-clause-region g c = subst (λ (v : TreeView). IsRegion v.schema (record { first = c.args.region.now.first; rows = c.args.page.now.region.rows })) (sym c.in_ok-change.ensures.effect.same) c.requires.region
+
+pub rewrite-requires-clause-first : goal.rewrite-requires-clause-first
+rewrite-requires-clause-first g c = c.requires.first
 
 pub returns-in_err-rewrite-clause-same : goal.returns-in_err-rewrite-clause-same
 returns-in_err-rewrite-clause-same g c = refused_none _ c.from_residual-in_err-rewrite.result c.in_err-rewrite.field-0.0 c.from_residual-in_err-rewrite.ensures.1

@@ -1,28 +1,38 @@
-use Rattle.std.proofs.Common.{◌≡◌, ◌+◌, ◌∙◌, ℕ, false, ap, arith, length, refl, subst, sym}
+use Rattle.std.proofs.Common.{◌≡◌, ◌+◌, ◌++◌, ◌∙◌, if◌then◌else◌, ℕ, false, ap, arith, length, refl, subst, sym}
 use Rattle.std.proofs.lemmas.Bool.{leb-true}
 use Rattle.ub_tree.proofs.RoomFacts.{next_region, rows_on}
 use Rattle.ub_tree.proofs.RemovalFacts.{joins_one, read_there}
 use Rattle.ub_tree.proofs.HoldingFacts.{no_answer}
 use Rattle.ub_tree.proofs.RefusedFacts.{refused_search, searched, then_refused_search}
 use Rattle.ub_region.specs.Joins.{JoinsBefore}
+use Rattle.ub_region.specs.RegionPage.{RegionView}
+use Rattle.ub_tree.specs.declared.room.Room.{Room}
 use Rattle.ub_tree.specs.View.{TreeView, regions}
 use Rattle.ub_tree.specs.inner.Change.{IsRegionThere}
 use Rattle.ub_tree.specs.Told.{IsRegionOf}
 use Rattle.ub_tree.specs.Effects.{IsTakenIn}
-use Rattle.ub_tree.proofs.tree.Tree.join_before.Goals.{then-join_before, else-join_before}
+use Rattle.ub_tree.proofs.tree.Tree.join_before.Goals.{then-join, else-join}
 use Rattle.ub_tree.proofs.tree.Tree.join_before.Goals as goal
 
 pub returns-clause-joined : goal.returns-clause-joined
 returns-clause-joined g c = λ i stored at.
     let a = c.args.self.now in
     let before = c.in-Some.before in
+    let old = c.args.room.now.region.region.rows in
+    let more = c.read_at.new.page.region.rows in
+    let new = c.if-join.room.region.region.rows in
     let stands = rw c.in-Some.is at (c.in_ok-before.ensures.before i stored at) in
     let count = c.page_rows.ensures.page_rows ∙ ap (λ (v : TreeView). v.schema.page_rows) c.self.view_is in
-    let joined = joins_one a c.region_before.new.self c.rows_at.new.self i stands.0 c.args.region.now before c.args.room.now.rows c.join_before.new.self c.rows_at.new.rows c.join_before.result c.page_rows.result
-    c.in_ok-before.ensures.effect.same c.in_ok-rows_at.ensures.effect.same stands.1 stands.2 at c.in_ok-rows_at.ensures.rows count c.join_before.ensures.fit c.join_before.ensures.rows stored.honest in
-    elim c.if-join_before.branch [
-      | then-join_before w ↦ rw w.result-is (rw w.if-join_before.true at joined)
-      | else-join_before w ↦ rw w.result-is (rw w.if-join_before.false at joined)
+    let joined = joins_one a c.region_before.new.self c.read_at.new.self i stands.0 c.args.region.now before old new more c.join.result c.page_rows.result
+    c.in_ok-before.ensures.effect.same c.in_ok-read_at.ensures.effect.same stands.1 stands.2 at c.in_ok-read_at.ensures.rows count c.join.ensures.fit in
+    elim c.if-join.branch [
+      | then-join w ↦
+          let rows = ap (λ (v : RegionView). v.region.rows) (ap (λ (r : Room). r.region) w.room-is ∙ w.swap.ensures.x_after ∙ c.join.ensures.rows) in
+          let made : new ≡ (if c.join.result then more ++ old else old) = rw w.if-join.true (rw w.if-join.true at rows) in
+          rw w.result-is (rw w.if-join.true at (joined made stored.honest))
+      | else-join w ↦
+          let made : new ≡ (if c.join.result then more ++ old else old) = rw w.if-join.false (ap (λ (r : Room). r.region.region.rows) w.room-is) in
+          rw w.result-is (rw w.if-join.false at (joined made stored.honest))
     ]
 
 pub returns-clause-rows : goal.returns-clause-rows
@@ -30,21 +40,22 @@ returns-clause-rows g c =
     let a = c.args.self.now in
     let span = c.args.region.now in
     let before = c.in-Some.before in
-    let rows = c.args.room.now.rows in
-    let more = c.rows_at.new.rows in
+    let rows = c.args.room.now.region.region.rows in
+    let more = c.read_at.new.page.region.rows in
     let one = c.in_ok-before.ensures.effect.same in
-    let two = c.in_ok-rows_at.ensures.effect.same in
+    let two = c.in_ok-read_at.ensures.effect.same in
     let ends = rw c.in-Some.is at c.in_ok-before.ensures.ends in
     let falls = rw c.in-Some.is at c.in_ok-before.ensures.falls in
     let count : c.page_rows.result ≡ a.schema.page_rows = c.page_rows.ensures.page_rows ∙ ap (λ (v : TreeView). v.schema.page_rows) (c.self.view_is ∙ two ∙ one) in
-    let on = subst (λ (v : TreeView). IsTakenIn v before (record { first = before.first; rows = more })) one c.in_ok-rows_at.ensures.on in
-    let made = next_region a falls.0 before span more rows falls.2 ends (rows_on a before (record { first = before.first; rows = more }) on) c.requires.rows in
-    elim c.if-join_before.branch [
-      | then-join_before w ↦
-          let fit = leb-true (length more + length rows) c.page_rows.result (sym c.join_before.ensures.fit ∙ w.if-join_before.true) in
+    let on = subst (λ (v : TreeView). IsTakenIn v before c.read_at.new.page.region) one c.in_ok-read_at.ensures.read.on in
+    let made = next_region a falls.0 before span more rows falls.2 ends (rows_on a before c.read_at.new.page.region on) c.requires.rows.rows in
+    elim c.if-join.branch [
+      | then-join w ↦
+          let fit = leb-true (length more + length rows) c.page_rows.result (sym c.join.ensures.fit ∙ w.if-join.true) in
           let good = made (omega arith) in
-          rw w.result-is (rw (rw w.if-join_before.true at c.join_before.ensures.rows) good)
-      | else-join_before w ↦ rw w.result-is (rw w.if-join_before.false at c.join_before.ensures.rows)
+          let now = ap (λ (r : Room). r.region) w.room-is ∙ w.swap.ensures.x_after ∙ rw w.if-join.true at c.join.ensures.rows in
+          rw w.result-is (rw now (c.in_ok-read_at.ensures.read.on.1.0, good))
+      | else-join w ↦ rw w.result-is (ap (λ (r : Room). r.region) w.room-is)
     ]
 
 pub region_before-requires : goal.region_before-requires
@@ -89,40 +100,40 @@ returns-in-None-clause-before g c = λ i stored at. tt
 pub returns-in-None-clause-joined : goal.returns-in-None-clause-joined
 returns-in-None-clause-joined g c = λ i stored at.
     let a = c.args.self.now in
-    let rows = c.args.room.now.rows in
+    let rows = c.args.room.now.region.region.rows in
     let first : i ≡ 0 = rw c.in-None.is at (c.in_ok-before.ensures.before i stored at) in
     subst (λ (n : ℕ). JoinsBefore a.schema.page_rows n rows rows false (regions a)) (sym first) refl
 
 pub returns-in-None-clause-effect : goal.returns-in-None-clause-effect
 returns-in-None-clause-effect g c = searched _ c.args.self.now c.region_before.new.self c.in_ok-before.ensures.effect.same
 
-pub rows_at-requires : goal.rows_at-requires
-rows_at-requires g c =
+pub read_at-requires : goal.read_at-requires
+read_at-requires g c =
     let falls = rw c.in-Some.is at c.in_ok-before.ensures.falls in
     subst (λ (v : TreeView). IsRegionOf v c.in-Some.before) (sym c.in_ok-before.ensures.effect.same) (record { key = falls.0; falls = falls.2 })
 
-pub returns-in_err-rows_at-clause-rows : goal.returns-in_err-rows_at-clause-rows
-returns-in_err-rows_at-clause-rows g c = no_answer c.from_residual-in_err-rows_at.result c.in_err-rows_at.field-0.0 _ c.from_residual-in_err-rows_at.ensures.1
+pub returns-in_err-read_at-clause-rows : goal.returns-in_err-read_at-clause-rows
+returns-in_err-read_at-clause-rows g c = no_answer c.from_residual-in_err-read_at.result c.in_err-read_at.field-0.0 _ c.from_residual-in_err-read_at.ensures.1
 
-pub returns-in_err-rows_at-clause-there : goal.returns-in_err-rows_at-clause-there
-returns-in_err-rows_at-clause-there g c = no_answer c.from_residual-in_err-rows_at.result c.in_err-rows_at.field-0.0 _ c.from_residual-in_err-rows_at.ensures.1
+pub returns-in_err-read_at-clause-there : goal.returns-in_err-read_at-clause-there
+returns-in_err-read_at-clause-there g c = no_answer c.from_residual-in_err-read_at.result c.in_err-read_at.field-0.0 _ c.from_residual-in_err-read_at.ensures.1
 
-pub returns-in_err-rows_at-clause-ends : goal.returns-in_err-rows_at-clause-ends
-returns-in_err-rows_at-clause-ends g c = no_answer c.from_residual-in_err-rows_at.result c.in_err-rows_at.field-0.0 _ c.from_residual-in_err-rows_at.ensures.1
+pub returns-in_err-read_at-clause-ends : goal.returns-in_err-read_at-clause-ends
+returns-in_err-read_at-clause-ends g c = no_answer c.from_residual-in_err-read_at.result c.in_err-read_at.field-0.0 _ c.from_residual-in_err-read_at.ensures.1
 
-pub returns-in_err-rows_at-clause-falls : goal.returns-in_err-rows_at-clause-falls
-returns-in_err-rows_at-clause-falls g c = no_answer c.from_residual-in_err-rows_at.result c.in_err-rows_at.field-0.0 _ c.from_residual-in_err-rows_at.ensures.1
+pub returns-in_err-read_at-clause-falls : goal.returns-in_err-read_at-clause-falls
+returns-in_err-read_at-clause-falls g c = no_answer c.from_residual-in_err-read_at.result c.in_err-read_at.field-0.0 _ c.from_residual-in_err-read_at.ensures.1
 
-pub returns-in_err-rows_at-clause-before : goal.returns-in_err-rows_at-clause-before
-returns-in_err-rows_at-clause-before g c = λ i stored at. no_answer c.from_residual-in_err-rows_at.result c.in_err-rows_at.field-0.0 _ c.from_residual-in_err-rows_at.ensures.1
+pub returns-in_err-read_at-clause-before : goal.returns-in_err-read_at-clause-before
+returns-in_err-read_at-clause-before g c = λ i stored at. no_answer c.from_residual-in_err-read_at.result c.in_err-read_at.field-0.0 _ c.from_residual-in_err-read_at.ensures.1
 
-pub returns-in_err-rows_at-clause-joined : goal.returns-in_err-rows_at-clause-joined
-returns-in_err-rows_at-clause-joined g c = λ i stored at. no_answer c.from_residual-in_err-rows_at.result c.in_err-rows_at.field-0.0 _ c.from_residual-in_err-rows_at.ensures.1
+pub returns-in_err-read_at-clause-joined : goal.returns-in_err-read_at-clause-joined
+returns-in_err-read_at-clause-joined g c = λ i stored at. no_answer c.from_residual-in_err-read_at.result c.in_err-read_at.field-0.0 _ c.from_residual-in_err-read_at.ensures.1
 
-pub returns-in_err-rows_at-clause-effect : goal.returns-in_err-rows_at-clause-effect
-returns-in_err-rows_at-clause-effect g c =
-    then_refused_search c.from_residual-in_err-rows_at.result c.in_err-rows_at.field-0.0 c.args.self.now c.region_before.new.self c.rows_at.new.self c.in_ok-before.ensures.effect.same
-    c.from_residual-in_err-rows_at.ensures.1 c.in_err-rows_at.ensures.effect
+pub returns-in_err-read_at-clause-effect : goal.returns-in_err-read_at-clause-effect
+returns-in_err-read_at-clause-effect g c =
+    then_refused_search c.from_residual-in_err-read_at.result c.in_err-read_at.field-0.0 c.args.self.now c.region_before.new.self c.read_at.new.self c.in_ok-before.ensures.effect.same
+    c.from_residual-in_err-read_at.ensures.1 c.in_err-read_at.ensures.effect
 
 pub returns-clause-there : goal.returns-clause-there
 returns-clause-there g c =
@@ -131,40 +142,44 @@ returns-clause-there g c =
     let one = c.in_ok-before.ensures.effect.same in
     let falls = rw c.in-Some.is at c.in_ok-before.ensures.falls in
     let is = subst (λ (v : TreeView). IsRegionThere v before) one
-    (read_there a c.region_before.new.self falls.0 before c.rows_at.new.rows one falls.2 c.in_ok-rows_at.ensures.there c.in_ok-rows_at.ensures.on) in
-    elim c.if-join_before.branch [
-      | then-join_before w ↦ rw w.result-is is
-      | else-join_before w ↦ rw w.result-is tt
+    (read_there a c.region_before.new.self falls.0 before c.read_at.new.page.region one falls.2 c.in_ok-read_at.ensures.there c.in_ok-read_at.ensures.read.on) in
+    elim c.if-join.branch [
+      | then-join w ↦ rw w.result-is is
+      | else-join w ↦ rw w.result-is tt
     ]
 
 pub returns-clause-ends : goal.returns-clause-ends
 returns-clause-ends g c =
     let ends = rw c.in-Some.is at c.in_ok-before.ensures.ends in
-    elim c.if-join_before.branch [
-      | then-join_before w ↦ rw w.result-is ends
-      | else-join_before w ↦ rw w.result-is tt
+    elim c.if-join.branch [
+      | then-join w ↦ rw w.result-is ends
+      | else-join w ↦ rw w.result-is tt
     ]
 
 pub returns-clause-falls : goal.returns-clause-falls
 returns-clause-falls g c =
     let falls = rw c.in-Some.is at c.in_ok-before.ensures.falls in
-    elim c.if-join_before.branch [
-      | then-join_before w ↦ rw w.result-is falls
-      | else-join_before w ↦ rw w.result-is tt
+    elim c.if-join.branch [
+      | then-join w ↦ rw w.result-is falls
+      | else-join w ↦ rw w.result-is tt
     ]
 
 pub returns-clause-before : goal.returns-clause-before
 returns-clause-before g c = λ i stored at.
     let before = rw c.in-Some.is at (c.in_ok-before.ensures.before i stored at) in
-    elim c.if-join_before.branch [
-      | then-join_before w ↦ rw w.result-is before
-      | else-join_before w ↦ rw w.result-is tt
+    elim c.if-join.branch [
+      | then-join w ↦ rw w.result-is before
+      | else-join w ↦ rw w.result-is tt
     ]
 
 pub returns-clause-effect : goal.returns-clause-effect
 returns-clause-effect g c =
-    let same = c.in_ok-rows_at.ensures.effect.same ∙ c.in_ok-before.ensures.effect.same in
-    elim c.if-join_before.branch [
-      | then-join_before w ↦ rw w.result-is (searched _ c.args.self.now c.rows_at.new.self same)
-      | else-join_before w ↦ rw w.result-is (searched _ c.args.self.now c.rows_at.new.self same)
+    let same = c.in_ok-read_at.ensures.effect.same ∙ c.in_ok-before.ensures.effect.same in
+    elim c.if-join.branch [
+      | then-join w ↦ rw w.result-is (searched _ c.args.self.now c.read_at.new.self same)
+      | else-join w ↦ rw w.result-is (searched _ c.args.self.now c.read_at.new.self same)
     ]
+
+pub join-requires-clause-space : goal.join-requires-clause-space
+join-requires-clause-space g c =
+    c.requires.rows.dims ∙ sym (ap (λ (v : TreeView). v.schema.dims) c.in_ok-before.ensures.effect.same) ∙ sym c.in_ok-read_at.ensures.read.dims

@@ -6,6 +6,7 @@ use Rattle.ub_tree.proofs.RemovalFacts.{joins_next}
 use Rattle.ub_tree.proofs.HoldingFacts.{no_answer}
 use Rattle.ub_tree.proofs.RefusedFacts.{refused_search, searched, then_refused_search}
 use Rattle.ub_tree.proofs.ShrinkFacts.{join_last, length-regions}
+use Rattle.ub_region.specs.RegionPage.{RegionView}
 use Rattle.ub_tree.specs.Placed.{entry_of}
 use Rattle.ub_tree.specs.View.{TreeView, regions}
 use Rattle.ub_tree.specs.Told.{IsRegionOf}
@@ -19,7 +20,7 @@ returns-in-None-clause-joined g c = λ i stored at.
     let last = rw c.in-None.is at (c.in_ok-next.ensures.after i stored at) in
     let mapped = length-map a.placed entry_of in
     let long : length a.placed ≡ suc i = omega arith in
-    join_last a.schema.page_rows i c.args.room.now.rows (regions a) (length-regions a.placed ∙ long)
+    join_last a.schema.page_rows i c.args.room.now.region.region.rows (regions a) (length-regions a.placed ∙ long)
 
 pub returns-clause-joined : goal.returns-clause-joined
 returns-clause-joined g c = λ i stored at.
@@ -27,8 +28,8 @@ returns-clause-joined g c = λ i stored at.
     let next = c.in-Some.next in
     let stands = rw c.in-Some.is at (c.in_ok-next.ensures.after i stored at) in
     let count = c.page_rows.ensures.page_rows ∙ ap (λ (v : TreeView). v.schema.page_rows) c.self.view_is in
-    let joined = joins_next a c.region_after.new.self c.rows_at.new.self i next c.args.room.now.rows c.join.new.self c.rows_at.new.rows c.join.result c.page_rows.result
-    c.in_ok-next.ensures.effect.same c.in_ok-rows_at.ensures.effect.same stands c.in_ok-rows_at.ensures.rows count c.join.ensures.fit c.join.ensures.rows stored.honest in
+    let joined = joins_next a c.region_after.new.self c.read_at.new.self i next c.args.room.now.region.region.rows c.join.new.self.region.rows c.read_at.new.page.region.rows c.join.result c.page_rows.result
+    c.in_ok-next.ensures.effect.same c.in_ok-read_at.ensures.effect.same stands c.in_ok-read_at.ensures.rows count c.join.ensures.fit (ap (λ (v : RegionView). v.region.rows) c.join.ensures.rows) stored.honest in
     elim c.if-join.branch [
       | then-join w ↦ rw w.result-is (rw w.if-join.true at joined)
       | else-join w ↦ rw w.result-is (rw w.if-join.false at joined)
@@ -38,22 +39,23 @@ pub returns-clause-rows : goal.returns-clause-rows
 returns-clause-rows g c =
     let a = c.args.self.now in
     let s = c.region_after.new.self in
-    let m = c.rows_at.new.self in
+    let m = c.read_at.new.self in
     let span = c.args.region.now in
     let next = c.in-Some.next in
-    let rows = c.args.room.now.rows in
-    let more = c.rows_at.new.rows in
+    let rows = c.args.room.now.region.region.rows in
+    let more = c.read_at.new.page.region.rows in
     let one = c.in_ok-next.ensures.effect.same in
-    let two = c.in_ok-rows_at.ensures.effect.same in
+    let two = c.in_ok-read_at.ensures.effect.same in
     let begins = rw c.in-Some.is at c.in_ok-next.ensures.begins in
     let count : c.page_rows.result ≡ a.schema.page_rows = c.page_rows.ensures.page_rows ∙ ap (λ (v : TreeView). v.schema.page_rows) (c.self.view_is ∙ two ∙ one) in
-    let on = subst (λ (v : TreeView). IsTakenIn v next (record { first = next.first; rows = more })) one c.in_ok-rows_at.ensures.on in
-    let made = next_region a c.requires.told.key span next rows more c.requires.told.falls begins c.requires.rows (rows_on a next (record { first = next.first; rows = more }) on) in
+    let on = subst (λ (v : TreeView). IsTakenIn v next c.read_at.new.page.region) one c.in_ok-read_at.ensures.read.on in
+    let made = next_region a c.requires.told.key span next rows more c.requires.told.falls begins c.requires.rows.rows (rows_on a next c.read_at.new.page.region on) in
     elim c.if-join.branch [
       | then-join w ↦
           let fit = leb-true (length rows + length more) c.page_rows.result (sym c.join.ensures.fit ∙ w.if-join.true) in
           let good = made (omega arith) in
-          rw w.result-is (rw (rw w.if-join.true at c.join.ensures.rows) good)
+          let joined = rw w.if-join.true at c.join.ensures.rows in
+          rw w.result-is (rw joined (c.requires.rows.first, good))
       | else-join w ↦ rw w.result-is (rw w.if-join.false at c.join.ensures.rows)
     ]
 
@@ -87,27 +89,27 @@ returns-in-None-clause-next g c = λ i stored at. tt
 pub returns-in-None-clause-effect : goal.returns-in-None-clause-effect
 returns-in-None-clause-effect g c = searched _ c.args.self.now c.region_after.new.self c.in_ok-next.ensures.effect.same
 
-pub rows_at-requires : goal.rows_at-requires
-rows_at-requires g c =
+pub read_at-requires : goal.read_at-requires
+read_at-requires g c =
     let of = rw c.in-Some.is at c.in_ok-next.ensures.falls in
     subst (λ (v : TreeView). IsRegionOf v c.in-Some.next) (sym c.in_ok-next.ensures.effect.same) of
 
-pub returns-in_err-rows_at-clause-rows : goal.returns-in_err-rows_at-clause-rows
-returns-in_err-rows_at-clause-rows g c = no_answer c.from_residual-in_err-rows_at.result c.in_err-rows_at.field-0.0 _ c.from_residual-in_err-rows_at.ensures.1
+pub returns-in_err-read_at-clause-rows : goal.returns-in_err-read_at-clause-rows
+returns-in_err-read_at-clause-rows g c = no_answer c.from_residual-in_err-read_at.result c.in_err-read_at.field-0.0 _ c.from_residual-in_err-read_at.ensures.1
 
-pub returns-in_err-rows_at-clause-found : goal.returns-in_err-rows_at-clause-found
-returns-in_err-rows_at-clause-found g c = no_answer c.from_residual-in_err-rows_at.result c.in_err-rows_at.field-0.0 _ c.from_residual-in_err-rows_at.ensures.1
+pub returns-in_err-read_at-clause-found : goal.returns-in_err-read_at-clause-found
+returns-in_err-read_at-clause-found g c = no_answer c.from_residual-in_err-read_at.result c.in_err-read_at.field-0.0 _ c.from_residual-in_err-read_at.ensures.1
 
-pub returns-in_err-rows_at-clause-next : goal.returns-in_err-rows_at-clause-next
-returns-in_err-rows_at-clause-next g c = λ i stored at. no_answer c.from_residual-in_err-rows_at.result c.in_err-rows_at.field-0.0 _ c.from_residual-in_err-rows_at.ensures.1
+pub returns-in_err-read_at-clause-next : goal.returns-in_err-read_at-clause-next
+returns-in_err-read_at-clause-next g c = λ i stored at. no_answer c.from_residual-in_err-read_at.result c.in_err-read_at.field-0.0 _ c.from_residual-in_err-read_at.ensures.1
 
-pub returns-in_err-rows_at-clause-joined : goal.returns-in_err-rows_at-clause-joined
-returns-in_err-rows_at-clause-joined g c = λ i stored at. no_answer c.from_residual-in_err-rows_at.result c.in_err-rows_at.field-0.0 _ c.from_residual-in_err-rows_at.ensures.1
+pub returns-in_err-read_at-clause-joined : goal.returns-in_err-read_at-clause-joined
+returns-in_err-read_at-clause-joined g c = λ i stored at. no_answer c.from_residual-in_err-read_at.result c.in_err-read_at.field-0.0 _ c.from_residual-in_err-read_at.ensures.1
 
-pub returns-in_err-rows_at-clause-effect : goal.returns-in_err-rows_at-clause-effect
-returns-in_err-rows_at-clause-effect g c =
-    then_refused_search c.from_residual-in_err-rows_at.result c.in_err-rows_at.field-0.0 c.args.self.now c.region_after.new.self c.rows_at.new.self c.in_ok-next.ensures.effect.same
-    c.from_residual-in_err-rows_at.ensures.1 c.in_err-rows_at.ensures.effect
+pub returns-in_err-read_at-clause-effect : goal.returns-in_err-read_at-clause-effect
+returns-in_err-read_at-clause-effect g c =
+    then_refused_search c.from_residual-in_err-read_at.result c.in_err-read_at.field-0.0 c.args.self.now c.region_after.new.self c.read_at.new.self c.in_ok-next.ensures.effect.same
+    c.from_residual-in_err-read_at.ensures.1 c.in_err-read_at.ensures.effect
 
 pub returns-clause-found : goal.returns-clause-found
 returns-clause-found g c =
@@ -128,8 +130,12 @@ returns-clause-next g c = λ i stored at.
 
 pub returns-clause-effect : goal.returns-clause-effect
 returns-clause-effect g c =
-    let same = c.in_ok-rows_at.ensures.effect.same ∙ c.in_ok-next.ensures.effect.same in
+    let same = c.in_ok-read_at.ensures.effect.same ∙ c.in_ok-next.ensures.effect.same in
     elim c.if-join.branch [
-      | then-join w ↦ rw w.result-is (searched _ c.args.self.now c.rows_at.new.self same)
-      | else-join w ↦ rw w.result-is (searched _ c.args.self.now c.rows_at.new.self same)
+      | then-join w ↦ rw w.result-is (searched _ c.args.self.now c.read_at.new.self same)
+      | else-join w ↦ rw w.result-is (searched _ c.args.self.now c.read_at.new.self same)
     ]
+
+pub join-requires-clause-space : goal.join-requires-clause-space
+join-requires-clause-space g c =
+    c.in_ok-read_at.ensures.read.dims ∙ ap (λ (v : TreeView). v.schema.dims) c.in_ok-next.ensures.effect.same ∙ sym c.requires.rows.dims

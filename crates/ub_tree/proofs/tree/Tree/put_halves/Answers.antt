@@ -10,7 +10,6 @@ use Rattle.ub_tree.specs.View.{TreeView}
 use Rattle.ub_tree.specs.declared.fault.TreeFault.TheVariants.{Store}
 use Rattle.ub_page.specs.Index.{IsIndexKind}
 use Rattle.ub_tree.proofs.HeldFacts.{tree_written, written_checked}
-use Rattle.ub_tree.proofs.WayFacts.{region_no_kind}
 use Rattle.ub_writing.specs.Marks.{is_written}
 use Rattle.ub_writing.specs.Puts.{PutsTwo}
 use Rattle.ub_tree.proofs.tree.Tree.put_halves.Goals as goal

@@ -8,7 +8,8 @@ use Rattle.ub_tree.specs.View.{TreeView, IsSound}
 use Rattle.ub_tree.specs.declared.fault.TreeFault.TheVariants.{Failed as HasFailed}
 use Rattle.ub_tree.proofs.EffectFacts.{searched_by, unchanged}
 use Rattle.ub_tree.proofs.HoldingFacts.{no_answer}
-use Rattle.ub_tree.proofs.RemovalFacts.{searched_removal, unled_removal}
+use Rattle.ub_tree.proofs.HoldingFacts.{passing_removal}
+use Rattle.ub_tree.proofs.RemovalFacts.{searched_removal}
 use Rattle.ub_writing.specs.Marks.{is_written}
 use Rattle.ub_tree.proofs.tree.Tree.remove.Goals as goal
 
@@ -65,7 +66,7 @@ returns-in_err-room-clause-failed g c = λ is.
 
 pub returns-in_err-room-clause-refused : goal.returns-in_err-room-clause-refused
 returns-in_err-room-clause-refused g c = λ works honest.
-    unled_removal c.args.self.now c.args.key c.from_residual.result c.in_err-room.field-0.0 c.from_residual.ensures.1 (λ span here falls. c.in_err-room.ensures.passing) honest
+    passing_removal c.args.self.now c.args.key c.from_residual.result c.in_err-room.field-0.0 c.from_residual.ensures.1 (λ number region here into. c.in_err-room.ensures.passing) honest
 
 pub returns-in_err-room-clause-faults : goal.returns-in_err-room-clause-faults
 returns-in_err-room-clause-faults g c =

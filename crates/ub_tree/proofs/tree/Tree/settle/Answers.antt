@@ -3,7 +3,7 @@ use Rattle.ub_tree.specs.Holding.{IsThatOrBefore}
 use Rattle.ub_tree.specs.View.{TreeView}
 use Rattle.ub_table.specs.Region.{IsRegion}
 use Rattle.ub_tree.specs.Removal.{IsRemovalFault}
-use Rattle.ub_tree.specs.inner.Change.{AreRowsFrom, IsRegionThere}
+use Rattle.ub_tree.specs.inner.Change.{IsMadeOf, IsRegionThere}
 use Rattle.ub_tree.specs.Told.{IsRegionOf}
 use Rattle.ub_tree.proofs.EffectFacts.{changed_by, refused_none, searched_by, then_changed}
 use Rattle.ub_tree.proofs.RemovalFacts.{searched_removal, written_removal, settled_alone, settled_before, settled_large, settled_next, taken_alone, taken_joined}
@@ -13,35 +13,35 @@ pub returns-then-not-are_few-clause-written : goal.returns-then-not-are_few-clau
 returns-then-not-are_few-clause-written g c = λ i stored at each.
     let a = c.args.self.now in
     let count : c.page_rows.result ≡ a.schema.page_rows = c.page_rows.ensures.page_rows ∙ ap (λ (v : TreeView). v.schema.page_rows) c.self.view_is in
-    let large : nat_lt (length c.args.room.now.rows) (a.schema.page_rows / 2) ≡ false = rw (← count) (sym c.are_few.ensures ∙ c.if-not-are_few.true) in
-    settled_large a i c.args.region.now c.args.room.now.rows stored at c.rewrite.new.self c.rewrite.result large (rw c.as_slice.ensures.rows at c.rewrite.ensures.written)
+    let large : nat_lt (length c.args.room.now.region.region.rows) (a.schema.page_rows / 2) ≡ false = rw (← count) (sym c.are_few.ensures ∙ c.if-not-are_few.true) in
+    settled_large a i c.args.region.now c.args.room.now.region.region.rows stored at c.rewrite.new.self c.rewrite.result large c.rewrite.ensures.written
 
 pub returns-in-Some-clause-written : goal.returns-in-Some-clause-written
 returns-in-Some-clause-written g c = λ i stored at each.
     let a = c.args.self.now in
     let count : c.page_rows.result ≡ a.schema.page_rows = c.page_rows.ensures.page_rows ∙ ap (λ (v : TreeView). v.schema.page_rows) c.self.view_is in
-    let few : nat_lt (length c.args.room.now.rows) (a.schema.page_rows / 2) ≡ true = rw (← count) (sym c.are_few.ensures ∙ c.if-not-are_few.false) in
-    settled_next a i c.args.region.now c.args.room.now.rows stored at c.join_next.new.self c.join_at.new.self c.join_at.result c.in-Some.next c.join_next.new.room.rows few c.in_ok-next.ensures.effect.same
-    (rw c.in-Some.is at (c.in_ok-next.ensures.joined i stored at)) (rw c.in-Some.is at (c.in_ok-next.ensures.next i stored at)) (rw c.as_slice-in-Some.ensures.rows at c.join_at.ensures.written) each
+    let few : nat_lt (length c.args.room.now.region.region.rows) (a.schema.page_rows / 2) ≡ true = rw (← count) (sym c.are_few.ensures ∙ c.if-not-are_few.false) in
+    settled_next a i c.args.region.now c.args.room.now.region.region.rows stored at c.join_next.new.self c.join_at.new.self c.join_at.result c.in-Some.next c.join_next.new.room.region.region.rows few c.in_ok-next.ensures.effect.same
+    (rw c.in-Some.is at (c.in_ok-next.ensures.joined i stored at)) (rw c.in-Some.is at (c.in_ok-next.ensures.next i stored at)) c.join_at.ensures.written each
 
 pub returns-in-Some-2-clause-written : goal.returns-in-Some-2-clause-written
 returns-in-Some-2-clause-written g c = λ i stored at each.
     let a = c.args.self.now in
     let count : c.page_rows.result ≡ a.schema.page_rows = c.page_rows.ensures.page_rows ∙ ap (λ (v : TreeView). v.schema.page_rows) c.self.view_is in
-    let few : nat_lt (length c.args.room.now.rows) (a.schema.page_rows / 2) ≡ true = rw (← count) (sym c.are_few.ensures ∙ c.if-not-are_few.false) in
-    settled_before a i c.args.region.now c.args.room.now.rows stored at c.join_next.new.self c.join_before.new.self c.join_at-in-Some-2.new.self c.join_at-in-Some-2.result c.in-Some-2.before
-    c.join_next.new.room.rows c.join_before.new.room.rows few c.in_ok-next.ensures.effect.same c.in_ok-before.ensures.effect.same
+    let few : nat_lt (length c.args.room.now.region.region.rows) (a.schema.page_rows / 2) ≡ true = rw (← count) (sym c.are_few.ensures ∙ c.if-not-are_few.false) in
+    settled_before a i c.args.region.now c.args.room.now.region.region.rows stored at c.join_next.new.self c.join_before.new.self c.join_at-in-Some-2.new.self c.join_at-in-Some-2.result c.in-Some-2.before
+    c.join_next.new.room.region.region.rows c.join_before.new.room.region.region.rows few c.in_ok-next.ensures.effect.same c.in_ok-before.ensures.effect.same
     (rw c.in_default.is at (c.in_ok-next.ensures.joined i stored at)) (rw c.in-Some-2.is at c.in_ok-before.ensures.joined) (rw c.in-Some-2.is at c.in_ok-before.ensures.before)
-    (rw c.as_slice-in-Some-2.ensures.rows at c.join_at-in-Some-2.ensures.written) each
+    c.join_at-in-Some-2.ensures.written each
 
 pub returns-clause-written : goal.returns-clause-written
 returns-clause-written g c = λ i stored at each.
     let a = c.args.self.now in
     let count : c.page_rows.result ≡ a.schema.page_rows = c.page_rows.ensures.page_rows ∙ ap (λ (v : TreeView). v.schema.page_rows) c.self.view_is in
-    let few : nat_lt (length c.args.room.now.rows) (a.schema.page_rows / 2) ≡ true = rw (← count) (sym c.are_few.ensures ∙ c.if-not-are_few.false) in
-    settled_alone a i c.args.region.now c.args.room.now.rows stored at c.join_next.new.self c.join_before.new.self c.rewrite-2.new.self c.rewrite-2.result c.join_next.new.room.rows c.join_before.new.room.rows
+    let few : nat_lt (length c.args.room.now.region.region.rows) (a.schema.page_rows / 2) ≡ true = rw (← count) (sym c.are_few.ensures ∙ c.if-not-are_few.false) in
+    settled_alone a i c.args.region.now c.args.room.now.region.region.rows stored at c.join_next.new.self c.join_before.new.self c.rewrite-2.new.self c.rewrite-2.result c.join_next.new.room.region.region.rows c.join_before.new.room.region.region.rows
     few c.in_ok-next.ensures.effect.same c.in_ok-before.ensures.effect.same (rw c.in_default.is at (c.in_ok-next.ensures.joined i stored at)) (rw c.in_default-2.is at c.in_ok-before.ensures.joined)
-    (rw c.as_slice-2.ensures.rows at c.rewrite-2.ensures.written)
+    c.rewrite-2.ensures.written
 
 pub returns-then-not-are_few-clause-effect : goal.returns-then-not-are_few-clause-effect
 returns-then-not-are_few-clause-effect g c = changed_by c.args.self.now c.rewrite.new.self c.args.region.now c.requires.there.told c.rewrite.result c.rewrite.ensures.effect
@@ -98,7 +98,10 @@ pub rewrite-requires-clause-there : goal.rewrite-requires-clause-there
 rewrite-requires-clause-there g c = c.requires.there
 
 pub rewrite-requires-clause-region : goal.rewrite-requires-clause-region
-rewrite-requires-clause-region g c = rw c.as_slice.ensures.rows c.requires.rows.0
+rewrite-requires-clause-region g c = c.requires.rows.rows.0
+
+pub rewrite-requires-clause-first : goal.rewrite-requires-clause-first
+rewrite-requires-clause-first g c = c.requires.rows.first
 
 pub returns-then-not-are_few-clause-faults : goal.returns-then-not-are_few-clause-faults
 returns-then-not-are_few-clause-faults g c = written_removal c.rewrite.result c.args.self.now c.rewrite.ensures.faults
@@ -133,7 +136,10 @@ join_at-requires-clause-next g c =
 pub join_at-requires-clause-region : goal.join_at-requires-clause-region
 join_at-requires-clause-region g c =
     let good = rw c.in-Some.is at c.in_ok-next.ensures.rows in
-    rw c.as_slice-in-Some.ensures.rows (subst (λ (v : TreeView). IsRegion v.schema (record { first = c.args.region.now.first; rows = c.join_next.new.room.rows })) (sym c.in_ok-next.ensures.effect.same) good)
+    subst (λ (v : TreeView). IsRegion v.schema (record { first = c.args.region.now.first; rows = c.join_next.new.room.region.region.rows })) (sym c.in_ok-next.ensures.effect.same) good.1
+
+pub join_at-requires-clause-first : goal.join_at-requires-clause-first
+join_at-requires-clause-first g c = (rw c.in-Some.is at c.in_ok-next.ensures.rows).0
 
 pub returns-in-Some-clause-faults : goal.returns-in-Some-clause-faults
 returns-in-Some-clause-faults g c = subst (λ (v : TreeView). IfErr c.join_at.result (IsRemovalFault v)) c.in_ok-next.ensures.effect.same c.join_at.ensures.faults
@@ -150,7 +156,7 @@ join_before-requires-clause-told g c = subst (λ (v : TreeView). IsRegionOf v c.
 pub join_before-requires-clause-rows : goal.join_before-requires-clause-rows
 join_before-requires-clause-rows g c =
     let left = rw c.in_default.is at c.in_ok-next.ensures.rows in
-    rw left (subst (λ (v : TreeView). AreRowsFrom v.schema c.args.region.now.first c.args.region.now.next c.args.room.now.rows) (sym c.in_ok-next.ensures.effect.same) c.requires.rows)
+    rw left (subst (λ (v : TreeView). IsMadeOf v.schema c.args.region.now c.args.room.now.region) (sym c.in_ok-next.ensures.effect.same) c.requires.rows)
 
 pub returns-in_err-before-clause-same : goal.returns-in_err-before-clause-same
 returns-in_err-before-clause-same g c = refused_none _ c.from_residual-in_err-before.result c.in_err-before.field-0.0 c.from_residual-in_err-before.ensures.1
@@ -174,7 +180,10 @@ join_at-requires-in-Some-2-clause-next g c =
 pub join_at-requires-in-Some-2-clause-region : goal.join_at-requires-in-Some-2-clause-region
 join_at-requires-in-Some-2-clause-region g c =
     let good = rw c.in-Some-2.is at c.in_ok-before.ensures.rows in
-    rw c.as_slice-in-Some-2.ensures.rows (subst (λ (v : TreeView). IsRegion v.schema (record { first = c.in-Some-2.before.first; rows = c.join_before.new.room.rows })) (sym c.in_ok-before.ensures.effect.same) good)
+    subst (λ (v : TreeView). IsRegion v.schema (record { first = c.in-Some-2.before.first; rows = c.join_before.new.room.region.region.rows })) (sym c.in_ok-before.ensures.effect.same) good.1
+
+pub join_at-requires-in-Some-2-clause-first : goal.join_at-requires-in-Some-2-clause-first
+join_at-requires-in-Some-2-clause-first g c = (rw c.in-Some-2.is at c.in_ok-before.ensures.rows).0
 
 pub returns-in-Some-2-clause-faults : goal.returns-in-Some-2-clause-faults
 returns-in-Some-2-clause-faults g c =
@@ -191,7 +200,12 @@ pub rewrite-requires-2-clause-region : goal.rewrite-requires-2-clause-region
 rewrite-requires-2-clause-region g c =
     let same = c.in_ok-before.ensures.effect.same ∙ c.in_ok-next.ensures.effect.same in
     let left = (rw c.in_default-2.is at c.in_ok-before.ensures.rows) ∙ (rw c.in_default.is at c.in_ok-next.ensures.rows) in
-    rw c.as_slice-2.ensures.rows (rw left (subst (λ (v : TreeView). IsRegion v.schema (record { first = c.args.region.now.first; rows = c.args.room.now.rows })) (sym same) c.requires.rows.0))
+    rw left (subst (λ (v : TreeView). IsRegion v.schema (record { first = c.args.region.now.first; rows = c.args.room.now.region.region.rows })) (sym same) c.requires.rows.rows.0)
+
+pub rewrite-requires-2-clause-first : goal.rewrite-requires-2-clause-first
+rewrite-requires-2-clause-first g c =
+    let left = (rw c.in_default-2.is at c.in_ok-before.ensures.rows) ∙ (rw c.in_default.is at c.in_ok-next.ensures.rows) in
+    rw left c.requires.rows.first
 
 pub returns-clause-faults : goal.returns-clause-faults
 returns-clause-faults g c = written_removal c.rewrite-2.result c.args.self.now c.rewrite-2.ensures.faults

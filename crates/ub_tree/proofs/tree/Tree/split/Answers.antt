@@ -4,8 +4,10 @@ use Rattle.ub_index.specs.Making.{changed}
 use Rattle.ub_index.specs.View.{IndexView}
 use Rattle.ub_page.specs.declared.header.TheConstants.{MAX_LEVEL}
 use Rattle.ub_region.specs.RegionPage.{region_page}
+use Rattle.ub_table.specs.declared.row.Key.{Key}
 use Rattle.ub_table.specs.declared.schema.Schema.{Schema}
 use Rattle.ub_tree.proofs.AddFacts.{parts_stored}
+use Rattle.ub_tree.proofs.RoomFacts.{ready_for}
 use Rattle.ub_tree.proofs.EffectFacts.{ready_by, refused_none, unchanged}
 use Rattle.ub_tree.proofs.PartFacts.{growth_refused, halves_refused, index_refused, parted_answers, parts_at, parts_effect, unparted_answers, unready_answers}
 use Rattle.ub_tree.specs.Tree.{placed_in, tree_view}
@@ -34,15 +36,15 @@ pub returns-in_err-put_halves-clause-effect : goal.returns-in_err-put_halves-cla
 returns-in_err-put_halves-clause-effect g c =
     let change = c.in_ok-change.change in
     let grew = subst (λ (v : TreeView). GrowsTo {A = Unit {0}} (page_count v.store + (change.next - change.start)) v c.grow.new.self (Ok tt)) c.in_ok-change.ensures.effect.same c.in_ok-grow.ensures in
-    halves_refused c.args.self.now c.grow.new.self c.put_halves.new.self c.args.region.now c.requires.there.told c.args.halves.now.first change c.page.result c.requires.there.there
-    c.requires.within c.in_ok-change.ensures.ready c.page.ensures grew c.from_residual-in_err-put_halves.result c.in_err-put_halves.field-0.0 c.from_residual-in_err-put_halves.ensures.1 c.in_err-put_halves.ensures.effect
+    halves_refused c.args.self.now c.grow.new.self c.put_halves.new.self c.args.region.now c.requires.there.told c.args.right.now.region.first change c.page.result c.requires.there.there
+    c.requires.within (ready_for c.first.ensures c.in_ok-change.ensures.ready) c.page.ensures grew c.from_residual-in_err-put_halves.result c.in_err-put_halves.field-0.0 c.from_residual-in_err-put_halves.ensures.1 c.in_err-put_halves.ensures.effect
 
 pub returns-in_err-put_index-clause-effect : goal.returns-in_err-put_index-clause-effect
 returns-in_err-put_index-clause-effect g c =
     let change = c.in_ok-change.change in
     let grew = subst (λ (v : TreeView). GrowsTo {A = Unit {0}} (page_count v.store + (change.next - change.start)) v c.grow.new.self (Ok tt)) c.in_ok-change.ensures.effect.same c.in_ok-grow.ensures in
-    index_refused c.args.self.now c.grow.new.self c.put_halves.new.self c.args.region.now c.requires.there.told c.args.halves.now.first change c.page.result c.requires.there.there
-    c.requires.within c.in_ok-change.ensures.ready c.page.ensures grew c.put_index.new.self c.in_ok-put_halves.ensures.effect c.in_ok-put_halves.ensures.same c.in_ok-put_halves.ensures.put.count
+    index_refused c.args.self.now c.grow.new.self c.put_halves.new.self c.args.region.now c.requires.there.told c.args.right.now.region.first change c.page.result c.requires.there.there
+    c.requires.within (ready_for c.first.ensures c.in_ok-change.ensures.ready) c.page.ensures grew c.put_index.new.self c.in_ok-put_halves.ensures.effect c.in_ok-put_halves.ensures.same c.in_ok-put_halves.ensures.put.count
     c.in_err-put_index.ensures.kept c.from_residual-in_err-put_index.result c.in_err-put_index.field-0.0 c.from_residual-in_err-put_index.ensures.1 c.in_err-put_index.ensures.marked c.in_err-put_index.ensures.stopped
 
 pub returns-clause-same : goal.returns-clause-same
@@ -52,8 +54,8 @@ returns-clause-same g c =
     let n = c.put_index.new.self in
     let d : TreeView = tree_view u.schema u.index (u.count + 1) u.next u.rows (is_written u.mark) u.is_failed u.pager in
     let grew = subst (λ (v : TreeView). GrowsTo {A = Unit {0}} (page_count v.store + (change.next - change.start)) v c.grow.new.self (Ok tt)) c.in_ok-change.ensures.effect.same c.in_ok-grow.ensures in
-    parts_at c.args.self.now c.grow.new.self c.put_halves.new.self c.args.region.now c.requires.there.told c.args.halves.now.first change c.page.result c.requires.there.there
-    c.requires.within c.in_ok-change.ensures.ready c.page.ensures grew n c.in_ok-put_halves.ensures.effect c.in_ok-put_halves.ensures.same c.in_ok-put_halves.ensures.put.count
+    parts_at c.args.self.now c.grow.new.self c.put_halves.new.self c.args.region.now c.requires.there.told c.args.right.now.region.first change c.page.result c.requires.there.there
+    c.requires.within (ready_for c.first.ensures c.in_ok-change.ensures.ready) c.page.ensures grew n c.in_ok-put_halves.ensures.effect c.in_ok-put_halves.ensures.same c.in_ok-put_halves.ensures.put.count
     c.in_ok-put_index.ensures.kept d _ c.in_ok-put_index.ensures.now
     (ap (λ (v : TreeView). v.inner.count) c.in_ok-put_halves.ensures.same ∙ (ap (λ (v : TreeView). v.inner.count) grew.frame))
     c.in_ok-put_index.ensures.works (ap (λ (v : TreeView). record v { inner = record v.inner { count = v.inner.count + 1 } }) c.self-3.view_is)
@@ -68,8 +70,9 @@ returns-clause-written g c = λ i stored at.
     let n = c.put_index.new.self in
     let h = c.put_halves.new.self in
     let d : TreeView = tree_view u.schema u.index (u.count + 1) u.next u.rows (is_written u.mark) u.is_failed u.pager in
-    let halves = c.args.halves.now in
-    let ready = c.in_ok-change.ensures.ready in
+    let left = c.args.left.now in
+    let right = c.args.right.now.region in
+    let ready = ready_for c.first.ensures c.in_ok-change.ensures.ready in
     let grew = subst (λ (v : TreeView). GrowsTo {A = Unit {0}} (page_count v.store + (change.next - change.start)) v c.grow.new.self (Ok tt)) c.in_ok-change.ensures.effect.same c.in_ok-grow.ensures in
     let makes = ready.makes i stored at c.requires.within in
     let honest_g = ap (λ (v : TreeView). v.store.honest) grew.frame ∙ stored.honest in
@@ -81,11 +84,11 @@ returns-clause-written g c = λ i stored at.
     let seen : a.placed ≡ placed_in a.schema a.inner.index a.store =
     sym (ap (λ (v : TreeView). v.placed) c.self.view_is) ∙ ap (λ (v : TreeView). placed_in v.schema v.inner.index v.store) c.self.view_is in
     let schema_2 : c.self-2.inside.schema ≡ a.schema = ap (λ (v : TreeView). v.schema) c.self-2.view_is ∙ ap (λ (v : TreeView). v.schema) c.in_ok-change.ensures.effect.same in
-    let both = parts_stored a seen stored i c.args.region.now at c.requires.there.there halves.first halves.left.now halves.right.now _ _ change c.page.result c.grow.new.self.store h.store n.store
+    let both = parts_stored a seen stored i c.args.region.now at c.requires.there.there right.first left.region.rows right.rows _ _ change c.page.result c.grow.new.self.store h.store n.store
     makes grew.grows honest_g honest_h honest_n (c.page.ensures ∙ ready.start) c.in_ok-put_halves.ensures.put c.in_ok-put_index.ensures.kept
     (c.in_ok-put_index.ensures.stand makes.once honest_h)
-    c.requires.left (c.write_region.ensures.page ∙ ap (λ (s : Schema). region_page s (record { first = c.args.region.now.first; rows = halves.left.now })) schema_2)
-    c.requires.right (c.write_region-2.ensures.page ∙ ap (λ (s : Schema). region_page s (record { first = halves.first; rows = halves.right.now })) schema_2)
+    c.requires.left (c.write.ensures ∙ ap (λ (s : Schema). region_page s left.region) schema_2 ∙ ap (λ (k : Key). region_page a.schema (record { first = k; rows = left.region.rows })) c.requires.first)
+    c.requires.right (c.write-2.ensures ∙ ap (λ (s : Schema). region_page s right) schema_2)
     (ready.fills i stored at c.requires.within) d refl
     (ap (λ (v : TreeView). v.schema) d_is ∙ (ap (λ (v : TreeView). v.schema) now ∙ (ap (λ (v : TreeView). v.schema) same ∙ ap (λ (v : TreeView). v.schema) grew.frame)))
     (ap (λ (v : TreeView). v.inner.index) d_is ∙ (ap (λ (v : TreeView). v.inner.index) now
@@ -103,8 +106,8 @@ returns-clause-effect g c =
     let n = c.put_index.new.self in
     let d : TreeView = tree_view u.schema u.index (u.count + 1) u.next u.rows (is_written u.mark) u.is_failed u.pager in
     let grew = subst (λ (v : TreeView). GrowsTo {A = Unit {0}} (page_count v.store + (change.next - change.start)) v c.grow.new.self (Ok tt)) c.in_ok-change.ensures.effect.same c.in_ok-grow.ensures in
-    parts_effect c.args.self.now c.grow.new.self c.put_halves.new.self c.args.region.now c.requires.there.told c.args.halves.now.first change c.page.result c.requires.there.there
-    c.requires.within c.in_ok-change.ensures.ready c.page.ensures grew n c.in_ok-put_halves.ensures.effect c.in_ok-put_halves.ensures.same c.in_ok-put_halves.ensures.put.count
+    parts_effect c.args.self.now c.grow.new.self c.put_halves.new.self c.args.region.now c.requires.there.told c.args.right.now.region.first change c.page.result c.requires.there.there
+    c.requires.within (ready_for c.first.ensures c.in_ok-change.ensures.ready) c.page.ensures grew n c.in_ok-put_halves.ensures.effect c.in_ok-put_halves.ensures.same c.in_ok-put_halves.ensures.put.count
     c.in_ok-put_index.ensures.kept d _ c.in_ok-put_index.ensures.now
     (ap (λ (v : TreeView). v.inner.count) c.in_ok-put_halves.ensures.same ∙ (ap (λ (v : TreeView). v.inner.count) grew.frame))
     c.in_ok-put_index.ensures.works (ap (λ (v : TreeView). record v { inner = record v.inner { count = v.inner.count + 1 } }) c.self-3.view_is)
@@ -147,7 +150,7 @@ returns-in_err-grow-clause-effect g c =
     let change = c.in_ok-change.change in
     let e = c.in_err-grow.field-0.0 in
     let grew = subst (λ (v : TreeView). GrowsTo {A = Unit {0}} (page_count v.store + (change.next - change.start)) v c.grow.new.self (Err e)) c.in_ok-change.ensures.effect.same c.in_err-grow.ensures in
-    growth_refused c.args.self.now c.grow.new.self c.args.region.now c.args.halves.now.first change c.requires.there.there c.in_ok-change.ensures.ready
+    growth_refused c.args.self.now c.grow.new.self c.args.region.now c.args.right.now.region.first change c.requires.there.there (ready_for c.first.ensures c.in_ok-change.ensures.ready)
     (subst (λ (v : TreeView). v.inner.index.levels ≤ MAX_LEVEL) c.self.view_is c.root-root.ensures.high) c.from_residual-in_err-grow.result e c.from_residual-in_err-grow.ensures.1 grew
 
 pub put_halves-requires-clause-own : goal.put_halves-requires-clause-own
@@ -207,8 +210,8 @@ returns-clause-counted g c =
 pub put_halves-requires-clause-kinds : goal.put_halves-requires-clause-kinds
 put_halves-requires-clause-kinds g c =
     let schema : c.self-2.inside.schema ≡ c.args.self.now.schema = ap (λ (v : TreeView). v.schema) c.self-2.view_is ∙ ap (λ (v : TreeView). v.schema) c.in_ok-change.ensures.effect.same in
-    let right = c.write_region-2.ensures.page ∙ ap (λ (s : Schema). region_page s (record { first = c.args.halves.now.first; rows = c.args.halves.now.right.now })) schema in
-    let left = c.write_region.ensures.page ∙ ap (λ (s : Schema). region_page s (record { first = c.args.region.now.first; rows = c.args.halves.now.left.now })) schema in (
+    let right = c.write-2.ensures ∙ ap (λ (s : Schema). region_page s c.args.right.now.region) schema in
+    let left = c.write.ensures ∙ ap (λ (s : Schema). region_page s c.args.left.now.region) schema ∙ ap (λ (k : Key). region_page c.args.self.now.schema (record { first = k; rows = c.args.left.now.region.rows })) c.requires.first in (
       subst (λ (p : List ℕ). ¬ (IsIndexKind p)) (sym right) (region_no_kind c.args.self.now.schema _ c.requires.right),
       subst (λ (p : List ℕ). ¬ (IsIndexKind p)) (sym left) (region_no_kind c.args.self.now.schema _ c.requires.left),
     )
@@ -224,4 +227,4 @@ put_index-requires g c = λ honest.
     let last : c.put_halves.new.self.inner.index.last ≡ a.inner.index.last =
     ap (λ (v : TreeView). v.inner.index.last) c.in_ok-put_halves.ensures.same ∙ ap (λ (v : TreeView). v.inner.index.last) grew.frame in
     subst (λ (n : ℕ). AreIndexPages n c.in_ok-change.change.sheets) (sym last)
-    (c.in_ok-change.ensures.ready.pages was (record { holds = holds.1; from = told.falls.from; to = told.falls.to; way = λ _. holds.2 c.args.region.now.first holds.1 }) c.requires.within)
+    ((ready_for c.first.ensures c.in_ok-change.ensures.ready).pages was (record { holds = holds.1; from = told.falls.from; to = told.falls.to; way = λ _. holds.2 c.args.region.now.first holds.1 }) c.requires.within)

@@ -58,6 +58,9 @@ split_with-requires-clause-there g c = record {
   on = c.requires.read.on;
 }
 
+pub split_with-requires-clause-read : goal.split_with-requires-clause-read
+split_with-requires-clause-read g c = c.requires.read
+
 pub split_with-requires-clause-full : goal.split_with-requires-clause-full
 split_with-requires-clause-full g c =
     sym c.len.ensures.len ∙ c.if-len-page_rows.true ∙ c.page_rows.ensures.page_rows ∙ ap (λ (v : TreeView). v.schema.page_rows) c.self.view_is

@@ -1,0 +1,212 @@
+-- The rows that columns hold, and those that they hold once rows were put in, taken out, or taken over from others.
+use Rattle.std.proofs.Common.{◌≡◌, ◌<◌, ◌≤◌, ◌+◌, ◌-◌, inl, inr, ℕ, ℤ, List, [], ◌++◌, length, map, take, drop, get_or, refl, sym, ap, subst, ◌∙◌, arith}
+use Rattle.std.proofs.lemmas.Bool.{cases_lt, cases_eq}
+use Rattle.std.proofs.lemmas.List.{ext_get_or, get_or-append_right, get_or-drop, get_or-map, get_or-take, get_or_append_left, length-append, length-drop, length-take-le}
+use Rattle.std.proofs.lemmas.List.Edits.{length-insert, get_or-insert_below, get_or-insert_at, get_or-insert_above}
+use Rattle.std.proofs.lemmas.List.FromFn.{length-map-range_with_len, get_or-map-range_with_len}
+use Rattle.std.specs.List.{insert, range_with_len}
+use Rattle.ub_bytes.specs.Numbers.{blank_key}
+use Rattle.ub_region.proofs.BlankRow.{blank_row}
+use Rattle.ub_region.proofs.ChainFacts.{length-keys_of}
+use Rattle.ub_region.specs.Columns.{point_in, values_in, row_in}
+use Rattle.ub_region.specs.Held.{AreColumns, held, held_rows}
+use Rattle.ub_region.specs.RegionPage.{RegionView}
+use Rattle.ub_region.specs.declared.region_page.RegionPage.TheInside.{Inside}
+use Rattle.ub_table.specs.Region.{key_of, keys_of}
+use Rattle.ub_table.specs.declared.row.Key.{Key}
+use Rattle.ub_table.specs.declared.row.Row.{Row}
+
+-- at each of the first n places stands what the row there has
+abbrev Stands : {A : Type 0} → (Row → A) → ℕ → (ℕ → A) → List Row → Type 0
+Stands part n f rows = (i : ℕ) → i < n → f i ≡ part (get_or rows i blank_row)
+
+module _ {A : Type 0} (part : Row → A) where
+  -- a row put in
+  stands_put : (n index : ℕ) (row : Row) (f h : ℕ → A) (rows : List Row) → length rows ≡ n → index ≤ n → Stands part n f rows
+      → ((j : ℕ) → j < index → h j ≡ f j) → h index ≡ part row → ((j : ℕ) → index ≤ j → j < n → h (j + 1) ≡ f j)
+      → Stands part (n + 1) h (insert rows index row)
+  stands_put n index row f h rows long within old below at above i lt = elim (cases_lt i index) [
+    | inl less ↦ below i less ∙ old i (omega arith) ∙ ap part (sym (get_or-insert_below rows index row blank_row i less (omega arith)))
+    | inr from ↦ elim (cases_eq i index) [
+      | inl e ↦ ap h e ∙ at ∙ ap part (sym (get_or-insert_at rows index row blank_row (omega arith)) ∙ ap (λ (k : ℕ). get_or (insert rows index row) k blank_row) (sym e))
+      | inr ne ↦
+          let back : i ≡ i - 1 + 1 = omega arith in
+          ap h back ∙ above (i - 1) (omega arith) (omega arith) ∙ old (i - 1) (omega arith)
+          ∙ ap part (sym (get_or-insert_above rows index row blank_row (i - 1) (omega arith) (omega arith)) ∙ ap (λ (k : ℕ). get_or (insert rows index row) k blank_row) (sym back))
+    ]
+  ]
+
+  -- the first rows, and behind them rows from an index of others on
+  stands_copied : (n m at from count : ℕ) (f g h : ℕ → A) (xs ys : List Row) → length xs ≡ n → length ys ≡ m → at ≤ n → from + count ≤ m
+      → Stands part n f xs → Stands part m g ys
+      → ((j : ℕ) → j < at → h j ≡ f j) → ((j : ℕ) → j < count → h (at + j) ≡ g (from + j))
+      → Stands part (at + count) h (take at xs ++ take count (drop from ys))
+  stands_copied n m at from count f g h xs ys long_xs long_ys within there old other below copied i lt =
+      let front : length (take at xs) ≡ at = length-take-le at xs (omega arith) in
+      elim (cases_lt i at) [
+        | inl less ↦
+            below i less ∙ old i (omega arith)
+            ∙ ap part (sym (get_or_append_left (take at xs) (take count (drop from ys)) blank_row i (omega arith) ∙ get_or-take at xs i blank_row less))
+        | inr le ↦
+            let back : i ≡ at + (i - at) = omega arith in
+            ap h back ∙ copied (i - at) (omega arith) ∙ other (from + (i - at)) (omega arith)
+            ∙ ap part (sym (get_or-append_right (take at xs) (take count (drop from ys)) at i blank_row front le
+            ∙ get_or-take count (drop from ys) (i - at) blank_row (omega arith) ∙ get_or-drop from ys (i - at) blank_row))
+      ]
+
+  -- one row taken out
+  stands_out : (n index : ℕ) (f h : ℕ → A) (rows : List Row) → length rows ≡ n → index < n → Stands part n f rows
+      → ((j : ℕ) → j < index → h j ≡ f j) → ((j : ℕ) → index ≤ j → j + 1 < n → h j ≡ f (j + 1))
+      → Stands part (n - 1) h (take index rows ++ drop (index + 1) rows)
+  stands_out n index f h rows long within old below above i lt =
+      let front : length (take index rows) ≡ index = length-take-le index rows (omega arith) in
+      elim (cases_lt i index) [
+        | inl less ↦
+            below i less ∙ old i (omega arith)
+            ∙ ap part (sym (get_or_append_left (take index rows) (drop (index + 1) rows) blank_row i (omega arith) ∙ get_or-take index rows i blank_row less))
+        | inr le ↦
+            let next : index + 1 + (i - index) ≡ i + 1 = omega arith in
+            above i le (omega arith) ∙ old (i + 1) (omega arith)
+            ∙ ap part (sym (get_or-append_right (take index rows) (drop (index + 1) rows) index i blank_row front le
+            ∙ get_or-drop (index + 1) rows (i - index) blank_row ∙ ap (λ (k : ℕ). get_or rows k blank_row) next))
+      ]
+
+  -- the first of them
+  stands_first : (n count : ℕ) (f : ℕ → A) (rows : List Row) → count ≤ n → Stands part n f rows → Stands part count f (take count rows)
+  stands_first n count f rows le old i lt = old i (omega arith) ∙ ap part (sym (get_or-take count rows i blank_row lt))
+
+-- columns hold these rows in their first places
+pub record AreHeld (dims n : ℕ) (keys : List Key) (points : List (List ℕ)) (values : List (List ℤ)) (rows : List Row) : Type 0 where
+  pub long : length rows ≡ n
+  pub key : Stands (key_of dims) n (λ i. get_or keys i blank_key) rows
+  pub point : Stands (λ row. row.dims) n (point_in points) rows
+  pub value : Stands (λ row. row.measures) n (values_in values) rows
+
+row_same : (a b : Row) → a.number ≡ b.number → a.dims ≡ b.dims → a.measures ≡ b.measures → a ≡ b
+row_same a b p q r = rw (← p, ← q, ← r) refl
+
+-- so they are those of the columns, and the keys are theirs
+pub rows_held : (dims n : ℕ) (keys : List Key) (points : List (List ℕ)) (values : List (List ℤ)) (rows : List Row) → AreHeld dims n keys points values rows
+    → map (row_in keys points values) (range_with_len 0 n) ≡ rows
+rows_held dims n keys points values rows h =
+    let f : ℕ → Row = row_in keys points values in
+    let count = length-map-range_with_len f 0 n in
+    let long = h.long in
+    ext_get_or blank_row (map f (range_with_len 0 n)) rows (omega arith)
+    (λ i lt. get_or-map-range_with_len f 0 n i i blank_row (omega arith) (omega arith)
+    ∙ row_same (f i) (get_or rows i blank_row) (ap (λ (k : Key). k.number) (h.key i (omega arith))) (h.point i (omega arith)) (h.value i (omega arith)))
+
+pub keys_held : (dims n : ℕ) (keys : List Key) (points : List (List ℕ)) (values : List (List ℤ)) (rows : List Row) → AreHeld dims n keys points values rows → n ≤ length keys
+    → take n keys ≡ keys_of dims rows
+keys_held dims n keys points values rows h le =
+    let long = h.long in
+    let front : length (take n keys) ≡ n = length-take-le n keys le in
+    let count : length (keys_of dims rows) ≡ length rows = length-keys_of dims rows in
+    ext_get_or blank_key (take n keys) (keys_of dims rows) (omega arith)
+    (λ i lt. get_or-take n keys i blank_key (omega arith) ∙ h.key i (omega arith) ∙ sym (get_or-map (key_of dims) rows i blank_row blank_key (omega arith)))
+
+-- those of a region in memory
+pub held_at : (p : Inside) → AreColumns p → AreHeld p.shape p.len p.keys p.dims p.measures (held_rows p)
+held_at p h =
+    let f : ℕ → Row = row_in p.keys p.dims p.measures in
+    let at : (i : ℕ) → i < p.len → get_or (held_rows p) i blank_row ≡ f i = (λ i lt. get_or-map-range_with_len f 0 p.len i i blank_row lt (omega arith)) in
+    let long : length (held_rows p) ≡ p.len = length-map-range_with_len f 0 p.len in
+    record {
+      long = long;
+      key = λ i lt. sym (get_or-take p.len p.keys i blank_key lt) ∙ ap (λ (ks : List Key). get_or ks i blank_key) h.keys ∙ get_or-map (key_of p.shape) (held_rows p) i blank_row blank_key (omega arith);
+      point = λ i lt. ap (λ (row : Row). row.dims) (sym (at i lt));
+      value = λ i lt. ap (λ (row : Row). row.measures) (sym (at i lt));
+    }
+
+-- and its rows are those of its view
+pub held_now : (p : Inside) (v : RegionView) → AreColumns p → held p ≡ v → AreHeld p.shape p.len p.keys p.dims p.measures v.region.rows
+held_now p v h is = subst (λ (rows : List Row). AreHeld p.shape p.len p.keys p.dims p.measures rows) (ap (λ (w : RegionView). w.region.rows) is) (held_at p h)
+
+-- where a row was put in
+pub held_put : (dims n index : ℕ) (row : Row) (keys new_keys : List Key) (points new_points : List (List ℕ)) (values new_values : List (List ℤ)) (rows : List Row)
+    → AreHeld dims n keys points values rows → index ≤ n
+    → ((j : ℕ) → j < index → get_or new_keys j blank_key ≡ get_or keys j blank_key) → get_or new_keys index blank_key ≡ key_of dims row
+    → ((j : ℕ) → index ≤ j → j < n → get_or new_keys (j + 1) blank_key ≡ get_or keys j blank_key)
+    → ((j : ℕ) → j < index → point_in new_points j ≡ point_in points j) → point_in new_points index ≡ row.dims
+    → ((j : ℕ) → index ≤ j → j < n → point_in new_points (j + 1) ≡ point_in points j)
+    → ((j : ℕ) → j < index → values_in new_values j ≡ values_in values j) → values_in new_values index ≡ row.measures
+    → ((j : ℕ) → index ≤ j → j < n → values_in new_values (j + 1) ≡ values_in values j)
+    → AreHeld dims (n + 1) new_keys new_points new_values (insert rows index row)
+held_put dims n index row keys new_keys points new_points values new_values rows h within kb k ka pb p pa vb v va =
+    let long = h.long in
+    record {
+      long = length-insert rows index row (omega arith) ∙ ap (λ (m : ℕ). m + 1) long;
+      key = stands_put (key_of dims) n index row (λ i. get_or keys i blank_key) (λ i. get_or new_keys i blank_key) rows long within h.key kb k ka;
+      point = stands_put (λ (r : Row). r.dims) n index row (point_in points) (point_in new_points) rows long within h.point pb p pa;
+      value = stands_put (λ (r : Row). r.measures) n index row (values_in values) (values_in new_values) rows long within h.value vb v va;
+    }
+
+-- where one was taken out
+pub held_out : (dims n index : ℕ) (keys new_keys : List Key) (points new_points : List (List ℕ)) (values new_values : List (List ℤ)) (rows : List Row)
+    → AreHeld dims n keys points values rows → index < n
+    → ((j : ℕ) → j < index → get_or new_keys j blank_key ≡ get_or keys j blank_key)
+    → ((j : ℕ) → index ≤ j → j + 1 < n → get_or new_keys j blank_key ≡ get_or keys (j + 1) blank_key)
+    → ((j : ℕ) → j < index → point_in new_points j ≡ point_in points j)
+    → ((j : ℕ) → index ≤ j → j + 1 < n → point_in new_points j ≡ point_in points (j + 1))
+    → ((j : ℕ) → j < index → values_in new_values j ≡ values_in values j)
+    → ((j : ℕ) → index ≤ j → j + 1 < n → values_in new_values j ≡ values_in values (j + 1))
+    → AreHeld dims (n - 1) new_keys new_points new_values (take index rows ++ drop (index + 1) rows)
+held_out dims n index keys new_keys points new_points values new_values rows h within kb ka pb pa vb va =
+    let long = h.long in
+    let front : length (take index rows) ≡ index = length-take-le index rows (omega arith) in
+    let rest : length (drop (index + 1) rows) ≡ length rows - (index + 1) = length-drop (index + 1) rows in
+    let both : length (take index rows ++ drop (index + 1) rows) ≡ length (take index rows) + length (drop (index + 1) rows) = length-append (take index rows) (drop (index + 1) rows) in
+    record {
+      long = omega arith;
+      key = stands_out (key_of dims) n index (λ i. get_or keys i blank_key) (λ i. get_or new_keys i blank_key) rows long within h.key kb ka;
+      point = stands_out (λ (r : Row). r.dims) n index (point_in points) (point_in new_points) rows long within h.point pb pa;
+      value = stands_out (λ (r : Row). r.measures) n index (values_in values) (values_in new_values) rows long within h.value vb va;
+    }
+
+-- where others were taken over
+pub held_over : (dims n m at from count : ℕ) (keys other_keys new_keys : List Key) (points other_points new_points : List (List ℕ)) (values other_values new_values : List (List ℤ)) (xs ys : List Row)
+    → AreHeld dims n keys points values xs → AreHeld dims m other_keys other_points other_values ys → at ≤ n → from + count ≤ m
+    → ((j : ℕ) → j < at → get_or new_keys j blank_key ≡ get_or keys j blank_key)
+    → ((j : ℕ) → j < count → get_or new_keys (at + j) blank_key ≡ get_or other_keys (from + j) blank_key)
+    → ((j : ℕ) → j < at → point_in new_points j ≡ point_in points j) → ((j : ℕ) → j < count → point_in new_points (at + j) ≡ point_in other_points (from + j))
+    → ((j : ℕ) → j < at → values_in new_values j ≡ values_in values j) → ((j : ℕ) → j < count → values_in new_values (at + j) ≡ values_in other_values (from + j))
+    → AreHeld dims (at + count) new_keys new_points new_values (take at xs ++ take count (drop from ys))
+held_over dims n m at from count keys other_keys new_keys points other_points new_points values other_values new_values xs ys h g within there kb kc pb pc vb vc =
+    let long = h.long in
+    let long_other = g.long in
+    let front : length (take at xs) ≡ at = length-take-le at xs (omega arith) in
+    let behind : length (drop from ys) ≡ length ys - from = length-drop from ys in
+    let rest : length (take count (drop from ys)) ≡ count = length-take-le count (drop from ys) (omega arith) in
+    let both : length (take at xs ++ take count (drop from ys)) ≡ length (take at xs) + length (take count (drop from ys)) = length-append (take at xs) (take count (drop from ys)) in
+    record {
+      long = omega arith;
+      key = stands_copied (key_of dims) n m at from count (λ i. get_or keys i blank_key) (λ i. get_or other_keys i blank_key) (λ i. get_or new_keys i blank_key) xs ys long long_other within there h.key g.key kb kc;
+      point = stands_copied (λ (r : Row). r.dims) n m at from count (point_in points) (point_in other_points) (point_in new_points) xs ys long long_other within there h.point g.point pb pc;
+      value = stands_copied (λ (r : Row). r.measures) n m at from count (values_in values) (values_in other_values) (values_in new_values) xs ys long long_other within there h.value g.value vb vc;
+    }
+
+-- where the first ones are kept
+pub held_first : (dims n count : ℕ) (keys : List Key) (points : List (List ℕ)) (values : List (List ℤ)) (rows : List Row) → AreHeld dims n keys points values rows → count ≤ n
+    → AreHeld dims count keys points values (take count rows)
+held_first dims n count keys points values rows h le =
+    let long = h.long in
+    record {
+      long = length-take-le count rows (omega arith);
+      key = stands_first (key_of dims) n count (λ i. get_or keys i blank_key) rows le h.key;
+      point = stands_first (λ (r : Row). r.dims) n count (point_in points) rows le h.point;
+      value = stands_first (λ (r : Row). r.measures) n count (values_in values) rows le h.value;
+    }
+
+-- what holds rows is a region in memory, and its rows are these
+pub columns_held : (p : Inside) (rows : List Row) → AreHeld p.shape p.len p.keys p.dims p.measures rows → p.len ≤ 64 → length p.keys ≡ 64
+    → ((d : ℕ) → d < 4 → length (get_or p.dims d []) ≡ 64) → AreColumns p
+columns_held p rows h few keys_long dims_long = record {
+  few = few;
+  keys_long = keys_long;
+  dims_long = dims_long;
+  keys = keys_held p.shape p.len p.keys p.dims p.measures rows h (omega arith) ∙ ap (keys_of p.shape) (sym (rows_held p.shape p.len p.keys p.dims p.measures rows h));
+}
+
+pub view_held : (p : Inside) (v : RegionView) (rows : List Row) → AreHeld p.shape p.len p.keys p.dims p.measures rows → p.shape ≡ v.dims → p.first ≡ v.region.first
+    → held p ≡ record { dims = v.dims; region = record { first = v.region.first; rows = rows } }
+view_held p v rows h shape first = rw (← shape, ← first) (ap (λ (rs : List Row). record { dims = p.shape; region = record { first = p.first; rows = rs } }) (rows_held p.shape p.len p.keys p.dims p.measures rows h))
