@@ -10,7 +10,8 @@ use Rattle.ub_table.specs.declared.row.Key.{Key}
 use Rattle.ub_index.specs.Descending.{FindsAfter, HoldsLeaf, LeadsDown, LooksAt, StepsTo}
 use Rattle.ub_index.specs.Fitting.{FallsTo, FitsAtEnds}
 use Rattle.ub_index.specs.Index.{entries_of, first_or, page_in, top, NamesFitting}
-use Rattle.ub_index.specs.Searching.{Gives, IsAim, IsFrom, IsSought, region_of}
+use Rattle.ub_index.specs.Searching.{Gives, IsAim, IsFrom, IsSought}
+use Rattle.ub_index.specs.Spans.{region_of}
 use Rattle.ub_index.specs.View.{IndexView, Leads}
 use Rattle.ub_index.specs.Way.{HoldsKey}
 use Rattle.ub_index.specs.declared.descent.Found.TheVariants.{Nothing, Here, Beyond}

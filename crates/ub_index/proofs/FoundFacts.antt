@@ -9,12 +9,12 @@ use Rattle.ub_index.specs.Spans.{first_keys, regions_of, First, IsLater, Meets}
 use Rattle.ub_region.specs.declared.region.Region.{Region}
 use Rattle.ub_region.specs.declared.entry.Entry.{Entry}
 use Rattle.ub_region.specs.Regions.{index_holding}
-use Rattle.ub_region.specs.Spans.{span_end}
+use Rattle.ub_region.specs.Spans.{span_end, end_before}
 use Rattle.ub_store.specs.Facts.{StoreFacts}
 use Rattle.ub_table.proofs.Laws.{ascending_get, before_of, not_before_origin, precedes_of, precedes_trans}
 use Rattle.ub_table.specs.Keys.{IsBefore, precedes, origin, are_ascending}
 use Rattle.ub_table.specs.declared.row.Key.{Key}
-use Rattle.ub_index.specs.Searching.{Aims, Gives, GivesAfter, IsFrom, at_least, end_before}
+use Rattle.ub_index.specs.Searching.{Aims, Gives, GivesAfter, IsFrom, at_least}
 use Rattle.ub_index.specs.View.{IndexView, IsIndexOn, IsRegionAt, entries_in, entry_at}
 use Rattle.ub_index.specs.declared.fault.IndexFault.{IndexFault}
 use Rattle.ub_index.specs.declared.goal.Goal.TheVariants.{Address, Boxes}

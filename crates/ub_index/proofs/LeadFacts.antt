@@ -3,7 +3,7 @@ use Rattle.std.proofs.Common.{◌≡◌, ◌≤◌, ◌∙◌, ◌⊎◌, ◌↔
 use Rattle.std.proofs.lemmas.Bool.{cases_Bool, cases_lt}
 use Rattle.std.proofs.lemmas.List.{length-append}
 use Rattle.std.proofs.lemmas.Option.{slice_get_within}
-use Rattle.ub_index.specs.Spans.{first_keys}
+use Rattle.ub_index.specs.Spans.{first_keys, region_of}
 use Rattle.ub_bytes.specs.Bytes.{number_at}
 use Rattle.std.specs.List.{AllByRecursion}
 use Rattle.ub_page.specs.Entries.{IsEntry}
@@ -15,7 +15,7 @@ use Rattle.ub_table.specs.Keys.{IsBefore, precedes}
 use Rattle.ub_table.specs.declared.row.Key.{Key}
 use Rattle.ub_index.specs.Fitting.{FallsTo}
 use Rattle.ub_index.specs.Index.{AscendTo, EachTo, Fits, IsIndexPage, IsUnder, NamesFitting, entries_of, first_or, page_in, top}
-use Rattle.ub_index.specs.Searching.{Gives, region_of}
+use Rattle.ub_index.specs.Searching.{Gives}
 use Rattle.ub_index.specs.Standing.{AddsNoIndexPage, OldStayOutside}
 use Rattle.ub_index.specs.View.{IndexView, IsIndexOn, IsRegionAt, Leads, Stops, entries_in, entry_at}
 use Rattle.ub_index.specs.Way.{HoldsKey, LeadsTo, StopsAt}

@@ -4,7 +4,7 @@ use Rattle.std.proofs.lemmas.List.{append-nil}
 use Rattle.std.proofs.lemmas.Option.{slice_get_within}
 use Rattle.std.specs.Result.{IsErrAnd}
 use Rattle.std.specs.List.{AllByRecursion, IsDistinct, flat_map}
-use Rattle.ub_index.specs.Spans.{first_keys}
+use Rattle.ub_index.specs.Spans.{first_keys, region_of}
 use Rattle.ub_page.specs.Entries.{IsEntry}
 use Rattle.ub_region.specs.declared.entry.Entry.{Entry}
 use Rattle.ub_region.proofs.Laws.{all_append, all_left, all_more, all_right}
@@ -19,7 +19,6 @@ use Rattle.ub_index.specs.Changing.{AreOnce, IsFine, IsNoNew, IsOutside, IsTurnF
 use Rattle.ub_index.specs.Filling.{IsFilled, IsFilledRoot, KeepsFilled}
 use Rattle.ub_index.specs.Index.{entries_of, first_or, page_in, pages_under, AscendTo, EachTo, IsUnder, under, top}
 use Rattle.ub_index.specs.Preparing.{ChangeView, IsChangeFault, IsIndexThen, IsPrepared, IsReachedOnce, MakesIndex, IsSettleFault, IsWithinRegion, PreparesAll, Settles, TurnsRoot, added_at, change_view, pages_of_index, HasFullWay}
-use Rattle.ub_index.specs.Searching.{region_of}
 use Rattle.ub_index.specs.View.{IndexView, IsIndexOn, IsRegionAt, entries_in, index_view, entry_at}
 use Rattle.ub_index.specs.Way.{LeadsTo}
 use Rattle.ub_index.specs.declared.fault.IndexFault.{IndexFault}

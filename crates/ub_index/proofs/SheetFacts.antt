@@ -9,11 +9,11 @@ use Rattle.ub_page.specs.Entries.{IsEntry}
 use Rattle.ub_region.specs.declared.entry.Entry.{Entry}
 use Rattle.ub_region.proofs.Laws.{all_append, all_left, all_right}
 use Rattle.ub_store.specs.Facts.{StoreFacts, page_count}
-use Rattle.ub_table.proofs.Laws.{not_before_origin, not_before_self}
+use Rattle.ub_table.proofs.Laws.{not_before_self}
 use Rattle.ub_table.specs.Keys.{IsBefore}
 use Rattle.ub_table.specs.declared.row.Key.{Key}
 use Rattle.ub_index.specs.Changed.{BeginFrom}
-use Rattle.ub_index.specs.Changing.{AreIndexPages, IsFine, Mends, NamesPage, Spelled, Spreads, Turns, named_as, sheet_of, so_far, with_added}
+use Rattle.ub_index.specs.Changing.{AreIndexPages, IsFine, Mends, NamesPage, Spelled, Spreads, Turns, named_as, sheet_of, so_far}
 use Rattle.ub_index.specs.Fitting.{FallsTo}
 use Rattle.ub_index.specs.Index.{AscendTo, IsIndexPage, NamesFitting, entries_of, first_or, page_in, top}
 use Rattle.ub_index.specs.Opening.{root_page}

@@ -1,10 +1,9 @@
 -- The regions of a list of entries, by their places.
 use Rattle.std.proofs.Common.{◌≡◌, ℕ, zero, suc, List, [], ◌∷◌, Option, Some, drop, refl, slice_get, ◌∙◌, ap}
 use Rattle.ub_region.specs.declared.entry.Entry.{Entry}
-use Rattle.ub_region.specs.Spans.{span_end}
+use Rattle.ub_region.specs.Spans.{span_end, end_before}
 use Rattle.ub_table.specs.declared.row.Key.{Key}
-use Rattle.ub_index.specs.Searching.{end_before, region_of}
-use Rattle.ub_index.specs.Spans.{first_keys, regions_of}
+use Rattle.ub_index.specs.Spans.{region_of, first_keys, regions_of}
 use Rattle.ub_index.specs.View.{entry_at}
 use Rattle.ub_region.specs.declared.region.Region.{Region}
 

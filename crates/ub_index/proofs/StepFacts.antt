@@ -1,5 +1,5 @@
 -- What a call leaves that brings a page, looks at it, and forgets it where it is refused.
-use Rattle.std.proofs.Common.{◌≡◌, ◌≤◌, ℕ, Bool, List, [], Option, Some, None, Result, slice_get, Ok, Err, IfOk, IfErr, IsTrue, length, ◌∙◌, sym, ap, subst, refl, arith}
+use Rattle.std.proofs.Common.{◌≡◌, ◌≤◌, ℕ, Bool, List, Option, Some, None, Result, slice_get, Ok, Err, IfOk, IfErr, IsTrue, length, ◌∙◌, sym, ap, subst, refl, arith}
 use Rattle.std.proofs.lemmas.Option.{slice_get_within}
 use Rattle.std.specs.Result.{IsErrAnd, IsErrOf}
 use Rattle.ub_region.specs.declared.entry.Entry.{Entry}

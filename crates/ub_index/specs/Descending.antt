@@ -1,5 +1,5 @@
 -- The steps of the way down.
-use Rattle.std.specs.Prelude.{◌≡◌, ◌≤◌, ◌⊎◌, ℕ, IsTrue, List, Option, Some, None, Result, IfErr, IfSome}
+use Rattle.std.specs.Prelude.{◌≡◌, ◌≤◌, ℕ, IsTrue, List, Option, Some, None, Result, IfErr, IfSome}
 use Rattle.ub_region.specs.declared.region.Region.{Region}
 use Rattle.ub_index.specs.Fitting.{FallsTo, FitsAtEnds, IsNotTaken}
 use Rattle.ub_index.specs.Held.{AreChecked, KeepsChecked}

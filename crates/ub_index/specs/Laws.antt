@@ -4,7 +4,7 @@ use Rattle.std.specs.Prelude.{◌≡◌, ◌≤◌, ◌<◌, ◌+◌, ◌^◌, �
 use Rattle.std.specs.List.{AllByRecursion, flat_map, IsDistinct}
 use Rattle.ub_index.specs.Spans.{ArePlaces, first_keys}
 use Rattle.ub_store.specs.Writing.{Grows}
-use Rattle.ub_index.specs.Index.{AscendTo, IsIndexPage, IsUnder, under, pages_under, top}
+use Rattle.ub_index.specs.Index.{AscendTo, IsIndexPage, IsUnder, under, pages_under}
 use Rattle.ub_index.specs.Changed.{PagesStay, Becomes, BeginFrom, Replaces, Stays}
 use Rattle.ub_index.specs.Changing.{IsFine, IsOutside, Spelled, Stand, StayBut, Turns, named_as, so_far, with_added}
 use Rattle.ub_index.specs.Filling.{IsFilled, KeepsFilled}

@@ -10,30 +10,12 @@ use Rattle.ub_index.specs.declared.fault.IndexFault.{IndexFault}
 use Rattle.ub_index.specs.declared.fault.IndexFault.TheVariants.{Full, Page, Store}
 use Rattle.ub_index.specs.declared.goal.Goal.{Goal}
 use Rattle.ub_index.specs.declared.goal.Goal.TheVariants.{Address, Boxes}
-use Rattle.ub_region.specs.declared.entry.Entry.{Entry}
-use Rattle.ub_region.specs.Spans.{address_before}
+use Rattle.ub_region.specs.Spans.{end_before}
 use Rattle.ub_store.specs.Facts.{StoreFacts, IsHonest, page_count, raised}
 use Rattle.ub_store.specs.View.{PagerView}
 use Rattle.ub_store.specs.declared.fault.StoreFault.TheVariants as fault
-use Rattle.ub_table.specs.Keys.{IsBefore, precedes, origin}
-use Rattle.ub_table.specs.declared.fault.PageFault.{PageFault}
-use Rattle.ub_table.specs.declared.fault.PageFault.TheVariants.{OutOfRegion}
+use Rattle.ub_table.specs.Keys.{precedes, origin}
 use Rattle.ub_table.specs.declared.row.Key.{Key}
-
--- the greatest address that a key before this one can have, or else the last of all
-abbrev pub end_before : ℕ → Option Key → ℕ
-end_before last None = last
-end_before last (Some next) = address_before next.z next.number
-
--- the region of an entry, up to where the next one begins, with its span
-abbrev pub region_of : ℕ → Entry → Option Key → Region
-region_of last entry next = record {
-  first = entry.first;
-  next = next;
-  from = entry.first.z;
-  to = end_before last next;
-  page = entry.page;
-}
 
 -- the region that is given for a key: it holds the key, its span is that from its first key to the next one's, and over an
 -- honest store the way leads to it

@@ -3,7 +3,7 @@ use Rattle.std.specs.Prelude.{◌≡◌, ◌≤◌, ℕ, List, [], ◌∷◌, ma
 use Rattle.ub_bigmin.specs.Box.{Corners, HoldsAny}
 use Rattle.ub_region.specs.declared.region.Region.{Region}
 use Rattle.ub_region.specs.declared.entry.Entry.{Entry}
-use Rattle.ub_region.specs.Spans.{span_end}
+use Rattle.ub_region.specs.Spans.{end_before}
 use Rattle.ub_region.specs.Those.{FirstBy}
 use Rattle.ub_table.specs.Keys.{IsBefore, origin, are_ascending}
 use Rattle.ub_table.specs.declared.row.Key.{Key}
@@ -16,17 +16,20 @@ abbrev pub ArePlaces : ℕ → List Entry → Type 0
 ArePlaces last entries =
     (slice_get (first_keys entries) 0 ≡ Some origin) × All (λ entry. entry.first.z ≤ last) entries × IsTrue (are_ascending (first_keys entries))
 
--- the regions of these entries, each with its span, in a space that ends with this address
+-- the region of an entry, up to where the next one begins, in a space that ends with this address
+abbrev pub region_of : ℕ → Entry → Option Key → Region
+region_of last entry next = record {
+  first = entry.first;
+  next = next;
+  from = entry.first.z;
+  to = end_before last next;
+  page = entry.page;
+}
+
+-- the regions of these entries
 abbrev pub regions_of : ℕ → List Entry → List Region
 regions_of last [] = []
-regions_of last (entry ∷ entries) =
-    record {
-      first = entry.first;
-      next = slice_get (first_keys entries) 0;
-      from = entry.first.z;
-      to = span_end last (first_keys entries);
-      page = entry.page;
-    } ∷ regions_of last entries
+regions_of last (entry ∷ entries) = region_of last entry (slice_get (first_keys entries) 0) ∷ regions_of last entries
 
 -- some address of the region's span lies in one of the boxes
 abbrev pub Meets : List Corners → Region → Type 0

@@ -1,7 +1,7 @@
 ghost use Rattle.std.specs.Prelude.{◌≡◌, ◌≤◌, ◌<◌, ◌+◌, ◌^◌, ◌⊎◌, ℕ, [], ◌∷◌, None, Some, IfOk, IfErr, IfSome, OnOk, OnErr, option_copied};
 ghost use Rattle.ub_bigmin.specs.Box.{HoldsAny};
 ghost use Rattle.ub_bigmin.specs.Extremes.{LeastFrom};
-ghost use Rattle.ub_index.specs.Spans.{first_keys, regions_of, Meets, IsLater, First};
+ghost use Rattle.ub_index.specs.Spans.{first_keys, regions_of, Meets, IsLater, First, region_of};
 ghost use Rattle.ub_index.specs.Changed.{Replaces};
 ghost use Rattle.ub_store.specs.Writing.{put_store};
 ghost use Rattle.ub_index.specs.Changing.{AreIndexPages, AreOnce, IsNoGrowth, Stand, so_far};
@@ -13,7 +13,8 @@ ghost use Rattle.ub_index.specs.Lowering.{IsDropped, MakesLow, PreparesDrop};
 ghost use Rattle.ub_index.specs.Preparing.{IsPrepared, IsReachedOnce, MakesIndex, IsWithinRegion, PreparesAll, TakesFew, TakesNeeded, added_at};
 ghost use Rattle.ub_index.specs.Descending.{FindsAfter, HoldsLeaf, IsForgotten, LeadsDown};
 ghost use Rattle.ub_index.specs.Held.{AreChecked, KeepsChecked};
-ghost use Rattle.ub_index.specs.Searching.{Aims, Gives, GivesAny, GivesAfter, IsSought, GoesDown, end_before, key_before, region_of};
+ghost use Rattle.ub_index.specs.Searching.{Aims, Gives, GivesAny, GivesAfter, IsSought, GoesDown, key_before};
+ghost use Rattle.ub_region.specs.Spans.{end_before};
 ghost use Rattle.ub_index.specs.View.{IsIndexOn, IsRegionAt, Leads, IsNextRegion, IsPreviousRegion, entries_in, index_view, entry_at};
 ghost use Rattle.ub_page.specs.declared.header.TheConstants.{MAX_LEVEL};
 ghost use Rattle.ub_region.specs.Regions.{index_holding};

@@ -6,8 +6,8 @@ use Rattle.std.proofs.lemmas.List.{append-nil}
 use Rattle.std.specs.List.{AllByRecursion}
 use Rattle.ub_bigmin.specs.Box.{Corners, HoldsAny}
 use Rattle.ub_bigmin.specs.Extremes.{LeastFrom}
-use Rattle.ub_index.specs.Searching.{GivesFrom, at_least, end_before}
-use Rattle.ub_region.specs.Spans.{address_before}
+use Rattle.ub_index.specs.Searching.{GivesFrom, at_least}
+use Rattle.ub_region.specs.Spans.{end_before, address_before}
 use Rattle.ub_table.proofs.Laws.{before_from, before_parts, before_trans}
 use Rattle.ub_table.specs.Keys.{IsBefore, precedes}
 use Rattle.ub_table.specs.declared.row.Key.{Key}

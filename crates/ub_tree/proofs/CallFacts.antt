@@ -7,7 +7,8 @@ use Rattle.ub_bigmin.specs.Box.{Corners, HoldsAny}
 use Rattle.ub_bigmin.specs.Extremes.{LeastFrom}
 use Rattle.ub_index.proofs.LeadFacts.{one_given}
 use Rattle.ub_index.specs.Index.{top}
-use Rattle.ub_index.specs.Searching.{Gives, GivesAfter, IsWayFault, at_least, end_before}
+use Rattle.ub_index.specs.Searching.{Gives, GivesAfter, IsWayFault, at_least}
+use Rattle.ub_region.specs.Spans.{end_before}
 use Rattle.ub_index.specs.View.{IndexView, IsIndexOn, Stops, entry_at}
 use Rattle.ub_index.specs.declared.fault.IndexFault.{IndexFault}
 use Rattle.ub_index.specs.declared.fault.IndexFault.TheVariants as index

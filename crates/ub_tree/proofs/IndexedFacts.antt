@@ -4,13 +4,14 @@ use Rattle.std.proofs.lemmas.Option.{slice_get_within}
 use Rattle.std.specs.List.{Contains, IsDistinct}
 use Rattle.ub_bigmin.specs.Box.{Corners, HoldsAny}
 use Rattle.ub_bigmin.specs.Extremes.{LeastFrom}
-use Rattle.ub_index.specs.Spans.{First, IsLater, Meets, first_keys, regions_of}
+use Rattle.ub_index.specs.Spans.{First, IsLater, Meets, first_keys, regions_of, region_of}
 use Rattle.ub_region.specs.declared.region.Region.{Region}
 use Rattle.ub_index.proofs.FoundFacts.{meeting_given, region_there}
 use Rattle.ub_index.proofs.LeadFacts.{led_to, ways_hold}
 use Rattle.ub_index.proofs.WayFacts.{way_ends_at}
 use Rattle.ub_index.specs.Preparing.{IsReachedOnce}
-use Rattle.ub_index.specs.Searching.{GivesAfter, end_before, region_of}
+use Rattle.ub_index.specs.Searching.{GivesAfter}
+use Rattle.ub_region.specs.Spans.{end_before}
 use Rattle.ub_index.specs.View.{IndexView, IsIndexOn, IsRegionAt, entries_in}
 use Rattle.ub_region.specs.declared.entry.Entry.{Entry}
 use Rattle.ub_region.specs.Regions.{index_holding}

@@ -1,4 +1,4 @@
-use Rattle.std.proofs.Common.{◌≡◌, ◌∙◌, Bor, List, [], None, Option, ap, refl, sym, ℕ}
+use Rattle.std.proofs.Common.{◌≡◌, ◌∙◌, Bor, List, None, Option, ap, refl, sym, ℕ}
 use Rattle.std.specs.Option.{option_copied}
 use Rattle.ub_index.specs.Descending.{IsForgotten}
 use Rattle.ub_index.specs.Index.{top}

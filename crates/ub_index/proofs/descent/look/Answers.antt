@@ -1,4 +1,4 @@
-use Rattle.std.proofs.Common.{◌≡◌, ◌≤◌, ap, subst, sym}
+use Rattle.std.proofs.Common.{◌≤◌, ap, subst, sym}
 use Rattle.ub_page.specs.declared.index.Head.{Head}
 use Rattle.ub_store.specs.View.{PagerView}
 use Rattle.ub_index.proofs.FitFacts.{page_is}

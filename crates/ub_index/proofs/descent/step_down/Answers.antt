@@ -1,8 +1,8 @@
-use Rattle.std.proofs.Common.{◌≡◌, ◌≤◌, ap, subst, sym}
+use Rattle.std.proofs.Common.{◌≤◌, ap, subst, sym}
 use Rattle.ub_page.specs.declared.index.Head.{Head}
 use Rattle.ub_store.specs.View.{PagerView}
 use Rattle.ub_index.proofs.BehindFacts.{below_holds}
-use Rattle.ub_index.proofs.FitFacts.{falls_there, same_page}
+use Rattle.ub_index.proofs.FitFacts.{falls_there}
 use Rattle.ub_index.specs.Descending.{IsForgotten}
 use Rattle.ub_index.proofs.StepFacts.{if_err, none_ok, page_now, refused_step, stepped_as}
 use Rattle.ub_index.proofs.descent.step_down.Goals as goal

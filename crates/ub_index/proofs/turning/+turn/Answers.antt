@@ -1,4 +1,4 @@
-use Rattle.std.proofs.Common.{◌+◌, ◌-◌, ◌≤◌, ◌<◌, ◌∙◌, [], length, List, Option, ap, arith, refl, subst, sym, ℕ}
+use Rattle.std.proofs.Common.{◌+◌, ◌-◌, ◌≤◌, ◌<◌, ◌∙◌, length, List, Option, ap, arith, refl, subst, sym, ℕ}
 use Rattle.ub_index.specs.Changing.{IsAtMostOne, IsNoGrowth, Mends, NeedsNoGrowth, Turns, with_added}
 use Rattle.ub_index.specs.declared.told.Told.{Told}
 use Rattle.ub_index.specs.declared.turning.Opened.{Opened}

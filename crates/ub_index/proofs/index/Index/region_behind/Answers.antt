@@ -4,7 +4,8 @@ use Rattle.ub_store.specs.View.{PagerView}
 use Rattle.ub_table.specs.declared.row.Key.{Key}
 use Rattle.ub_index.specs.Descending.{FindsAfter, IsForgotten, LooksAt}
 use Rattle.ub_index.specs.Held.{AreChecked, KeepsChecked}
-use Rattle.ub_index.specs.Searching.{Aims, Gives, GoesDown, IsSought, region_of}
+use Rattle.ub_index.specs.Searching.{Aims, Gives, GoesDown, IsSought}
+use Rattle.ub_index.specs.Spans.{region_of}
 use Rattle.ub_index.specs.View.{IndexView, index_view}
 use Rattle.ub_index.specs.declared.descent.Found.{Found}
 use Rattle.ub_index.specs.declared.descent.Leaf.{Leaf}
