@@ -8,7 +8,7 @@ ghost use Rattle.ub_query.specs.Shape.{shape};
 ghost use Rattle.ub_table.specs.Value.{value};
 ghost use Rattle.std.specs.Option.{option_map};
 
-use itoa::Buffer;
+use crate::numbers::{push_number, push_signed};
 use std::alloc::{AllocError, Global};
 use ub_bigmin::ZBox;
 use ub_boxes::total;
@@ -210,12 +210,5 @@ fn push_value(
     ensures { OnOk result (text.new.items
         ≡ text.old.items ++ signed_decimal (value schema.now dim coordinate)) }
 {
-    let number = schema.value(dim, coordinate);
-    text.extend_from_slice(Buffer::new().format(number).as_bytes())
-}
-
-fn push_number(text: &mut Vec<u8>, number: u128) -> Result<(), AllocError>
-    ensures { OnOk result (text.new.items ≡ text.old.items ++ decimal number) }
-{
-    text.extend_from_slice(Buffer::new().format(number).as_bytes())
+    push_signed(text, i128::from(schema.value(dim, coordinate)))
 }

@@ -1,15 +1,14 @@
 ghost use Rattle.std.specs.Prelude.{◌≡◌, ◌<◌, [], ◌∷◌, ◌++◌, length, map, decimal, codes, if◌then◌else◌, IfOk, OnOk};
-ghost use Rattle.std.specs.Fmt.{signed_decimal};
 ghost use Rattle.std.specs.List.{All, flat_map};
 ghost use Rattle.ub_query.specs.Cells as sql;
 ghost use Rattle.ub_query.specs.Posed.{IsItemOver};
 ghost use Rattle.ub_query.specs.Shape.{asked};
 ghost use Rattle.ub_script.specs.Text as spec;
 
-use itoa::Buffer;
 use std::alloc::{AllocError, Global};
 use ub_answer::Cells;
 use ub_parser::{Aggregate, Item, Query, SqlFault};
+use ub_plan::{push_number, push_signed};
 use ub_query::Cell;
 use ub_table::Schema;
 
@@ -65,7 +64,7 @@ pub fn inserted_text(alloc: Global, number: u32) -> Result<Vec<u8>, AllocError>
 {
     let mut text = Vec::with_capacity(alloc, INSERTED_BYTES)?;
     text.extend_from_slice(b"-- inserted ")?;
-    push_number(&mut text, u64::from(number))?;
+    push_number(&mut text, u128::from(number))?;
     text.push(b'\n')?;
     Ok(text)
 }
@@ -76,7 +75,7 @@ pub fn deleted_text(alloc: Global, count: u32) -> Result<Vec<u8>, AllocError>
     ensures { IfOk result (λ text. text.items ≡ spec.deleted_text count) }
 {
     let mut text = Vec::from_slice(alloc, b"-- deleted ")?;
-    push_number(&mut text, u64::from(count))?;
+    push_number(&mut text, u128::from(count))?;
     text.push(b'\n')?;
     Ok(text)
 }
@@ -89,7 +88,7 @@ fn refusal_text(alloc: Global, name: &str, at: usize) -> Result<Vec<u8>, AllocEr
     let mut text = Vec::from_slice(alloc, b"! ")?;
     text.extend_from_slice(name.as_bytes())?;
     text.extend_from_slice(b" at ")?;
-    push_number(&mut text, at as u64)?;
+    push_number(&mut text, at as u128)?;
     text.push(b'\n')?;
     Ok(text)
 }
@@ -188,33 +187,15 @@ fn push_cell(text: &mut Vec<u8>, cell: Cell) -> Result<(), AllocError>
     }
 }
 
-// Puts a number in decimal, with a minus where it is below 0.
-fn push_signed(text: &mut Vec<u8>, number: i128) -> Result<(), AllocError>
-    ensures { OnOk result (text.new.items ≡ text.old.items ++ signed_decimal number) }
-{
-    // A number of 64 bits is divided more quickly than one of 128.
-    match i64::try_from(number) {
-        Ok(number) => text.extend_from_slice(Buffer::new().format(number).as_bytes()),
-        Err(_) => text.extend_from_slice(Buffer::new().format(number).as_bytes()),
-    }
-}
-
 // Puts the line that says how many rows were written and how many region pages were fetched for them.
 fn push_counts(text: &mut Vec<u8>, rows: usize, pages: u64) -> Result<(), AllocError>
     ensures { OnOk result (text.new.items ≡ text.old.items ++ spec.counts_line rows pages) }
 {
     text.extend_from_slice(b"-- rows ")?;
-    push_number(text, rows as u64)?;
+    push_number(text, rows as u128)?;
     text.extend_from_slice(b", pages ")?;
-    push_number(text, pages)?;
+    push_number(text, u128::from(pages))?;
     text.extend_from_slice(b"\n")
-}
-
-// Puts a number in decimal.
-fn push_number(text: &mut Vec<u8>, number: u64) -> Result<(), AllocError>
-    ensures { OnOk result (text.new.items ≡ text.old.items ++ decimal number) }
-{
-    text.extend_from_slice(Buffer::new().format(number).as_bytes())
 }
 
 // Puts a comma before a piece, unless it is the first of its line.
