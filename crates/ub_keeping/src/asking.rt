@@ -87,6 +87,8 @@ fn look<P: Place>(alloc: Global, place: &mut P, pages: u64) -> Result<Option<Jou
 }
 
 // The table through its journal, which is made to last first, so that what is told isn't taken back.
+// Never compiled into its caller, whose frame would hold pages also where no journal stands.
+#[inline(never)]
 fn read_through<P: Place>(
     alloc: Global,
     place: P,

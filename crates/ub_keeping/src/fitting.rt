@@ -11,6 +11,8 @@ use ub_store::Page;
 /// Whether a journal is one of the table that is seen, which has so many pages. The first page is read, and where that isn't the one
 /// from before, those that the journal changes, up to the first that doesn't stand there yet. Nothing changes. A failure comes
 /// where the place failed in this call.
+// Never compiled into its caller, whose frame would hold pages also where no journal stands.
+#[inline(never)]
 pub fn fits<P: Place>(place: &mut P, pages: u64, journal: &Journal) -> Result<bool, Failed>
     requires journal { IsJournal (told journal.now) }
     requires pages { IsHonest (P.facts place.old)
