@@ -1,5 +1,5 @@
 use Rattle.std.proofs.Common.{arith}
-use Rattle.acceptance.proofs.answer.extend.Goals as goal
+use Rattle.acceptance_parts.proofs.answer.extend.Goals as goal
 
 pub extend-requires : goal.extend-requires
 extend-requires c = record {
