@@ -108,6 +108,7 @@ module _ (t : TreeView) (from : ℕ) (far : page_count t.store ≤ from) (start 
       subst (AllByRecursion (IsSpelledAt t from other)) (sym s.sheets_are)
       (all_more (IsSpelledOf t.store.pages numbers from middle.next) (IsSpelledAt t from other) (λ sheet h. record {
         own = λ n lt out. h.own n lt out.1;
+        some = h.some;
         there = (elim h.there [
           | inl near ↦ inl near
           | inr new ↦ let less = new.1 in inr (new.0, omega arith)
@@ -117,16 +118,20 @@ module _ (t : TreeView) (from : ℕ) (far : page_count t.store ≤ from) (start 
   same_root : change ≡ change_view middle start root levels → AllByRecursion (IsSpelledAt t from change) change.sheets
   same_root is = subst (λ (c : ChangeView). AllByRecursion (IsSpelledAt t from c) c.sheets) (sym is) (spelled_to (change_view middle start root levels) (omega arith))
 
-  pub all_spelled : (told : Told) → Settles root levels told start middle change → AllByRecursion (IsSpelledAt t from change) change.sheets
-  all_spelled Same h = same_root h
-  all_spelled Gone h = absurd h
-  all_spelled (One other) h = same_root h
-  all_spelled (Two left right) h =
+  pub all_spelled : (told : Told) → IsAtMostOne told ⊎ (1 ≤ from) → Settles root levels told start middle change → AllByRecursion (IsSpelledAt t from change) change.sheets
+  all_spelled Same low h = same_root h
+  all_spelled Gone low h = absurd h
+  all_spelled (One other) low h = same_root h
+  all_spelled (Two left right) low h =
       let grown : from ≤ middle.next = s.grown in
       subst (λ (c : ChangeView). AllByRecursion (IsSpelledAt t from c) c.sheets) (sym h.2)
       (all_append (IsSpelledAt t from _) middle.sheets _ (spelled_to _ (omega arith)) (
         record {
           own = λ n lt out e. absurd (omega arith);
+          some = (elim low [
+            | inl few ↦ absurd few
+            | inr some ↦ omega arith
+          ]);
           there = inr (grown, omega arith);
         },
         tt,
@@ -193,13 +198,14 @@ drop_next index store key change (first, (middle, told, turns, settles), lowers)
     settled (One other) n h = ap (λ (c : ChangeView). c.next) h
     settled (Two left right) n h = absurd n
 
-pub drop_spelled : (t : TreeView) (key : Key) (change : ChangeView) → IsDropped t.inner.index t.store key change → AllByRecursion (IsSpelledAt t (page_count t.store) change) change.sheets
-drop_spelled t key change (first, (middle, told, turns, settles), lowers) =
+pub drop_spelled : (t : TreeView) (key : Key) (change : ChangeView) → 1 ≤ t.inner.index.root → IsDropped t.inner.index t.store key change → AllByRecursion (IsSpelledAt t (page_count t.store) change) change.sheets
+drop_spelled t key change some (first, (middle, told, turns, settles), lowers) =
+    let few = (narrow t.inner.index.last t.store.pages key t.inner.index.levels (top t.inner.index.root) None (so_far [] (page_count t.store)) middle told turns).0 in
     let all = all_spelled t (page_count t.store) (omega arith) (page_count t.store) t.inner.index.root t.inner.index.levels middle first
-    (spells t.inner.index.last t.store.pages key None t.inner.index.levels (top t.inner.index.root) None (so_far [] (page_count t.store)) middle told (omega arith) turns) told settles in
+    (spells t.inner.index.last t.store.pages key None t.inner.index.levels (top t.inner.index.root) None (so_far [] (page_count t.store)) middle told (omega arith) some turns) told (inl few) settles in
     subst (λ (c : ChangeView). AllByRecursion (IsSpelledAt t (page_count t.store) c) c.sheets) (sym lowers.same)
     (all_more (IsSpelledAt t (page_count t.store) first) (IsSpelledAt t (page_count t.store) (record first { root = change.root; levels = change.levels }))
-    (λ sheet h. record { own = h.own; there = h.there }) first.sheets all)
+    (λ sheet h. record { own = h.own; some = h.some; there = h.there }) first.sheets all)
 
 -- why a region isn't made ready to go, on a tree that counts more regions than one: what is left to show is that on a sound tree each
 -- root is taken to which another one gives way

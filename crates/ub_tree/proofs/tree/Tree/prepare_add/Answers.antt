@@ -1,4 +1,4 @@
-use Rattle.std.proofs.Common.{◌<◌, ◌+◌, ◌^◌, List, Some, subst, sym, arith}
+use Rattle.std.proofs.Common.{◌<◌, ◌+◌, ◌^◌, List, Some, inr, subst, sym, arith}
 use Rattle.ub_index.specs.Index.{top}
 use Rattle.ub_index.specs.Preparing.{added_at}
 use Rattle.ub_index.specs.View.{IsRegionAt}
@@ -34,6 +34,7 @@ returns-clause-ready g c =
     let t = c.self.inside in
     let old : TreeView = tree_view t.schema t.index t.count t.next t.rows (is_written t.mark) t.is_failed t.pager in
     rw (← c.self.view_is) (record {
+      root = c.root-root.ensures.some;
       start = c.in_ok-change.ensures.few.start_is;
       some = c.in_ok-change.ensures.few.more;
       few = c.in_ok-change.ensures.few.few;
@@ -41,7 +42,7 @@ returns-clause-ready g c =
       spelled = λ honest.
           let (middle, told, turns, settles) = c.in_ok-change.ensures.made honest in
           all_spelled old (page_count t.pager.store + 1) (omega arith) (page_count t.pager.store) t.index.root t.index.levels middle c.in_ok-change.change
-          (spells t.index.last t.pager.store.pages c.args.region.now.first (Some (added_at c.args.first.now t.pager.store)) t.index.levels (top t.index.root) _ _ middle told (omega arith) turns) told settles;
+          (spells t.index.last t.pager.store.pages c.args.region.now.first (Some (added_at c.args.first.now t.pager.store)) t.index.levels (top t.index.root) _ _ middle told (omega arith) c.root-root.ensures.some turns) told (inr (omega arith)) settles;
       pages = λ honest falls within. c.in_ok-change.ensures.pages honest (falls.way honest) within;
       makes = λ i stored at within. c.in_ok-change.ensures.ready i (stored_on old stored) (reached_once t.index t.pager.store _ stored.placed_are.own)
           (subst (λ (es : List Entry). IsRegionAt es i c.args.region.now) (sym stored.indexed.entries_are) at) within;

@@ -37,14 +37,14 @@ returns-in_err-put_halves-clause-effect g c =
     let change = c.in_ok-change.change in
     let grew = subst (λ (v : TreeView). GrowsTo {A = Unit {0}} (page_count v.store + (change.next - change.start)) v c.grow.new.self (Ok tt)) c.in_ok-change.ensures.effect.same c.in_ok-grow.ensures in
     halves_refused c.args.self.now c.grow.new.self c.put_halves.new.self c.args.region.now c.requires.there.told c.args.right.now.region.first change c.page.result c.requires.there.there
-    c.requires.within (ready_for c.first.ensures c.in_ok-change.ensures.ready) c.page.ensures grew c.from_residual-in_err-put_halves.result c.in_err-put_halves.field-0.0 c.from_residual-in_err-put_halves.ensures.1 c.in_err-put_halves.ensures.effect
+    (ready_for c.first.ensures c.in_ok-change.ensures.ready) c.page.ensures grew c.from_residual-in_err-put_halves.result c.in_err-put_halves.field-0.0 c.from_residual-in_err-put_halves.ensures.1 c.in_err-put_halves.ensures.effect
 
 pub returns-in_err-put_index-clause-effect : goal.returns-in_err-put_index-clause-effect
 returns-in_err-put_index-clause-effect g c =
     let change = c.in_ok-change.change in
     let grew = subst (λ (v : TreeView). GrowsTo {A = Unit {0}} (page_count v.store + (change.next - change.start)) v c.grow.new.self (Ok tt)) c.in_ok-change.ensures.effect.same c.in_ok-grow.ensures in
     index_refused c.args.self.now c.grow.new.self c.put_halves.new.self c.args.region.now c.requires.there.told c.args.right.now.region.first change c.page.result c.requires.there.there
-    c.requires.within (ready_for c.first.ensures c.in_ok-change.ensures.ready) c.page.ensures grew c.put_index.new.self c.in_ok-put_halves.ensures.effect c.in_ok-put_halves.ensures.same c.in_ok-put_halves.ensures.put.count
+    (ready_for c.first.ensures c.in_ok-change.ensures.ready) c.page.ensures grew c.put_index.new.self c.in_ok-put_halves.ensures.effect c.in_ok-put_halves.ensures.same c.in_ok-put_halves.ensures.put.count
     c.in_err-put_index.ensures.kept c.from_residual-in_err-put_index.result c.in_err-put_index.field-0.0 c.from_residual-in_err-put_index.ensures.1 c.in_err-put_index.ensures.marked c.in_err-put_index.ensures.stopped
 
 pub returns-clause-same : goal.returns-clause-same
@@ -55,7 +55,7 @@ returns-clause-same g c =
     let d : TreeView = tree_view u.schema u.index (u.count + 1) u.next u.rows (is_written u.mark) u.is_failed u.pager in
     let grew = subst (λ (v : TreeView). GrowsTo {A = Unit {0}} (page_count v.store + (change.next - change.start)) v c.grow.new.self (Ok tt)) c.in_ok-change.ensures.effect.same c.in_ok-grow.ensures in
     parts_at c.args.self.now c.grow.new.self c.put_halves.new.self c.args.region.now c.requires.there.told c.args.right.now.region.first change c.page.result c.requires.there.there
-    c.requires.within (ready_for c.first.ensures c.in_ok-change.ensures.ready) c.page.ensures grew n c.in_ok-put_halves.ensures.effect c.in_ok-put_halves.ensures.same c.in_ok-put_halves.ensures.put.count
+    (ready_for c.first.ensures c.in_ok-change.ensures.ready) c.page.ensures grew n c.in_ok-put_halves.ensures.effect c.in_ok-put_halves.ensures.same c.in_ok-put_halves.ensures.put.count
     c.in_ok-put_index.ensures.kept d _ c.in_ok-put_index.ensures.now
     (ap (λ (v : TreeView). v.inner.count) c.in_ok-put_halves.ensures.same ∙ (ap (λ (v : TreeView). v.inner.count) grew.frame))
     c.in_ok-put_index.ensures.works (ap (λ (v : TreeView). record v { inner = record v.inner { count = v.inner.count + 1 } }) c.self-3.view_is)
@@ -107,7 +107,7 @@ returns-clause-effect g c =
     let d : TreeView = tree_view u.schema u.index (u.count + 1) u.next u.rows (is_written u.mark) u.is_failed u.pager in
     let grew = subst (λ (v : TreeView). GrowsTo {A = Unit {0}} (page_count v.store + (change.next - change.start)) v c.grow.new.self (Ok tt)) c.in_ok-change.ensures.effect.same c.in_ok-grow.ensures in
     parts_effect c.args.self.now c.grow.new.self c.put_halves.new.self c.args.region.now c.requires.there.told c.args.right.now.region.first change c.page.result c.requires.there.there
-    c.requires.within (ready_for c.first.ensures c.in_ok-change.ensures.ready) c.page.ensures grew n c.in_ok-put_halves.ensures.effect c.in_ok-put_halves.ensures.same c.in_ok-put_halves.ensures.put.count
+    (ready_for c.first.ensures c.in_ok-change.ensures.ready) c.page.ensures grew n c.in_ok-put_halves.ensures.effect c.in_ok-put_halves.ensures.same c.in_ok-put_halves.ensures.put.count
     c.in_ok-put_index.ensures.kept d _ c.in_ok-put_index.ensures.now
     (ap (λ (v : TreeView). v.inner.count) c.in_ok-put_halves.ensures.same ∙ (ap (λ (v : TreeView). v.inner.count) grew.frame))
     c.in_ok-put_index.ensures.works (ap (λ (v : TreeView). record v { inner = record v.inner { count = v.inner.count + 1 } }) c.self-3.view_is)
