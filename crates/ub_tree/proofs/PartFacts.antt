@@ -21,7 +21,7 @@ use Rattle.ub_table.specs.declared.schema.Schema.{Schema}
 use Rattle.ub_tree.proofs.EffectFacts.{left_by, writes_both, writes_told, writes_wider}
 use Rattle.ub_tree.proofs.PutFacts.{own_page}
 use Rattle.ub_tree.specs.Effects.{Changes, HasEnded, IsFull, IsLeft, IsMarkedFirst, KeepsMark, written_store}
-use Rattle.ub_tree.specs.Holding.{AnswersAt, HasNoRoom}
+use Rattle.ub_tree.specs.Holding.{AnswersAt, HasNoRoom, IsRoomFault}
 use Rattle.ub_tree.specs.Indexed.{Inner}
 use Rattle.ub_tree.specs.Others.{AddsEntry, AreOthersKept, KeepsOthers, WritesIndex}
 use Rattle.ub_tree.specs.Told.{FallsTo, IsRegionOf}
@@ -51,14 +51,15 @@ no_page_told e page fault (inr (inr (inr device))) same = cc
 
 -- what a parting answers for which the index can't be made ready
 pub unready_answers : {A : Type 0} (t : TreeView) (span : Region) (r : Result A TreeFault) (e : TreeFault) → IsErrAnd r (λ x. x ≡ e) → region_count t ≢ 4294967295
-    → (IsHonest t.store → FallsTo t span.first span → HasNoRoom e) → AnswersAt (Unit {0}) t span r
-unready_answers t span (Ok x) e is few led = absurd is
-unready_answers t span (Err f) e is few led = (
+    → (IsHonest t.store → FallsTo t span.first span → HasNoRoom e) → (IsHonest t.store → IsRoomFault (Unit {0}) t span.first e) → AnswersAt (Unit {0}) t span r
+unready_answers t span (Ok x) e is few led short = absurd is
+unready_answers t span (Err f) e is few led short = (
   λ full many. absurd (few many),
   λ honest falls page fault told.
       let same : f ≡ Page page fault = cc in
       absurd (no_page_told e page fault (led honest falls) (sym is ∙ same)),
   λ honest falls full fewer levels way. rw is (led honest falls),
+  λ honest falls. rw is (short honest),
 )
 
 -- over an honest store the index has fewer levels than one can have, or a page on the way to the region of a span isn't full
@@ -71,33 +72,69 @@ parted_answers t span x few room = (
   λ full many. absurd (few many),
   λ honest falls page fault told. cc,
   λ honest falls full fewer levels way. absurd (room honest levels way),
+  λ honest falls. tt,
 )
 
 pub unparted_answers : {A : Type 0} (t : TreeView) (span : Region) (r : Result A TreeFault) (e : TreeFault) → IsErrAnd r (λ x. x ≡ e) → region_count t ≢ 4294967295
-    → ((page : ℕ) (fault : PageFault) → e ≡ Page page fault → ⊥) → HasRoom t span → AnswersAt (Unit {0}) t span r
-unparted_answers t span (Ok x) e is few apart room = absurd is
-unparted_answers t span (Err f) e is few apart room = (
+    → ((page : ℕ) (fault : PageFault) → e ≡ Page page fault → ⊥) → HasRoom t span → (IsHonest t.store → IsRoomFault (Unit {0}) t span.first e) → AnswersAt (Unit {0}) t span r
+unparted_answers t span (Ok x) e is few apart room short = absurd is
+unparted_answers t span (Err f) e is few apart room short = (
   λ full many. absurd (few many),
   λ honest falls page fault told.
       let same : f ≡ Page page fault = cc in
       absurd (apart page fault (sym is ∙ same)),
   λ honest falls full fewer levels way. absurd (room honest levels way),
+  λ honest falls. rw is (short honest),
 )
+
+-- what only writes is refused as the store, and not for want of room
+pub written_short : (t a b : TreeView) (key : Key) (e : TreeFault) → IsWriteFault a b e → IsRoomFault (Unit {0}) t key e
+written_short t a b key Full h = absurd h
+written_short t a b key HasFailed h = absurd h
+written_short t a b key Memory h = absurd h
+written_short t a b key (Page page fault) h = absurd h
+written_short t a b key (Store store.Device) h = tt
+written_short t a b key (Store store.NoPage) h = absurd h
+written_short t a b key (Store store.BadSize) h = absurd h
+written_short t a b key (Store store.Memory) h = absurd h
+
+pub indexed_short : (t : TreeView) (change : ChangeView) (old : StoreFacts) (key : Key) (e : TreeFault) → IsIndexFault change old e → IsRoomFault (Unit {0}) t key e
+indexed_short t change old key Full h = absurd h
+indexed_short t change old key HasFailed h = absurd h
+indexed_short t change old key Memory h = absurd h
+indexed_short t change old key (Page page fault) h = absurd h
+indexed_short t change old key (Store store.Device) h = tt
+indexed_short t change old key (Store store.NoPage) h = tt
+indexed_short t change old key (Store store.BadSize) h = absurd h
+indexed_short t change old key (Store store.Memory) h = absurd h
 
 -- the store wasn't given the pages
 module _ (a g : TreeView) (span : Region) (first : Key) (change : ChangeView) (there : span.page < page_count a.store) (ready : IsAddReady a span first change) (high : a.inner.index.levels ≤ MAX_LEVEL) where
+  short_then : 4294967295 < page_count a.store + (change.next - change.start) → IsHonest a.store
+      → (n : ℕ) × NeedsPages a.inner.index a.store span.first n × (4294967295 < page_count a.store + 1 + n)
+  short_then over honest =
+      let start = ready.start in
+      let some = ready.some in
+      let only = (ready.needed honest).only in
+      let is = only.2 in
+      (only.0, only.1, omega arith)
+
   full_then : 4294967295 < page_count a.store + (change.next - change.start) → IsFull a
   full_then over =
       let start = ready.start in
       let some = ready.some in
-      let few = ready.few in (
-        high,
-        omega arith,
-        λ honest.
-            let only = (ready.needed honest).only in
-            let same : only.0 ≡ change.next - (page_count a.store + 1) = (let is = only.2 in omega arith) in
-            inr (span.first, change.next - (page_count a.store + 1), subst (NeedsPages a.inner.index a.store span.first) same only.1, omega arith),
-      )
+      let few = ready.few in
+      (high, omega arith, λ honest. (let short = short_then over honest in inr (span.first, short.0, short.1, short.2)))
+
+  pub growth_short : (e : TreeFault) → IsGrowthLeft (page_count a.store + (change.next - change.start)) a g e → IsHonest a.store → IsRoomFault (Unit {0}) a span.first e
+  growth_short Full x honest = absurd x
+  growth_short HasFailed x honest = absurd x
+  growth_short Memory x honest = tt
+  growth_short (Page page fault) x honest = absurd x
+  growth_short (Store store.Device) x honest = tt
+  growth_short (Store store.NoPage) x honest = absurd x
+  growth_short (Store store.BadSize) x honest = (tt, inr (short_then x.0 honest))
+  growth_short (Store store.Memory) x honest = absurd x
 
   growth_left : (e : TreeFault) → IsGrowthLeft (page_count a.store + (change.next - change.start)) a g e → IsLeft a g e
   growth_left Full x = absurd x

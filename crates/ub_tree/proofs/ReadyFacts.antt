@@ -32,7 +32,7 @@ use Rattle.ub_tree.proofs.SearchFacts.{index_not_refused, no_stop, stores_alike}
 use Rattle.ub_tree.proofs.WayFacts.{IsSpelledOf, Spells, led_not_stopped, never_gone, spells}
 use Rattle.ub_tree.specs.Effects.{IsIndexRefused}
 use Rattle.ub_tree.specs.Faults.{index_fault}
-use Rattle.ub_tree.specs.Holding.{HasNoRoom}
+use Rattle.ub_tree.specs.Holding.{HasNoRoom, IsRoomFault}
 use Rattle.ub_tree.specs.Placed.{entry_of}
 use Rattle.ub_tree.specs.Told.{FallsTo}
 use Rattle.ub_tree.specs.Tree.{tree_view}
@@ -53,6 +53,22 @@ change_room i facts key span small honest given added from (index.Store store.De
 change_room i facts key span small honest given added from (index.Store store.BadSize) h = inr (inl refl)
 change_room i facts key span small honest given added from (index.Store store.NoPage) h =
     absurd (led_not_stopped i.last facts.pages key small i.levels (top i.root) None (entry_at span) span.next h.0 None (given.way honest) (h.2 honest))
+
+-- and where there is no room, that is so of this key
+pub room_fault : (t : TreeView) (key : Key) (added : Entry) (e : IndexFault) → IsHonest t.store
+    → IsChangeFault t.inner.index t.store key (Some added) (so_far [] (page_count t.store + 1)) e → IsRoomFault (Unit {0}) t key (index_fault e)
+room_fault t key added (index.Page n fault) honest h = tt
+room_fault t key added index.Full honest h = (tt, h.0, (h.1 honest).0)
+room_fault t key added (index.Store store.Memory) honest h = tt
+room_fault t key added (index.Store store.Device) honest h = tt
+room_fault t key added (index.Store store.NoPage) honest h = tt
+room_fault t key added (index.Store store.BadSize) honest h = (
+  tt,
+  (elim h.1 [
+    | inl past ↦ inl past
+    | inr needs ↦ inr (needs honest)
+  ]),
+)
 
 pub room_err : {T : Type 0} (r : Result T TreeFault) (e : IndexFault) → IsErrAnd r (λ x. x ≡ index_fault e) → HasNoRoom (index_fault e) → IfErr r HasNoRoom
 room_err (Ok x) e is h = tt
