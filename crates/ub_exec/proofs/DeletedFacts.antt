@@ -21,14 +21,14 @@ use Rattle.ub_table.specs.declared.row.Key.{Key}
 use Rattle.ub_table.specs.declared.row.Row.{Row}
 use Rattle.ub_table.specs.declared.schema.Schema.{Schema}
 use Rattle.ub_tree.proofs.Laws.{IsTraced, Keeps, Keeps-by, Keeps-more, begun_traced}
-use Rattle.ub_tree.specs.Effects.{Works}
+use Rattle.ub_tree.specs.Effects.{KeepsMark, Works}
 use Rattle.ub_tree.specs.Reading.{ReadsTree, fault_of_tree}
 use Rattle.ub_tree.specs.View.{TreeView, KeepsTrace}
 use Rattle.ub_tree.specs.declared.fault.TreeFault.{TreeFault}
 use Rattle.ub_tree.specs.declared.fault.TreeFault.TheVariants.{Full, Page, Store, Failed, Memory as no_memory}
 use Rattle.ub_tree.specs.declared.read_fault.ReadFault.{ReadFault}
 use Rattle.ub_tree.specs.declared.read_fault.ReadFault.TheVariants.{Memory, Tree}
-use Rattle.ub_writing.specs.Marks.{HasMark, KeepsUnless}
+use Rattle.ub_writing.specs.Marks.{KeepsUnless}
 
 -- ---- from a tree whose trace begins anew
 
@@ -155,7 +155,7 @@ deletes_failed old new begins failed = subst (λ (t : TreeView). Deletes old t (
   stays = λ changed. changed;
   marks = tt;
   kept = λ honest unchanged m apart within. refl;
-  marked = λ sound changed. sound.marked changed;
+  marked = λ honest had changed. had changed;
   done = tt;
   left = (failed, refl);
   failed = λ is. refl;
@@ -172,7 +172,7 @@ deletes_read {A = A} old new e working reads = record {
   stays = λ changed. ap (λ (t : TreeView). t.is_changed) reads.same ∙ changed;
   marks = tt;
   kept = λ honest unchanged m apart within. ap (λ (t : TreeView). slice_get t.store.pages m) reads.same;
-  marked = λ sound changed. subst (λ (t : TreeView). t.is_changed ≡ true → HasMark old.schema t.store.pages) (sym reads.same) sound.marked changed;
+  marked = subst (λ (t : TreeView). KeepsMark old t) (sym reads.same) (λ honest had changed. had changed);
   done = tt;
   left = reading_fault {A = A} old new e working reads;
   failed = not_failed old.is_failed working;
@@ -199,8 +199,7 @@ module _ (old mid new : TreeView) (working : old.is_failed ≡ false) (traced : 
         stays = λ changed. stopped.stays (ap (λ (t : TreeView). t.is_changed) traced ∙ changed);
         marks = tt;
         kept = subst (λ (facts : StoreFacts). KeepsUnless new.is_changed facts new.store) (ap (λ (t : TreeView). t.store) traced) stopped.kept;
-        marked = λ sound changed. subst (λ (schema : Schema). HasMark schema new.store.pages) (ap (λ (t : TreeView). t.schema) traced)
-            (stopped.marked ((Keeps-by old mid traced).sound sound) changed);
+        marked = subst (λ (t : TreeView). KeepsMark t new) traced stopped.marked;
         done = tt;
         left = fault_before old mid new fault traced working stopped.left;
         failed = not_failed old.is_failed working;
@@ -216,8 +215,7 @@ module _ (old mid new : TreeView) (working : old.is_failed ≡ false) (traced : 
         stays = λ changed. lost.stays (ap (λ (t : TreeView). t.is_changed) traced ∙ changed);
         marks = lost.marks;
         kept = subst (λ (facts : StoreFacts). KeepsUnless new.is_changed facts new.store) (ap (λ (t : TreeView). t.store) traced) lost.kept;
-        marked = λ sound changed. subst (λ (schema : Schema). HasMark schema new.store.pages) (ap (λ (t : TreeView). t.schema) lost.frame ∙ ap (λ (t : TreeView). t.schema) traced)
-            ((lost.sound ((Keeps-by old mid traced).sound sound)).marked changed);
+        marked = subst (λ (t : TreeView). KeepsMark t new) traced lost.marked;
         done = subst (λ (t : TreeView). Works t new) traced lost.works;
         left = tt;
         failed = not_failed old.is_failed working;

@@ -8,16 +8,15 @@ use Rattle.ub_exec.specs.Deleting.{HasLostPage, HasMetDevice, IsDeletionFault, R
 use Rattle.ub_store.specs.Facts.{StoreFacts, page_count, raised}
 use Rattle.ub_store.specs.declared.fault.StoreFault.TheVariants as store
 use Rattle.ub_table.specs.declared.row.Key.{Key}
-use Rattle.ub_table.specs.declared.schema.Schema.{Schema}
-use Rattle.ub_tree.proofs.Laws.{take_all}
-use Rattle.ub_tree.specs.Effects.{HasEnded, HasMissed, IsLeft, Leaves, Works}
+use Rattle.ub_tree.proofs.Laws.{mark_then, take_all}
+use Rattle.ub_tree.specs.Effects.{HasEnded, HasMissed, IsLeft, KeepsMark, Leaves, Works}
 use Rattle.ub_tree.specs.Holding.{ShrinksAt}
 use Rattle.ub_tree.specs.Reading.{fault_of_tree}
 use Rattle.ub_tree.specs.Removal.{IsRemovalFault}
 use Rattle.ub_tree.specs.View.{TreeView, IsSound}
 use Rattle.ub_tree.specs.declared.fault.TreeFault.{TreeFault}
 use Rattle.ub_tree.specs.declared.fault.TreeFault.TheVariants.{Full, Page, Store, Failed, Memory}
-use Rattle.ub_writing.specs.Marks.{HasMark, KeepsUnless}
+use Rattle.ub_writing.specs.Marks.{KeepsUnless}
 
 -- ---- one more
 
@@ -67,6 +66,7 @@ pub record HasLost (old new : TreeView) (count : ℕ) : Type 0 where
   pub stays : old.is_changed ≡ true → new.is_changed ≡ true
   pub marks : count ≢ 0 → new.is_changed ≡ true
   pub kept : KeepsUnless new.is_changed old.store new.store
+  pub marked : KeepsMark old new
   pub pages : page_count new.store ≡ page_count old.store
   pub sound : IsSound old → IsSound new
 
@@ -78,6 +78,7 @@ lost_none a b same = subst (λ (t : TreeView). HasLost a t 0) (sym same) (record
   stays = λ changed. changed;
   marks = λ some. absurd (some refl);
   kept = λ honest unchanged m apart within. refl;
+  marked = λ honest had changed. had changed;
   pages = refl;
   sound = λ sound. sound;
 })
@@ -100,6 +101,7 @@ lost_one key a b true removes =
       stays = removes.stays;
       marks = λ some. removes.marks refl;
       kept = removes.effect.marked.kept;
+      marked = removes.effect.marked.marked;
       pages = as_many key a b shrinks;
       sound = λ sound. (removes.removed sound).sound;
     }
@@ -133,6 +135,7 @@ lost_more a b c m n first second =
       stays = λ changed. second.stays (first.stays changed);
       marks = marked_more m n b.is_changed c.is_changed first.marks second.marks second.stays;
       kept = kept_then a b c first.works second.stays first.pages first.kept second.kept;
+      marked = mark_then a b c (λ honest. ap (λ (facts : StoreFacts). facts.honest) first.works.1 ∙ honest) (ap (λ (t : TreeView). t.schema) first.frame) first.marked second.marked;
       pages = second.pages ∙ first.pages;
       sound = λ sound. second.sound (first.sound sound);
     }
@@ -218,7 +221,7 @@ pub record HasStopped (old new : TreeView) (fault : TreeFault) : Type 0 where
   pub frame : new ≡ record old { placed = new.placed; rows = new.rows; is_changed = new.is_changed; is_failed = new.is_failed; store = new.store; inner = new.inner }
   pub stays : old.is_changed ≡ true → new.is_changed ≡ true
   pub kept : KeepsUnless new.is_changed old.store new.store
-  pub marked : IsSound old → new.is_changed ≡ true → HasMark old.schema new.store.pages
+  pub marked : KeepsMark old new
   pub left : IsDeletionFault old new (fault_of_tree fault)
 
 pub stopped_at : (keys : List Key) (a c : TreeView) (fault : TreeFault) → a.is_failed ≡ false → StopsAt keys a c fault → HasStopped a c fault
@@ -232,7 +235,7 @@ stopped_at keys a c fault working stops =
           ∙ ap (λ (t : TreeView). record t { placed = c.placed; rows = c.rows; is_changed = c.is_changed; is_failed = c.is_failed; store = c.store; inner = c.inner }) lost.frame;
       stays = λ changed. stops.ended.stays (lost.stays changed);
       kept = kept_then a b c lost.works stops.ended.stays lost.pages lost.kept effect.marked.kept;
-      marked = λ sound changed. subst (λ (schema : Schema). HasMark schema c.store.pages) (lost_schema a b stops.count lost) (effect.marked.marked (lost.sound sound) changed);
+      marked = mark_then a b c (λ honest. ap (λ (facts : StoreFacts). facts.honest) lost.works.1 ∙ honest) (lost_schema a b stops.count lost) lost.marked effect.marked.marked;
       left = deletion_fault a b c stops.count fault working lost effect.left stops.ended.faults;
     }
 

@@ -12,7 +12,7 @@ use Rattle.ub_store.specs.declared.fault.StoreFault.TheVariants as store
 use Rattle.ub_table.specs.Region.{keys_of}
 use Rattle.ub_table.specs.declared.row.Key.{Key}
 use Rattle.ub_table.specs.declared.row.Row.{Row}
-use Rattle.ub_tree.specs.Effects.{Changes, Works}
+use Rattle.ub_tree.specs.Effects.{Changes, KeepsMark, Works}
 use Rattle.ub_tree.specs.Holding.{AnswersRemoval, ShrinksAt}
 use Rattle.ub_tree.specs.Reading.{ReadsTree, fault_of_tree}
 use Rattle.ub_tree.specs.Removal.{IsRemoved, IsRemovalFault}
@@ -21,7 +21,7 @@ use Rattle.ub_tree.specs.declared.fault.TreeFault.{TreeFault}
 use Rattle.ub_tree.specs.declared.fault.TreeFault.TheVariants.{Full, Page, Store, Failed, Memory as no_memory}
 use Rattle.ub_tree.specs.declared.read_fault.ReadFault.{ReadFault}
 use Rattle.ub_tree.specs.declared.read_fault.ReadFault.TheVariants.{Memory, Tree}
-use Rattle.ub_writing.specs.Marks.{HasMark, KeepsUnless}
+use Rattle.ub_writing.specs.Marks.{KeepsUnless}
 
 -- a deletion asks for no groups, no order and no limit: each selected row is taken out
 abbrev pub IsDeletion : Asked → Type 0
@@ -138,8 +138,8 @@ IsDeletionFault old new (Tree (Store store.NoPage)) =
 IsDeletionFault old new (Tree (Store _)) = ⊥
 
 -- a deletion from a tree: what it never touches; that it counts the rows that are gone, and no others; that a table once marked as
--- changed stays so, as it is where a row is gone, that until then no page but the first is written, and that a sound tree has its
--- mark from then on; and what it leaves
+-- changed stays so, as it is where a row is gone, that until then no page but the first is written, and that from then on the
+-- first page of an honest store marks it, if it did where the table was changed before; and what it leaves
 pub record Deletes (old new : TreeView) (result : Result ℕ ReadFault) : Type 0 where
   pub frame : new ≡ record old {
     placed = new.placed;
@@ -154,7 +154,7 @@ pub record Deletes (old new : TreeView) (result : Result ℕ ReadFault) : Type 0
   pub stays : old.is_changed ≡ true → new.is_changed ≡ true
   pub marks : IfOk result (λ count. count ≢ 0 → new.is_changed ≡ true)
   pub kept : KeepsUnless new.is_changed old.store new.store
-  pub marked : IsSound old → new.is_changed ≡ true → HasMark old.schema new.store.pages
+  pub marked : KeepsMark old new
   pub done : OnOk result (Works old new)
   pub left : IfErr result (IsDeletionFault old new)
   pub failed : IsTrue old.is_failed → result ≡ Err (Tree Failed)

@@ -17,8 +17,7 @@ use Rattle.ub_index.specs.declared.fault.IndexFault.TheVariants.{Full, Page, Sto
 use Rattle.ub_index.specs.declared.told.Told.{Told}
 use Rattle.ub_index.specs.declared.told.Told.TheVariants.{Same, Gone, One, Two}
 use Rattle.ub_index.proofs.FullFacts.{full_next, full_way}
-use Rattle.ub_index.specs.Held.{KeepsChecked}
-use Rattle.ub_index.proofs.HeldFacts.{keeps_on}
+use Rattle.ub_index.proofs.HeldFacts.{both_on, Keeps}
 use Rattle.ub_index.proofs.SearchFacts.{err_is, failed, frame, pager_with, same_store}
 use Rattle.ub_index.proofs.WayFacts.{stops_here, stops_on}
 
@@ -61,6 +60,7 @@ pub open_refused : (T U : Type 0) (last level : ℕ) (key : Key) (entry : Entry)
 open_refused T U last level key entry end next old new r e some is h = subst (λ (x : Result T IndexFault). Prepares last level key entry end next old new x) (sym (err_is r e is)) (record {
   same = h.same ∙ ap (λ (s : StoreFacts). pager_with s old.trace new.cached) (same_store T U e old.store);
   checked = h.checked;
+  more = h.more;
   faults = opened_fault last old.store key level entry end next e some h.faults;
 })
 
@@ -91,12 +91,13 @@ below_fault last old key level entry below end after next (Store store.BadSize) 
 below_fault last old key level entry below end after next Full some step h = h
 
 pub below_refused : (T U : Type 0) (last level : ℕ) (key : Key) (entry below : Entry) (end after : Option Key) (next : ℕ) (old mid new : PagerView) (r : Result T IndexFault) (e : IndexFault)
-    → 0 < level → mid.store ≡ old.store → mid.trace ≡ old.trace → KeepsChecked last old mid → (IsHonest old.store → StepsTo last old.store key level entry end below after)
+    → 0 < level → mid.store ≡ old.store → mid.trace ≡ old.trace → Keeps last old mid → (IsHonest old.store → StepsTo last old.store key level entry end below after)
     → IsErrAnd r (λ x. x ≡ e) → Prepares {A = U} last (level - 1) key below after next mid new (Err e) → Prepares last level key entry end next old new r
 below_refused T U last level key entry below end after next old mid new r e some stores traces kept step is h =
     subst (λ (x : Result T IndexFault). Prepares last level key entry end next old new x) (sym (err_is r e is)) (record {
       same = frame (failed {T = T} e) old mid new stores traces (h.same ∙ ap (λ (s : StoreFacts). pager_with s mid.trace new.cached) (same_store T U e mid.store));
-      checked = keeps_on last old mid new kept h.checked;
+      checked = (both_on last old mid new kept (h.checked, h.more)).0;
+      more = (both_on last old mid new kept (h.checked, h.more)).1;
       faults = below_fault last old.store key level entry below end after next e some step
           (subst (λ (s : StoreFacts). IsTurnFault last s key (level - 1) below after next e) stores h.faults);
     })
@@ -126,17 +127,17 @@ pub mend_refused : (last level : ℕ) (key : Key) (added : Option Entry) (entry 
     (from middle : Spelled) (news : Told) (old new : PagerView) (r : Result Told IndexFault) → 0 < level → middle.next ≤ from.next + (level - 1)
     → (IsHonest old.store → OpensTo last old.store.pages key level entry end before below next after)
     → (IsHonest old.store → Turns last old.store.pages key added (level - 1) below next from middle news)
-    → new ≡ record old { store = old.store; cached = new.cached } → KeepsChecked last old new → IfErr r (IsSpreadFault middle) → (IsAtMostOne news → NeedsNoGrowth r)
+    → new ≡ record old { store = old.store; cached = new.cached } → Keeps last old new → IfErr r (IsSpreadFault middle) → (IsAtMostOne news → NeedsNoGrowth r)
     → (length before + length after + 2 ≤ 170 → NeedsNoGrowth r) → Prepares last level key entry end from.next old new r
-mend_refused last level key added entry end before below next after from middle news old new (Ok told) some few opens turns same kept h narrow fits = record { same = same; checked = kept; faults = tt }
+mend_refused last level key added entry end before below next after from middle news old new (Ok told) some few opens turns same kept h narrow fits = record { same = same; checked = kept.0; more = kept.1; faults = tt }
 mend_refused last level key added entry end before below next after from middle news old new (Err (Page n fault)) some few opens turns same kept h narrow fits = absurd h
 mend_refused last level key added entry end before below next after from middle news old new (Err Full) some few opens turns same kept h narrow fits = absurd h
 mend_refused last level key added entry end before below next after from middle news old new (Err (Store store.Memory)) some few opens turns same kept h narrow fits =
-    record { same = same; checked = kept; faults = tt }
+    record { same = same; checked = kept.0; more = kept.1; faults = tt }
 mend_refused last level key added entry end before below next after from middle news old new (Err (Store store.Device)) some few opens turns same kept h narrow fits = absurd h
 mend_refused last level key added entry end before below next after from middle news old new (Err (Store store.NoPage)) some few opens turns same kept h narrow fits = absurd h
 mend_refused last level key added entry end before below next after from middle news old new (Err (Store store.BadSize)) some few opens turns same kept h narrow fits =
-    record { same = same; checked = kept; faults = (omega arith, λ honest. by_news news narrow (opens honest) (turns honest)) }
+    record { same = same; checked = kept.0; more = kept.1; faults = (omega arith, λ honest. by_news news narrow (opens honest) (turns honest)) }
   where
     long : 168 < length before + length after
     long = elim (cases_lt 168 (length before + length after)) [

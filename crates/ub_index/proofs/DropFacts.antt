@@ -32,8 +32,7 @@ use Rattle.ub_index.proofs.Numbers.{differs, distinct_cons, distinct_first, dist
 use Rattle.ub_index.proofs.OrderFacts.{under_first}
 use Rattle.ub_index.proofs.ReadyFacts.{entry_is, made_one, root_entry, region_found}
 use Rattle.ub_index.proofs.RefusedFacts.{far_outside, root_not_refused, unspelled_of, with_other, with_sheets, with_stand, with_stay}
-use Rattle.ub_index.specs.Held.{KeepsChecked}
-use Rattle.ub_index.proofs.HeldFacts.{keeps_on}
+use Rattle.ub_index.proofs.HeldFacts.{both_on, Keeps}
 use Rattle.ub_index.proofs.SearchFacts.{frame}
 use Rattle.ub_index.proofs.TurnFacts.{Risen, rises}
 
@@ -298,16 +297,22 @@ no_growth last old change (Store store.BadSize) h = h
 no_growth last old change (Page n fault) h = tt
 no_growth last old change Full h = h
 
+-- what it leaves of the pages that are held
+roots_keep : {T : Type 0} {change : ChangeView} {r : Result T IndexFault} (last l : ℕ) (old new : PagerView) → last ≡ l → ReadsRoots last change old new r → Keeps l old new
+roots_keep last l old new same h = subst (λ (n : ℕ). Keeps n old new) same (h.checked, h.more)
+
 pub dropped_effect : (T : Type 0) (index : IndexView) (last : ℕ) (key : Key) (old mid new : PagerView) (change : ChangeView) (r : Result T IndexFault) → last ≡ index.last
-    → mid.store ≡ old.store → mid.trace ≡ old.trace → KeepsChecked index.last old mid → (IsHonest old.store → IsPrepared index old.store key None (page_count old.store) (so_far [] (page_count old.store)) change)
+    → mid.store ≡ old.store → mid.trace ≡ old.trace → Keeps index.last old mid → (IsHonest old.store → IsPrepared index old.store key None (page_count old.store) (so_far [] (page_count old.store)) change)
     → ReadsRoots last change mid new r → PreparesDrop index key old new r
 dropped_effect T index last key old mid new change (Ok x) lasts stores traces kept made h = record {
   same = frame (Ok x) old mid new stores traces h.same;
-  checked = keeps_on index.last old mid new kept (subst (λ (l : ℕ). KeepsChecked l mid new) lasts h.checked);
+  checked = (both_on index.last old mid new kept (roots_keep last index.last mid new lasts h)).0;
+  more = (both_on index.last old mid new kept (roots_keep last index.last mid new lasts h)).1;
   faults = tt;
 }
 dropped_effect T index last key old mid new change (Err e) lasts stores traces kept made h = record {
   same = frame {T = T} (Err e) old mid new stores traces h.same;
-  checked = keeps_on index.last old mid new kept (subst (λ (l : ℕ). KeepsChecked l mid new) lasts h.checked);
+  checked = (both_on index.last old mid new kept (roots_keep last index.last mid new lasts h)).0;
+  more = (both_on index.last old mid new kept (roots_keep last index.last mid new lasts h)).1;
   faults = (no_growth last mid.store change e h.faults, inr (change, made, subst (λ (l : ℕ). IsLowerFault l old.store change e) lasts (subst (λ (s : StoreFacts). IsLowerFault last s change e) stores h.faults)));
 }

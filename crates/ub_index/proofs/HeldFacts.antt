@@ -13,7 +13,7 @@ use Rattle.ub_table.specs.declared.fault.PageFault.{PageFault}
 use Rattle.ub_table.specs.declared.fault.PageFault.TheVariants.{WrongKind, OldFormat, Unclean, BadCount, BadName, BadRow, BadOrder, OutOfRegion, BadPadding}
 use Rattle.ub_table.specs.declared.row.Key.{Key}
 use Rattle.ub_index.specs.Fitting.{FitsAtEnds, IsUnfit, IsUnfitAtEnds}
-use Rattle.ub_index.specs.Held.{KeepsChecked}
+use Rattle.ub_index.specs.Held.{KeepsChecked, NoneMoreButIndex}
 use Rattle.ub_index.specs.Index.{Fits, IsIndexPage}
 use Rattle.ub_index.proofs.FitFacts.{first_here, fits_so, last_ends}
 
@@ -108,3 +108,35 @@ keeps_gone last old new n honest others gone = keeps_but last old new n honest o
 
 pub keeps_on : (last : ℕ) (old mid new : PagerView) → KeepsChecked last old mid → KeepsChecked last mid new → KeepsChecked last old new
 keeps_on last old mid new before after was = after (before was)
+
+-- of the pages that are held none is more but one of an index where none is, or but one that is
+pub more_less : (last : ℕ) (old new : List (ℕ × List ℕ)) → NoneMore old new → NoneMoreButIndex last old new
+more_less last old new less m page at = inl (less m page at)
+
+pub more_but : (last : ℕ) (old new : List (ℕ × List ℕ)) (n : ℕ) → NoneMoreBut n old new
+    → ((page : List ℕ) → page_at new n ≡ Some page → (page_at old n ≡ Some page) ⊎ IsIndexPage last page) → NoneMoreButIndex last old new
+more_but last old new n others here m page at = elim (cases_eq m n) [
+  | inl same ↦
+      let now = here page (subst (λ (k : ℕ). page_at new k ≡ Some page) same at) in
+      subst (λ (k : ℕ). (page_at old k ≡ Some page) ⊎ IsIndexPage last page) (sym same) now
+  | inr other ↦ inl (others m page other at)
+]
+
+pub more_gone : (last : ℕ) (old new : List (ℕ × List ℕ)) (n : ℕ) → NoneMoreBut n old new → page_at new n ≡ None → NoneMoreButIndex last old new
+more_gone last old new n others gone = more_but last old new n others (λ page at. cc)
+
+-- what a search leaves of the pages that are held: checked, if they were before, and none more but of an index
+abbrev pub Keeps : ℕ → PagerView → PagerView → Type 0
+Keeps last old new = KeepsChecked last old new × NoneMoreButIndex last old.cached new.cached
+
+pub all_kept : (last : ℕ) (pager : PagerView) → Keeps last pager pager
+all_kept last pager = ((λ was. was), (λ n page at. inl at))
+
+pub both_on : (last : ℕ) (old mid new : PagerView) → Keeps last old mid → Keeps last mid new → Keeps last old new
+both_on last old mid new before after = (
+  keeps_on last old mid new before.0 after.0,
+  λ n page at. elim (after.1 n page at) [
+    | inl was ↦ before.1 n page was
+    | inr is ↦ inr is
+  ],
+)

@@ -27,13 +27,13 @@ use Rattle.ub_region.specs.declared.region.Region.{Region}
 use Rattle.ub_index.specs.declared.sheet.Sheet.{Sheet}
 use Rattle.ub_index.specs.declared.told.Told.{Told}
 use Rattle.ub_index.specs.declared.told.Told.TheVariants.{Same, Gone, One, Two}
+use Rattle.ub_index.proofs.HeldFacts.{Keeps}
 use Rattle.ub_index.proofs.Changes.{replaced, stays, told_index}
 use Rattle.ub_index.proofs.FillFacts.{AreFilled, filled_becomes, filled_over}
 use Rattle.ub_index.proofs.FullFacts.{all_end, full_next, full_way}
 use Rattle.ub_index.proofs.Numbers.{distinct_cons, distinct_first, distinct_rest, no_new_left, once_join, outside_less, within_store}
 use Rattle.ub_index.proofs.OrderFacts.{first_through, under_first}
 use Rattle.ub_index.proofs.PlaceFacts.{index_of_first, first_there, up}
-use Rattle.ub_index.specs.Held.{KeepsChecked}
 use Rattle.ub_index.proofs.SearchFacts.{err_is, pager_with, same_store}
 use Rattle.ub_index.proofs.SpreadFacts.{node_so, told_on}
 use Rattle.ub_index.proofs.TurnFacts.{Risen, rises, unspelled_left}
@@ -73,16 +73,16 @@ settle_fault index old key added from to told Full few room turns h = (
 
 pub settled_all : (T U : Type 0) (index : IndexView) (key : Key) (added : Option Entry) (from to : Spelled) (old new : PagerView) (told : Told) (r : Result U IndexFault)
     → to.next ≤ from.next + index.levels → to.next ≤ 4294967295 → (IsHonest old.store → TurnsRoot index old.store key added from to told)
-    → new ≡ record old { store = old.store; cached = new.cached } → KeepsChecked index.last old new → IfErr r (IsSettleFault index.root index.levels told to) → PreparesAll index key added from old new r
-settled_all T U index key added from to old new told (Ok x) few room turns same kept h = record { same = same; checked = kept; faults = tt }
+    → new ≡ record old { store = old.store; cached = new.cached } → Keeps index.last old new → IfErr r (IsSettleFault index.root index.levels told to) → PreparesAll index key added from old new r
+settled_all T U index key added from to old new told (Ok x) few room turns same kept h = record { same = same; checked = kept.0; more = kept.1; faults = tt }
 settled_all T U index key added from to old new told (Err (Page n fault)) few room turns same kept h =
-    record { same = same; checked = kept; faults = settle_fault index old.store key added from to told (Page n fault) few room turns h }
-settled_all T U index key added from to old new told (Err Full) few room turns same kept h = record { same = same; checked = kept; faults = settle_fault index old.store key added from to told Full few room turns h }
-settled_all T U index key added from to old new told (Err (Store store.Memory)) few room turns same kept h = record { same = same; checked = kept; faults = tt }
+    record { same = same; checked = kept.0; more = kept.1; faults = settle_fault index old.store key added from to told (Page n fault) few room turns h }
+settled_all T U index key added from to old new told (Err Full) few room turns same kept h = record { same = same; checked = kept.0; more = kept.1; faults = settle_fault index old.store key added from to told Full few room turns h }
+settled_all T U index key added from to old new told (Err (Store store.Memory)) few room turns same kept h = record { same = same; checked = kept.0; more = kept.1; faults = tt }
 settled_all T U index key added from to old new told (Err (Store store.Device)) few room turns same kept h = absurd h
 settled_all T U index key added from to old new told (Err (Store store.NoPage)) few room turns same kept h = absurd h
 settled_all T U index key added from to old new told (Err (Store store.BadSize)) few room turns same kept h =
-    record { same = same; checked = kept; faults = settle_fault index old.store key added from to told (Store store.BadSize) few room turns h }
+    record { same = same; checked = kept.0; more = kept.1; faults = settle_fault index old.store key added from to told (Store store.BadSize) few room turns h }
 
 -- and so is why it doesn't go down or up
 turn_fault : (index : IndexView) (old : StoreFacts) (key : Key) (added : Option Entry) (from : Spelled) (e : IndexFault)
@@ -102,6 +102,7 @@ turn_refused_at : (T U : Type 0) (index : IndexView) (key : Key) (added : Option
 turn_refused_at T U index key added from old new r e is h = subst (λ (x : Result T IndexFault). PreparesAll index key added from old new x) (sym (err_is r e is)) (record {
   same = h.same ∙ ap (λ (s : StoreFacts). pager_with s old.trace new.cached) (same_store T U e old.store);
   checked = h.checked;
+  more = h.more;
   faults = turn_fault index old.store key added from e h.faults;
 })
 

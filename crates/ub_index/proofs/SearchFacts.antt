@@ -8,13 +8,13 @@ use Rattle.ub_store.specs.declared.fault.StoreFault.TheVariants as store
 use Rattle.ub_table.specs.declared.fault.PageFault.{PageFault}
 use Rattle.ub_table.specs.declared.row.Key.{Key}
 use Rattle.ub_index.specs.Descending.{IsStepFault, StepsDown}
-use Rattle.ub_index.specs.Held.{AreChecked, KeepsChecked}
+use Rattle.ub_index.specs.Held.{AreChecked}
 use Rattle.ub_index.specs.Searching.{GoesDown, IsWayFault, store_after}
 use Rattle.ub_index.specs.View.{IndexView, Stops}
 use Rattle.ub_index.specs.Way.{StopsAt}
 use Rattle.ub_index.specs.declared.fault.IndexFault.{IndexFault}
 use Rattle.ub_index.specs.declared.fault.IndexFault.TheVariants.{Full, Page, Store}
-use Rattle.ub_index.proofs.HeldFacts.{keeps_on}
+use Rattle.ub_index.proofs.HeldFacts.{both_on, Keeps}
 use Rattle.ub_index.proofs.WayFacts.{stops_here}
 
 pub err_is : {T : Type 0} (r : Result T IndexFault) (e : IndexFault) → IsErrAnd r (λ x. x ≡ e) → r ≡ Err e
@@ -42,9 +42,16 @@ frame r old mid new stores traces h =
     ∙ (ap (λ (s : StoreFacts). pager_with (store_after r s) mid.trace new.cached) stores
     ∙ ap (λ (t : Trace). pager_with (store_after r old.store) t new.cached) traces)
 
+-- what a step and a search leave of the pages that are held
+pub step_keeps : {T : Type 0} {last level : ℕ} {entry : Entry} {end : Option Key} {old new : PagerView} {r : Result T IndexFault} → StepsDown last level entry end old new r → Keeps last old new
+step_keeps h = (h.checked, h.more)
+
+pub down_keeps : {T : Type 0} {Sought : Key → Type 0} {index : IndexView} {old new : PagerView} {r : Result T IndexFault} → GoesDown Sought index old new r → Keeps index.last old new
+down_keeps h = (h.checked, h.more)
+
 -- a step that is refused, after those before it
 module _ (T U : Type 0) (Sought : Key → Type 0) (index : IndexView) (key : Key) (sought : Sought key) (level : ℕ) (some : 0 < level) (entry : Entry) (end : Option Key)
-    (old mid new : PagerView) (stores : mid.store ≡ old.store) (traces : mid.trace ≡ old.trace) (kept : KeepsChecked index.last old mid)
+    (old mid new : PagerView) (stores : mid.store ≡ old.store) (traces : mid.trace ≡ old.trace) (kept : Keeps index.last old mid)
     (stops : IsHonest old.store → AreChecked index.last old → (n : ℕ) (fault : Option PageFault) → StopsAt index.last old.store.pages key level entry end n fault
     → Stops index old.store key n fault) where
   fault_of : (e : IndexFault) → AreChecked index.last old → IsStepFault index.last mid.store level entry end e → IsWayFault index old.store Sought e
@@ -63,8 +70,9 @@ module _ (T U : Type 0) (Sought : Key → Type 0) (index : IndexView) (key : Key
   pub step_refused : (r : Result T IndexFault) (e : IndexFault) → IsErrAnd r (λ x. x ≡ e) → StepsDown {A = U} index.last level entry end mid new (Err e) → GoesDown Sought index old new r
   step_refused r e is h = subst (λ (x : Result T IndexFault). GoesDown Sought index old new x) (sym (err_is r e is)) (record {
     same = frame (failed {T = T} e) old mid new stores traces (h.same ∙ ap (λ (s : StoreFacts). pager_with s mid.trace new.cached) (same_store T U e mid.store));
-    checked = keeps_on index.last old mid new kept h.checked;
-    faults = λ sure. fault_of e sure (h.faults (kept sure));
+    checked = (both_on index.last old mid new kept (step_keeps h)).0;
+    more = (both_on index.last old mid new kept (step_keeps h)).1;
+    faults = λ sure. fault_of e sure (h.faults (kept.0 sure));
   })
 
 -- a search that was answered left the store
@@ -75,17 +83,18 @@ pub kept_trace : {T : Type 0} (Sought : Key → Type 0) (index : IndexView) (old
 kept_trace Sought index old mid x h = ap (λ (p : PagerView). p.trace) h.same
 
 -- a search that leaves all as it was but what the pager holds
-pub answered : {T : Type 0} (Sought : Key → Type 0) (index : IndexView) (old new : PagerView) (x : T) → new.store ≡ old.store → new.trace ≡ old.trace → KeepsChecked index.last old new
+pub answered : {T : Type 0} (Sought : Key → Type 0) (index : IndexView) (old new : PagerView) (x : T) → new.store ≡ old.store → new.trace ≡ old.trace → Keeps index.last old new
     → GoesDown Sought index old new (Ok x)
 answered Sought index old new x stores traces kept = record {
   same = ap (λ (s : StoreFacts). pager_with s new.trace new.cached) stores ∙ ap (λ (t : Trace). pager_with old.store t new.cached) traces;
-  checked = kept;
+  checked = kept.0;
+  more = kept.1;
   faults = λ sure. tt;
 }
 
 -- a search that was refused as another one was, which went down to these keys among others, after some pages were read
 module _ (T U : Type 0) (A B : Key → Type 0) (index : IndexView) (old mid new : PagerView) (wider : AreChecked index.last old → (k : Key) → A k → B k) (stores : mid.store ≡ old.store) (traces : mid.trace ≡ old.trace)
-    (kept : KeepsChecked index.last old mid) where
+    (kept : Keeps index.last old mid) where
   wider_fault : (e : IndexFault) → AreChecked index.last old → IsWayFault index mid.store A e → IsWayFault index old.store B e
   wider_fault (Page n fault) sure h = λ honest.
       let there = h (subst (λ (s : StoreFacts). IsHonest s) (sym stores) honest) in
@@ -105,6 +114,7 @@ module _ (T U : Type 0) (A B : Key → Type 0) (index : IndexView) (old mid new 
   pub search_refused : (r : Result T IndexFault) (e : IndexFault) → IsErrAnd r (λ x. x ≡ e) → GoesDown {A = U} A index mid new (Err e) → GoesDown B index old new r
   search_refused r e is h = subst (λ (x : Result T IndexFault). GoesDown B index old new x) (sym (err_is r e is)) (record {
     same = frame (failed {T = T} e) old mid new stores traces (h.same ∙ ap (λ (s : StoreFacts). pager_with s mid.trace new.cached) (same_store T U e mid.store));
-    checked = keeps_on index.last old mid new kept h.checked;
-    faults = λ sure. wider_fault e sure (h.faults (kept sure));
+    checked = (both_on index.last old mid new kept (down_keeps h)).0;
+    more = (both_on index.last old mid new kept (down_keeps h)).1;
+    faults = λ sure. wider_fault e sure (h.faults (kept.0 sure));
   })

@@ -12,7 +12,6 @@ use Rattle.ub_table.specs.declared.row.Key.{Key}
 use Rattle.ub_index.specs.Bringing.{BringsFitting, IsBringFault}
 use Rattle.ub_index.specs.Changing.{IsNoGrowth}
 use Rattle.ub_index.specs.Descending.{IsStepFault, Steps, StepsDown}
-use Rattle.ub_index.specs.Held.{KeepsChecked}
 use Rattle.ub_index.specs.Index.{entries_of, top, Fits, NamesFitting}
 use Rattle.ub_index.specs.Opening.{IsPassing, Opens}
 use Rattle.ub_index.specs.Searching.{GoesDown, store_after}
@@ -22,7 +21,7 @@ use Rattle.ub_index.specs.declared.fault.IndexFault.TheVariants.{Full, Page, Sto
 use Rattle.ub_page.specs.Index.{node_on}
 use Rattle.ub_page.specs.declared.index.Head.{Head}
 use Rattle.ub_index.proofs.FitFacts.{is_refused, page_is}
-use Rattle.ub_index.proofs.HeldFacts.{keeps_less}
+use Rattle.ub_index.proofs.HeldFacts.{keeps_less, more_less, Keeps}
 use Rattle.ub_index.proofs.SearchFacts.{err_is, pager_with, same_store}
 
 -- nothing is said of what is answered where a call is refused
@@ -73,37 +72,43 @@ bring_refused {T = T} last level entry end old new r fault is reads traces less 
     subst (λ (x : Result T IndexFault). StepsDown last level entry end old new x) (sym (err_is r (Store fault) is)) (record {
       same = pager_so old new (store_after {A = T} (Err (Store fault)) old.store) (reads.same ∙ counts_so T Bool fault old.store) traces;
       checked = keeps_less last old new (honest_back old.store new.store _ reads.same) less;
+      more = more_less last old.cached new.cached less;
       faults = λ sure. fault_so Bool last old.store level entry end fault reads.device missing size;
     })
 
+-- what a step of a change leaves of the pages that are held
+pub steps_keep : {T : Type 0} {last level : ℕ} {entry : Entry} {end : Option Key} {old new : PagerView} {r : Result T IndexFault} → Steps last level entry end old new r → Keeps last old new
+steps_keep h = (h.checked, h.more)
+
 -- a step is made, and leaves the store
 pub stepped : {T : Type 0} (last : ℕ) (level : ℕ) (entry : Entry) (end : Option Key) (old new : PagerView) (x : T) → new.store ≡ old.store → new.trace ≡ old.trace
-    → KeepsChecked last old new → Steps last level entry end old new (Ok x)
-stepped last level entry end old new x stores traces kept = record { same = pager_so old new old.store stores traces; checked = kept; faults = tt }
+    → Keeps last old new → Steps last level entry end old new (Ok x)
+stepped last level entry end old new x stores traces kept = record { same = pager_so old new old.store stores traces; checked = kept.0; more = kept.1; faults = tt }
 
 pub stepped_down : {T : Type 0} (last : ℕ) (level : ℕ) (entry : Entry) (end : Option Key) (old new : PagerView) (x : T) → new.store ≡ old.store → new.trace ≡ old.trace
-    → KeepsChecked last old new → StepsDown last level entry end old new (Ok x)
-stepped_down last level entry end old new x stores traces kept = record { same = pager_so old new old.store stores traces; checked = kept; faults = λ sure. tt }
+    → Keeps last old new → StepsDown last level entry end old new (Ok x)
+stepped_down last level entry end old new x stores traces kept = record { same = pager_so old new old.store stores traces; checked = kept.0; more = kept.1; faults = λ sure. tt }
 
 -- a step that was made and answered one thing may answer another
 pub stepped_as : {T U : Type 0} (last : ℕ) (level : ℕ) (entry : Entry) (end : Option Key) (old new : PagerView) (x : T) (y : U) → StepsDown last level entry end old new (Ok x)
     → StepsDown last level entry end old new (Ok y)
-stepped_as last level entry end old new x y h = record { same = h.same; checked = h.checked; faults = λ sure. tt }
+stepped_as last level entry end old new x y h = record { same = h.same; checked = h.checked; more = h.more; faults = λ sure. tt }
 
 pub refused_step : {T U : Type 0} (last : ℕ) (level : ℕ) (entry : Entry) (end : Option Key) (old new : PagerView) (r : Result T IndexFault) (e : IndexFault) → IsErrAnd r (λ x. x ≡ e)
     → StepsDown {A = U} last level entry end old new (Err e) → StepsDown last level entry end old new r
 refused_step {T = T} {U = U} last level entry end old new r e is h = subst (λ (x : Result T IndexFault). StepsDown last level entry end old new x) (sym (err_is r e is)) (record {
   same = h.same ∙ ap (λ (s : StoreFacts). pager_with s old.trace new.cached) (same_store T U e old.store);
   checked = h.checked;
+  more = h.more;
   faults = h.faults;
 })
 
 -- memory was refused after it
 pub memory_refused : {T : Type 0} (last : ℕ) (level : ℕ) (entry : Entry) (end : Option Key) (old new : PagerView) (r : Result T IndexFault)
-    → IsErrAnd r (λ x. x ≡ Store store.Memory) → new.store ≡ old.store → new.trace ≡ old.trace → KeepsChecked last old new → Steps last level entry end old new r
+    → IsErrAnd r (λ x. x ≡ Store store.Memory) → new.store ≡ old.store → new.trace ≡ old.trace → Keeps last old new → Steps last level entry end old new r
 memory_refused {T = T} last level entry end old new r is stores traces kept =
     subst (λ (x : Result T IndexFault). Steps last level entry end old new x) (sym (err_is r (Store store.Memory) is))
-    (record { same = pager_so old new old.store stores traces; checked = kept; faults = tt })
+    (record { same = pager_so old new old.store stores traces; checked = kept.0; more = kept.1; faults = tt })
 
 -- the page that stands there and fits is the one that is named
 pub names_fitting : (pages : List (List ℕ)) (last level : ℕ) (entry : Entry) (end : Option Key) (page : List ℕ) → slice_get pages entry.page ≡ Some page → Fits last page level entry end
@@ -122,6 +127,7 @@ pub refused_as : (T U : Type 0) (Sought : Key → Type 0) (index : IndexView) (o
 refused_as T U Sought index old new r e is h = subst (λ (x : Result T IndexFault). GoesDown Sought index old new x) (sym (err_is r e is)) (record {
   same = h.same ∙ ap (λ (s : StoreFacts). pager_with s old.trace new.cached) (same_store T U e old.store);
   checked = h.checked;
+  more = h.more;
   faults = h.faults;
 })
 
@@ -138,6 +144,7 @@ unbrought last level entry end old new r fault is reads traces others less missi
       named = λ honest. tt;
       others = others;
       checked = keeps_less last old new (honest_back old.store new.store _ reads.same) less;
+      more = more_less last old.cached new.cached less;
       forgotten = tt;
       faults = by_fault fault reads.device missing size;
     })
@@ -184,15 +191,16 @@ module _ (last level : ℕ) (entry : Entry) (end : Option Key) (old new : PagerV
   step_misfits {T = T} r e is h = subst (λ (x : Result T IndexFault). Steps last level entry end old new x) (sym (err_is r e is)) (record {
     same = h.same ∙ ap (λ (s : StoreFacts). pager_with s old.trace new.cached) (same_store T Head e old.store);
     checked = h.checked;
+    more = h.more;
     faults = step_fault e h.faults;
   })
 
   pub step_fits : {T : Type 0} (head : Head) (x : T) → BringsFitting last level entry end old new (Ok head) → Steps last level entry end old new (Ok x)
-  step_fits head x h = record { same = h.same; checked = h.checked; faults = tt }
+  step_fits head x h = record { same = h.same; checked = h.checked; more = h.more; faults = tt }
 
   pub step_memory : {T : Type 0} (head : Head) (r : Result T IndexFault) → IsErrAnd r (λ x. x ≡ Store store.Memory) → BringsFitting last level entry end old new (Ok head)
       → Steps last level entry end old new r
-  step_memory head r is h = memory_refused last level entry end old new r is (ap (λ (p : PagerView). p.store) h.same) (ap (λ (p : PagerView). p.trace) h.same) h.checked
+  step_memory head r is h = memory_refused last level entry end old new r is (ap (λ (p : PagerView). p.store) h.same) (ap (λ (p : PagerView). p.trace) h.same) (h.checked, h.more)
 
   -- and the page that is held then stood there
   pub brought_page : (head : Head) (page : List ℕ) → BringsFitting last level entry end old new (Ok head) → IsPage new.store entry.page page → IsPage old.store entry.page page

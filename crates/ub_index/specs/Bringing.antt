@@ -2,7 +2,7 @@
 use Rattle.std.specs.Prelude.{◌≡◌, ◌≤◌, ℕ, IsTrue, List, Option, Result, IfOk, IfErr, OnOk}
 use Rattle.ub_index.specs.Descending.{IsForgotten, StepsDown}
 use Rattle.ub_index.specs.Fitting.{FitsAtEnds, IsUnfit}
-use Rattle.ub_index.specs.Held.{AreChecked, KeepsChecked}
+use Rattle.ub_index.specs.Held.{AreChecked, KeepsChecked, NoneMoreButIndex}
 use Rattle.ub_index.specs.Index.{Fits, NamesFitting}
 use Rattle.ub_index.specs.Searching.{store_after}
 use Rattle.ub_index.specs.declared.fault.IndexFault.{IndexFault}
@@ -47,5 +47,6 @@ pub record BringsFitting (last level : ℕ) (entry : Entry) (end : Option Key) (
   pub named : IsHonest old.store → OnOk result (NamesFitting last old.store.pages level entry end)
   pub others : NoneMoreBut entry.page old.cached new.cached
   pub checked : KeepsChecked last old new
+  pub more : NoneMoreButIndex last old.cached new.cached
   pub forgotten : IfErr result (IsForgotten new)
   pub faults : IfErr result (IsBringFault last old.store level entry end)

@@ -4,7 +4,7 @@ use Rattle.std.specs.Prelude.{◌≡◌, ◌≢◌, ◌≤◌, ◌<◌, ◌+◌,
 use Rattle.std.specs.List.{AllByRecursion}
 use Rattle.ub_index.specs.Changed.{BeginFrom}
 use Rattle.ub_index.specs.Fitting.{FallsTo}
-use Rattle.ub_index.specs.Held.{KeepsChecked}
+use Rattle.ub_index.specs.Held.{KeepsChecked, NoneMoreButIndex}
 use Rattle.ub_index.specs.Index.{first_or, entries_of, AscendTo, IsIndexPage, NamesFitting}
 use Rattle.ub_index.specs.Searching.{store_after}
 use Rattle.ub_index.specs.Way.{EndsFull, StopsAt}
@@ -131,11 +131,13 @@ IsTurnFault last old key level entry end next (Page n fault) = IsHonest old → 
 IsTurnFault last old key level entry end next Full = ⊥
 
 -- a change that is prepared with this result, from an entry of this level on: with the device's fault the store has one failed
--- read more, and else nothing has changed but the pages that the pager holds, each of which was checked, if they were before
+-- read more, and else nothing has changed but the pages that the pager holds, each of which was checked, if they were before; none
+-- that it holds more is that of a region, but each one of an index
 pub record Prepares {A : Type 0} (last level : ℕ) (key : Key) (entry : Entry) (end : Option Key) (next : ℕ) (old new : PagerView)
     (result : Result A IndexFault) : Type 0 where
   pub same : new ≡ record old { store = store_after result old.store; cached = new.cached }
   pub checked : KeepsChecked last old new
+  pub more : NoneMoreButIndex last old.cached new.cached
   pub faults : IfErr result (IsTurnFault last old.store key level entry end next)
 
 -- this number is none of those

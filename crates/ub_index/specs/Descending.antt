@@ -2,7 +2,7 @@
 use Rattle.std.specs.Prelude.{◌≡◌, ◌≤◌, ℕ, IsTrue, List, Option, Some, None, Result, IfErr, IfSome}
 use Rattle.ub_region.specs.declared.region.Region.{Region}
 use Rattle.ub_index.specs.Fitting.{FallsTo, FitsAtEnds, IsNotTaken}
-use Rattle.ub_index.specs.Held.{AreChecked, KeepsChecked}
+use Rattle.ub_index.specs.Held.{AreChecked, KeepsChecked, NoneMoreButIndex}
 use Rattle.ub_index.specs.Index.{entries_of, page_in, top, NamesFitting}
 use Rattle.ub_index.specs.Searching.{store_after, Gives, IsAim, IsAimless, IsFrom}
 use Rattle.ub_index.specs.View.{IndexView, Stops}
@@ -33,16 +33,19 @@ IsStepFault last old level entry end (Page n why) =
     (n ≡ entry.page) × (IsHonest old → IsNotTaken last old.pages level entry end (Some why))
 
 -- a step with this result: with the device's fault the store has one failed read more, and else nothing has changed but the
--- pages that the pager holds, each of which was checked, if they were before
+-- pages that the pager holds, each of which was checked, if they were before; none that it holds more is that of a region, but
+-- each one of an index
 pub record Steps {A : Type 0} (last level : ℕ) (entry : Entry) (end : Option Key) (old new : PagerView) (result : Result A IndexFault) : Type 0 where
   pub same : new ≡ record old { store = store_after result old.store; cached = new.cached }
   pub checked : KeepsChecked last old new
+  pub more : NoneMoreButIndex last old.cached new.cached
   pub faults : IfErr result (IsStepFault last old.store level entry end)
 
 -- the same of a search, which looks at the ends of a page that is held: it is refused so where each page that was held was checked
 pub record StepsDown {A : Type 0} (last level : ℕ) (entry : Entry) (end : Option Key) (old new : PagerView) (result : Result A IndexFault) : Type 0 where
   pub same : new ≡ record old { store = store_after result old.store; cached = new.cached }
   pub checked : KeepsChecked last old new
+  pub more : NoneMoreButIndex last old.cached new.cached
   pub faults : AreChecked last old → IfErr result (IsStepFault last old.store level entry end)
 
 -- the step that is made: the page fits, and the key falls to this entry of it

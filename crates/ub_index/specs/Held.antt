@@ -16,6 +16,10 @@ AreChecked last pager =
 abbrev pub KeepsChecked : ℕ → PagerView → PagerView → Type 0
 KeepsChecked last old new = AreChecked last old → AreChecked last new
 
+-- under no number a page is held that wasn't, but one of an index, which was checked in full
+abbrev pub NoneMoreButIndex : ℕ → List (ℕ × List ℕ) → List (ℕ × List ℕ) → Type 0
+NoneMoreButIndex last old new = (n : ℕ) (page : List ℕ) → page_at new n ≡ Some page → (page_at old n ≡ Some page) ⊎ IsIndexPage last page
+
 -- the page was read in this call, or was held, and so was checked before
 abbrev pub WasChecked : Bool → ℕ → List ℕ → Type 0
 WasChecked is_read last page = is_read ≡ false → IsIndexPage last page ⊎ (¬ (IsIndexKind page))

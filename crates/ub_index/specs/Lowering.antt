@@ -2,7 +2,7 @@
 use Rattle.std.specs.Prelude.{◌≡◌, ◌≤◌, ◌==◌, ◌⊎◌, if◌then◌else◌, ℕ, zero, suc, IsTrue, List, [], ◌∷◌, Option, Some, None, Result, IfErr, length}
 use Rattle.ub_index.specs.Changing.{IsNoGrowth, Stand, StayBut, so_far}
 use Rattle.ub_index.specs.Fitting.{IsNotTaken}
-use Rattle.ub_index.specs.Held.{KeepsChecked}
+use Rattle.ub_index.specs.Held.{KeepsChecked, NoneMoreButIndex}
 use Rattle.ub_index.specs.Index.{entries_of, page_in, top}
 use Rattle.ub_index.specs.Preparing.{ChangeView, IsChangeFault, IsPrepared, pages_of_index}
 use Rattle.ub_index.specs.Searching.{store_after}
@@ -78,10 +78,12 @@ IsLowerFault last old change (Page n fault) = IsHonest old → IsRootRefused las
 IsLowerFault last old change Full = ⊥
 
 -- a call with this result that reads roots: with the device's fault the store has one failed read more, and else nothing has
--- changed but the pages that the pager holds, each of which was checked, if they were before
+-- changed but the pages that the pager holds, each of which was checked, if they were before; none that it holds more is that of
+-- a region, but each one of an index
 pub record ReadsRoots {A : Type 0} (last : ℕ) (change : ChangeView) (old new : PagerView) (result : Result A IndexFault) : Type 0 where
   pub same : new ≡ record old { store = store_after result old.store; cached = new.cached }
   pub checked : KeepsChecked last old new
+  pub more : NoneMoreButIndex last old.cached new.cached
   pub faults : IfErr result (IsLowerFault last old.store change)
 
 -- the change by which the region's entry to which the key falls goes
@@ -110,4 +112,5 @@ IsDropFault index old key fault =
 pub record PreparesDrop {A : Type 0} (index : IndexView) (key : Key) (old new : PagerView) (result : Result A IndexFault) : Type 0 where
   pub same : new ≡ record old { store = store_after result old.store; cached = new.cached }
   pub checked : KeepsChecked index.last old new
+  pub more : NoneMoreButIndex index.last old.cached new.cached
   pub faults : IfErr result (IsDropFault index old.store key)

@@ -3,7 +3,7 @@ use Rattle.std.specs.Prelude.{◌≡◌, ◌≤◌, ◌<◌, ◌+◌, ◌++◌, 
 use Rattle.std.specs.List.{IsDistinct}
 use Rattle.ub_index.specs.Way.{EndsFull, IsFullWay}
 use Rattle.ub_index.specs.Changing.{AreOnce, IsNoNew, IsOutside, IsUnspelled, Spelled, Stand, StayBut, Turns, sheet_of, so_far}
-use Rattle.ub_index.specs.Held.{KeepsChecked}
+use Rattle.ub_index.specs.Held.{KeepsChecked, NoneMoreButIndex}
 use Rattle.ub_index.specs.Index.{IsUnder, pages_under, top, under}
 use Rattle.ub_index.specs.Searching.{store_after}
 use Rattle.ub_index.specs.View.{IndexView, Stops}
@@ -150,9 +150,11 @@ IsChangeFault index old key added from Full =
     (index.levels ≡ 16) × (IsHonest old → HasFullWay index old key × (from.next + 16 ≤ 4294967295))
 
 -- a change that is prepared with this result: with the device's fault the store has one failed read more, and else nothing has
--- changed but the pages that the pager holds, each of which was checked, if they were before
+-- changed but the pages that the pager holds, each of which was checked, if they were before; none that it holds more is that of
+-- a region, but each one of an index
 pub record PreparesAll {A : Type 0} (index : IndexView) (key : Key) (added : Option Entry) (from : Spelled) (old new : PagerView)
     (result : Result A IndexFault) : Type 0 where
   pub same : new ≡ record old { store = store_after result old.store; cached = new.cached }
   pub checked : KeepsChecked index.last old new
+  pub more : NoneMoreButIndex index.last old.cached new.cached
   pub faults : IfErr result (IsChangeFault index old.store key added from)

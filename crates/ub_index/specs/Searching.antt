@@ -3,7 +3,7 @@ use Rattle.std.specs.Prelude.{◌≡◌, ◌≤◌, ◌<◌, ◌⊎◌, if◌the
 use Rattle.ub_bigmin.specs.Box.{HoldsAny}
 use Rattle.ub_bigmin.specs.Extremes.{LeastFrom}
 use Rattle.ub_region.specs.declared.region.Region.{Region}
-use Rattle.ub_index.specs.Held.{AreChecked, KeepsChecked}
+use Rattle.ub_index.specs.Held.{AreChecked, KeepsChecked, NoneMoreButIndex}
 use Rattle.ub_index.specs.View.{IndexView, Leads, Stops}
 use Rattle.ub_index.specs.Way.{HoldsKey}
 use Rattle.ub_index.specs.declared.fault.IndexFault.{IndexFault}
@@ -104,9 +104,10 @@ abbrev pub store_after : {A : Type 0} → Result A IndexFault → StoreFacts →
 store_after result old = record old { failed_reads = count_with result old.failed_reads }
 
 -- a call with this result that goes down to these keys: with the device's fault the store has one failed read more, and else
--- nothing has changed but the pages that the pager holds, each of which was checked, if they were before; and then why it is
--- refused
+-- nothing has changed but the pages that the pager holds, each of which was checked, if they were before; none that it holds more
+-- is that of a region, but each one of an index; and then why it is refused
 pub record GoesDown {A : Type 0} (Sought : Key → Type 0) (index : IndexView) (old new : PagerView) (result : Result A IndexFault) : Type 0 where
   pub same : new ≡ record old { store = store_after result old.store; cached = new.cached }
   pub checked : KeepsChecked index.last old new
+  pub more : NoneMoreButIndex index.last old.cached new.cached
   pub faults : AreChecked index.last old → IfErr result (IsWayFault index old.store Sought)

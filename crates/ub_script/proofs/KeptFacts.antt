@@ -9,14 +9,12 @@ use Rattle.ub_script.specs.declared.fault.RunFault.{RunFault}
 use Rattle.ub_script.specs.declared.fault.RunFault.TheVariants as run
 use Rattle.ub_store.specs.Facts.{StoreFacts, IsHonest, raised}
 use Rattle.ub_store.specs.declared.fault.StoreFault.TheVariants as store
-use Rattle.ub_table.specs.declared.schema.Schema.{Schema}
-use Rattle.ub_tree.proofs.Laws.{IsTraced, Keeps, Keeps-by, read_fault_before}
-use Rattle.ub_tree.specs.Effects.{Works}
+use Rattle.ub_tree.proofs.Laws.{IsTraced, Keeps, Keeps-by, mark_then, read_fault_before}
+use Rattle.ub_tree.specs.Effects.{KeepsMark, Works}
 use Rattle.ub_tree.specs.View.{TreeView, IsSound}
 use Rattle.ub_tree.specs.declared.fault.TreeFault.{TreeFault}
 use Rattle.ub_tree.specs.declared.fault.TreeFault.TheVariants as tree
 use Rattle.ub_tree.specs.declared.read_fault.ReadFault.TheVariants as read
-use Rattle.ub_writing.specs.Marks.{HasMark}
 
 -- ---- calls that only read
 
@@ -101,9 +99,9 @@ left_reading A a b (run.Tree (tree.Store store.NoPage)) same is = (is.0.0, inl (
 left_reading A a b (run.Tree (tree.Store store.BadSize)) same is = absurd is.0
 left_reading A a b (run.Tree (tree.Store store.Memory)) same is = absurd is.0
 
--- what it keeps of a sound tree's mark
-marked_reading : {A : Type 0} (r : Result A RunFault) (a b : TreeView) → RunsReading a b r → IsSound a → b.is_changed ≡ true → HasMark a.schema b.store.pages
-marked_reading r a b h sound changed = subst (λ (t : TreeView). t.is_changed ≡ true → HasMark a.schema t.store.pages) (sym h.same) sound.marked changed
+-- what it keeps of a tree's mark
+marked_reading : {A : Type 0} (r : Result A RunFault) (a b : TreeView) → RunsReading a b r → KeepsMark a b
+marked_reading r a b h = subst (λ (t : TreeView). KeepsMark a t) (sym h.same) (λ honest had changed. had changed)
 
 pub runs_of : {A : Type 0} (r : Result A RunFault) (a b : TreeView) → RunsReading a b r → Runs a b r
 runs_of (Ok x) a b h = record {
@@ -159,14 +157,14 @@ pub runs_more : {T U : Type 0} (x : T) (r : Result U RunFault) (a b c : TreeView
 runs_more x (Ok y) a b c h k = record {
   schema = k.schema ∙ h.schema;
   sound = λ sound. k.sound (h.sound sound);
-  marked = λ sound changed. subst (λ (s : Schema). HasMark s c.store.pages) h.schema (k.marked (h.sound sound) changed);
+  marked = mark_then a b c (honest_before a b h.done) h.schema h.marked k.marked;
   done = works_more a b c h.done k.done;
   left = tt;
 }
 runs_more x (Err e) a b c h k = record {
   schema = k.schema ∙ h.schema;
   sound = λ sound. tt;
-  marked = λ sound changed. subst (λ (s : Schema). HasMark s c.store.pages) h.schema (k.marked (h.sound sound) changed);
+  marked = mark_then a b c (honest_before a b h.done) h.schema h.marked k.marked;
   done = tt;
   left = left_more a b c e h.sound h.done k.left;
 }
@@ -181,13 +179,13 @@ runs_err U (Err f) e a b is h = rw is (record { schema = h.schema; sound = λ so
 
 -- nothing was done
 pub runs_none : {T : Type 0} (x : T) (a : TreeView) → Runs a a (Ok x)
-runs_none x a = record { schema = refl; sound = λ sound. sound; marked = λ sound changed. sound.marked changed; done = (refl, refl); left = tt }
+runs_none x a = record { schema = refl; sound = λ sound. sound; marked = λ honest had changed. had changed; done = (refl, refl); left = tt }
 
 pub runs_memory : {T : Type 0} (r : Result T RunFault) (a : TreeView) → r ≡ Err run.Memory → Runs a a r
 runs_memory {T = T} r a is = subst (λ (q : Result T RunFault). Runs a a q) (sym is) (record {
   schema = refl;
   sound = λ sound. tt;
-  marked = λ sound changed. sound.marked changed;
+  marked = λ honest had changed. had changed;
   done = tt;
   left = (refl, refl);
 })

@@ -1,18 +1,17 @@
 -- Which fault of a run a fault of loading is, and which one of a tree; and what a run leaves of a tree.
-use Rattle.std.specs.Prelude.{◌≡◌, ◌≢◌, ◌⊎◌, ◌+◌, ℕ, true, Result, Err, IfErr, IsTrue, OnOk}
+use Rattle.std.specs.Prelude.{◌≡◌, ◌≢◌, ◌⊎◌, ◌+◌, ℕ, Result, Err, IfErr, IsTrue, OnOk}
 use Rattle.ub_exec.specs.Deleting.{HasLostPage, HasMetDevice}
 use Rattle.ub_load.specs.declared.fault.LoadFault.{LoadFault}
 use Rattle.ub_load.specs.declared.fault.LoadFault.TheVariants.{Memory as no_memory_to_load}
 use Rattle.ub_store.specs.Facts.{IsHonest, raised}
 use Rattle.ub_store.specs.declared.fault.StoreFault.TheVariants as store
 use Rattle.ub_table.specs.declared.row.TheConstants.{MAX_ROW_NUMBER}
-use Rattle.ub_tree.specs.Effects.{IsFull, IsIndexFull, IsReadFault, Leaves, Works, raised_by}
+use Rattle.ub_tree.specs.Effects.{IsFull, IsIndexFull, IsReadFault, KeepsMark, Leaves, Works, raised_by}
 use Rattle.ub_tree.specs.View.{TreeView, IsSound}
 use Rattle.ub_tree.specs.declared.fault.TreeFault.{TreeFault}
 use Rattle.ub_tree.specs.declared.fault.TreeFault.TheVariants.{Full, Page, Store, Failed, Memory as no_memory}
 use Rattle.ub_tree.specs.declared.read_fault.ReadFault.{ReadFault}
 use Rattle.ub_tree.specs.declared.read_fault.ReadFault.TheVariants.{Memory as no_memory_to_read, Tree as of_tree}
-use Rattle.ub_writing.specs.Marks.{HasMark}
 use Rattle.ub_script.specs.declared.fault.RunFault.{RunFault}
 use Rattle.ub_script.specs.declared.fault.RunFault.TheVariants.{Memory, Write, Load, Tree}
 
@@ -68,11 +67,11 @@ IsRunLeft old new (Tree (Store store.NoPage)) =
 IsRunLeft old new (Tree (Store store.BadSize)) = Works old new × (mid : TreeView) × IsFull mid × Leaves mid new
 IsRunLeft old new (Tree (Store store.Memory)) = ⊥
 
--- a run over a tree: its schema stays; a sound tree that was run on to the end is sound, and once it has changed its first page says
--- so; and what a fault leaves
+-- a run over a tree: its schema stays; a sound tree that was run on to the end is sound; over an honest store the first page marks a
+-- table that has changed, if it did where it was changed before; and what a fault leaves
 pub record Runs {A : Type 0} (old new : TreeView) (result : Result A RunFault) : Type 0 where
   pub schema : new.schema ≡ old.schema
   pub sound : IsSound old → OnOk result (IsSound new)
-  pub marked : IsSound old → new.is_changed ≡ true → HasMark old.schema new.store.pages
+  pub marked : KeepsMark old new
   pub done : OnOk result (Works old new)
   pub left : IfErr result (IsRunLeft old new)

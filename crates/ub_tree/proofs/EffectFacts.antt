@@ -9,12 +9,13 @@ use Rattle.ub_region.specs.declared.region.Region.{Region}
 use Rattle.ub_region.proofs.Laws.{all_left, all_right}
 use Rattle.ub_store.specs.Facts.{StoreFacts, IsHonest, page_count}
 use Rattle.ub_store.specs.declared.fault.StoreFault.TheVariants as store
-use Rattle.ub_tree.specs.Effects.{Changes, HasEnded, IsLeft, IsMarkedFirst, Leaves, Searches, Works, read_store, written_store}
+use Rattle.ub_table.specs.declared.schema.Schema.{Schema}
+use Rattle.ub_tree.specs.Effects.{Changes, HasEnded, IsLeft, IsMarkedFirst, KeepsMark, Leaves, Searches, Works, read_store, written_store}
 use Rattle.ub_tree.specs.Others.{AreOthersKept, KeepsOthers, WritesIndex, WritesOneRegion, WritesPage}
 use Rattle.ub_tree.specs.View.{TreeView, IsSound}
 use Rattle.ub_tree.specs.declared.fault.TreeFault.{TreeFault}
 use Rattle.ub_tree.specs.declared.fault.TreeFault.TheVariants.{Full, Page, Store, Failed as HasFailed, Memory}
-use Rattle.ub_writing.specs.Marks.{is_written}
+use Rattle.ub_writing.specs.Marks.{HasMark, is_written}
 use Rattle.ub_writing.specs.declared.mark.Mark.{Mark}
 use Rattle.ub_writing.specs.declared.mark.Mark.TheVariants.{Written}
 use Rattle.ub_tree.specs.inner.Change.{HasStopped, IsStored, IsWriteFault, MakesReady, Writes}
@@ -24,9 +25,19 @@ use Rattle.ub_tree.specs.Told.{IsRegionOf}
 pub sound_stored : (t : TreeView) → IsSound t → IsStored t
 sound_stored t sound = record { working = sound.working; honest = sound.honest; indexed = sound.indexed; placed_are = sound.placed_are; count_is = sound.count_is }
 
+-- of a sound tree, which has its mark where it is changed, the first page marks the table
+pub marked_sound : {a b : TreeView} → IsMarkedFirst a b → IsSound a → b.is_changed ≡ true → HasMark a.schema b.store.pages
+marked_sound h sound = h.marked sound.honest sound.marked
+
+-- the mark after one call and another one
+pub mark_then : (a b c : TreeView) → (IsHonest a.store → IsHonest b.store) → b.schema ≡ a.schema → KeepsMark a b → KeepsMark b c → KeepsMark a c
+mark_then a b c honest schema first second is had changed =
+    subst (λ (s : Schema). HasMark s c.store.pages) schema
+    (second (honest is) (λ was. subst (λ (s : Schema). HasMark s b.store.pages) (sym schema) (first is had was)) changed)
+
 -- the mark of a tree that is as it was
 same_marked : (a : TreeView) → IsMarkedFirst a a
-same_marked a = record { kept = λ honest unmarked m first lt. refl; marked = λ sound e. sound.marked e }
+same_marked a = record { kept = λ honest unmarked m first lt. refl; marked = λ honest had e. had e }
 
 pub same_leaves : (a : TreeView) → Leaves a a
 same_leaves a = record {
@@ -53,7 +64,7 @@ read_left (Err f) e a c is same left =
     same ∙ ap (λ (v : TreeView). record a { placed = v.placed; rows = v.rows; next = v.next; is_changed = v.is_changed; is_failed = v.is_failed; store = v.store; inner = v.inner }) (sym same) in
     rw is (record {
       frame = frame;
-      marked = subst (λ (v : TreeView). IsMarkedFirst a v) (sym same) (record { kept = λ honest unmarked m first lt. refl; marked = λ sound e. sound.marked e });
+      marked = subst (λ (v : TreeView). IsMarkedFirst a v) (sym same) (record { kept = λ honest unmarked m first lt. refl; marked = λ honest had e. had e });
       done = tt;
       left = left;
     })

@@ -8,7 +8,8 @@ use Rattle.ub_index.proofs.LeadFacts.{ways_hold}
 use Rattle.ub_index.proofs.WaysFacts.{ends_from, ends_to}
 use Rattle.ub_index.specs.View.{entry_at}
 use Rattle.ub_index.specs.Index.{entries_of, first_or, top}
-use Rattle.ub_index.specs.Way.{HoldsKey, IsFullWay, LeadsTo}
+use Rattle.ub_index.specs.Fitting.{FallsTo as FallsToEntry}
+use Rattle.ub_index.specs.Way.{EndsFull, HoldsKey, IsFullWay, LeadsTo}
 use Rattle.ub_region.specs.declared.entry.Entry.{Entry}
 use Rattle.ub_region.proofs.Laws.{all_left, all_right, insert_keeps, insert_table}
 use Rattle.ub_region.specs.Regions.{firsts_of, index_holding, insert, rows_of, split_region}
@@ -30,7 +31,7 @@ use Rattle.ub_tree.proofs.TreeFacts.{contained_at, firsts_placed, region_get, pl
 use Rattle.ub_tree.proofs.WayFacts.{falls_once}
 use Rattle.ub_tree.specs.Change.{IsInserted}
 use Rattle.ub_tree.specs.Effects.{IsNumberTaken, IsTakenIn}
-use Rattle.ub_tree.specs.Holding.{Answers, AnswersKey, AnswersAt, GrowsAt}
+use Rattle.ub_tree.specs.Holding.{Answers, AnswersKey, AnswersAt, GrowsAt, IsRoomFault}
 use Rattle.ub_tree.specs.Opened.{IsPassing}
 use Rattle.ub_tree.specs.Others.{AddsEntry, KeepsEntries, WritesIndex, WritesPage}
 use Rattle.ub_tree.specs.Placed.{entry_of, regions_in}
@@ -38,7 +39,7 @@ use Rattle.ub_tree.specs.Spans.{first_keys, Region}
 use Rattle.ub_tree.specs.Told.{FallsTo, IsRegionOf, KeepsTold}
 use Rattle.ub_tree.specs.View.{TreeView, IsSound, region_count, regions}
 use Rattle.ub_tree.specs.declared.fault.TreeFault.{TreeFault}
-use Rattle.ub_tree.specs.declared.fault.TreeFault.TheVariants.{Page, Store}
+use Rattle.ub_tree.specs.declared.fault.TreeFault.TheVariants.{Full, Page, Store, Failed as HasFailed, Memory}
 use Rattle.ub_region.specs.RegionPage.{RegionView}
 use Rattle.ub_tree.specs.inner.Change.{HasReadAt, IsElsewhereSame, IsPut, IsRegionIn, IsSplitAt, IsStored, KeepsGrown, StoresAt, Writes, placed_with, regions_with, split_of}
 use Rattle.ub_writing.specs.Marks.{HasMark}
@@ -215,12 +216,17 @@ never_page : {A : Type 0} (e : TreeFault) (page : ℕ) (fault : PageFault) (r : 
 never_page e page fault r (inl memory) is same = cc
 never_page e page fault r (inr device) is same = cc
 
+passing_room : (IsNeeded : Type 0) (t : TreeView) (key : Key) (e : TreeFault) → IsPassing e → IsRoomFault IsNeeded t key e
+passing_room IsNeeded t key e (inl memory) = subst (IsRoomFault IsNeeded t key) (sym memory) tt
+passing_room IsNeeded t key e (inr device) = subst (IsRoomFault IsNeeded t key) (sym device) tt
+
 passing_key : {A : Type 0} (a : TreeView) (key : Key) (e : TreeFault) → IsPassing e → AnswersKey {A = A} a key (Err e)
 passing_key a key e passing page region falls = (
   λ has. inr passing,
   λ none full many. inr passing,
   λ none number fault same. absurd (never_page e number fault _ passing refl same),
   λ none full few levels way. inr (inr passing),
+  passing_room (length region.rows ≡ a.schema.page_rows) a key e passing,
 )
 
 -- where memory was refused or the device failed nothing more is asked
@@ -240,6 +246,26 @@ next_some last pages key (suc level) entry end found next (named, below, beyond,
     let middle = some_first falls.after end limit e in
     next_some last pages key level below beyond found next leads middle.0 (falls.next_is ∙ middle.1)
 
+-- each key that a region holds falls to the same entry on the way to it as one of them does
+falls_other : (last : ℕ) (pages : List (List ℕ)) (key other : Key) (level : ℕ) (entry : Entry) (end : Option Key) (found : Entry) (next : Option Key) (below : Entry) (beyond : Option Key)
+    → FallsToEntry key (entries_of pages entry.page) end below beyond → LeadsTo last pages key level below beyond found next → HoldsKey other found.first next
+    → FallsToEntry other (entries_of pages entry.page) end below beyond
+falls_other last pages key other level entry end found next below beyond falls leads h = record {
+  before = falls.before;
+  after = falls.after;
+  parts = falls.parts;
+  next_is = falls.next_is;
+  from = inr (le_trans below.first found.first other (ends_from last pages key level below beyond found next leads) h.from);
+  to = to_of falls.after falls.next_is;
+}
+  where
+    to_of : (after : List Entry) → beyond ≡ first_or after end → IfSome (first_or after None) (IsBefore other)
+    to_of [] e = tt
+    to_of (x ∷ after) e =
+        let first = next_some last pages key level below beyond found next leads x.first e in
+        let sooner : IfSome (Some first.0) (IsBefore other) = subst (λ (o : Option Key). IfSome o (IsBefore other)) first.1 h.to in
+        before_le other first.0 x.first sooner (ends_to last pages key level below beyond found next leads first.0 x.first first.1 e)
+
 -- the way to each key that a region holds is full, where one of them is
 full_way_to : (last : ℕ) (pages : List (List ℕ)) (key other : Key) (level : ℕ) (entry : Entry) (end : Option Key) (found : Entry) (next : Option Key) → LeadsTo last pages key level entry end found next
     → HoldsKey other found.first next → IsFullWay last pages key level entry end → IsFullWay last pages other level entry end
@@ -252,23 +278,58 @@ full_way_to last pages key other (suc level) entry end found next (named, below,
       many,
       below,
       beyond,
-      record {
-        before = falls.before;
-        after = falls.after;
-        parts = falls.parts;
-        next_is = falls.next_is;
-        from = inr (le_trans below.first found.first other (ends_from last pages key level below beyond found next leads) h.from);
-        to = to_of falls.after falls.next_is;
-      },
+      falls_other last pages key other level entry end found next below beyond falls leads h,
       full_way_to last pages key other level below beyond found next leads h there,
     )
-  where
-    to_of : (after : List Entry) → beyond ≡ first_or after end → IfSome (first_or after None) (IsBefore other)
-    to_of [] e = tt
-    to_of (x ∷ after) e =
-        let first = next_some last pages key level below beyond found next leads x.first e in
-        let sooner : IfSome (Some first.0) (IsBefore other) = subst (λ (o : Option Key). IfSome o (IsBefore other)) first.1 h.to in
-        before_le other first.0 x.first sooner (ends_to last pages key level below beyond found next leads first.0 x.first first.1 e)
+
+-- and so many of its lowest pages are
+ends_full_to : (last : ℕ) (pages : List (List ℕ)) (key other : Key) (level : ℕ) (entry : Entry) (end : Option Key) (found : Entry) (next : Option Key) → LeadsTo last pages key level entry end found next
+    → HoldsKey other found.first next → (full : ℕ) → EndsFull last pages key level entry end full → EndsFull last pages other level entry end full
+ends_full_to last pages key other zero entry end found next leads h full ends = ends
+ends_full_to last pages key other (suc level) entry end found next leads h full (inl (all, way)) =
+    inl (all, full_way_to last pages key other (suc level) entry end found next leads h way)
+ends_full_to last pages key other (suc level) entry end found next (named, below, beyond, falls, leads) h full (inr (fitting, below2, beyond2, falls2, ends)) =
+    let same = falls_once key (entries_of pages entry.page) end fitting.fits.ascends below2 beyond2 falls2 below beyond falls in
+    let there : EndsFull last pages key level below beyond full =
+    subst (λ (o : Option Key). EndsFull last pages key level below o full) same.1 (subst (λ (e : Entry). EndsFull last pages key level e beyond2 full) same.0 ends) in
+    inr (fitting, below, beyond, falls_other last pages key other level entry end found next below beyond falls leads h, ends_full_to last pages key other level below beyond found next leads h full there)
+
+-- where there is no room behind the region of a key, there is none behind that of each key that it holds
+room_to : (F G : Type 0) → (F → G) → (t : TreeView) (key other : Key) (found : Entry) (next : Option Key)
+    → LeadsTo t.inner.index.last t.store.pages key t.inner.index.levels (top t.inner.index.root) None found next → HoldsKey other found.first next
+    → (e : TreeFault) → IsRoomFault F t key e → IsRoomFault G t other e
+room_to F G f t key other found next leads h Full x =
+    (f x.0, x.1, full_way_to t.inner.index.last t.store.pages key other t.inner.index.levels (top t.inner.index.root) None found next leads h x.2)
+room_to F G f t key other found next leads h HasFailed x = tt
+room_to F G f t key other found next leads h Memory x = tt
+room_to F G f t key other found next leads h (Page page fault) x = tt
+room_to F G f t key other found next leads h (Store store.Device) x = tt
+room_to F G f t key other found next leads h (Store store.NoPage) x = tt
+room_to F G f t key other found next leads h (Store store.Memory) x = tt
+room_to F G f t key other found next leads h (Store store.BadSize) x = (
+  f x.0,
+  (elim x.1 [
+    | inl past ↦ inl past
+    | inr needs ↦
+        let ends = ends_full_to t.inner.index.last t.store.pages key other t.inner.index.levels (top t.inner.index.root) None found next leads h needs.1.0 needs.1.1 in
+        inr (needs.0, (needs.1.0, ends, needs.1.2), needs.2)
+  ]),
+)
+
+-- it is needed where it is for another reason
+room_for : (F G : Type 0) → (F → G) → (t : TreeView) (key : Key) (e : TreeFault) → IsRoomFault F t key e → IsRoomFault G t key e
+room_for F G f t key Full x = (f x.0, x.1, x.2)
+room_for F G f t key HasFailed x = tt
+room_for F G f t key Memory x = tt
+room_for F G f t key (Page page fault) x = tt
+room_for F G f t key (Store store.Device) x = tt
+room_for F G f t key (Store store.NoPage) x = tt
+room_for F G f t key (Store store.Memory) x = tt
+room_for F G f t key (Store store.BadSize) x = (f x.0, x.1)
+
+err_so : {A : Type 0} (P Q : TreeFault → Type 0) → ((e : TreeFault) → P e → Q e) → (r : Result A TreeFault) → IfErr r P → IfErr r Q
+err_so P Q f (Ok x) h = tt
+err_so P Q f (Err e) h = f e h
 
 -- the same answer of another call
 pub answers_err_at : {U A : Type 0} (IsFull : Type 0) (t : TreeView) (span : Region) (r : Result A TreeFault) (e : TreeFault) → IsErrAnd r (λ x. x ≡ e) → AnswersAt {A = U} IsFull t span (Err e) → AnswersAt IsFull t span r
@@ -277,6 +338,7 @@ answers_err_at {U} {A} IsFull t span (Err f) e is h = subst (λ (x : TreeFault).
   λ full many. (let told = h.0 full many in let same : e ≡ Page 0 BadCount = cc in ap (λ (x : TreeFault). Err x) same),
   λ honest falls page fault told. (let same : e ≡ Page page fault = cc in h.1 honest falls page fault (ap (λ (x : TreeFault). Err x) same)),
   h.2,
+  h.3,
 )
 
 pub answers_ok_at : {U A : Type 0} (IsFull : Type 0) (t : TreeView) (span : Region) (x : U) (y : A) → AnswersAt {A = U} IsFull t span (Ok x) → AnswersAt {A = A} IsFull t span (Ok y)
@@ -284,6 +346,7 @@ answers_ok_at IsFull t span x y h = (
   λ full many. (let told = h.0 full many in cc),
   λ honest falls page fault told. cc,
   λ honest falls full few levels way. h.2 honest falls full few levels way,
+  λ honest falls. tt,
 )
 
 -- the region that the key falls into was read, and hasn't the key
@@ -303,6 +366,9 @@ added_answers {A} a b key span page r same read none answers honest number regio
       λ free page fault told. (let only = h.1 honest sure page fault told in (sym long ∙ only.0, only.1)),
       λ free full few levels way. h.2 honest sure (long ∙ full) few levels
           (full_way_to a.inner.index.last a.store.pages key span.first a.inner.index.levels (top a.inner.index.root) None (entry_at span) span.next leads holds.1 way),
+      err_so (IsRoomFault (length page.region.rows ≡ a.schema.page_rows) a span.first) (IsRoomFault (length region.rows ≡ a.schema.page_rows) a key)
+          (room_to (length page.region.rows ≡ a.schema.page_rows) (length region.rows ≡ a.schema.page_rows) (λ full. sym long ∙ full) a span.first key (entry_at span) span.next
+          (holds.2 span.first holds.1) read.falls.holds) r (h.3 honest sure),
     )
 
 -- the region of a span whose page had room was put on it
@@ -318,7 +384,8 @@ put_at (Ok x) old new span count room put told writes = record {
 
 -- what a span answers where its region isn't full, and only the device can fail
 pub spared_answers : {A : Type 0} (F : Type 0) (t : TreeView) (span : Region) (r : Result A TreeFault) → (F → ⊥) → IfErr r (λ fault. fault ≡ Store store.Device) → AnswersAt F t span r
-spared_answers F t span (Ok x) room device = (λ full many. absurd (room full), λ honest falls page fault told. cc, λ honest falls full few levels way. absurd (room full))
+spared_answers F t span (Ok x) room device =
+    (λ full many. absurd (room full), λ honest falls page fault told. cc, λ honest falls full few levels way. absurd (room full), λ honest falls. tt)
 spared_answers F t span (Err e) room device = (
   λ full many. absurd (room full),
   λ honest falls page fault told.
@@ -326,6 +393,7 @@ spared_answers F t span (Err e) room device = (
       let bad : Store store.Device ≡ Page page fault = sym device ∙ same in
       cc,
   λ honest falls full few levels way. absurd (room full),
+  λ honest falls. subst (IsRoomFault F t span.first) (sym device) tt,
 )
 
 -- and where it is full
@@ -334,6 +402,7 @@ filled_answers F t span r full h = (
   λ is many. h.0 tt many,
   λ honest falls page fault told. (full, (h.1 honest falls page fault told).1),
   λ honest falls is. h.2 honest falls tt,
+  λ honest falls. err_so (IsRoomFault (Unit {0}) t span.first) (IsRoomFault F t span.first) (room_for (Unit {0}) F (λ x. full) t span.first) r (h.3 honest falls),
 )
 
 -- halves of the same rows

@@ -138,6 +138,7 @@ module _ (a : TreeView) (key : Key) (span : Region) (page : RegionView) (read : 
         λ none full many. absurd (let bad : true ≡ false = sym here ∙ none in cc),
         λ none page fault is. absurd (let bad : true ≡ false = sym here ∙ none in cc),
         λ none full few levels way. absurd (let bad : true ≡ false = sym here ∙ none in cc),
+        tt,
       )
 
   pub removal_answers : (r : Result Bool TreeFault) → (has_key a.schema.dims key page.region.rows ≡ true → a.rows ≡ 0 → IsErrAnd r (λ x. x ≡ Page 0 BadCount))

@@ -6,7 +6,6 @@ use Rattle.std.proofs.lemmas.List.{length-map}
 use Rattle.std.proofs.lemmas.Option.{slice_get_past}
 use Rattle.std.specs.Result.{IsErrAnd}
 use Rattle.ub_check.proofs.StandingFacts.{each_get}
-use Rattle.ub_index.proofs.Numbers.{distinct_first, distinct_left}
 use Rattle.ub_index.specs.Changed.{Replaces}
 use Rattle.ub_index.specs.Changing.{AreOnce, IsOutside, IsUnspelled, Stand}
 use Rattle.ub_index.specs.Index.{pages_under, top}
@@ -31,7 +30,7 @@ use Rattle.ub_table.specs.declared.row.Key.{Key}
 use Rattle.ub_table.specs.declared.row.Row.{Row}
 use Rattle.ub_table.specs.declared.schema.Schema.{Schema}
 use Rattle.ub_tree.proofs.DropFacts.{dropped_are, dropped_indexed, dropped_long, dropped_placed, dropped_regions}
-use Rattle.ub_tree.proofs.EffectFacts.{left_by, sound_stored, writes_both, writes_told}
+use Rattle.ub_tree.proofs.EffectFacts.{left_by, writes_both, writes_told}
 use Rattle.ub_tree.proofs.IndexedFacts.{at_of_key}
 use Rattle.ub_tree.proofs.PutFacts.{view_placed}
 use Rattle.ub_tree.proofs.RoomFacts.{begins_before}
@@ -78,7 +77,7 @@ alone_not_sound t span next one of begins sound =
     let bad : None ≡ Some next.first = sym none ∙ sym at.next ∙ begins in
     cc
 
-module _ (b mid n : TreeView) (span next : Region) (change : ChangeView) (there : IsRegionThere b span) (of_next : IsRegionOf b next) (begins : span.next ≡ Some next.first)
+module _ (b mid n : TreeView) (span next : Region) (change : ChangeView) (there : IsRegionThere b span) (begins : span.next ≡ Some next.first)
     (ready : IsDropReady b next change) (put : IsPut b mid) (wrote : Writes {A = Unit {0}} span b mid (Ok tt)) (puts : PutsSheets change.sheets mid.store n.store) where
   abbrev chain : List ℕ
   chain = pages_under b.store.pages b.inner.index.levels (top b.inner.index.root)
@@ -93,20 +92,18 @@ module _ (b mid n : TreeView) (span next : Region) (change : ChangeView) (there 
   later = behind_first b span next there.told begins
 
   -- the first page is none of those that are spelled
-  zero_free : IsSound b → IsUnspelled 0 change.sheets
-  zero_free sound =
-      let makes = ready.makes (index_holding of_next.key (first_keys (map entry_of b.placed))) (sound_stored b sound) (at_of_key b sound of_next.key next of_next.falls) later in
-      let far = there.there in
-      makes.own 0 (inl (omega arith), distinct_first 0 chain (distinct_left (0 ∷ chain) (map (λ (p : Placed). p.page) b.placed) sound.placed_are.own))
+  zero_free : IsHonest b.store → IsUnspelled 0 change.sheets
+  zero_free honest =
+      all_more (IsSpelledAt b (page_count b.store) change) (λ (s : Sheet). 0 ≢ s.number) (λ s h e. (let some = h.some in absurd (omega arith))) change.sheets (ready.spelled honest)
 
   written_others : WritesIndex span.page b n
   written_others = writes_both chain span.page change.sheets b.store mid.store n.store wrote.kept puts honest_mid free
 
   -- the mark stands
-  mark_then : IsSound b → HasMark b.schema n.store.pages
-  mark_then sound =
-      let had = wrote.marked.marked sound (ap (λ (v : TreeView). v.is_changed) put) in
-      (had.0, had.1, puts.others (honest_mid sound.honest) 0 (zero_free sound) ∙ had.2)
+  mark_then : IsHonest b.store → (b.is_changed ≡ true → HasMark b.schema b.store.pages) → HasMark b.schema n.store.pages
+  mark_then honest was =
+      let had = wrote.marked.marked honest was (ap (λ (v : TreeView). v.is_changed) put) in
+      (had.0, had.1, puts.others (honest_mid honest) 0 (zero_free honest) ∙ had.2)
 
   -- the pages of the index weren't put
   ended : (fault : TreeFault) → HasStopped fault mid n → HasEnded fault b n
@@ -143,7 +140,7 @@ module _ (b mid n : TreeView) (span next : Region) (change : ChangeView) (there 
       let now : n.is_changed ≡ true = kept ∙ ap (λ (v : TreeView). v.is_changed) put in
       left_by {U = TreeFault} r fault b n is (record {
         frame = e ∙ ap (λ (v : TreeView). record b { placed = v.placed; rows = v.rows; next = v.next; is_changed = v.is_changed; is_failed = v.is_failed; store = v.store; inner = v.inner }) (sym e);
-        marked = record { kept = λ honest unmarked m first lt. absurd (let bad : true ≡ false = sym now ∙ unmarked in cc); marked = λ sound _. mark_then sound };
+        marked = record { kept = λ honest unmarked m first lt. absurd (let bad : true ≡ false = sym now ∙ unmarked in cc); marked = λ honest was _. mark_then honest was };
         done = tt;
         left = index_left fault stopped h;
       })
@@ -180,7 +177,7 @@ module _ (b mid n : TreeView) (span next : Region) (change : ChangeView) (there 
       frame = elsewhere ∙ ap (λ (v : TreeView). record b { placed = v.placed; rows = v.rows; next = v.next; is_changed = v.is_changed; is_failed = v.is_failed; store = v.store; inner = v.inner }) (sym elsewhere);
       marked = record {
         kept = λ honest unmarked m first lt. absurd (let bad : true ≡ false = sym (ap (λ (v : TreeView). v.is_changed) whole) ∙ unmarked in cc);
-        marked = λ sound _. subst (λ (s : StoreFacts). HasMark b.schema s.pages) (sym store_is) (mark_then sound);
+        marked = λ honest was _. subst (λ (s : StoreFacts). HasMark b.schema s.pages) (sym store_is) (mark_then honest was);
       };
       done = (
         ap (λ (v : TreeView). v.is_failed) whole,

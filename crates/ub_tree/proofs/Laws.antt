@@ -29,6 +29,7 @@ use Rattle.ub_tree.specs.View.{TreeView, IsSound, regions, spans_of}
 use Rattle.ub_tree.proofs.WellFacts.{opened_pages, opened_sound, sound_well}
 use Rattle.ub_zaddr.specs.Address.{last_address}
 pub use Rattle.ub_tree.proofs.AnswerFacts.{HasAnswers, HasAnswers-none, HasAnswers-more, answers_ended, answers_later, answers_there, left_after, left_less}
+pub use Rattle.ub_tree.proofs.EffectFacts.{mark_then}
 pub use Rattle.ub_tree.proofs.NewFacts.{new_values, numbered_row}
 pub use Rattle.ub_tree.proofs.TreeFacts.{firsts_placed}
 pub use Rattle.ub_tree.proofs.MeetFacts.{before, contained_at, contains_at, is_later, later_from, spans_long, take_all, those_next, those_up_to}

@@ -1,37 +1,31 @@
 -- What the parting of a region leaves: the store grew, the pages of both halves were put, and then those that the change of the index
 -- spells.
-use Rattle.std.proofs.Common.{◌≡◌, ◌≢◌, ◌<◌, ◌≤◌, ◌+◌, ◌-◌, ◌∙◌, ◌++◌, inl, inr, ◌⊎◌, ℕ, zero, suc, Some, Bool, true, false, List, [], ◌∷◌, Ok, Err, Result, map, sym, ap, subst, refl, arith, slice_get}
+use Rattle.std.proofs.Common.{◌≡◌, ◌≢◌, ◌<◌, ◌≤◌, ◌+◌, ◌-◌, ◌∙◌, inl, inr, ◌⊎◌, ℕ, Bool, true, false, List, [], ◌∷◌, Ok, Err, Result, sym, ap, subst, refl, arith, slice_get}
 use Rattle.std.specs.List.{AllByRecursion}
 use Rattle.std.specs.Result.{IsErrAnd}
 use Rattle.ub_check.proofs.StandingFacts.{each_get}
-use Rattle.ub_index.proofs.Numbers.{distinct_first, distinct_left}
 use Rattle.ub_index.specs.Changing.{IsOutside, IsUnspelled}
 use Rattle.ub_index.specs.Index.{pages_under, top}
 use Rattle.ub_index.specs.Making.{IsPutFault, PutsSheets}
-use Rattle.ub_index.specs.Preparing.{ChangeView, HasFullWay, IsWithinRegion, NeedsPages}
-use Rattle.ub_index.specs.View.{entry_at}
+use Rattle.ub_index.specs.Preparing.{ChangeView, HasFullWay, NeedsPages}
 use Rattle.ub_region.specs.declared.region.Region.{Region}
 use Rattle.ub_index.specs.declared.sheet.Sheet.{Sheet}
 use Rattle.ub_page.specs.declared.header.TheConstants.{MAX_LEVEL}
-use Rattle.ub_region.proofs.Laws.{all_more, all_right}
+use Rattle.ub_region.proofs.Laws.{all_more}
 use Rattle.ub_page.specs.Header.{header_page}
-use Rattle.ub_region.specs.declared.entry.Entry.{Entry}
-use Rattle.ub_region.specs.Regions.{index_holding}
 use Rattle.ub_store.specs.Facts.{StoreFacts, IsHonest, page_count}
 use Rattle.ub_store.specs.declared.fault.StoreFault.TheVariants as store
 use Rattle.ub_table.specs.declared.fault.PageFault.{PageFault}
 use Rattle.ub_table.specs.declared.row.Key.{Key}
 use Rattle.ub_table.specs.declared.schema.Schema.{Schema}
-use Rattle.ub_tree.proofs.EffectFacts.{left_by, sound_stored, writes_both, writes_told, writes_wider}
-use Rattle.ub_tree.proofs.IndexedFacts.{at_of_key}
-use Rattle.ub_tree.specs.Effects.{Changes, HasEnded, IsFull, IsLeft, IsMarkedFirst, written_store}
-use Rattle.ub_tree.specs.Holding.{AnswersAt, HasNoRoom}
+use Rattle.ub_tree.proofs.EffectFacts.{left_by, writes_both, writes_told, writes_wider}
+use Rattle.ub_tree.proofs.PutFacts.{own_page}
+use Rattle.ub_tree.specs.Effects.{Changes, HasEnded, IsFull, IsLeft, IsMarkedFirst, KeepsMark, written_store}
+use Rattle.ub_tree.specs.Holding.{AnswersAt, HasNoRoom, IsRoomFault}
 use Rattle.ub_tree.specs.Indexed.{Inner}
 use Rattle.ub_tree.specs.Others.{AddsEntry, AreOthersKept, KeepsOthers, WritesIndex}
-use Rattle.ub_tree.specs.Placed.{Placed, entry_of}
-use Rattle.ub_tree.specs.Spans.{first_keys}
 use Rattle.ub_tree.specs.Told.{FallsTo, IsRegionOf}
-use Rattle.ub_tree.specs.View.{TreeView, IsSound, region_count}
+use Rattle.ub_tree.specs.View.{TreeView, region_count}
 use Rattle.ub_tree.specs.declared.fault.TreeFault.{TreeFault}
 use Rattle.ub_tree.specs.declared.fault.TreeFault.TheVariants.{Full, Page, Store, Failed as HasFailed, Memory}
 use Rattle.ub_tree.specs.inner.Change.{GrowsTo, HasStopped, IsAddReady, IsGrowthLeft, IsIndexFault, IsPut, IsSpelledAt, IsWriteFault, StoresAt, WritesBoth}
@@ -57,14 +51,15 @@ no_page_told e page fault (inr (inr (inr device))) same = cc
 
 -- what a parting answers for which the index can't be made ready
 pub unready_answers : {A : Type 0} (t : TreeView) (span : Region) (r : Result A TreeFault) (e : TreeFault) → IsErrAnd r (λ x. x ≡ e) → region_count t ≢ 4294967295
-    → (IsHonest t.store → FallsTo t span.first span → HasNoRoom e) → AnswersAt (Unit {0}) t span r
-unready_answers t span (Ok x) e is few led = absurd is
-unready_answers t span (Err f) e is few led = (
+    → (IsHonest t.store → FallsTo t span.first span → HasNoRoom e) → (IsHonest t.store → IsRoomFault (Unit {0}) t span.first e) → AnswersAt (Unit {0}) t span r
+unready_answers t span (Ok x) e is few led short = absurd is
+unready_answers t span (Err f) e is few led short = (
   λ full many. absurd (few many),
   λ honest falls page fault told.
       let same : f ≡ Page page fault = cc in
       absurd (no_page_told e page fault (led honest falls) (sym is ∙ same)),
   λ honest falls full fewer levels way. rw is (led honest falls),
+  λ honest falls. rw is (short honest),
 )
 
 -- over an honest store the index has fewer levels than one can have, or a page on the way to the region of a span isn't full
@@ -77,33 +72,69 @@ parted_answers t span x few room = (
   λ full many. absurd (few many),
   λ honest falls page fault told. cc,
   λ honest falls full fewer levels way. absurd (room honest levels way),
+  λ honest falls. tt,
 )
 
 pub unparted_answers : {A : Type 0} (t : TreeView) (span : Region) (r : Result A TreeFault) (e : TreeFault) → IsErrAnd r (λ x. x ≡ e) → region_count t ≢ 4294967295
-    → ((page : ℕ) (fault : PageFault) → e ≡ Page page fault → ⊥) → HasRoom t span → AnswersAt (Unit {0}) t span r
-unparted_answers t span (Ok x) e is few apart room = absurd is
-unparted_answers t span (Err f) e is few apart room = (
+    → ((page : ℕ) (fault : PageFault) → e ≡ Page page fault → ⊥) → HasRoom t span → (IsHonest t.store → IsRoomFault (Unit {0}) t span.first e) → AnswersAt (Unit {0}) t span r
+unparted_answers t span (Ok x) e is few apart room short = absurd is
+unparted_answers t span (Err f) e is few apart room short = (
   λ full many. absurd (few many),
   λ honest falls page fault told.
       let same : f ≡ Page page fault = cc in
       absurd (apart page fault (sym is ∙ same)),
   λ honest falls full fewer levels way. absurd (room honest levels way),
+  λ honest falls. rw is (short honest),
 )
+
+-- what only writes is refused as the store, and not for want of room
+pub written_short : (t a b : TreeView) (key : Key) (e : TreeFault) → IsWriteFault a b e → IsRoomFault (Unit {0}) t key e
+written_short t a b key Full h = absurd h
+written_short t a b key HasFailed h = absurd h
+written_short t a b key Memory h = absurd h
+written_short t a b key (Page page fault) h = absurd h
+written_short t a b key (Store store.Device) h = tt
+written_short t a b key (Store store.NoPage) h = absurd h
+written_short t a b key (Store store.BadSize) h = absurd h
+written_short t a b key (Store store.Memory) h = absurd h
+
+pub indexed_short : (t : TreeView) (change : ChangeView) (old : StoreFacts) (key : Key) (e : TreeFault) → IsIndexFault change old e → IsRoomFault (Unit {0}) t key e
+indexed_short t change old key Full h = absurd h
+indexed_short t change old key HasFailed h = absurd h
+indexed_short t change old key Memory h = absurd h
+indexed_short t change old key (Page page fault) h = absurd h
+indexed_short t change old key (Store store.Device) h = tt
+indexed_short t change old key (Store store.NoPage) h = tt
+indexed_short t change old key (Store store.BadSize) h = absurd h
+indexed_short t change old key (Store store.Memory) h = absurd h
 
 -- the store wasn't given the pages
 module _ (a g : TreeView) (span : Region) (first : Key) (change : ChangeView) (there : span.page < page_count a.store) (ready : IsAddReady a span first change) (high : a.inner.index.levels ≤ MAX_LEVEL) where
+  short_then : 4294967295 < page_count a.store + (change.next - change.start) → IsHonest a.store
+      → (n : ℕ) × NeedsPages a.inner.index a.store span.first n × (4294967295 < page_count a.store + 1 + n)
+  short_then over honest =
+      let start = ready.start in
+      let some = ready.some in
+      let only = (ready.needed honest).only in
+      let is = only.2 in
+      (only.0, only.1, omega arith)
+
   full_then : 4294967295 < page_count a.store + (change.next - change.start) → IsFull a
   full_then over =
       let start = ready.start in
       let some = ready.some in
-      let few = ready.few in (
-        high,
-        omega arith,
-        λ honest.
-            let only = (ready.needed honest).only in
-            let same : only.0 ≡ change.next - (page_count a.store + 1) = (let is = only.2 in omega arith) in
-            inr (span.first, change.next - (page_count a.store + 1), subst (NeedsPages a.inner.index a.store span.first) same only.1, omega arith),
-      )
+      let few = ready.few in
+      (high, omega arith, λ honest. (let short = short_then over honest in inr (span.first, short.0, short.1, short.2)))
+
+  pub growth_short : (e : TreeFault) → IsGrowthLeft (page_count a.store + (change.next - change.start)) a g e → IsHonest a.store → IsRoomFault (Unit {0}) a span.first e
+  growth_short Full x honest = absurd x
+  growth_short HasFailed x honest = absurd x
+  growth_short Memory x honest = tt
+  growth_short (Page page fault) x honest = absurd x
+  growth_short (Store store.Device) x honest = tt
+  growth_short (Store store.NoPage) x honest = absurd x
+  growth_short (Store store.BadSize) x honest = (tt, inr (short_then x.0 honest))
+  growth_short (Store store.Memory) x honest = absurd x
 
   growth_left : (e : TreeFault) → IsGrowthLeft (page_count a.store + (change.next - change.start)) a g e → IsLeft a g e
   growth_left Full x = absurd x
@@ -120,22 +151,16 @@ module _ (a g : TreeView) (span : Region) (first : Key) (change : ChangeView) (t
     frame = grew.frame ∙ ap (λ (v : TreeView). record a { placed = v.placed; rows = v.rows; next = v.next; is_changed = v.is_changed; is_failed = v.is_failed; store = v.store; inner = v.inner }) (sym grew.frame);
     marked = record {
       kept = λ honest unmarked m some lt. grew.grows.kept honest m lt;
-      marked = λ sound changed.
-          let had = sound.marked (sym (ap (λ (v : TreeView). v.is_changed) grew.frame) ∙ changed) in
-          (had.0, had.1, grew.grows.kept sound.honest 0 (omega arith) ∙ had.2);
+      marked = λ honest was changed.
+          let had = was (sym (ap (λ (v : TreeView). v.is_changed) grew.frame) ∙ changed) in
+          (had.0, had.1, grew.grows.kept honest 0 (omega arith) ∙ had.2);
     };
     done = tt;
     left = growth_left e grew.left;
   })
 
--- the page of an entry is among those of the regions
-page_at : (placed : List Placed) (i : ℕ) (e : Entry) → slice_get (map entry_of placed) i ≡ Some e → slice_get (map (λ (p : Placed). p.page) placed) i ≡ Some e.page
-page_at [] i e at = cc
-page_at (p ∷ placed) zero e at = let same : entry_of p ≡ e = cc in ap (λ (x : Entry). Some x.page) same
-page_at (p ∷ placed) (suc i) e at = page_at placed i e at
-
 module _ (a g h : TreeView) (span : Region) (of : IsRegionOf a span) (first : Key) (change : ChangeView) (number : ℕ) (there : span.page < page_count a.store)
-    (within : IsWithinRegion a.inner.index.last span.first span.next first) (ready : IsAddReady a span first change) (number_is : number ≡ change.start)
+    (ready : IsAddReady a span first change) (number_is : number ≡ change.start)
     (grew : GrowsTo {A = Unit {0}} (page_count a.store + (change.next - change.start)) a g (Ok tt)) where
   abbrev chain : List ℕ
   chain = pages_under a.store.pages a.inner.index.levels (top a.inner.index.root)
@@ -153,25 +178,16 @@ module _ (a g h : TreeView) (span : Region) (of : IsRegionOf a span) (first : Ke
   free honest m lt out = all_more (IsSpelledAt a (page_count a.store + 1) change) (λ (s : Sheet). m ≢ s.number) (λ s x. x.own m lt out) change.sheets (ready.spelled honest)
 
   -- the first page is none of those that are spelled
-  zero_free : IsSound a → IsUnspelled 0 change.sheets
-  zero_free sound =
-      let makes = ready.makes (index_holding of.key (first_keys (map entry_of a.placed))) (sound_stored a sound) (at_of_key a sound of.key span of.falls) within in
-      makes.own 0 (inl (omega arith), distinct_first 0 chain (distinct_left (0 ∷ chain) (map (λ (p : Placed). p.page) a.placed) sound.placed_are.own))
-
-  -- of a sound tree no region stands on the first page
-  some_page : IsSound a → span.page ≢ 0
-  some_page sound e =
-      let at = at_of_key a sound of.key span of.falls in
-      each_get (λ n. 0 ≢ n) (map (λ (p : Placed). p.page) a.placed) (index_holding of.key (first_keys (map entry_of a.placed))) span.page
-      (all_right (λ n. 0 ≢ n) chain (map (λ (p : Placed). p.page) a.placed) (distinct_first 0 (chain ++ map (λ (p : Placed). p.page) a.placed) sound.placed_are.own))
-      (page_at a.placed (index_holding of.key (first_keys (map entry_of a.placed))) (entry_at span) at.entry) (sym e)
+  zero_free : IsHonest a.store → IsUnspelled 0 change.sheets
+  zero_free honest =
+      all_more (IsSpelledAt a (page_count a.store + 1) change) (λ (s : Sheet). 0 ≢ s.number) (λ s x e. (let some = x.some in absurd (omega arith))) change.sheets (ready.spelled honest)
 
   -- a table that was marked as changed is so still, once the store has grown
-  marked_grown : IsSound a → g.is_changed ≡ true → HasMark g.schema g.store.pages
-  marked_grown sound changed =
-      let had = sound.marked (sym (ap (λ (v : TreeView). v.is_changed) grown_is) ∙ changed) in
+  marked_grown : IsHonest a.store → (a.is_changed ≡ true → HasMark a.schema a.store.pages) → g.is_changed ≡ true → HasMark g.schema g.store.pages
+  marked_grown honest was changed =
+      let had = was (sym (ap (λ (v : TreeView). v.is_changed) grown_is) ∙ changed) in
       subst (λ (s : Schema). HasMark s g.store.pages) (sym (ap (λ (v : TreeView). v.schema) grown_is))
-      (had.0, had.1, grew.grows.kept sound.honest 0 (omega arith) ∙ had.2)
+      (had.0, had.1, grew.grows.kept honest 0 (omega arith) ∙ had.2)
 
   module _ {A : Type 0} (r : Result A TreeFault) (wrote : WritesBoth number span g h r) where
     halves_kept : KeepsOthers (0 ∷ span.page ∷ []) a.store h.store
@@ -193,10 +209,10 @@ module _ (a g h : TreeView) (span : Region) (of : IsRegionOf a span) (first : Ke
         by_case honest (inr kept) =
             inr (λ m out lt. (let more = grew.grows.more in kept m (out.0, ((λ e. absurd (let at = number_at in omega arith)), out.1)) (omega arith) ∙ grew.grows.kept honest m lt))
 
-    halves_marked : IsSound a → h.is_changed ≡ true → HasMark a.schema h.store.pages
-    halves_marked sound changed =
+    halves_marked : KeepsMark a h
+    halves_marked honest was changed =
         subst (λ (s : Schema). HasMark s h.store.pages) (ap (λ (v : TreeView). v.schema) grown_is)
-        (wrote.marked (λ e. absurd (let at = number_at in omega arith)) (some_page sound) (honest_grown sound.honest) (marked_grown sound) changed)
+        (wrote.marked (λ e. absurd (let at = number_at in omega arith)) (own_page a span ready.root honest of) (honest_grown honest) (marked_grown honest was) changed)
 
     pub halves_first : IsMarkedFirst a h
     halves_first = record {
@@ -250,15 +266,15 @@ module _ (a g h : TreeView) (span : Region) (of : IsRegionOf a span) (first : Ke
     put_others = writes_both chain span.page change.sheets a.store h.store n.store (halves_kept {A = Unit {0}} (Ok tt) wrote) puts honest_put free
 
     -- the mark stands
-    mark_then : IsSound a → HasMark a.schema n.store.pages
-    mark_then sound =
-        let had = halves_marked {A = Unit {0}} (Ok tt) wrote sound (ap (λ (v : TreeView). v.is_changed) halves_is) in
-        (had.0, had.1, puts.others (honest_put sound.honest) 0 (zero_free sound) ∙ had.2)
+    mark_then : IsHonest a.store → (a.is_changed ≡ true → HasMark a.schema a.store.pages) → HasMark a.schema n.store.pages
+    mark_then honest was =
+        let had = halves_marked {A = Unit {0}} (Ok tt) wrote honest was (ap (λ (v : TreeView). v.is_changed) halves_is) in
+        (had.0, had.1, puts.others (honest_put honest) 0 (zero_free honest) ∙ had.2)
 
     marked_now : n.is_changed ≡ true → IsMarkedFirst a n
     marked_now now = record {
       kept = λ honest unmarked m some lt. absurd (let bad : true ≡ false = sym now ∙ unmarked in cc);
-      marked = λ sound changed. mark_then sound;
+      marked = λ honest was changed. mark_then honest was;
     }
 
     put_ended : (fault : TreeFault) → HasStopped fault h n → HasEnded fault a n
@@ -349,7 +365,7 @@ module _ (a g h : TreeView) (span : Region) (of : IsRegionOf a span) (first : Ke
         frame = then_is ∙ ap (λ (v : TreeView). record a { placed = v.placed; rows = v.rows; next = v.next; is_changed = v.is_changed; is_failed = v.is_failed; store = v.store; inner = v.inner }) (sym then_is);
         marked = subst (λ (v : TreeView). IsMarkedFirst a v) (sym then_is) (record {
           kept = λ honest unmarked m some lt. absurd (let bad : true ≡ false = unmarked in cc);
-          marked = λ sound changed. mark_then sound;
+          marked = λ honest was changed. mark_then honest was;
         });
         done = (ap (λ (v : TreeView). v.is_failed) then_is, ap (λ (v : TreeView). v.store) then_is ∙ (stores ∙ ap (λ (v : TreeView). written_store {A = Unit {0}} (Ok tt) a.store v.store) (sym then_is)));
         left = tt;

@@ -6,7 +6,7 @@ use Rattle.std.proofs.lemmas.List.Elements.{recursion_from_All}
 use Rattle.std.proofs.lemmas.Option.{slice_get_within}
 use Rattle.std.specs.List.{All, AllByRecursion, IsDistinct}
 use Rattle.ub_check.proofs.PlacedFacts.{placed_at}
-use Rattle.ub_index.proofs.FirstFacts.{below_some}
+use Rattle.ub_index.proofs.FirstFacts.{below_some, ways_miss}
 use Rattle.ub_index.proofs.Changes.{kept_named, kept_index, kept_under, same_entries as under_same}
 use Rattle.ub_index.proofs.HeldFacts.{ends_of}
 use Rattle.ub_index.proofs.Numbers.{distinct_apart, distinct_first, kept_pages}
@@ -28,7 +28,6 @@ use Rattle.ub_table.specs.Region.{RegionRows, IsRegion}
 use Rattle.ub_table.specs.declared.row.Key.{Key}
 use Rattle.ub_table.specs.declared.row.Row.{Row}
 use Rattle.ub_table.specs.declared.schema.Schema.{Schema}
-use Rattle.ub_tree.proofs.IndexedFacts.{at_of_key}
 use Rattle.ub_tree.proofs.SearchFacts.{known_is}
 use Rattle.ub_tree.proofs.SplitFacts.{apart_after_two, apart_before_two, pages_by}
 use Rattle.ub_tree.proofs.StoredFacts.{IsKept, IsSpelled, IsTold, parted, placed_changed, spelled_changed}
@@ -38,7 +37,7 @@ use Rattle.ub_tree.specs.Placed.{Placed, ArePlaced, entry_of, placed_of}
 use Rattle.ub_tree.specs.Spans.{Region}
 use Rattle.ub_tree.specs.Told.{IsRegionOf, KeepsTold}
 use Rattle.ub_tree.specs.Tree.{placed_in, tree_view}
-use Rattle.ub_tree.specs.View.{TreeView, IsSound}
+use Rattle.ub_tree.specs.View.{TreeView}
 use Rattle.ub_tree.specs.inner.Change.{IsRegionIn, IsRegionThere, IsStored, placed_with}
 use Rattle.ub_writing.specs.Puts.{Puts}
 
@@ -264,14 +263,11 @@ told_put schema index count next rows was now failed old new n region after some
   );
 }
 
--- no region of a sound tree stands on the first page
-pub own_page : (t : TreeView) (span : Region) → IsSound t → IsRegionOf t span → span.page ≢ 0
-own_page t span sound told =
-    let numbers = map (λ (p : Placed). p.page) t.placed in
-    let chain = pages_under t.store.pages t.inner.index.levels (top t.inner.index.root) in
-    let at = at_of_key t sound told.key span told.falls in
-    let apart = all_right (λ n. 0 ≢ n) chain numbers (distinct_first 0 (chain ++ numbers) sound.placed_are.own) in
-    λ e. outside_at 0 span.page numbers _ (page_at t.placed _ (entry_at span) at.entry) apart (sym e)
+-- no region that a tree tells of stands on the first page
+pub own_page : (t : TreeView) (span : Region) → 1 ≤ t.inner.index.root → IsHonest t.store → IsRegionOf t span → span.page ≢ 0
+own_page t span root honest told e =
+    let some = (ways_miss t.inner.index t.store t.store told.key root).0 span (told.falls.way honest) in
+    absurd (omega arith)
 
 -- a page that spells a region is put on the page of a span where one stands
 pub told_there : (schema : Schema) (index : IndexView) (count next rows : ℕ) (was now failed : Bool) (old new : PagerView) (span : Region) (page : List ℕ) → 1 ≤ index.root → index.last < 2 ^ 128

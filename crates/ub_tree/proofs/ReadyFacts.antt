@@ -32,7 +32,7 @@ use Rattle.ub_tree.proofs.SearchFacts.{index_not_refused, no_stop, stores_alike}
 use Rattle.ub_tree.proofs.WayFacts.{IsSpelledOf, Spells, led_not_stopped, never_gone, spells}
 use Rattle.ub_tree.specs.Effects.{IsIndexRefused}
 use Rattle.ub_tree.specs.Faults.{index_fault}
-use Rattle.ub_tree.specs.Holding.{HasNoRoom}
+use Rattle.ub_tree.specs.Holding.{HasNoRoom, IsRoomFault}
 use Rattle.ub_tree.specs.Placed.{entry_of}
 use Rattle.ub_tree.specs.Told.{FallsTo}
 use Rattle.ub_tree.specs.Tree.{tree_view}
@@ -53,6 +53,22 @@ change_room i facts key span small honest given added from (index.Store store.De
 change_room i facts key span small honest given added from (index.Store store.BadSize) h = inr (inl refl)
 change_room i facts key span small honest given added from (index.Store store.NoPage) h =
     absurd (led_not_stopped i.last facts.pages key small i.levels (top i.root) None (entry_at span) span.next h.0 None (given.way honest) (h.2 honest))
+
+-- and where there is no room, that is so of this key
+pub room_fault : (t : TreeView) (key : Key) (added : Entry) (e : IndexFault) → IsHonest t.store
+    → IsChangeFault t.inner.index t.store key (Some added) (so_far [] (page_count t.store + 1)) e → IsRoomFault (Unit {0}) t key (index_fault e)
+room_fault t key added (index.Page n fault) honest h = tt
+room_fault t key added index.Full honest h = (tt, h.0, (h.1 honest).0)
+room_fault t key added (index.Store store.Memory) honest h = tt
+room_fault t key added (index.Store store.Device) honest h = tt
+room_fault t key added (index.Store store.NoPage) honest h = tt
+room_fault t key added (index.Store store.BadSize) honest h = (
+  tt,
+  (elim h.1 [
+    | inl past ↦ inl past
+    | inr needs ↦ inr (needs honest)
+  ]),
+)
 
 pub room_err : {T : Type 0} (r : Result T TreeFault) (e : IndexFault) → IsErrAnd r (λ x. x ≡ index_fault e) → HasNoRoom (index_fault e) → IfErr r HasNoRoom
 room_err (Ok x) e is h = tt
@@ -108,6 +124,7 @@ module _ (t : TreeView) (from : ℕ) (far : page_count t.store ≤ from) (start 
       subst (AllByRecursion (IsSpelledAt t from other)) (sym s.sheets_are)
       (all_more (IsSpelledOf t.store.pages numbers from middle.next) (IsSpelledAt t from other) (λ sheet h. record {
         own = λ n lt out. h.own n lt out.1;
+        some = h.some;
         there = (elim h.there [
           | inl near ↦ inl near
           | inr new ↦ let less = new.1 in inr (new.0, omega arith)
@@ -117,16 +134,20 @@ module _ (t : TreeView) (from : ℕ) (far : page_count t.store ≤ from) (start 
   same_root : change ≡ change_view middle start root levels → AllByRecursion (IsSpelledAt t from change) change.sheets
   same_root is = subst (λ (c : ChangeView). AllByRecursion (IsSpelledAt t from c) c.sheets) (sym is) (spelled_to (change_view middle start root levels) (omega arith))
 
-  pub all_spelled : (told : Told) → Settles root levels told start middle change → AllByRecursion (IsSpelledAt t from change) change.sheets
-  all_spelled Same h = same_root h
-  all_spelled Gone h = absurd h
-  all_spelled (One other) h = same_root h
-  all_spelled (Two left right) h =
+  pub all_spelled : (told : Told) → IsAtMostOne told ⊎ (1 ≤ from) → Settles root levels told start middle change → AllByRecursion (IsSpelledAt t from change) change.sheets
+  all_spelled Same low h = same_root h
+  all_spelled Gone low h = absurd h
+  all_spelled (One other) low h = same_root h
+  all_spelled (Two left right) low h =
       let grown : from ≤ middle.next = s.grown in
       subst (λ (c : ChangeView). AllByRecursion (IsSpelledAt t from c) c.sheets) (sym h.2)
       (all_append (IsSpelledAt t from _) middle.sheets _ (spelled_to _ (omega arith)) (
         record {
           own = λ n lt out e. absurd (omega arith);
+          some = (elim low [
+            | inl few ↦ absurd few
+            | inr some ↦ omega arith
+          ]);
           there = inr (grown, omega arith);
         },
         tt,
@@ -193,13 +214,14 @@ drop_next index store key change (first, (middle, told, turns, settles), lowers)
     settled (One other) n h = ap (λ (c : ChangeView). c.next) h
     settled (Two left right) n h = absurd n
 
-pub drop_spelled : (t : TreeView) (key : Key) (change : ChangeView) → IsDropped t.inner.index t.store key change → AllByRecursion (IsSpelledAt t (page_count t.store) change) change.sheets
-drop_spelled t key change (first, (middle, told, turns, settles), lowers) =
+pub drop_spelled : (t : TreeView) (key : Key) (change : ChangeView) → 1 ≤ t.inner.index.root → IsDropped t.inner.index t.store key change → AllByRecursion (IsSpelledAt t (page_count t.store) change) change.sheets
+drop_spelled t key change some (first, (middle, told, turns, settles), lowers) =
+    let few = (narrow t.inner.index.last t.store.pages key t.inner.index.levels (top t.inner.index.root) None (so_far [] (page_count t.store)) middle told turns).0 in
     let all = all_spelled t (page_count t.store) (omega arith) (page_count t.store) t.inner.index.root t.inner.index.levels middle first
-    (spells t.inner.index.last t.store.pages key None t.inner.index.levels (top t.inner.index.root) None (so_far [] (page_count t.store)) middle told (omega arith) turns) told settles in
+    (spells t.inner.index.last t.store.pages key None t.inner.index.levels (top t.inner.index.root) None (so_far [] (page_count t.store)) middle told (omega arith) some turns) told (inl few) settles in
     subst (λ (c : ChangeView). AllByRecursion (IsSpelledAt t (page_count t.store) c) c.sheets) (sym lowers.same)
     (all_more (IsSpelledAt t (page_count t.store) first) (IsSpelledAt t (page_count t.store) (record first { root = change.root; levels = change.levels }))
-    (λ sheet h. record { own = h.own; there = h.there }) first.sheets all)
+    (λ sheet h. record { own = h.own; some = h.some; there = h.there }) first.sheets all)
 
 -- why a region isn't made ready to go, on a tree that counts more regions than one: what is left to show is that on a sound tree each
 -- root is taken to which another one gives way

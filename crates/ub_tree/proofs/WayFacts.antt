@@ -164,6 +164,7 @@ never_gone last pages key added (suc level) entry end old new (named, below, nex
 -- which numbers a change spells: pages of the index that the store has, and new ones
 pub record IsSpelledOf (pages : List (List ℕ)) (numbers : List ℕ) (from to : ℕ) (sheet : Sheet) : Type 0 where
   pub own : (n : ℕ) → n < length pages → IsOutside n numbers → n ≢ sheet.number
+  pub some : 1 ≤ sheet.number
   pub there : (sheet.number < length pages) ⊎ ((from ≤ sheet.number) × (sheet.number < to))
 
 pub record Spells (pages : List (List ℕ)) (numbers : List ℕ) (old new : Spelled) : Type 0 where
@@ -195,7 +196,7 @@ outside_one f n (y ∷ before) x after h = outside_one f n before x after (outsi
 
 -- one step up: what is spelled below, and what the page of an entry becomes
 module _ (last : ℕ) (pages : List (List ℕ)) (key : Key) (level : ℕ) (entry : Entry) (end : Option Key) (old new middle : Spelled) (below : Entry) (next : Option Key)
-    (named : NamesFitting last pages (suc level) entry end) (falls : FallsTo key (entries_of pages entry.page) end below next) (far : length pages ≤ old.next)
+    (named : NamesFitting last pages (suc level) entry end) (falls : FallsTo key (entries_of pages entry.page) end below next) (far : length pages ≤ old.next) (some : 1 ≤ entry.page)
     (lower : Spells pages (pages_under pages level below) old middle) where
   abbrev numbers : List ℕ
   numbers = pages_under pages (suc level) entry
@@ -211,6 +212,7 @@ module _ (last : ℕ) (pages : List (List ℕ)) (key : Key) (level : ℕ) (entry
   wider : (to : ℕ) → middle.next ≤ to → (s : Sheet) → IsSpelledOf pages (pages_under pages level below) old.next middle.next s → IsSpelledOf pages numbers old.next to s
   wider to up s h = record {
     own = λ n lt out. h.own n lt (outside_below n out);
+    some = h.some;
     there = (elim h.there [
       | inl lt ↦ inl lt
       | inr new_one ↦ let up_to = new_one.1 in inr (new_one.0, omega arith)
@@ -222,12 +224,13 @@ module _ (last : ℕ) (pages : List (List ℕ)) (key : Key) (level : ℕ) (entry
       each_as (IsSpelledOf pages (pages_under pages level below) old.next middle.next) (IsSpelledOf pages numbers old.next to) (wider to up) lower.sheets lower.each
 
   here : (to : ℕ) (page : List ℕ) → IsSpelledOf pages numbers old.next to (record { number = entry.page; page = page })
-  here to page = record { own = λ n lt out. out.0; there = inl near }
+  here to page = record { own = λ n lt out. out.0; some = some; there = inl near }
 
   fresh : (to : ℕ) (page : List ℕ) → middle.next < to → IsSpelledOf pages numbers old.next to (record { number = middle.next; page = page })
   fresh to page up =
       let more = lower.grown in
-      record { own = λ n lt out e. absurd (omega arith); there = inr (more, up) }
+      let low = near in
+      record { own = λ n lt out e. absurd (omega arith); some = omega arith; there = inr (more, up) }
 
   -- what was spelled below, and then these
   then_these : (more : List Sheet) → new.sheets ≡ middle.sheets ++ more → middle.next ≤ new.next → AllByRecursion (IsSpelledOf pages numbers old.next new.next) more
@@ -268,13 +271,14 @@ module _ (last : ℕ) (pages : List (List ℕ)) (key : Key) (level : ℕ) (entry
   spells_up (Two left right) told m = by_told _ told m
 
 module _ (last : ℕ) (pages : List (List ℕ)) (key : Key) (added : Option Entry) where
-  pub spells : (level : ℕ) (entry : Entry) (end : Option Key) (old new : Spelled) (told : Told) → length pages ≤ old.next → Turns last pages key added level entry end old new told
+  pub spells : (level : ℕ) (entry : Entry) (end : Option Key) (old new : Spelled) (told : Told) → length pages ≤ old.next → 1 ≤ entry.page → Turns last pages key added level entry end old new told
       → Spells pages (pages_under pages level entry) old new
-  spells zero entry end old new told far h = record {
+  spells zero entry end old new told far some h = record {
     sheets = [];
     sheets_are = ap (λ (s : Spelled). s.sheets) h.1 ∙ sym (append-nil old.sheets);
     grown = (let same = ap (λ (s : Spelled). s.next) h.1 in omega arith);
     each = tt;
   }
-  spells (suc level) entry end old new told far (named, below, next, falls, middle, news, turns, mends) =
-      spells_up last pages key level entry end old new middle below next named falls far (spells level below next old middle news far turns) news told mends
+  spells (suc level) entry end old new told far some (named, below, next, falls, middle, news, turns, mends) =
+      spells_up last pages key level entry end old new middle below next named falls far some
+      (spells level below next old middle news far (below_some last pages key (suc level) entry end below next named falls) turns) news told mends

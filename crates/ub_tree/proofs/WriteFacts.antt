@@ -5,7 +5,7 @@ use Rattle.ub_store.specs.Writing.{IsOther, KeepsBut, SameBut, put_store}
 use Rattle.ub_index.specs.Changing.{IsOutside}
 use Rattle.ub_index.specs.View.{IndexView}
 use Rattle.ub_page.specs.Header.{header_page}
-use Rattle.ub_store.specs.Facts.{StoreFacts}
+use Rattle.ub_store.specs.Facts.{StoreFacts, IsHonest}
 use Rattle.ub_store.specs.View.{PagerView, SameTrace, Trace}
 use Rattle.ub_store.specs.declared.fault.StoreFault.{StoreFault}
 use Rattle.ub_store.specs.declared.fault.StoreFault.TheVariants as store
@@ -13,7 +13,7 @@ use Rattle.ub_table.specs.declared.schema.Schema.{Schema}
 use Rattle.ub_tree.specs.Effects.{IsMarkedFirst, written_store}
 use Rattle.ub_tree.specs.Others.{AreOthersKept, KeepsOthers}
 use Rattle.ub_tree.specs.Tree.{tree_view}
-use Rattle.ub_tree.specs.View.{TreeView, IsSound}
+use Rattle.ub_tree.specs.View.{TreeView}
 use Rattle.ub_tree.specs.declared.fault.TreeFault.{TreeFault}
 use Rattle.ub_tree.specs.declared.fault.TreeFault.TheVariants.{Store}
 use Rattle.ub_tree.specs.inner.Change.{HasStopped, IsWriteFault}
@@ -71,12 +71,13 @@ module _ (schema : Schema) (index : IndexView) (count next rows : ℕ) (changed 
 
   -- what a call did that marked the table, where it wasn't marked
   pub marks_first : (was now : Mark) (numbers : List ℕ) → changed ≡ is_written was → now_changed ≡ is_written now → IsMarkOf schema was → Marks numbers was now old.store new.store
-      → (IsSound before → AllByRecursion (λ n. n ≢ 0) numbers) → IsMarkedFirst before after
+      → (IsHonest old.store → AllByRecursion (λ n. n ≢ 0) numbers) → IsMarkedFirst before after
   marks_first was now numbers is now_is mark marks own = record {
     kept = subst (λ (b : Bool). KeepsUnless b old.store new.store) (sym now_is) marks.kept;
-    marked = λ sound e. by_mark was is mark sound (marks.first sound.honest (own sound) (sym now_is ∙ e));
+    marked = λ honest had e. by_mark was is mark had (marks.first honest (own honest) (sym now_is ∙ e));
   }
     where
-      by_mark : (m : Mark) → changed ≡ is_written m → IsMarkOf schema m → IsSound before → PutsMark (first_page m) old.store new.store → HasMark schema new.store.pages
-      by_mark Written is mark sound puts = let had = sound.marked is in (had.0, had.1, puts ∙ had.2)
-      by_mark (Due header) is mark sound puts = (header_page header, (header, mark, refl), puts)
+      by_mark : (m : Mark) → changed ≡ is_written m → IsMarkOf schema m → (changed ≡ true → HasMark schema old.store.pages) → PutsMark (first_page m) old.store new.store
+          → HasMark schema new.store.pages
+      by_mark Written is mark had puts = let there = had is in (there.0, there.1, puts ∙ there.2)
+      by_mark (Due header) is mark had puts = (header_page header, (header, mark, refl), puts)

@@ -118,10 +118,15 @@ pub record ReadsRegion {A : Type 0} (span : Region) (old new : TreeView) (result
   pub faults : IsRegionOf old span → IfErr result (IsReadFault old)
   pub refused : IfErr result (IsSpanFault span old)
 
--- until a table is marked as changed no page but the first is written, and from then on the first page marks a sound tree's table
+-- over an honest store the first page marks the table where it is changed, if it did before where it was changed then, as it does
+-- where the tree is sound
+abbrev pub KeepsMark : TreeView → TreeView → Type 0
+KeepsMark old new = IsHonest old.store → (old.is_changed ≡ true → HasMark old.schema old.store.pages) → new.is_changed ≡ true → HasMark old.schema new.store.pages
+
+-- until a table is marked as changed no page but the first is written, and from then on the first page marks it
 pub record IsMarkedFirst (old new : TreeView) : Type 0 where
   pub kept : KeepsUnless new.is_changed old.store new.store
-  pub marked : IsSound old → new.is_changed ≡ true → HasMark old.schema new.store.pages
+  pub marked : KeepsMark old new
 
 -- the store has no room for the pages that another region can take: one for itself, and those that the index needs where it comes
 -- behind the one that some key falls to; it has no more levels than an index can have

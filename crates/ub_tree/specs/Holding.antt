@@ -1,11 +1,11 @@
 -- The region that a key falls into, on any tree, and what a change of it must answer.
 use Rattle.std.specs.Prelude.{◌≡◌, ◌≢◌, ◌+◌, ◌<◌, ◌⊎◌, ℕ, Bool, true, false, Some, Result, Err, IfErr, IfOk, length}
 use Rattle.std.specs.Result.{IsErrAnd}
-use Rattle.ub_index.specs.Preparing.{HasFullWay}
+use Rattle.ub_index.specs.Preparing.{HasFullWay, NeedsPages}
 use Rattle.ub_index.specs.Searching.{key_before}
 use Rattle.ub_page.specs.declared.header.TheConstants.{MAX_LEVEL}
 use Rattle.ub_region.specs.Rows.{has_key}
-use Rattle.ub_store.specs.Facts.{IsHonest}
+use Rattle.ub_store.specs.Facts.{IsHonest, page_count}
 use Rattle.ub_store.specs.declared.fault.StoreFault.TheVariants as store
 use Rattle.ub_table.specs.Region.{RegionRows}
 use Rattle.ub_table.specs.declared.fault.PageFault.{PageFault}
@@ -58,20 +58,32 @@ Answers result fault = IsErrAnd result (λ told. (told ≡ fault) ⊎ IsPassing 
 abbrev pub HasNoRoom : TreeFault → Type 0
 HasNoRoom fault = (fault ≡ Full) ⊎ ((fault ≡ Store store.BadSize) ⊎ IsPassing fault)
 
+-- why a row with this key is refused for want of room, where another region is needed just if this is so: it is, and with Full the
+-- index has 16 levels, each page of which on the way to the key is full; with BadSize the store can't have a page more for the region,
+-- or not those too that the index needs
+abbrev pub IsRoomFault : Type 0 → TreeView → Key → TreeFault → Type 0
+IsRoomFault IsNeeded t key Full = IsNeeded × (t.inner.index.levels ≡ MAX_LEVEL) × HasFullWay t.inner.index t.store key
+IsRoomFault IsNeeded t key (Store store.BadSize) =
+    IsNeeded × ((4294967295 < page_count t.store + 1)
+    ⊎ ((n : ℕ) × NeedsPages t.inner.index t.store key n × (4294967295 < page_count t.store + 1 + n)))
+IsRoomFault IsNeeded t key fault = Unit {0}
+
 -- what an insertion into a region must answer, where that is full just if this is so: BadCount of the first page where another
 -- region is needed and there are as many as can be counted, and no page is refused otherwise; and where the index has 16 levels, each
--- page of which on the way there is full, that there is no room
+-- page of which on the way there is full, that there is no room; which is told only where there is none for a region behind that
 abbrev pub AnswersAt : {A : Type 0} → Type 0 → TreeView → Region → Result A TreeFault → Type 0
 AnswersAt IsFull t span result =
     (IsFull → region_count t ≡ 4294967295 → result ≡ Err (Page 0 BadCount))
     × (IsHonest t.store → FallsTo t span.first span → (page : ℕ) (fault : PageFault) → result ≡ Err (Page page fault) → IsFull × (region_count t ≡ 4294967295))
     × (IsHonest t.store → FallsTo t span.first span → IsFull → region_count t ≢ 4294967295 → t.inner.index.levels ≡ MAX_LEVEL
     → HasFullWay t.inner.index t.store span.first → IsErrAnd result HasNoRoom)
+    × (IsHonest t.store → FallsTo t span.first span → IfErr result (IsRoomFault IsFull t span.first))
 
 -- what an insertion of a row with this key must answer: BadOrder of the page of the region that it falls into, where that has
 -- the key; and where it hasn't, no page is refused, unless another region would be needed and there are as many as can be
 -- counted: that is BadCount of the first page; nor is it taken where another region would be needed, and the index has 16 levels,
--- each page of which on the way to the key is full
+-- each page of which on the way to the key is full; and it is refused for want of room only where that region is full, and there is
+-- none for another one behind it
 abbrev pub AnswersKey : {A : Type 0} → TreeView → Key → Result A TreeFault → Type 0
 AnswersKey t key result =
     (number : ℕ) (region : RegionRows) → FallsInto t key number region
@@ -82,6 +94,7 @@ AnswersKey t key result =
     → (length region.rows ≡ t.schema.page_rows) × (region_count t ≡ 4294967295))
     × (has_key t.schema.dims key region.rows ≡ false → length region.rows ≡ t.schema.page_rows → region_count t ≢ 4294967295
     → t.inner.index.levels ≡ MAX_LEVEL → HasFullWay t.inner.index t.store key → IsErrAnd result HasNoRoom)
+    × IfErr result (IsRoomFault (length region.rows ≡ t.schema.page_rows) t key)
 
 -- the same, and Full where the last number is given
 abbrev pub AnswersRow : {A : Type 0} → TreeView → Key → Result A TreeFault → Type 0

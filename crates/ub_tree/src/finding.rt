@@ -8,7 +8,7 @@ ghost use Rattle.ub_store.specs.Facts.{IsHonest};
 ghost use Rattle.ub_table.specs.Keys.{IsBefore, origin};
 ghost use Rattle.ub_table.specs.declared.row.Key as key;
 ghost use Rattle.ub_tree.specs.Effects.{Searches};
-ghost use Rattle.ub_tree.specs.Holding.{HasNoRoom};
+ghost use Rattle.ub_tree.specs.Holding.{HasNoRoom, IsRoomFault};
 ghost use Rattle.ub_tree.specs.Opened.{IsPassing};
 ghost use Rattle.ub_tree.specs.Placed.{entry_of};
 ghost use Rattle.ub_tree.specs.Removal.{IsRemovalFault};
@@ -91,6 +91,8 @@ impl<S: PageStore> Tree<S> {
             → IfErr result HasNoRoom }
         ensures full { IsHonest self.old.store → self.old.inner.index.levels ≡ MAX_LEVEL
             → HasFullWay self.old.inner.index self.old.store region.now.first → ¬ (IsOk result) }
+        ensures short { IsHonest self.old.store
+            → IfErr result (IsRoomFault (Unit {0}) self.old region.now.first) }
         ensures effect { MakesReady self.old self.new result }
     {
         // Its contract tells the proof how many levels there can be.

@@ -19,7 +19,7 @@ use Rattle.ub_table.specs.Region.{RegionRows, IsRegion, keys_of}
 use Rattle.ub_table.specs.declared.row.Key.{Key}
 use Rattle.ub_table.specs.declared.row.Row.{Row}
 use Rattle.ub_table.specs.declared.schema.Schema.{Schema}
-use Rattle.ub_tree.specs.Effects.{HasEnded, IsChangeMissing, IsChangeRefused, IsFull, IsIndexFull, IsReadFault, IsTakenIn, Leaves, read_store, written_store, IsMarkedFirst}
+use Rattle.ub_tree.specs.Effects.{HasEnded, IsChangeMissing, IsChangeRefused, IsFull, IsIndexFull, IsReadFault, IsTakenIn, KeepsMark, Leaves, read_store, written_store, IsMarkedFirst}
 use Rattle.ub_tree.specs.Grown.{IsOnlyGrown}
 use Rattle.ub_tree.specs.Holding.{IsThatOrBefore}
 use Rattle.ub_tree.specs.Indexed.{HasIndex, reserved}
@@ -30,7 +30,7 @@ use Rattle.ub_tree.specs.Told.{FallsTo, IsRegionOf}
 use Rattle.ub_tree.specs.View.{TreeView, IsSound, region_count, regions}
 use Rattle.ub_tree.specs.declared.fault.TreeFault.{TreeFault}
 use Rattle.ub_tree.specs.declared.fault.TreeFault.TheVariants.{Full, Memory, Page, Store}
-use Rattle.ub_writing.specs.Marks.{HasMark, KeepsUnless}
+use Rattle.ub_writing.specs.Marks.{KeepsUnless}
 
 -- the pages of a tree that works, over an honest store: its index stands on them, and each of its regions on a page of its own that
 -- spells it, as many as it counts
@@ -135,13 +135,15 @@ pub record IsMadeOf (schema : Schema) (span : Region) (page : RegionView) : Type
   pub first : page.region.first ≡ span.first
   pub rows : AreRowsFrom schema span.first span.next page.region.rows
 
--- each page that is spelled is one of the index, which the store has, or one that the change brings
+-- each page that is spelled is one of the index, which the store has, or one that the change brings, and not the first
 pub record IsSpelledAt (t : TreeView) (from : ℕ) (change : ChangeView) (sheet : Sheet) : Type 0 where
   pub own : (n : ℕ) → n < page_count t.store → IsOutside n (reserved t.inner.index t.store.pages) → ¬ (n ≡ sheet.number)
+  pub some : 1 ≤ sheet.number
   pub there : (sheet.number < page_count t.store) ⊎ ((from ≤ sheet.number) × (sheet.number < change.next))
 
 -- what is prepared for a region that comes behind another one, with this first key
 pub record IsAddReady (t : TreeView) (span : Region) (first : Key) (change : ChangeView) : Type 0 where
+  pub root : 1 ≤ t.inner.index.root
   pub start : change.start ≡ page_count t.store
   pub some : page_count t.store + 1 ≤ change.next
   pub few : change.next ≤ page_count t.store + 1 + (t.inner.index.levels + 1)
@@ -195,7 +197,7 @@ pub record GrowsTo {A : Type 0} (count : ℕ) (old new : TreeView) (result : Res
 pub record WritesBoth {A : Type 0} (number : ℕ) (span : Region) (old new : TreeView) (result : Result A TreeFault) : Type 0 where
   pub frame : new ≡ record old { placed = new.placed; is_changed = new.is_changed; is_failed = new.is_failed; store = written_store result old.store new.store }
   pub kept : KeepsUnless new.is_changed old.store new.store
-  pub marked : number ≢ 0 → span.page ≢ 0 → IsHonest old.store → (old.is_changed ≡ true → HasMark old.schema old.store.pages) → new.is_changed ≡ true → HasMark old.schema new.store.pages
+  pub marked : number ≢ 0 → span.page ≢ 0 → KeepsMark old new
   pub done : OnOk result (new.is_failed ≡ old.is_failed)
   pub faults : IfErr result (IsWriteFault old new)
   pub others : KeepsOthers (0 ∷ number ∷ span.page ∷ []) old.store new.store

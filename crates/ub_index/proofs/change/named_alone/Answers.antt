@@ -3,6 +3,7 @@ use Rattle.std.specs.Option.{option_copied}
 use Rattle.ub_index.specs.Descending.{IsForgotten}
 use Rattle.ub_index.specs.Index.{top}
 use Rattle.ub_index.specs.Lowering.{spelled_page}
+use Rattle.ub_index.proofs.HeldFacts.{all_kept}
 use Rattle.ub_index.proofs.LowerFacts.{sole_spelled, sole_there}
 use Rattle.ub_index.proofs.StepFacts.{brought_page, if_err, none_ok, step_fits, step_misfits, stepped}
 use Rattle.ub_index.proofs.change.named_alone.Goals as goal
@@ -17,7 +18,7 @@ pub returns-in-Some-clause-some : goal.returns-in-Some-clause-some
 returns-in-Some-clause-some g c = c.sole_on.ensures.some
 
 pub returns-in-Some-clause-effect : goal.returns-in-Some-clause-effect
-returns-in-Some-clause-effect g c = stepped c.args.last c.args.level (top c.args.root) None c.args.pager.now c.args.pager.now c.sole_on.result refl refl (λ was. was)
+returns-in-Some-clause-effect g c = stepped c.args.last c.args.level (top c.args.root) None c.args.pager.now c.args.pager.now c.sole_on.result refl refl (all_kept c.args.last c.args.pager.now)
 
 pub returns-in_err-bring_root-clause-sole : goal.returns-in_err-bring_root-clause-sole
 returns-in_err-bring_root-clause-sole g c = λ honest. none_ok _ c.from_residual.result _ c.from_residual.ensures.1

@@ -1,8 +1,8 @@
-use Rattle.std.proofs.Common.{◌≡◌, ◌∙◌, List, ℕ, inl, refl, subst, sym}
+use Rattle.std.proofs.Common.{◌≡◌, ◌∙◌, List, ℕ, inl, inr, refl, subst, sym}
 use Rattle.ub_page.specs.Index.{head_on}
 use Rattle.ub_index.specs.Index.{Fits, IsIndexPage}
 use Rattle.ub_index.proofs.FitFacts.{page_is, same_page}
-use Rattle.ub_index.proofs.HeldFacts.{keeps_but, keeps_gone}
+use Rattle.ub_index.proofs.HeldFacts.{keeps_but, keeps_gone, more_but, more_gone}
 use Rattle.ub_index.proofs.StepFacts.{forgets, held_once, honest_back, names_fitting, pager_so, same_honest, unbrought, unbrought_passes}
 use Rattle.ub_index.proofs.descent.bring_fitting.Goals as goal
 
@@ -32,6 +32,9 @@ returns-in-Ok-clause-effect g c = record {
       (honest_back c.args.pager.now.store c.bring.new.self.store _ c.in_ok-bring.ensures.effect.same) c.in_ok-bring.ensures.others
       (λ good page held. inl (subst (λ (p : List ℕ). IsIndexPage c.args.last p)
       (held_once c.bring.new.self.cached c.args.place.now.entry.page c.cached.result.now page c.cached.ensures.held held) c.in-Ok.ensures.found.is));
+  more = more_but c.args.last c.args.pager.now.cached c.bring.new.self.cached c.args.place.now.entry.page c.in_ok-bring.ensures.others
+      (λ page held. inr (subst (λ (p : List ℕ). IsIndexPage c.args.last p)
+      (held_once c.bring.new.self.cached c.args.place.now.entry.page c.cached.result.now page c.cached.ensures.held held) c.in-Ok.ensures.found.is));
   forgotten = tt;
   faults = tt;
 }
@@ -53,6 +56,8 @@ returns-in-Err-clause-effect g c = record {
   others = λ m page ne h. c.in_ok-bring.ensures.others m page ne (sym (c.forget.ensures.others m ne) ∙ h);
   checked = keeps_gone c.args.last c.args.pager.now c.forget.new.self c.args.place.now.entry.page
       (λ good. honest_back c.args.pager.now.store c.bring.new.self.store _ c.in_ok-bring.ensures.effect.same (same_honest c.bring.new.self c.forget.new.self c.forget.ensures.same good))
+      (λ m page ne h. c.in_ok-bring.ensures.others m page ne (sym (c.forget.ensures.others m ne) ∙ h)) c.forget.ensures.gone;
+  more = more_gone c.args.last c.args.pager.now.cached c.forget.new.self.cached c.args.place.now.entry.page
       (λ m page ne h. c.in_ok-bring.ensures.others m page ne (sym (c.forget.ensures.others m ne) ∙ h)) c.forget.ensures.gone;
   forgotten = c.forget.ensures.gone;
   faults = (

@@ -8,8 +8,8 @@ use Rattle.ub_index.specs.declared.descent.Leaf.{Leaf}
 use Rattle.ub_index.specs.declared.descent.Place.{Place}
 use Rattle.ub_region.specs.declared.region.Region.{Region}
 use Rattle.ub_index.proofs.BehindFacts.{step_before, step_given}
-use Rattle.ub_index.proofs.HeldFacts.{keeps_on}
-use Rattle.ub_index.proofs.SearchFacts.{answered, step_refused}
+use Rattle.ub_index.proofs.HeldFacts.{both_on}
+use Rattle.ub_index.proofs.SearchFacts.{answered, down_keeps, step_keeps, step_refused}
 use Rattle.ub_index.proofs.StepFacts.{if_err, none_ok, refused_as}
 use Rattle.ub_index.proofs.index.descend.Goals as goal
 
@@ -17,7 +17,7 @@ pub returns-in_err-place-clause-effect : goal.returns-in_err-place-clause-effect
 returns-in_err-place-clause-effect g c =
     step_refused Region Place (λ (k : Key). k ≡ c.args.key.now) (index_view c.args.root c.args.levels c.args.last) c.args.key.now refl 1 (omega arith) c.in_ok-leaf.leaf.place.entry
     c.in_ok-leaf.leaf.place.next c.args.pager.now c.leaf_of.new.pager c.step_down.new.pager (ap (λ (p : PagerView). p.store) c.in_ok-leaf.ensures.effect.same)
-    (ap (λ (p : PagerView). p.trace) c.in_ok-leaf.ensures.effect.same) c.in_ok-leaf.ensures.effect.checked (λ honest sure. (c.in_ok-leaf.ensures.leads honest sure).stops)
+    (ap (λ (p : PagerView). p.trace) c.in_ok-leaf.ensures.effect.same) (down_keeps c.in_ok-leaf.ensures.effect) (λ honest sure. (c.in_ok-leaf.ensures.leads honest sure).stops)
     c.from_residual-in_err-place.result c.in_err-place.field-0.0 c.from_residual-in_err-place.ensures.1 c.in_err-place.ensures.effect
 
 pub returns-clause-given : goal.returns-clause-given
@@ -52,7 +52,7 @@ returns-clause-effect g c =
     answered (λ (k : Key). k ≡ c.args.key.now) (index_view c.args.root c.args.levels c.args.last) c.args.pager.now c.step_down.new.pager c.region_at.result
     (ap (λ (p : PagerView). p.store) c.in_ok-place.ensures.effect.same ∙ ap (λ (p : PagerView). p.store) c.in_ok-leaf.ensures.effect.same)
     (ap (λ (p : PagerView). p.trace) c.in_ok-place.ensures.effect.same ∙ ap (λ (p : PagerView). p.trace) c.in_ok-leaf.ensures.effect.same)
-    (keeps_on c.args.last c.args.pager.now c.leaf_of.new.pager c.step_down.new.pager c.in_ok-leaf.ensures.effect.checked c.in_ok-place.ensures.effect.checked)
+    (both_on c.args.last c.args.pager.now c.leaf_of.new.pager c.step_down.new.pager (down_keeps c.in_ok-leaf.ensures.effect) (step_keeps c.in_ok-place.ensures.effect))
 
 pub returns-clause-small : goal.returns-clause-small
 returns-clause-small g c = c.region_at.ensures.small

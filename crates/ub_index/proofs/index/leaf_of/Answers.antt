@@ -6,8 +6,8 @@ use Rattle.ub_index.specs.View.{index_view}
 use Rattle.ub_index.specs.declared.descent.Leaf.{Leaf}
 use Rattle.ub_index.specs.declared.descent.Place.{Place}
 use Rattle.ub_index.proofs.BehindFacts.{down_step, holds_step, step_before}
-use Rattle.ub_index.proofs.HeldFacts.{keeps_on}
-use Rattle.ub_index.proofs.SearchFacts.{step_refused}
+use Rattle.ub_index.proofs.HeldFacts.{both_on}
+use Rattle.ub_index.proofs.SearchFacts.{step_keeps, step_refused}
 use Rattle.ub_index.proofs.index.leaf_of.Goals as goal
 
 pub loop-level-preserved : goal.loop-level-preserved
@@ -18,12 +18,12 @@ loop-level-preserved g c =
       store = ap (λ (p : PagerView). p.store) c.in_ok-place.ensures.effect.same ∙ stores;
       trace = ap (λ (p : PagerView). p.trace) c.in_ok-place.ensures.effect.same ∙ c.loop-level.invariant.trace;
       holds = holds_step c.args.key.now c.loop-level.leaf c.in_ok-place.place c.earlier-until.result c.earlier-until.ensures c.loop-level.invariant.holds c.in_ok-place.ensures.holds;
-      kept = keeps_on c.args.last c.args.pager.now c.loop-level.pager c.step_down.new.pager c.loop-level.invariant.kept c.in_ok-place.ensures.effect.checked;
+      kept = both_on c.args.last c.args.pager.now c.loop-level.pager c.step_down.new.pager c.loop-level.invariant.kept (step_keeps c.in_ok-place.ensures.effect);
       down = λ honest sure.
           down_step (index_view c.args.root c.args.levels c.args.last) c.args.pager.now.store c.args.key.now c.loop-level.level c.loop-level.leaf c.in_ok-place.place c.earlier-until.result
           (omega (arith, c.loop-level-test.true)) c.earlier-until.ensures (c.loop-level.invariant.down honest sure)
           (step_before c.args.last c.args.pager.now.store c.loop-level.pager.store stores c.args.key.now c.loop-level.level c.loop-level.leaf.place.entry
-          c.loop-level.leaf.place.next c.in_ok-place.place.entry c.in_ok-place.place.next (λ good. c.in_ok-place.ensures.below good (c.loop-level.invariant.kept sure)) honest);
+          c.loop-level.leaf.place.next c.in_ok-place.place.entry c.in_ok-place.place.next (λ good. c.in_ok-place.ensures.below good (c.loop-level.invariant.kept.0 sure)) honest);
     }
 
 pub returns-in_err-place-clause-effect : goal.returns-in_err-place-clause-effect

@@ -1,8 +1,9 @@
 use Rattle.std.proofs.Common.{◌≡◌, ◌≤◌}
 use Rattle.ub_index.specs.Descending.{HoldsLeaf, LeadsDown}
-use Rattle.ub_index.specs.Held.{AreChecked, KeepsChecked}
+use Rattle.ub_index.specs.Held.{AreChecked}
 use Rattle.ub_index.specs.View.{index_view}
 use Rattle.ub_store.specs.Facts.{IsHonest}
+use Rattle.ub_index.proofs.HeldFacts.{Keeps}
 use Rattle.ub_index.proofs.index.leaf_of.Given as goal
 
 abbrev pub invariant-loop-level : goal.invariant-loop-level
@@ -11,7 +12,7 @@ invariant-loop-level g l = record {
   store : l.pager.store ≡ l.initial.pager.store;
   trace : l.pager.trace ≡ l.initial.pager.trace;
   holds : HoldsLeaf l.fn.key l.leaf;
-  kept : KeepsChecked l.fn.last l.initial.pager l.pager;
+  kept : Keeps l.fn.last l.initial.pager l.pager;
   down : IsHonest l.initial.pager.store → AreChecked l.fn.last l.initial.pager → LeadsDown (index_view l.fn.root l.fn.levels l.fn.last) l.initial.pager.store l.fn.key l.level l.leaf;
 }
 

@@ -6,9 +6,9 @@ use Rattle.ub_region.specs.declared.entry.Entry.{Entry}
 use Rattle.ub_store.specs.Facts.{StoreFacts, IsHonest}
 use Rattle.ub_store.specs.View.{PagerView}
 use Rattle.ub_index.proofs.ClimbFacts.{below_refused, mend_refused, open_refused, turned_so, turns_on}
-use Rattle.ub_index.proofs.HeldFacts.{keeps_on}
+use Rattle.ub_index.proofs.HeldFacts.{both_on}
 use Rattle.ub_index.proofs.SpreadFacts.{mend_next}
-use Rattle.ub_index.proofs.StepFacts.{if_err, none_ok, pager_so, step_no_growth}
+use Rattle.ub_index.proofs.StepFacts.{if_err, none_ok, pager_so, step_no_growth, steps_keep}
 use Rattle.ub_index.proofs.turning.+turn.Goals as goal
 
 pub returns-in_err-opened-clause-effect : goal.returns-in_err-opened-clause-effect
@@ -20,7 +20,7 @@ pub returns-in_err-news-clause-effect : goal.returns-in_err-news-clause-effect
 returns-in_err-news-clause-effect g t c =
     below_refused Told Told c.args.last c.args.level c.args.aim.now.key c.args.place.now.entry c.in_ok-opened.opened.below.entry c.args.place.now.next c.in_ok-opened.opened.below.next
     c.args.sheets.now.next c.args.pager.now c.open.new.pager c.turn.new.pager c.from_residual-in_err-news.result c.in_err-news.field-0.0 (omega (arith, c.if-level-eq0.false))
-    (ap (λ (p : PagerView). p.store) c.in_ok-opened.ensures.effect.same) (ap (λ (p : PagerView). p.trace) c.in_ok-opened.ensures.effect.same) c.in_ok-opened.ensures.effect.checked
+    (ap (λ (p : PagerView). p.store) c.in_ok-opened.ensures.effect.same) (ap (λ (p : PagerView). p.trace) c.in_ok-opened.ensures.effect.same) (steps_keep c.in_ok-opened.ensures.effect)
     (λ honest. let o = c.in_ok-opened.ensures.opened honest in record { named = o.named; falls = o.falls })
     c.from_residual-in_err-news.ensures.1 c.in_err-news.ensures.effect
 
@@ -53,7 +53,7 @@ returns-clause-effect g t c =
     (pager_so c.args.pager.now c.turn.new.pager c.args.pager.now.store
     (ap (λ (p : PagerView). p.store) c.in_ok-news.ensures.effect.same ∙ ap (λ (p : PagerView). p.store) c.in_ok-opened.ensures.effect.same)
     (ap (λ (p : PagerView). p.trace) c.in_ok-news.ensures.effect.same ∙ ap (λ (p : PagerView). p.trace) c.in_ok-opened.ensures.effect.same))
-    (keeps_on c.args.last c.args.pager.now c.open.new.pager c.turn.new.pager c.in_ok-opened.ensures.effect.checked c.in_ok-news.ensures.effect.checked)
+    (both_on c.args.last c.args.pager.now c.open.new.pager c.turn.new.pager (steps_keep c.in_ok-opened.ensures.effect) (c.in_ok-news.ensures.effect.checked, c.in_ok-news.ensures.effect.more))
     c.mend.ensures.refused c.mend.ensures.narrow
     (subst (λ (xs : List Entry). length c.in_ok-opened.opened.before.items + length xs + 2 ≤ 170 → NeedsNoGrowth c.mend.result) c.deref.ensures.value c.mend.ensures.fits)
 

@@ -4,8 +4,9 @@ use Rattle.ub_index.specs.Preparing.{ChangeView}
 use Rattle.ub_index.specs.declared.sheet.Sheet.{Sheet}
 use Rattle.ub_store.specs.Facts.{StoreFacts, IsHonest}
 use Rattle.ub_store.specs.View.{PagerView}
-use Rattle.ub_index.proofs.HeldFacts.{keeps_on}
+use Rattle.ub_index.proofs.HeldFacts.{both_on}
 use Rattle.ub_index.proofs.LowerFacts.{lowers_on}
+use Rattle.ub_index.proofs.StepFacts.{steps_keep}
 use Rattle.ub_index.proofs.change.Change.lowered.Goals as goal
 
 pub loop-levels-preserved : goal.loop-levels-preserved
@@ -16,7 +17,7 @@ loop-levels-preserved g c =
       high = omega (arith, c.loop-levels.invariant.high);
       store = ap (λ (p : PagerView). p.store) c.in_ok-page.ensures.effect.same ∙ c.loop-levels.invariant.store;
       trace = ap (λ (p : PagerView). p.trace) c.in_ok-page.ensures.effect.same ∙ c.loop-levels.invariant.trace;
-      kept = keeps_on c.args.last c.args.pager.now c.loop-levels.pager c.named_alone.new.pager c.loop-levels.invariant.kept c.in_ok-page.ensures.effect.checked;
+      kept = both_on c.args.last c.args.pager.now c.loop-levels.pager c.named_alone.new.pager c.loop-levels.invariant.kept (steps_keep c.in_ok-page.ensures.effect);
       some = subst (λ (o : Option ℕ). IfSome o (λ n. 1 ≤ n)) c.in-Some.is c.in_ok-page.ensures.some;
       lowers = λ honest.
           let sheets = ap (λ (v : ChangeView). v.sheets) c.self.view_is in

@@ -1,7 +1,7 @@
 use Rattle.std.proofs.Common.{◌≡◌, ◌≤◌}
-use Rattle.ub_index.specs.Held.{KeepsChecked}
 use Rattle.ub_index.specs.Lowering.{Lowers}
 use Rattle.ub_store.specs.Facts.{IsHonest}
+use Rattle.ub_index.proofs.HeldFacts.{Keeps}
 use Rattle.ub_index.proofs.change.Change.lowered.Given as goal
 
 abbrev pub invariant-loop-levels : goal.invariant-loop-levels
@@ -10,7 +10,7 @@ invariant-loop-levels g l = record {
   high : l.levels ≤ 16;
   store : l.pager.store ≡ l.initial.pager.store;
   trace : l.pager.trace ≡ l.initial.pager.trace;
-  kept : KeepsChecked l.fn.last l.initial.pager l.pager;
+  kept : Keeps l.fn.last l.initial.pager l.pager;
   some : 1 ≤ l.root;
   lowers : IsHonest l.initial.pager.store → Lowers l.fn.self.sheets l.initial.pager.store.pages l.fn.self.root l.fn.self.levels l.root l.levels;
 }

@@ -4,6 +4,7 @@ use Rattle.ub_index.specs.Descending.{IsForgotten}
 use Rattle.ub_index.specs.Searching.{GivesAny}
 use Rattle.ub_region.specs.declared.region.Region.{Region}
 use Rattle.ub_index.proofs.PlaceFacts.{after_none, after_some}
+use Rattle.ub_index.proofs.HeldFacts.{all_kept}
 use Rattle.ub_index.proofs.SearchFacts.{search_refused}
 use Rattle.ub_index.proofs.StepFacts.{if_err, none_ok}
 use Rattle.ub_index.proofs.index.Index.after.Goals as goal
@@ -21,7 +22,7 @@ returns-in_err-region_holding-in-Some-clause-forgotten g c =
 pub returns-in_err-region_holding-in-Some-clause-effect : goal.returns-in_err-region_holding-in-Some-clause-effect
 returns-in_err-region_holding-in-Some-clause-effect g c =
     search_refused (Option Region) Region (λ (k : Key). k ≡ c.in-Some.next) (λ (k : Key). c.args.region.now.next ≡ Some k) c.args.self.now
-    c.args.pager.now c.args.pager.now c.region_holding.new.pager (λ sure k is. c.in-Some.is ∙ ap (λ (x : Key). Some x) (sym is)) refl refl (λ was. was) c.from_residual.result c.in_err-region_holding-in-Some.field-0.0
+    c.args.pager.now c.args.pager.now c.region_holding.new.pager (λ sure k is. c.in-Some.is ∙ ap (λ (x : Key). Some x) (sym is)) refl refl (all_kept c.args.self.now.last c.args.pager.now) c.from_residual.result c.in_err-region_holding-in-Some.field-0.0
     c.from_residual.ensures.1 c.in_err-region_holding-in-Some.ensures.effect
 
 pub returns-in_ok-region_holding-in-Some-clause-given : goal.returns-in_ok-region_holding-in-Some-clause-given
@@ -33,7 +34,7 @@ returns-in_ok-region_holding-in-Some-clause-after g c = λ sure i is at.
     after_some c.args.self.now c.args.pager.now.store is i c.args.region.now at c.in-Some.next c.in_ok-region_holding-in-Some.field-0 c.in-Some.is (c.in_ok-region_holding-in-Some.ensures.given sure)
 
 pub returns-in_ok-region_holding-in-Some-clause-effect : goal.returns-in_ok-region_holding-in-Some-clause-effect
-returns-in_ok-region_holding-in-Some-clause-effect g c = record { same = c.in_ok-region_holding-in-Some.ensures.effect.same; checked = c.in_ok-region_holding-in-Some.ensures.effect.checked; faults = λ sure. tt }
+returns-in_ok-region_holding-in-Some-clause-effect g c = record { same = c.in_ok-region_holding-in-Some.ensures.effect.same; checked = c.in_ok-region_holding-in-Some.ensures.effect.checked; more = c.in_ok-region_holding-in-Some.ensures.effect.more; faults = λ sure. tt }
 
 pub returns-in-None-clause-given : goal.returns-in-None-clause-given
 returns-in-None-clause-given g c = λ sure. subst (λ (o : Option Key). GivesAny c.args.self.now c.args.pager.now.store o None) (sym c.in-None.is) refl

@@ -4,6 +4,7 @@ use Rattle.ub_index.specs.Descending.{IsForgotten}
 use Rattle.ub_index.specs.Searching.{GivesAny, key_before}
 use Rattle.ub_region.specs.declared.region.Region.{Region}
 use Rattle.ub_index.proofs.PlaceFacts.{none_is_before, some_is_before}
+use Rattle.ub_index.proofs.HeldFacts.{all_kept}
 use Rattle.ub_index.proofs.SearchFacts.{search_refused}
 use Rattle.ub_index.proofs.StepFacts.{if_err, none_ok}
 use Rattle.ub_index.proofs.index.Index.before.Goals as goal
@@ -23,7 +24,7 @@ returns-in_err-region_holding-in-Some-clause-effect g c =
     search_refused (Option Region) Region (λ (k : Key). k ≡ c.in-Some.key) (λ (k : Key). key_before c.args.region.now.first.z c.args.region.now.first.number ≡ Some k)
     c.args.self.now c.args.pager.now c.args.pager.now c.region_holding.new.pager
     (λ sure k is. sym c.before_key.ensures ∙ (c.in-Some.is ∙ ap (λ (x : Key). Some x) (sym is))) refl refl
-    (λ was. was) c.from_residual.result c.in_err-region_holding-in-Some.field-0.0 c.from_residual.ensures.1 c.in_err-region_holding-in-Some.ensures.effect
+    (all_kept c.args.self.now.last c.args.pager.now) c.from_residual.result c.in_err-region_holding-in-Some.field-0.0 c.from_residual.ensures.1 c.in_err-region_holding-in-Some.ensures.effect
 
 pub returns-in_ok-region_holding-in-Some-clause-given : goal.returns-in_ok-region_holding-in-Some-clause-given
 returns-in_ok-region_holding-in-Some-clause-given g c = λ sure.
@@ -35,7 +36,7 @@ returns-in_ok-region_holding-in-Some-clause-before g c = λ sure i is at.
     (c.in_ok-region_holding-in-Some.ensures.given sure)
 
 pub returns-in_ok-region_holding-in-Some-clause-effect : goal.returns-in_ok-region_holding-in-Some-clause-effect
-returns-in_ok-region_holding-in-Some-clause-effect g c = record { same = c.in_ok-region_holding-in-Some.ensures.effect.same; checked = c.in_ok-region_holding-in-Some.ensures.effect.checked; faults = λ sure. tt }
+returns-in_ok-region_holding-in-Some-clause-effect g c = record { same = c.in_ok-region_holding-in-Some.ensures.effect.same; checked = c.in_ok-region_holding-in-Some.ensures.effect.checked; more = c.in_ok-region_holding-in-Some.ensures.effect.more; faults = λ sure. tt }
 
 pub returns-in-None-clause-given : goal.returns-in-None-clause-given
 returns-in-None-clause-given g c = λ sure. subst (λ (o : Option Key). GivesAny c.args.self.now c.args.pager.now.store o None) (sym (sym c.before_key.ensures ∙ c.in-None.is)) refl

@@ -28,6 +28,7 @@ pub returns-in-Some-clause-effect : goal.returns-in-Some-clause-effect
 returns-in-Some-clause-effect g c = record {
   same = c.in_ok-from.ensures.effect.same;
   checked = c.in_ok-from.ensures.effect.checked;
+  more = c.in_ok-from.ensures.effect.more;
   faults = λ sure honest.
       let found = subst (λ (o : Option (Key × Region)). FindsAfter c.args.self.now c.args.pager.now.store (Aims c.args.goal.now) (option_copied c.args.after) o) c.in-Some.is (c.in_ok-from.ensures.found sure) in
       absurd (not_crossed c.args.self.now c.args.pager.now.store (Aims c.args.goal.now) (option_copied c.args.after) c.in-Some.from c.in-Some.region found honest
@@ -49,7 +50,7 @@ returns-in-Some-2-clause-small g c =
     subst (λ (o : Option (Key × Region)). IfSome o (λ found. found.1.first.number < 2 ^ 32)) c.in-Some.is c.in_ok-from.ensures.small
 
 pub returns-in-Some-2-clause-effect : goal.returns-in-Some-2-clause-effect
-returns-in-Some-2-clause-effect g c = record { same = c.in_ok-from.ensures.effect.same; checked = c.in_ok-from.ensures.effect.checked; faults = λ sure. tt }
+returns-in-Some-2-clause-effect g c = record { same = c.in_ok-from.ensures.effect.same; checked = c.in_ok-from.ensures.effect.checked; more = c.in_ok-from.ensures.effect.more; faults = λ sure. tt }
 
 pub returns-in-None-clause-given : goal.returns-in-None-clause-given
 returns-in-None-clause-given g c = λ sure.
@@ -57,4 +58,4 @@ returns-in-None-clause-given g c = λ sure.
     (subst (λ (o : Option (Key × Region)). FindsAfter c.args.self.now c.args.pager.now.store (Aims c.args.goal.now) (option_copied c.args.after) o) c.in-None.is (c.in_ok-from.ensures.found sure))
 
 pub returns-in-None-clause-effect : goal.returns-in-None-clause-effect
-returns-in-None-clause-effect g c = record { same = c.in_ok-from.ensures.effect.same; checked = c.in_ok-from.ensures.effect.checked; faults = λ sure. tt }
+returns-in-None-clause-effect g c = record { same = c.in_ok-from.ensures.effect.same; checked = c.in_ok-from.ensures.effect.checked; more = c.in_ok-from.ensures.effect.more; faults = λ sure. tt }

@@ -4,9 +4,9 @@ use Rattle.ub_index.specs.Changing.{IsNoGrowth, Prepares, Turns}
 use Rattle.ub_index.specs.declared.descent.Place.{Place}
 use Rattle.ub_index.specs.declared.told.Told.{Told}
 use Rattle.ub_index.specs.Preparing.{ChangeView, IsPrepared, IsSettleFault, Settles, TakesFew, TurnsRoot}
-use Rattle.ub_index.specs.Held.{KeepsChecked}
 use Rattle.ub_index.specs.View.{IndexView}
 use Rattle.ub_index.proofs.FoundFacts.{if_ok}
+use Rattle.ub_index.proofs.HeldFacts.{Keeps}
 use Rattle.ub_index.proofs.ReadyFacts.{settled_all, turn_refused}
 use Rattle.ub_index.proofs.StepFacts.{if_err, none_ok}
 use Rattle.ub_index.proofs.index.Index.prepare.Goals as goal
@@ -19,7 +19,7 @@ returns-clause-effect g c =
     subst (λ (v : IndexView). TurnsRoot v c.args.pager.now.store c.args.aim.now.key c.args.aim.now.added c.args.sheets c.turn.new.sheets c.in_ok-told.told) c.self.view_is
     (subst (λ (p : Place). Turns c.self.inside.last c.args.pager.now.store.pages c.args.aim.now.key c.args.aim.now.added c.self.inside.levels p.entry p.next c.args.sheets c.turn.new.sheets c.in_ok-told.told)
     c.root_place-place.ensures (c.in_ok-told.ensures.turned honest)))
-    c.in_ok-told.ensures.effect.same (subst (λ (v : IndexView). KeepsChecked v.last c.args.pager.now c.turn.new.pager) c.self.view_is c.in_ok-told.ensures.effect.checked)
+    c.in_ok-told.ensures.effect.same (subst (λ (v : IndexView). Keeps v.last c.args.pager.now c.turn.new.pager) c.self.view_is (c.in_ok-told.ensures.effect.checked, c.in_ok-told.ensures.effect.more))
     (subst (λ (v : IndexView). IfErr c.settled.result (IsSettleFault v.root v.levels c.in_ok-told.told c.turn.new.sheets)) c.self.view_is c.settled.ensures.refused)
 
 pub returns-clause-made : goal.returns-clause-made

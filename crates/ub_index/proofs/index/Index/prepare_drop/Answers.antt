@@ -44,7 +44,7 @@ pub returns-clause-effect : goal.returns-clause-effect
 returns-clause-effect g c =
     dropped_effect Change c.args.self.now c.self.inside.last c.args.region.now.first c.args.pager.now c.prepare.new.pager c.lowered.new.pager c.in_ok-change.change c.lowered.result
     (ap (λ (v : IndexView). v.last) c.self.view_is)
-    (ap (λ (p : PagerView). p.store) c.in_ok-change.ensures.effect.same) (ap (λ (p : PagerView). p.trace) c.in_ok-change.ensures.effect.same) c.in_ok-change.ensures.effect.checked
+    (ap (λ (p : PagerView). p.store) c.in_ok-change.ensures.effect.same) (ap (λ (p : PagerView). p.trace) c.in_ok-change.ensures.effect.same) (c.in_ok-change.ensures.effect.checked, c.in_ok-change.ensures.effect.more)
     (λ honest. search (rules, honest)) c.lowered.ensures.effect
 
 pub returns-clause-pages : goal.returns-clause-pages

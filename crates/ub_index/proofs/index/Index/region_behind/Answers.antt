@@ -3,7 +3,7 @@ use Rattle.ub_store.specs.Facts.{StoreFacts}
 use Rattle.ub_store.specs.View.{PagerView}
 use Rattle.ub_table.specs.declared.row.Key.{Key}
 use Rattle.ub_index.specs.Descending.{FindsAfter, IsForgotten, LooksAt}
-use Rattle.ub_index.specs.Held.{AreChecked, KeepsChecked}
+use Rattle.ub_index.specs.Held.{AreChecked}
 use Rattle.ub_index.specs.Searching.{Aims, Gives, GoesDown, IsSought}
 use Rattle.ub_index.specs.Spans.{region_of}
 use Rattle.ub_index.specs.View.{IndexView, index_view}
@@ -11,8 +11,8 @@ use Rattle.ub_index.specs.declared.descent.Found.{Found}
 use Rattle.ub_index.specs.declared.descent.Leaf.{Leaf}
 use Rattle.ub_region.specs.declared.region.Region.{Region}
 use Rattle.ub_index.proofs.BehindFacts.{beyond_found, beyond_sought, here_found, nothing_found}
-use Rattle.ub_index.proofs.HeldFacts.{keeps_on}
-use Rattle.ub_index.proofs.SearchFacts.{answered, search_refused, step_refused}
+use Rattle.ub_index.proofs.HeldFacts.{all_kept, both_on, Keeps}
+use Rattle.ub_index.proofs.SearchFacts.{answered, down_keeps, search_refused, step_keeps, step_refused}
 use Rattle.ub_index.proofs.StepFacts.{if_err, none_ok}
 use Rattle.ub_index.proofs.index.Index.region_behind.Goals as goal
 
@@ -21,8 +21,8 @@ looked : (last : ℕ) (old mid : StoreFacts) → mid ≡ old → (To : Key → O
     → LooksAt last mid To key leaf found → LooksAt last old To key leaf now
 looked last old mid stores To key leaf found now is h = subst (λ (f : Found). LooksAt last old To key leaf f) is (subst (λ (s : StoreFacts). LooksAt last s To key leaf found) stores h)
 
-kept_so : (inside last : ℕ) (old new : PagerView) → inside ≡ last → KeepsChecked inside old new → KeepsChecked last old new
-kept_so inside last old new same kept = subst (λ (n : ℕ). KeepsChecked n old new) same kept
+kept_so : (inside last : ℕ) (old new : PagerView) → inside ≡ last → Keeps inside old new → Keeps last old new
+kept_so inside last old new same kept = subst (λ (n : ℕ). Keeps n old new) same kept
 
 pub returns-in-Nothing-clause-found : goal.returns-in-Nothing-clause-found
 returns-in-Nothing-clause-found g c = λ sure_now.
@@ -50,8 +50,8 @@ returns-in_ok-region_holding-in-Beyond-clause-found g c = λ sure_now.
     let stores = ap (λ (p : PagerView). p.store) c.in_ok-leaf.ensures.effect.same in
     let stores_too = ap (λ (p : PagerView). p.store) c.in_ok-look.ensures.effect.same in
     let looks = looked c.self.inside.last c.args.pager.now.store c.leaf_of.new.pager.store stores (Aims c.args.goal.now) c.args.region.now.first c.in_ok-leaf.leaf _ _ c.in-Beyond.is (c.in_ok-look.ensures.looks (c.in_ok-leaf.ensures.effect.checked sure)) in
-    let given = subst (λ (v : IndexView). Gives v c.look.new.pager.store c.in-Beyond.aim c.in_ok-region_holding-in-Beyond.field-0) (sym c.self.view_is) (c.in_ok-region_holding-in-Beyond.ensures.given (kept_so c.self.inside.last c.args.self.now.last c.args.pager.now c.look.new.pager (ap (λ (v : IndexView). v.last) c.self.view_is)
-    (keeps_on c.self.inside.last c.args.pager.now c.leaf_of.new.pager c.look.new.pager c.in_ok-leaf.ensures.effect.checked c.in_ok-look.ensures.effect.checked) sure_now)) in
+    let given = subst (λ (v : IndexView). Gives v c.look.new.pager.store c.in-Beyond.aim c.in_ok-region_holding-in-Beyond.field-0) (sym c.self.view_is) (c.in_ok-region_holding-in-Beyond.ensures.given ((kept_so c.self.inside.last c.args.self.now.last c.args.pager.now c.look.new.pager (ap (λ (v : IndexView). v.last) c.self.view_is)
+    (both_on c.self.inside.last c.args.pager.now c.leaf_of.new.pager c.look.new.pager (down_keeps c.in_ok-leaf.ensures.effect) (step_keeps c.in_ok-look.ensures.effect))).0 sure_now)) in
     let before = subst (λ (f : StoreFacts). Gives (index_view c.self.inside.root c.self.inside.levels c.self.inside.last) f c.in-Beyond.aim c.in_ok-region_holding-in-Beyond.field-0)
     (stores_too ∙ stores) given in
     subst (λ (v : IndexView). FindsAfter v c.args.pager.now.store (Aims c.args.goal.now) (Some c.args.region.now) (Some (c.in-Beyond.from, c.in_ok-region_holding-in-Beyond.field-0))) c.self.view_is
@@ -65,7 +65,7 @@ returns-in_err-look-clause-effect g c =
     (IsSought (index_view c.self.inside.root c.self.inside.levels c.self.inside.last) c.args.pager.now.store (Aims c.args.goal.now) (Some c.args.region.now))
     (index_view c.self.inside.root c.self.inside.levels c.self.inside.last) c.args.region.now.first (inl (c.args.region.now, refl, refl)) 1 (omega arith) c.in_ok-leaf.leaf.place.entry
     c.in_ok-leaf.leaf.place.next c.args.pager.now c.leaf_of.new.pager c.look.new.pager (ap (λ (p : PagerView). p.store) c.in_ok-leaf.ensures.effect.same)
-    (ap (λ (p : PagerView). p.trace) c.in_ok-leaf.ensures.effect.same) c.in_ok-leaf.ensures.effect.checked (λ honest sure. (c.in_ok-leaf.ensures.leads honest sure).stops)
+    (ap (λ (p : PagerView). p.trace) c.in_ok-leaf.ensures.effect.same) (down_keeps c.in_ok-leaf.ensures.effect) (λ honest sure. (c.in_ok-leaf.ensures.leads honest sure).stops)
     c.from_residual-in_err-look.result c.in_err-look.field-0.0 c.from_residual-in_err-look.ensures.1 c.in_err-look.ensures.effect)
 
 pub returns-in_err-region_holding-in-Beyond-clause-effect : goal.returns-in_err-region_holding-in-Beyond-clause-effect
@@ -74,7 +74,7 @@ returns-in_err-region_holding-in-Beyond-clause-effect g c =
     let stores_too = ap (λ (p : PagerView). p.store) c.in_ok-look.ensures.effect.same in
     let traces = ap (λ (p : PagerView). p.trace) c.in_ok-leaf.ensures.effect.same in
     let traces_too = ap (λ (p : PagerView). p.trace) c.in_ok-look.ensures.effect.same in
-    let kept = keeps_on c.self.inside.last c.args.pager.now c.leaf_of.new.pager c.look.new.pager c.in_ok-leaf.ensures.effect.checked c.in_ok-look.ensures.effect.checked in
+    let kept = both_on c.self.inside.last c.args.pager.now c.leaf_of.new.pager c.look.new.pager (down_keeps c.in_ok-leaf.ensures.effect) (step_keeps c.in_ok-look.ensures.effect) in
     let sought = λ (sure : AreChecked c.self.inside.last c.args.pager.now).
     let looks = looked c.self.inside.last c.args.pager.now.store c.leaf_of.new.pager.store stores (Aims c.args.goal.now) c.args.region.now.first c.in_ok-leaf.leaf _ _ c.in-Beyond.is (c.in_ok-look.ensures.looks (c.in_ok-leaf.ensures.effect.checked sure)) in
     beyond_sought (index_view c.self.inside.root c.self.inside.levels c.self.inside.last) c.args.pager.now.store (Aims c.args.goal.now)
@@ -103,7 +103,7 @@ returns-in_err-leaf-clause-effect g c =
     (IsSought (index_view c.self.inside.root c.self.inside.levels c.self.inside.last) c.args.pager.now.store (Aims c.args.goal.now) (Some c.args.region.now))
     (index_view c.self.inside.root c.self.inside.levels c.self.inside.last) c.args.pager.now c.args.pager.now c.leaf_of.new.pager
     (λ sure k is. inl (c.args.region.now, refl, is)) refl refl
-    (λ was. was) c.from_residual.result c.in_err-leaf.field-0.0 c.from_residual.ensures.1 c.in_err-leaf.ensures.effect)
+    (all_kept c.self.inside.last c.args.pager.now) c.from_residual.result c.in_err-leaf.field-0.0 c.from_residual.ensures.1 c.in_err-leaf.ensures.effect)
 
 pub returns-in_err-look-clause-found : goal.returns-in_err-look-clause-found
 returns-in_err-look-clause-found g c = λ sure. none_ok _ c.from_residual-in_err-look.result _ c.from_residual-in_err-look.ensures.1
@@ -126,7 +126,7 @@ returns-in-Nothing-clause-effect g c =
     (ap (λ (p : PagerView). p.store) c.in_ok-look.ensures.effect.same ∙ ap (λ (p : PagerView). p.store) c.in_ok-leaf.ensures.effect.same)
     (ap (λ (p : PagerView). p.trace) c.in_ok-look.ensures.effect.same ∙ ap (λ (p : PagerView). p.trace) c.in_ok-leaf.ensures.effect.same)
     (kept_so c.self.inside.last c.args.self.now.last c.args.pager.now c.look.new.pager (ap (λ (v : IndexView). v.last) c.self.view_is)
-    (keeps_on c.self.inside.last c.args.pager.now c.leaf_of.new.pager c.look.new.pager c.in_ok-leaf.ensures.effect.checked c.in_ok-look.ensures.effect.checked))
+    (both_on c.self.inside.last c.args.pager.now c.leaf_of.new.pager c.look.new.pager (down_keeps c.in_ok-leaf.ensures.effect) (step_keeps c.in_ok-look.ensures.effect)))
 
 pub returns-in-Here-clause-effect : goal.returns-in-Here-clause-effect
 returns-in-Here-clause-effect g c =
@@ -134,7 +134,7 @@ returns-in-Here-clause-effect g c =
     (ap (λ (p : PagerView). p.store) c.in_ok-look.ensures.effect.same ∙ ap (λ (p : PagerView). p.store) c.in_ok-leaf.ensures.effect.same)
     (ap (λ (p : PagerView). p.trace) c.in_ok-look.ensures.effect.same ∙ ap (λ (p : PagerView). p.trace) c.in_ok-leaf.ensures.effect.same)
     (kept_so c.self.inside.last c.args.self.now.last c.args.pager.now c.look.new.pager (ap (λ (v : IndexView). v.last) c.self.view_is)
-    (keeps_on c.self.inside.last c.args.pager.now c.leaf_of.new.pager c.look.new.pager c.in_ok-leaf.ensures.effect.checked c.in_ok-look.ensures.effect.checked))
+    (both_on c.self.inside.last c.args.pager.now c.leaf_of.new.pager c.look.new.pager (down_keeps c.in_ok-leaf.ensures.effect) (step_keeps c.in_ok-look.ensures.effect)))
 
 pub returns-in_ok-region_holding-in-Beyond-clause-effect : goal.returns-in_ok-region_holding-in-Beyond-clause-effect
 returns-in_ok-region_holding-in-Beyond-clause-effect g c =
@@ -144,10 +144,10 @@ returns-in_ok-region_holding-in-Beyond-clause-effect g c =
     ∙ (ap (λ (p : PagerView). p.store) c.in_ok-look.ensures.effect.same ∙ ap (λ (p : PagerView). p.store) c.in_ok-leaf.ensures.effect.same))
     (ap (λ (p : PagerView). p.trace) c.in_ok-region_holding-in-Beyond.ensures.effect.same
     ∙ (ap (λ (p : PagerView). p.trace) c.in_ok-look.ensures.effect.same ∙ ap (λ (p : PagerView). p.trace) c.in_ok-leaf.ensures.effect.same))
-    (keeps_on c.args.self.now.last c.args.pager.now c.look.new.pager c.region_holding.new.pager
+    (both_on c.args.self.now.last c.args.pager.now c.look.new.pager c.region_holding.new.pager
     (kept_so c.self.inside.last c.args.self.now.last c.args.pager.now c.look.new.pager (ap (λ (v : IndexView). v.last) c.self.view_is)
-    (keeps_on c.self.inside.last c.args.pager.now c.leaf_of.new.pager c.look.new.pager c.in_ok-leaf.ensures.effect.checked c.in_ok-look.ensures.effect.checked))
-    c.in_ok-region_holding-in-Beyond.ensures.effect.checked)
+    (both_on c.self.inside.last c.args.pager.now c.leaf_of.new.pager c.look.new.pager (down_keeps c.in_ok-leaf.ensures.effect) (step_keeps c.in_ok-look.ensures.effect)))
+    (down_keeps c.in_ok-region_holding-in-Beyond.ensures.effect))
 
 pub returns-in-Here-clause-small : goal.returns-in-Here-clause-small
 returns-in-Here-clause-small g c = c.region_at.ensures.small

@@ -4,7 +4,7 @@ use Rattle.ub_store.specs.Facts.{page_count}
 use Rattle.ub_table.specs.Region.{IsRow, key_of, measures_of}
 use Rattle.ub_table.specs.declared.fault.PageFault.TheVariants.{BadOrder}
 use Rattle.ub_table.specs.declared.row.Key.{Key}
-use Rattle.ub_tree.proofs.EffectFacts.{counted_anew, left_by, refused_all, refused_none, searched_by, then_changed, unchanged}
+use Rattle.ub_tree.proofs.EffectFacts.{counted_anew, left_by, marked_sound, refused_all, refused_none, searched_by, then_changed, unchanged}
 use Rattle.ub_tree.proofs.GrowFacts.{added_answers, grown, grows_by, key_there, passing_answers_key, answers_err_at, answers_ok_at}
 use Rattle.ub_tree.proofs.HoldingFacts.{has_told, key_is_there, next_key}
 use Rattle.ub_tree.proofs.NewFacts.{numbered_row}
@@ -161,7 +161,7 @@ returns-clause-inserted g c =
     let few : after.inner.count < 2 ^ 32 = subst (λ (v : TreeView). v.inner.count < 2 ^ 32) c.self-2.view_is c.self-2.invariant.few in
     let last : after.inner.index.last ≡ last_address after.schema.dims = subst (λ (v : TreeView). v.inner.index.last ≡ last_address v.schema.dims) c.self-2.view_is c.self-2.invariant.last_is in
     grown a c.read_holding.new.self after d row span page.region.rows (holder a (key_of a.schema.dims row) span page read) c.in_ok-region.ensures.effect.same good number not_last
-    c.in_ok-store_with.ensures.same.same c.in_ok-store_with.ensures.effect.marked.marked last few d_is (λ i stored at all. c.in_ok-store_with.ensures.written i stored at all)
+    c.in_ok-store_with.ensures.same.same (marked_sound c.in_ok-store_with.ensures.effect.marked) last few d_is (λ i stored at all. c.in_ok-store_with.ensures.written i stored at all)
 
 pub returns-clause-number : goal.returns-clause-number
 returns-clause-number g c = c.requires.row.1

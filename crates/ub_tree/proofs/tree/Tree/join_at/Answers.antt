@@ -47,10 +47,9 @@ returns-in_err-put_index-clause-effect g c =
     let change = c.in_ok-change.change in
     let same = c.in_ok-change.ensures.effect.same in
     let there = subst (λ (v : TreeView). IsRegionThere v span) (sym same) c.requires.there in
-    let of_next = subst (λ (v : TreeView). IsRegionOf v next) (sym same) c.requires.next.0 in
     let ready = subst (λ (v : TreeView). IsDropReady v next change) (sym same) c.in_ok-change.ensures.ready in
     then_changed c.from_residual-in_err-put_index.result c.args.self.now b c.put_index.new.self same
-    (index_failed b c.rewrite.new.self c.put_index.new.self span next change there of_next c.requires.next.1 ready c.in_ok-rewrite.ensures.same c.in_ok-rewrite.ensures.effect c.put_index.ensures.kept
+    (index_failed b c.rewrite.new.self c.put_index.new.self span next change there c.requires.next.1 ready c.in_ok-rewrite.ensures.same c.in_ok-rewrite.ensures.effect c.put_index.ensures.kept
     c.from_residual-in_err-put_index.result c.in_err-put_index.field-0.0 c.from_residual-in_err-put_index.ensures.1 c.put_index.ensures.marked c.in_err-put_index.ensures.stopped.0 c.in_err-put_index.ensures.stopped.1)
 
 pub returns-clause-same : goal.returns-clause-same
@@ -61,14 +60,13 @@ returns-clause-same g c =
     let change = c.in_ok-change.change in
     let same = c.in_ok-change.ensures.effect.same in
     let there = subst (λ (v : TreeView). IsRegionThere v span) (sym same) c.requires.there in
-    let of_next = subst (λ (v : TreeView). IsRegionOf v next) (sym same) c.requires.next.0 in
     let ready = subst (λ (v : TreeView). IsDropReady v next change) (sym same) c.in_ok-change.ensures.ready in
     let u = c.self-2.inside in
     let d : TreeView = tree_view u.schema u.index (u.count - 1) u.next u.rows (is_written u.mark) u.is_failed u.pager in
     let is = ap (λ (v : TreeView). record v { inner = record v.inner { count = v.inner.count - 1 } }) c.self-2.view_is in
     let some : 1 ≤ region_count b = subst (λ (v : TreeView). 1 ≤ region_count v) (c.self.view_is ∙ sym same) c.self.invariant.some in
     subst (λ (v : TreeView). JoinsAt span v d) same
-    (joined_at b c.rewrite.new.self c.put_index.new.self span next change there of_next c.requires.next.1 ready c.in_ok-rewrite.ensures.same c.in_ok-rewrite.ensures.effect c.put_index.ensures.kept
+    (joined_at b c.rewrite.new.self c.put_index.new.self span next change there c.requires.next.1 ready c.in_ok-rewrite.ensures.same c.in_ok-rewrite.ensures.effect c.put_index.ensures.kept
     d c.in_ok-put_index.ensures.now is some)
 
 pub returns-clause-written : goal.returns-clause-written
@@ -81,7 +79,6 @@ returns-clause-written g c = λ i stored at at_next each.
     let change = c.in_ok-change.change in
     let same = c.in_ok-change.ensures.effect.same in
     let there = subst (λ (v : TreeView). IsRegionThere v span) (sym same) c.requires.there in
-    let of_next = subst (λ (v : TreeView). IsRegionOf v next) (sym same) c.requires.next.0 in
     let ready = subst (λ (v : TreeView). IsDropReady v next change) (sym same) c.in_ok-change.ensures.ready in
     let u = c.self-2.inside in
     let d : TreeView = tree_view u.schema u.index (u.count - 1) u.next u.rows (is_written u.mark) u.is_failed u.pager in
@@ -92,7 +89,7 @@ returns-clause-written g c = λ i stored at at_next each.
     let at_next_b = subst (λ (v : TreeView). IsRegionIn v (i + 1) next) (sym same) at_next in
     let good = subst (λ (v : TreeView). IsRegion v.schema (record { first = span.first; rows = rows })) (sym same) c.requires.region in
     subst (λ (v : TreeView). IsStored d × (regions d ≡ put_rows i true rows (regions v))) same
-    (joined_written b c.rewrite.new.self c.put_index.new.self span next change there of_next c.requires.next.1 ready c.in_ok-rewrite.ensures.same c.in_ok-rewrite.ensures.effect c.put_index.ensures.kept
+    (joined_written b c.rewrite.new.self c.put_index.new.self span next change there c.requires.next.1 ready c.in_ok-rewrite.ensures.same c.in_ok-rewrite.ensures.effect c.put_index.ensures.kept
     d c.in_ok-put_index.ensures.now is i rows viewed refl c.in_ok-put_index.ensures.works stored_b at_b at_next_b good (c.in_ok-rewrite.ensures.written i stored_b at_b) c.in_ok-put_index.ensures.stand)
 
 pub returns-clause-effect : goal.returns-clause-effect
@@ -103,13 +100,12 @@ returns-clause-effect g c =
     let change = c.in_ok-change.change in
     let same = c.in_ok-change.ensures.effect.same in
     let there = subst (λ (v : TreeView). IsRegionThere v span) (sym same) c.requires.there in
-    let of_next = subst (λ (v : TreeView). IsRegionOf v next) (sym same) c.requires.next.0 in
     let ready = subst (λ (v : TreeView). IsDropReady v next change) (sym same) c.in_ok-change.ensures.ready in
     let u = c.self-2.inside in
     let d : TreeView = tree_view u.schema u.index (u.count - 1) u.next u.rows (is_written u.mark) u.is_failed u.pager in
     let is = ap (λ (v : TreeView). record v { inner = record v.inner { count = v.inner.count - 1 } }) c.self-2.view_is in
     then_changed (Ok tt) c.args.self.now b d same
-    (joined_effect b c.rewrite.new.self c.put_index.new.self span next change there of_next c.requires.next.1 ready c.in_ok-rewrite.ensures.same c.in_ok-rewrite.ensures.effect c.put_index.ensures.kept
+    (joined_effect b c.rewrite.new.self c.put_index.new.self span next change there c.requires.next.1 ready c.in_ok-rewrite.ensures.same c.in_ok-rewrite.ensures.effect c.put_index.ensures.kept
     d c.in_ok-put_index.ensures.now is tt c.in_ok-put_index.ensures.works)
 
 pub returns-then-self-eq1-clause-same : goal.returns-then-self-eq1-clause-same

@@ -22,7 +22,7 @@ returns-clause-ready g c =
     let t = c.self.inside in
     let old : TreeView = tree_view t.schema t.index t.count t.next t.rows (is_written t.mark) t.is_failed t.pager in
     rw (← c.self.view_is) (record {
-      spelled = λ honest. drop_spelled old c.args.region.now.first c.in_ok-change.change (c.in_ok-change.ensures.made honest);
+      spelled = λ honest. drop_spelled old c.args.region.now.first c.in_ok-change.change c.root-root.ensures.some (c.in_ok-change.ensures.made honest);
       next = λ honest. drop_next t.index t.pager.store c.args.region.now.first c.in_ok-change.change (c.in_ok-change.ensures.made honest);
       pages = λ honest. c.in_ok-change.ensures.pages honest;
       makes = λ i stored at behind. c.in_ok-change.ensures.ready i (stored_on old stored) (reached_once t.index t.pager.store _ stored.placed_are.own)

@@ -43,7 +43,7 @@ returns-in-Ok-clause-effect g c =
     rw (← c.self.view_is) (record {
       frame = wrote_tree t.schema t.index t.count t.next t.rows (is_written t.mark) (is_written c.write_page.new.mark) t.is_failed t.is_failed t.pager c.write_page.new.pager {T = Unit {0}} (Ok tt) c.in-Ok.ensures.effect.same c.in-Ok.ensures.trace;
       marked = marks_first t.schema t.index t.count t.next t.rows (is_written t.mark) (is_written c.write_page.new.mark) t.is_failed t.is_failed t.pager c.write_page.new.pager t.mark c.write_page.new.mark (c.args.region.now.page ∷ []) refl refl c.self.invariant.mark_is c.write_page.ensures.marks
-          (λ sound. (own_page old c.args.region.now sound there.told, tt));
+          (λ honest. (own_page old c.args.region.now c.root-root.ensures.some honest there.told, tt));
       done = refl;
       faults = tt;
       kept = others_written (0 ∷ c.args.region.now.page ∷ []) t.pager.store c.write_page.new.pager.store c.write_page.ensures.marks.others;
@@ -60,7 +60,7 @@ returns-in-Err-clause-effect g c =
     rw (c.failing.ensures.failed, c.failing.ensures.fault, ← c.self.view_is) (record {
       frame = wrote_tree t.schema t.index t.count t.next t.rows (is_written t.mark) (is_written c.write_page.new.mark) t.is_failed true t.pager c.write_page.new.pager {T = Unit {0}} (Err (Store c.in-Err.fault)) (c.in-Err.ensures.effect.same ∙ put_is (Unit {0}) (Unit {0}) c.in-Err.fault t.pager.store c.write_page.new.pager.store) c.in-Err.ensures.trace;
       marked = marks_first t.schema t.index t.count t.next t.rows (is_written t.mark) (is_written c.write_page.new.mark) t.is_failed true t.pager c.write_page.new.pager t.mark c.write_page.new.mark (c.args.region.now.page ∷ []) refl refl c.self.invariant.mark_is c.write_page.ensures.marks
-          (λ sound. (own_page old c.args.region.now sound there.told, tt));
+          (λ honest. (own_page old c.args.region.now c.root-root.ensures.some honest there.told, tt));
       done = tt;
       faults = write_refused c.in-Err.fault old new device (c.in-Err.ensures.effect.device (ap (λ (f : StoreFault). Err f) device))
           (ended_by t.schema t.index t.count t.next t.rows (is_written t.mark) (is_written c.write_page.new.mark) t.is_failed true t.pager c.write_page.new.pager (Unit {0}) c.in-Err.fault refl c.in-Err.ensures.effect.same c.in-Err.ensures.trace);

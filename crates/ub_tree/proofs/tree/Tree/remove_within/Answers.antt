@@ -2,7 +2,7 @@ use Rattle.std.proofs.Common.{◌≡◌, ◌<◌, ◌-◌, ◌^◌, ◌∙◌, a
 use Rattle.ub_region.specs.RegionPage.{RegionView}
 use Rattle.ub_region.specs.Rows.{has_key, remove_row}
 use Rattle.ub_table.specs.declared.fault.PageFault.TheVariants.{BadCount}
-use Rattle.ub_tree.proofs.EffectFacts.{counted_anew, left_by, nothing_changed, searched_by, then_changed, unchanged}
+use Rattle.ub_tree.proofs.EffectFacts.{counted_anew, left_by, marked_sound, nothing_changed, searched_by, then_changed, unchanged}
 use Rattle.ub_tree.proofs.HoldingFacts.{has_told, no_answer, passing_removal, removal_answers, removal_fault}
 use Rattle.ub_tree.proofs.RemovalFacts.{holder, none_removed, read_there, searched_removal, shrinks_by, shrunk, some_counted}
 use Rattle.ub_tree.proofs.RoomFacts.{rows_on, rows_without}
@@ -204,7 +204,7 @@ returns-clause-removed g c =
     ap (λ (v : RegionView). v.region.rows) c.remove.ensures.rows ∙ ap (λ (d : ℕ). remove_row d key page.region.rows) dims in
     let last = subst (λ (v : TreeView). v.inner.index.last ≡ last_address v.schema.dims) c.self-2.view_is c.self-2.invariant.last_is in
     let few = subst (λ (v : TreeView). region_count v < 2 ^ 32) c.self-2.view_is c.self-2.invariant.few in
-    shrunk a c.read_holding.new.self after d key span page.region.rows (holder a key span page read) same has c.in_ok-settle.ensures.same.same c.in_ok-settle.ensures.effect.marked.marked last few
+    shrunk a c.read_holding.new.self after d key span page.region.rows (holder a key span page read) same has c.in_ok-settle.ensures.same.same (marked_sound c.in_ok-settle.ensures.effect.marked) last few
     d_is (rw left at c.in_ok-settle.ensures.written)
 
 pub returns-clause-untouched : goal.returns-clause-untouched

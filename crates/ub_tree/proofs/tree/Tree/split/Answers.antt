@@ -9,7 +9,7 @@ use Rattle.ub_table.specs.declared.schema.Schema.{Schema}
 use Rattle.ub_tree.proofs.AddFacts.{parts_stored}
 use Rattle.ub_tree.proofs.RoomFacts.{ready_for}
 use Rattle.ub_tree.proofs.EffectFacts.{ready_by, refused_none, unchanged}
-use Rattle.ub_tree.proofs.PartFacts.{growth_refused, halves_refused, index_refused, parted_answers, parts_at, parts_effect, unparted_answers, unready_answers}
+use Rattle.ub_tree.proofs.PartFacts.{growth_refused, growth_short, halves_refused, index_refused, indexed_short, parted_answers, parts_at, parts_effect, unparted_answers, unready_answers, written_short}
 use Rattle.ub_tree.specs.Tree.{placed_in, tree_view}
 use Rattle.ub_table.specs.declared.fault.PageFault.TheVariants.{BadCount}
 use Rattle.ub_tree.specs.View.{TreeView, region_count}
@@ -28,6 +28,7 @@ returns-in_err-change-clause-counted g c =
     let few = c.if-self.false in
     let count = ap (λ (v : TreeView). v.inner.count) c.self.view_is in
     unready_answers c.args.self.now c.args.region.now c.from_residual.result c.in_err-change.field-0.0 c.from_residual.ensures.1 (λ many. few (count ∙ many)) c.in_err-change.ensures.led
+    c.in_err-change.ensures.short
 
 pub returns-in_err-change-clause-effect : goal.returns-in_err-change-clause-effect
 returns-in_err-change-clause-effect g c = ready_by c.from_residual.result c.in_err-change.field-0.0 c.args.self.now c.prepare_add.new.self c.from_residual.ensures.1 c.in_err-change.ensures.effect
@@ -37,14 +38,14 @@ returns-in_err-put_halves-clause-effect g c =
     let change = c.in_ok-change.change in
     let grew = subst (λ (v : TreeView). GrowsTo {A = Unit {0}} (page_count v.store + (change.next - change.start)) v c.grow.new.self (Ok tt)) c.in_ok-change.ensures.effect.same c.in_ok-grow.ensures in
     halves_refused c.args.self.now c.grow.new.self c.put_halves.new.self c.args.region.now c.requires.there.told c.args.right.now.region.first change c.page.result c.requires.there.there
-    c.requires.within (ready_for c.first.ensures c.in_ok-change.ensures.ready) c.page.ensures grew c.from_residual-in_err-put_halves.result c.in_err-put_halves.field-0.0 c.from_residual-in_err-put_halves.ensures.1 c.in_err-put_halves.ensures.effect
+    (ready_for c.first.ensures c.in_ok-change.ensures.ready) c.page.ensures grew c.from_residual-in_err-put_halves.result c.in_err-put_halves.field-0.0 c.from_residual-in_err-put_halves.ensures.1 c.in_err-put_halves.ensures.effect
 
 pub returns-in_err-put_index-clause-effect : goal.returns-in_err-put_index-clause-effect
 returns-in_err-put_index-clause-effect g c =
     let change = c.in_ok-change.change in
     let grew = subst (λ (v : TreeView). GrowsTo {A = Unit {0}} (page_count v.store + (change.next - change.start)) v c.grow.new.self (Ok tt)) c.in_ok-change.ensures.effect.same c.in_ok-grow.ensures in
     index_refused c.args.self.now c.grow.new.self c.put_halves.new.self c.args.region.now c.requires.there.told c.args.right.now.region.first change c.page.result c.requires.there.there
-    c.requires.within (ready_for c.first.ensures c.in_ok-change.ensures.ready) c.page.ensures grew c.put_index.new.self c.in_ok-put_halves.ensures.effect c.in_ok-put_halves.ensures.same c.in_ok-put_halves.ensures.put.count
+    (ready_for c.first.ensures c.in_ok-change.ensures.ready) c.page.ensures grew c.put_index.new.self c.in_ok-put_halves.ensures.effect c.in_ok-put_halves.ensures.same c.in_ok-put_halves.ensures.put.count
     c.in_err-put_index.ensures.kept c.from_residual-in_err-put_index.result c.in_err-put_index.field-0.0 c.from_residual-in_err-put_index.ensures.1 c.in_err-put_index.ensures.marked c.in_err-put_index.ensures.stopped
 
 pub returns-clause-same : goal.returns-clause-same
@@ -55,7 +56,7 @@ returns-clause-same g c =
     let d : TreeView = tree_view u.schema u.index (u.count + 1) u.next u.rows (is_written u.mark) u.is_failed u.pager in
     let grew = subst (λ (v : TreeView). GrowsTo {A = Unit {0}} (page_count v.store + (change.next - change.start)) v c.grow.new.self (Ok tt)) c.in_ok-change.ensures.effect.same c.in_ok-grow.ensures in
     parts_at c.args.self.now c.grow.new.self c.put_halves.new.self c.args.region.now c.requires.there.told c.args.right.now.region.first change c.page.result c.requires.there.there
-    c.requires.within (ready_for c.first.ensures c.in_ok-change.ensures.ready) c.page.ensures grew n c.in_ok-put_halves.ensures.effect c.in_ok-put_halves.ensures.same c.in_ok-put_halves.ensures.put.count
+    (ready_for c.first.ensures c.in_ok-change.ensures.ready) c.page.ensures grew n c.in_ok-put_halves.ensures.effect c.in_ok-put_halves.ensures.same c.in_ok-put_halves.ensures.put.count
     c.in_ok-put_index.ensures.kept d _ c.in_ok-put_index.ensures.now
     (ap (λ (v : TreeView). v.inner.count) c.in_ok-put_halves.ensures.same ∙ (ap (λ (v : TreeView). v.inner.count) grew.frame))
     c.in_ok-put_index.ensures.works (ap (λ (v : TreeView). record v { inner = record v.inner { count = v.inner.count + 1 } }) c.self-3.view_is)
@@ -107,7 +108,7 @@ returns-clause-effect g c =
     let d : TreeView = tree_view u.schema u.index (u.count + 1) u.next u.rows (is_written u.mark) u.is_failed u.pager in
     let grew = subst (λ (v : TreeView). GrowsTo {A = Unit {0}} (page_count v.store + (change.next - change.start)) v c.grow.new.self (Ok tt)) c.in_ok-change.ensures.effect.same c.in_ok-grow.ensures in
     parts_effect c.args.self.now c.grow.new.self c.put_halves.new.self c.args.region.now c.requires.there.told c.args.right.now.region.first change c.page.result c.requires.there.there
-    c.requires.within (ready_for c.first.ensures c.in_ok-change.ensures.ready) c.page.ensures grew n c.in_ok-put_halves.ensures.effect c.in_ok-put_halves.ensures.same c.in_ok-put_halves.ensures.put.count
+    (ready_for c.first.ensures c.in_ok-change.ensures.ready) c.page.ensures grew n c.in_ok-put_halves.ensures.effect c.in_ok-put_halves.ensures.same c.in_ok-put_halves.ensures.put.count
     c.in_ok-put_index.ensures.kept d _ c.in_ok-put_index.ensures.now
     (ap (λ (v : TreeView). v.inner.count) c.in_ok-put_halves.ensures.same ∙ (ap (λ (v : TreeView). v.inner.count) grew.frame))
     c.in_ok-put_index.ensures.works (ap (λ (v : TreeView). record v { inner = record v.inner { count = v.inner.count + 1 } }) c.self-3.view_is)
@@ -115,8 +116,12 @@ returns-clause-effect g c =
 
 pub returns-then-self-clause-counted : goal.returns-then-self-clause-counted
 returns-then-self-clause-counted g c =
-    let many : region_count c.args.self.now ≡ 4294967295 = sym (ap (λ (v : TreeView). v.inner.count) c.self.view_is) ∙ c.if-self.true in
-    (λ full all. ap (λ (x : TreeFault). Err x) c.uncounted.ensures.fault, λ honest falls page fault told. (tt, many), λ honest falls full fewer levels way. absurd (fewer many))
+    let many : region_count c.args.self.now ≡ 4294967295 = sym (ap (λ (v : TreeView). v.inner.count) c.self.view_is) ∙ c.if-self.true in (
+      λ full all. ap (λ (x : TreeFault). Err x) c.uncounted.ensures.fault,
+      λ honest falls page fault told. (tt, many),
+      λ honest falls full fewer levels way. absurd (fewer many),
+      λ honest falls. rw c.uncounted.ensures.fault tt,
+    )
 
 pub returns-then-self-clause-effect : goal.returns-then-self-clause-effect
 returns-then-self-clause-effect g c =
@@ -144,6 +149,9 @@ returns-in_err-grow-clause-counted g c =
     unparted_answers c.args.self.now c.args.region.now c.from_residual-in_err-grow.result c.in_err-grow.field-0.0 c.from_residual-in_err-grow.ensures.1 (λ many. few (count ∙ many))
     (λ page fault same. subst (λ (x : TreeFault). IsGrowthLeft (page_count c.prepare_add.new.self.store + (change.next - change.start)) c.prepare_add.new.self c.grow.new.self x) same left)
     (λ honest levels way. c.in_ok-change.ensures.full honest levels way refl)
+    (growth_short c.args.self.now c.grow.new.self c.args.region.now c.args.right.now.region.first change c.requires.there.there (ready_for c.first.ensures c.in_ok-change.ensures.ready)
+    (subst (λ (v : TreeView). v.inner.index.levels ≤ MAX_LEVEL) c.self.view_is c.root-root.ensures.high) c.in_err-grow.field-0.0
+    (subst (λ (v : TreeView). IsGrowthLeft (page_count v.store + (change.next - change.start)) v c.grow.new.self c.in_err-grow.field-0.0) c.in_ok-change.ensures.effect.same left))
 
 pub returns-in_err-grow-clause-effect : goal.returns-in_err-grow-clause-effect
 returns-in_err-grow-clause-effect g c =
@@ -185,6 +193,7 @@ returns-in_err-put_halves-clause-counted g c =
     unparted_answers c.args.self.now c.args.region.now c.from_residual-in_err-put_halves.result c.in_err-put_halves.field-0.0 c.from_residual-in_err-put_halves.ensures.1 (λ many. few (count ∙ many))
     (λ page fault same. subst (λ (x : TreeFault). IsWriteFault c.grow.new.self c.put_halves.new.self x) same fault_is)
     (λ honest levels way. c.in_ok-change.ensures.full honest levels way refl)
+    (λ honest. written_short c.args.self.now c.grow.new.self c.put_halves.new.self c.args.region.now.first c.in_err-put_halves.field-0.0 fault_is)
 
 pub returns-in_err-put_index-clause-same : goal.returns-in_err-put_index-clause-same
 returns-in_err-put_index-clause-same g c = refused_none _ c.from_residual-in_err-put_index.result c.in_err-put_index.field-0.0 c.from_residual-in_err-put_index.ensures.1
@@ -200,6 +209,7 @@ returns-in_err-put_index-clause-counted g c =
     unparted_answers c.args.self.now c.args.region.now c.from_residual-in_err-put_index.result c.in_err-put_index.field-0.0 c.from_residual-in_err-put_index.ensures.1 (λ many. few (count ∙ many))
     (λ page fault same. subst (λ (x : TreeFault). IsIndexFault c.in_ok-change.change c.put_halves.new.self.store x) same fault_is)
     (λ honest levels way. c.in_ok-change.ensures.full honest levels way refl)
+    (λ honest. indexed_short c.args.self.now c.in_ok-change.change c.put_halves.new.self.store c.args.region.now.first c.in_err-put_index.field-0.0 fault_is)
 
 pub returns-clause-counted : goal.returns-clause-counted
 returns-clause-counted g c =
