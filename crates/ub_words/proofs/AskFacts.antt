@@ -1,6 +1,6 @@
 -- What words ask for, by what `clap` makes of them.
 use Rattle.std.proofs.Common.{◌≡◌, ◌≢◌, ◌∙◌, ℕ, List, Option, Some, None, ap, inl, inr, sym, refl, codes, subst, true, [], ◌∷◌}
-use Rattle.std.specs.Prelude.{Bool, false, unwrap_or}
+use Rattle.std.specs.Prelude.{false, unwrap_or}
 use Rattle.std.specs.Str.{bytes_eq}
 use Rattle.std.proofs.lemmas.Bool.{false≢true}
 use Rattle.std.proofs.lemmas.Slice.Eq.{bytes_eq-Decides}
@@ -236,10 +236,3 @@ paired (Some p) f h (Some x) name rows a b =
     let left = ap (λ (o : Option (List ℕ)). unwrap_or o []) a in
     let right = ap (λ (o : Option (List Row)). unwrap_or o []) b in
     rw (left, right) refl
-
--- a name that was compared
-pub not_named : (same : Bool) (name word : List ℕ) → same ≡ bytes_eq name word → same ≡ false → name ≢ word
-not_named same name word is unlike e = false≢true (sym unlike ∙ (is ∙ (bytes_eq-Decides name word).1 e))
-
-pub named : (same : Bool) (name word : List ℕ) → same ≡ bytes_eq name word → same ≡ true → name ≡ word
-named same name word is like = (bytes_eq-Decides name word).0 (sym is ∙ like)

@@ -1,5 +1,6 @@
-ghost use Rattle.std.specs.Prelude.{IfOk};
-ghost use Rattle.clap.specs.Words.{App, Rule, new_app, with_rule, with_subcommand};
+ghost use Rattle.std.specs.Int.{int_max, int_min};
+ghost use Rattle.std.specs.Prelude.{IfOk, Some, pos};
+ghost use Rattle.clap.specs.Words.{App, Rule, new_app, signed_between, with_rule, with_subcommand};
 ghost use Rattle.ub_words.specs.CommandLine.{IsArgFor, IsCommandFor, append_app, check_app, data_app, describe_app, dims_rule, load_app, name_rule, next_app, option_rule, page_rows_rule, query_app, run_app, signed_rule, try_app, ubq_app, upgrade_app, word_rule};
 
 use clap::{Arg, Command, value_parser};
@@ -319,7 +320,10 @@ fn with_command<'a>(command: Making<'a>, below: Making<'a>) -> Making<'a>
         → IfOk below.entry (IsCommandFor under)
         → IfOk result (IsCommandFor (with_subcommand app under.top)) }
 {
-    command?.subcommand(below?)
+    let (Ok(command), Ok(below)) = (command, below) else {
+        return Err(AllocError);
+    };
+    command.subcommand(below)
 }
 
 // A command of this name, with what the program's help says of it, and what stands at the end of its own.
@@ -351,15 +355,30 @@ fn option_arg<'a>(alloc: Global, id: &'a str, value: &'a str, help: &'a str) -> 
     Arg::new(alloc, id).long(id).value_name(value).help(help)
 }
 
+// An option whose value is a number of 32 bits, from `least` to `most`.
+fn number_arg<'a>(
+    alloc: Global,
+    id: &'a str,
+    value: &'a str,
+    help: &'a str,
+    least: i64,
+    most: i64,
+) -> Arg<'a>
+    ensures { IsArgFor (record (option_rule id.entry.now) {
+      parser = Some
+          (signed_between (int_max (pos 0) least) (int_min (pos 4294967295) most));
+    }) result }
+{
+    option_arg(alloc, id, value, help).value_parser(value_parser!(u32).range(least..=most))
+}
+
 // The option that says how many columns are dimensions.
 fn dims_arg<'a>(alloc: Global) -> Arg<'a>
     ensures { IsArgFor dims_rule result }
 {
     let help =
         "How many of the first columns are dimensions, 1 to 4: those that the table is sorted by";
-    option_arg(alloc, "dims", "D", help)
-        .required(true)
-        .value_parser(value_parser!(u32).range(1..=4))
+    number_arg(alloc, "dims", "D", help, 1, 4).required(true)
 }
 
 // The option that says which dimensions are signed.
@@ -368,9 +387,7 @@ fn signed_arg<'a>(alloc: Global) -> Arg<'a>
 {
     let help = "\
 Which dimensions are signed: 1 for the first, 2 for the second, 4, 8, added up; their values are -2147483648 to 2147483647";
-    option_arg(alloc, "signed", "MASK", help)
-        .default_value("0")
-        .value_parser(value_parser!(u32).range(0..=15))
+    number_arg(alloc, "signed", "MASK", help, 0, 15).default_value("0")
 }
 
 // The option that says how many rows a page holds.
@@ -378,9 +395,7 @@ fn page_rows_arg<'a>(alloc: Global) -> Arg<'a>
     ensures { IsArgFor page_rows_rule result }
 {
     let help = "How many rows a page holds at most, 2 to 64";
-    option_arg(alloc, "page-rows", "C", help)
-        .default_value("64")
-        .value_parser(value_parser!(u32).range(2..=64))
+    number_arg(alloc, "page-rows", "C", help, 2, 64).default_value("64")
 }
 
 // The option that says which name the table has.

@@ -1,6 +1,6 @@
-ghost use Rattle.std.specs.Prelude.{◌≡◌, ◌≤◌, ℕ, List, MatchOption, map, option_map, string_bytes};
+ghost use Rattle.std.specs.Prelude.{◌≡◌, ◌≤◌, ℕ, List, MatchOption, Some, map, option_map, string_bytes};
 ghost use Rattle.clap.specs.Words.{first_of, found_of, rows_of, subcommand_rows_of};
-ghost use Rattle.ub_words.specs.CommandLine.{AreNextWords, IsAppendGiven, IsCheckGiven, IsDataGiven, IsDescribeGiven, IsLoadGiven, IsNextGiven, IsNumberGiven, IsQueryGiven, IsRunGiven, IsTryGiven, IsUpgradeGiven};
+ghost use Rattle.ub_words.specs.CommandLine.{AreNextWords, IsDataGiven, IsLoadGiven, IsNextGiven, IsNumberGiven, IsTryGiven};
 
 use clap::ArgMatches;
 
@@ -97,10 +97,25 @@ pub struct NextWords<'a> {
 }
 
 // The text that was given for an argument, or that its default says.
-fn text_given<'a>(matches: &ArgMatches<'a>, id: &str) -> Option<&'a str>
+pub(crate) fn text_given<'a>(matches: &ArgMatches<'a>, id: &str) -> Option<&'a str>
     ensures { option_map (λ text. text.now) result ≡ first_of id.now (rows_of (found_of matches.now)) }
 {
     matches.get_str(id)
+}
+
+// The texts that were given for two arguments, where both were.
+pub(crate) fn texts_given<'a>(
+    matches: &ArgMatches<'a>,
+    first: &str,
+    second: &str,
+) -> Option<(&'a str, &'a str)>
+    ensures { MatchOption result
+        ((one other : List ℕ) → ¬ ((first_of first.now (rows_of (found_of matches.now)) ≡ Some one)
+        × (first_of second.now (rows_of (found_of matches.now)) ≡ Some other)))
+        (λ texts. (first_of first.now (rows_of (found_of matches.now)) ≡ Some texts.0.now)
+        × (first_of second.now (rows_of (found_of matches.now)) ≡ Some texts.1.now)) }
+{
+    Some((text_given(matches, first)?, text_given(matches, second)?))
 }
 
 // The number that was given for an option, or that its default says, within these bounds.
@@ -164,79 +179,6 @@ pub(crate) fn load_words<'a>(matches: &ArgMatches<'a>) -> Option<LoadWords<'a>>
     })
 }
 
-// What was given for the command `run`.
-pub(crate) fn run_words<'a>(matches: &ArgMatches<'a>) -> Option<RunWords<'a>>
-    ensures { MatchOption result
-        ((table script : List ℕ) → ¬ (IsRunGiven (rows_of (found_of matches.now)) table script))
-        (λ words. IsRunGiven (rows_of (found_of matches.now)) words.table.now words.script.now) }
-{
-    Some(RunWords {
-        table: text_given(matches, "TABLE")?,
-        script: text_given(matches, "SCRIPT")?,
-    })
-}
-
-// What was given for the command `query`.
-pub(crate) fn query_words<'a>(matches: &ArgMatches<'a>) -> Option<QueryWords<'a>>
-    ensures { MatchOption result
-        ((table statements : List ℕ)
-        → ¬ (IsQueryGiven (rows_of (found_of matches.now)) table statements))
-        (λ words. IsQueryGiven (rows_of (found_of matches.now))
-        words.table.now words.statements.now) }
-{
-    Some(QueryWords {
-        table: text_given(matches, "TABLE")?,
-        statements: text_given(matches, "STATEMENTS")?,
-    })
-}
-
-// What was given for the command `append`.
-pub(crate) fn append_words<'a>(matches: &ArgMatches<'a>) -> Option<AppendWords<'a>>
-    ensures { MatchOption result
-        ((table source : List ℕ)
-        → ¬ (IsAppendGiven (rows_of (found_of matches.now)) table source))
-        (λ words. IsAppendGiven (rows_of (found_of matches.now)) words.table.now words.data.now) }
-{
-    Some(AppendWords {
-        data: text_given(matches, "DATA")?,
-        table: text_given(matches, "TABLE")?,
-    })
-}
-
-// What was given for the command `upgrade`.
-pub(crate) fn upgrade_words<'a>(matches: &ArgMatches<'a>) -> Option<UpgradeWords<'a>>
-    ensures { MatchOption result
-        ((old new : List ℕ) → ¬ (IsUpgradeGiven (rows_of (found_of matches.now)) old new))
-        (λ words. IsUpgradeGiven (rows_of (found_of matches.now)) words.old.now words.new.now) }
-{
-    Some(UpgradeWords {
-        old: text_given(matches, "OLD")?,
-        new: text_given(matches, "NEW")?,
-    })
-}
-
-// What was given for the command `describe`.
-pub(crate) fn describe_words<'a>(matches: &ArgMatches<'a>) -> Option<DescribeWords<'a>>
-    ensures { MatchOption result
-        ((table : List ℕ) → ¬ (IsDescribeGiven (rows_of (found_of matches.now)) table))
-        (λ words. IsDescribeGiven (rows_of (found_of matches.now)) words.table.now) }
-{
-    Some(DescribeWords {
-        table: text_given(matches, "TABLE")?,
-    })
-}
-
-// What was given for the command `check`.
-pub(crate) fn check_words<'a>(matches: &ArgMatches<'a>) -> Option<CheckWords<'a>>
-    ensures { MatchOption result
-        ((table : List ℕ) → ¬ (IsCheckGiven (rows_of (found_of matches.now)) table))
-        (λ words. IsCheckGiven (rows_of (found_of matches.now)) words.table.now) }
-{
-    Some(CheckWords {
-        table: text_given(matches, "TABLE")?,
-    })
-}
-
 // What was given for the command `next`.
 pub(crate) fn next_words<'a>(matches: &ArgMatches<'a>) -> Option<NextWords<'a>>
     ensures { MatchOption result
@@ -244,11 +186,9 @@ pub(crate) fn next_words<'a>(matches: &ArgMatches<'a>) -> Option<NextWords<'a>>
         (λ words. IsNextGiven (rows_of (found_of matches.now))
         words.low.now words.high.now words.address.now) }
 {
-    Some(NextWords {
-        low: text_given(matches, "LO")?,
-        high: text_given(matches, "HI")?,
-        address: text_given(matches, "Z")?,
-    })
+    let (low, high) = texts_given(matches, "LO", "HI")?;
+    let address = text_given(matches, "Z")?;
+    Some(NextWords { low, high, address })
 }
 
 // The three words after `next`, where there are no others.

@@ -6,8 +6,8 @@ ghost use Rattle.ub_words.specs.CommandLine.{AsksNothing, IsTaken, standard_inpu
 use crate::builder::program;
 use crate::given::{
     AppendWords, CheckWords, DescribeWords, LoadWords, NextWords, QueryWords, RunWords, TryWords,
-    UpgradeWords, append_words, check_words, command_found, describe_words, load_words, next_words,
-    query_words, run_words, three_after_next, try_words, upgrade_words,
+    UpgradeWords, command_found, load_words, next_words, text_given, texts_given, three_after_next,
+    try_words,
 };
 use clap::ArgMatches;
 use clap::error::ErrorKind;
@@ -74,26 +74,17 @@ fn asked_by_command<'a>(
     ensures { (words : List (List ℕ)) → IsTaken words (Some (name.now, rows_of (found_of found.now)))
         → IfOk result (IsAskedBy words) }
 {
-    if name == "load" {
-        asked_by_load(alloc, found)
-    } else if name == "run" {
-        asked_by_run(alloc, found)
-    } else if name == "query" {
-        asked_by_query(alloc, found)
-    } else if name == "append" {
-        asked_by_append(alloc, found)
-    } else if name == "try" {
-        asked_by_try(alloc, found)
-    } else if name == "upgrade" {
-        asked_by_upgrade(alloc, found)
-    } else if name == "describe" {
-        asked_by_describe(alloc, found)
-    } else if name == "check" {
-        asked_by_check(alloc, found)
-    } else if name == "next" {
-        asked_by_next(alloc, found)
-    } else {
-        no_command(alloc)
+    match name {
+        "load" => asked_by_load(alloc, found),
+        "run" => asked_by_run(alloc, found),
+        "query" => asked_by_query(alloc, found),
+        "append" => asked_by_append(alloc, found),
+        "try" => asked_by_try(alloc, found),
+        "upgrade" => asked_by_upgrade(alloc, found),
+        "describe" => asked_by_describe(alloc, found),
+        "check" => asked_by_check(alloc, found),
+        "next" => asked_by_next(alloc, found),
+        _ => no_command(alloc),
     }
 }
 
@@ -113,8 +104,8 @@ fn asked_by_run<'a>(alloc: Global, found: &ArgMatches<'a>) -> Result<Asked<'a>, 
     ensures { (words : List (List ℕ)) → IsTaken words (Some (codes "run", rows_of (found_of found.now)))
         → IfOk result (IsAskedBy words) }
 {
-    match run_words(found) {
-        Some(asked) => Ok(Asked::Run(asked)),
+    match texts_given(found, "TABLE", "SCRIPT") {
+        Some((table, script)) => Ok(Asked::Run(RunWords { table, script })),
         None => no_command(alloc),
     }
 }
@@ -125,8 +116,8 @@ fn asked_by_query<'a>(alloc: Global, found: &ArgMatches<'a>) -> Result<Asked<'a>
         → IsTaken words (Some (codes "query", rows_of (found_of found.now)))
         → IfOk result (IsAskedBy words) }
 {
-    match query_words(found) {
-        Some(asked) => Ok(Asked::Query(asked)),
+    match texts_given(found, "TABLE", "STATEMENTS") {
+        Some((table, statements)) => Ok(Asked::Query(QueryWords { table, statements })),
         None => no_command(alloc),
     }
 }
@@ -137,8 +128,8 @@ fn asked_by_append<'a>(alloc: Global, found: &ArgMatches<'a>) -> Result<Asked<'a
         → IsTaken words (Some (codes "append", rows_of (found_of found.now)))
         → IfOk result (IsAskedBy words) }
 {
-    match append_words(found) {
-        Some(asked) => Ok(Asked::Append(asked)),
+    match texts_given(found, "TABLE", "DATA") {
+        Some((table, data)) => Ok(Asked::Append(AppendWords { table, data })),
         None => no_command(alloc),
     }
 }
@@ -170,8 +161,8 @@ fn asked_by_upgrade<'a>(alloc: Global, found: &ArgMatches<'a>) -> Result<Asked<'
     ensures { (words : List (List ℕ)) → IsTaken words (Some (codes "upgrade", rows_of (found_of found.now)))
         → IfOk result (IsAskedBy words) }
 {
-    match upgrade_words(found) {
-        Some(asked) => Ok(Asked::Upgrade(asked)),
+    match texts_given(found, "OLD", "NEW") {
+        Some((old, new)) => Ok(Asked::Upgrade(UpgradeWords { old, new })),
         None => no_command(alloc),
     }
 }
@@ -181,8 +172,8 @@ fn asked_by_describe<'a>(alloc: Global, found: &ArgMatches<'a>) -> Result<Asked<
     ensures { (words : List (List ℕ)) → IsTaken words (Some (codes "describe", rows_of (found_of found.now)))
         → IfOk result (IsAskedBy words) }
 {
-    match describe_words(found) {
-        Some(asked) => Ok(Asked::Describe(asked)),
+    match text_given(found, "TABLE") {
+        Some(table) => Ok(Asked::Describe(DescribeWords { table })),
         None => no_command(alloc),
     }
 }
@@ -192,8 +183,8 @@ fn asked_by_check<'a>(alloc: Global, found: &ArgMatches<'a>) -> Result<Asked<'a>
     ensures { (words : List (List ℕ)) → IsTaken words (Some (codes "check", rows_of (found_of found.now)))
         → IfOk result (IsAskedBy words) }
 {
-    match check_words(found) {
-        Some(asked) => Ok(Asked::Check(asked)),
+    match text_given(found, "TABLE") {
+        Some(table) => Ok(Asked::Check(CheckWords { table })),
         None => no_command(alloc),
     }
 }
@@ -220,9 +211,16 @@ fn no_command<'a>(alloc: Global) -> Result<Asked<'a>, AllocError>
 fn wrong<'a>(alloc: Global, message: &str) -> Result<Asked<'a>, AllocError>
     ensures { (words : List (List ℕ)) → AsksNothing words → IfOk result (IsAskedBy words) }
 {
-    let mut text = Vec::from_slice(alloc, message.as_bytes())?;
-    text.push(b'\n')?;
-    Ok(Asked::Wrong(text))
+    Ok(Asked::Wrong(line(alloc, message)?))
+}
+
+// A text, with a line feed at its end.
+fn line(alloc: Global, text: &str) -> Result<Vec<u8>, AllocError>
+    ensures { IfOk result (λ line. AreLines line.items) }
+{
+    let mut line = Vec::from_slice(alloc, text.as_bytes())?;
+    line.push(b'\n')?;
+    Ok(line)
 }
 
 // What words ask for that `clap` refuses, or that ask for the help or the version. Three words after `next` ask for
@@ -238,15 +236,11 @@ fn asked_by_refused<'a>(
     match error.kind() {
         ErrorKind::OutOfMemory => Err(AllocError),
         ErrorKind::DisplayHelp | ErrorKind::DisplayVersion => {
-            let text = usage_lines(alloc, error)?;
-            Ok(Asked::Help(text))
+            Ok(Asked::Help(usage_lines(alloc, error)?))
         }
         _ => match three_after_next(words) {
             Some(asked) => Ok(Asked::Next(asked)),
-            None => {
-                let text = usage_lines(alloc, error)?;
-                Ok(Asked::Wrong(text))
-            }
+            None => Ok(Asked::Wrong(usage_lines(alloc, error)?)),
         },
     }
 }
@@ -256,7 +250,5 @@ fn usage_lines(alloc: Global, error: &clap::Error) -> Result<Vec<u8>, AllocError
     ensures { IfOk result (λ text. AreLines text.items) }
 {
     let text = format!(in alloc; "{error}")?;
-    let mut bytes = Vec::from_slice(alloc, text.trim_end().as_bytes())?;
-    bytes.push(b'\n')?;
-    Ok(bytes)
+    line(alloc, text.trim_end())
 }

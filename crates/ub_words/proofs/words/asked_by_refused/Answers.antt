@@ -13,14 +13,14 @@ returns-in-Some c =
       | inr among ↦ inr (some_fault _ _ among, c.in-Some.ensures, no_help_refused _ _ among no_help no_version)
     ]
 
-pub returns-in_ok-text-in-None : goal.returns-in_ok-text-in-None
-returns-in_ok-text-in-None c =
+pub returns-in_ok-usage_lines-in-None : goal.returns-in_ok-usage_lines-in-None
+returns-in_ok-usage_lines-in-None c =
     let no_help : kind_of c.args.error.now ≢ DisplayHelp = λ same. c.in_default.not-DisplayHelp (c.kind.ensures ∙ same) in
     let no_version : kind_of c.args.error.now ≢ DisplayVersion = λ same. c.in_default.not-DisplayVersion (c.kind.ensures ∙ same) in
     λ has. elim has [
       | inl memory ↦ absurd (c.in_default.not-OutOfMemory (c.kind.ensures ∙ memory))
-      | inr among ↦ (nothing_by_refusal _ (some_fault _ _ among) (no_help_refused _ _ among no_help no_version) c.in-None.ensures, c.in_ok-text-in-None.ensures)
+      | inr among ↦ (nothing_by_refusal _ (some_fault _ _ among) (no_help_refused _ _ among no_help no_version) c.in-None.ensures, c.in_ok-usage_lines-in-None.ensures)
     ]
 
-pub returns-in_ok-text-in-DisplayHelp : goal.returns-in_ok-text-in-DisplayHelp
-returns-in_ok-text-in-DisplayHelp c = search rules
+pub returns-in_ok-usage_lines-in-DisplayHelp : goal.returns-in_ok-usage_lines-in-DisplayHelp
+returns-in_ok-usage_lines-in-DisplayHelp c = search rules

@@ -3,7 +3,9 @@ use Rattle.ub_words.proofs.AskFacts.{nothing_by_run}
 use Rattle.ub_words.proofs.words.asked_by_run.Goals as goal
 
 pub returns-in-Some : goal.returns-in-Some
-returns-in-Some c = λ words taken. (rows_of (found_of c.args.found.now), taken, c.in-Some.ensures)
+returns-in-Some c = λ words taken.
+    (rows_of (found_of c.args.found.now), taken, record { table_is = c.in-Some.ensures.0; script_is = c.in-Some.ensures.1 })
 
 pub returns-in-None : goal.returns-in-None
-returns-in-None c = λ words taken. c.no_command.ensures words (nothing_by_run words (rows_of (found_of c.args.found.now)) taken c.in-None.ensures)
+returns-in-None c = λ words taken. c.no_command.ensures words (nothing_by_run words (rows_of (found_of c.args.found.now)) taken
+    (λ table script given. c.in-None.ensures table script (given.table_is, given.script_is)))
