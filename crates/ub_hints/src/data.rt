@@ -1,9 +1,10 @@
 //! What is wrong with a CSV file.
 
-use crate::heading::{put_misfit, put_missing, schema_by};
+use crate::heading::{put_column, put_misfit, put_missing, schema_by};
 use crate::names::{has_column, in_other_case, put_columns, put_quoted_name};
 use crate::record::{Record, Sought, find_record};
 use crate::shown::{MOST_SHOWN, put_path, put_quoted, put_shown};
+use crate::told::Told;
 use std::alloc::{AllocError, Global};
 use ub_load::{LoadFault, read_rows};
 use ub_table::Schema;
@@ -43,11 +44,11 @@ fn heading_hint(
     source: &DataWords<'_>,
     header: &Record,
 ) -> Result<String, AllocError> {
-    let mut line = String::new(alloc);
-    put_path(&mut line, source.path)?;
-    put_misfit(&mut line, source, header)?;
-    line.push('\n')?;
-    Ok(line)
+    let mut line = Told::new(alloc);
+    put_path(&mut line, source.path);
+    put_misfit(&mut line, source, header);
+    line.push('\n');
+    line.whole()
 }
 
 /// What is wrong with a text that is to be appended to a table of this schema; nothing where that isn't known.
@@ -101,11 +102,11 @@ fn record_hint(
     schema: &Schema,
     fault: LoadFault,
 ) -> Result<String, AllocError> {
-    let mut line = String::new(alloc);
-    put_path(&mut line, path)?;
-    put_fault(&mut line, header, record, schema, fault)?;
-    line.push('\n')?;
-    Ok(line)
+    let mut line = Told::new(alloc);
+    put_path(&mut line, path);
+    put_fault(&mut line, header, record, schema, fault);
+    line.push('\n');
+    line.whole()
 }
 
 // The record of which a fault tells, if it tells of one.
@@ -122,88 +123,71 @@ fn faulty_record(alloc: Global, text: &[u8], header: &Record, fault: LoadFault) 
 }
 
 // Puts what a fault of a record is.
-fn put_fault(
-    line: &mut String,
-    header: &Record,
-    record: &Record,
-    schema: &Schema,
-    fault: LoadFault,
-) -> Result<(), AllocError> {
+fn put_fault(line: &mut Told, header: &Record, record: &Record, schema: &Schema, fault: LoadFault) {
     match fault {
         LoadFault::BadName(column) => put_stranger(line, column, header.field(column), schema),
         LoadFault::ColumnCount => put_missing(line, schema, header),
         LoadFault::BadNumber { row: _, column } => {
-            put_field(line, header, record, column)?;
-            line.push_str(" is no whole number")
+            put_field(line, header, record, column);
+            line.push_str(" is no whole number");
         }
         LoadFault::OutOfRange { row: _, column } => {
-            put_field(line, header, record, column)?;
-            line.push_str(" is not in ")?;
-            line.push_str(range_of(schema, header.field(column)))
+            put_field(line, header, record, column);
+            line.push_str(" is not in ");
+            line.push_str(range_of(schema, header.field(column)));
         }
         LoadFault::Csv => put_lengths(line, header, record),
-        _ => Ok(()),
+        _ => {}
     }
 }
 
 // Puts that a column of a text is none of the table's, or stands twice.
-fn put_stranger(
-    line: &mut String,
-    column: u32,
-    name: &[u8],
-    schema: &Schema,
-) -> Result<(), AllocError> {
-    write!(line, "column {column}: ")?;
-    put_quoted(line, name)?;
+fn put_stranger(line: &mut Told, column: u32, name: &[u8], schema: &Schema) {
+    put_column(line, column);
+    put_quoted(line, name);
     if has_column(schema, name) {
-        return line.push_str(" stands twice");
+        line.push_str(" stands twice");
+    } else {
+        line.push_str(" is no column of the table: it has ");
+        put_columns(line, schema);
+        put_other_case(line, schema, name);
     }
-    line.push_str(" is no column of the table: it has ")?;
-    put_columns(line, schema)?;
-    put_other_case(line, schema, name)
 }
 
 /// Puts the column that a name means but for the case of its letters, if there is one.
-pub(crate) fn put_other_case(
-    line: &mut String,
-    schema: &Schema,
-    name: &[u8],
-) -> Result<(), AllocError> {
-    let Some(column) = in_other_case(schema, name) else {
-        return Ok(());
-    };
-    line.push_str("; write ")?;
-    put_quoted_name(line, column)
+pub(crate) fn put_other_case(line: &mut Told, schema: &Schema, name: &[u8]) {
+    if let Some(column) = in_other_case(schema, name) {
+        line.push_str("; write ");
+        put_quoted_name(line, column);
+    }
 }
 
 // Puts where a record stands.
-fn put_record(line: &mut String, record: &Record) -> Result<(), AllocError> {
-    let (number, row) = (record.line, record.row);
-    write!(line, "line {number}, row {row}")
+fn put_record(line: &mut Told, record: &Record) {
+    line.push_str("line ");
+    line.push_number(record.line);
+    line.push_str(", row ");
+    line.push_number(record.row as usize);
 }
 
 // Puts where a field stands, and what stands there.
-fn put_field(
-    line: &mut String,
-    header: &Record,
-    record: &Record,
-    column: u32,
-) -> Result<(), AllocError> {
-    put_record(line, record)?;
-    write!(line, ", column {column} (")?;
-    put_shown(line, header.field(column), MOST_SHOWN)?;
-    line.push_str("): ")?;
-    put_quoted(line, record.field(column))
+fn put_field(line: &mut Told, header: &Record, record: &Record, column: u32) {
+    put_record(line, record);
+    line.push_str(", column ");
+    line.push_number(column as usize);
+    line.push_str(" (");
+    put_shown(line, header.field(column), MOST_SHOWN);
+    line.push_str("): ");
+    put_quoted(line, record.field(column));
 }
 
 // Puts that a record is longer or shorter than the header.
-fn put_lengths(line: &mut String, header: &Record, record: &Record) -> Result<(), AllocError> {
-    let (count, wanted) = (record.fields.len(), header.fields.len());
-    put_record(line, record)?;
-    write!(
-        line,
-        ": the header has {wanted} fields, and this row {count}"
-    )
+fn put_lengths(line: &mut Told, header: &Record, record: &Record) {
+    put_record(line, record);
+    line.push_str(": the header has ");
+    line.push_number(header.fields.len());
+    line.push_str(" fields, and this row ");
+    line.push_number(record.fields.len());
 }
 
 // The values that the column of this name can hold.

@@ -1,7 +1,7 @@
 //! A line of a script, with a mark below a place in it.
 
 use crate::shown::put_shown;
-use std::alloc::AllocError;
+use crate::told::Told;
 
 // The most bytes that are shown of a line before the mark, and from it on.
 const MOST_BEFORE: usize = 60;
@@ -38,26 +38,26 @@ impl<'a> Spot<'a> {
     }
 
     /// Puts the line, and another one with a mark below the place.
-    pub(crate) fn put_lines(&self, text: &mut String) -> Result<(), AllocError> {
+    pub(crate) fn put_lines(&self, text: &mut Told) {
         let from = first_shown(self.before);
         let shown = self.before.get(from..).unwrap_or(self.before);
         let cut = if from > 0 { "..." } else { "" };
-        text.push_str(MARGIN)?;
-        text.push_str(cut)?;
-        put_shown(text, shown, MOST_BEFORE)?;
-        put_shown(text, self.after, MOST_AFTER)?;
-        text.push('\n')?;
-        put_mark(text, cut.len().saturating_add(width_of(shown)))
+        text.push_str(MARGIN);
+        text.push_str(cut);
+        put_shown(text, shown, MOST_BEFORE);
+        put_shown(text, self.after, MOST_AFTER);
+        text.push('\n');
+        put_mark(text, cut.len().saturating_add(width_of(shown)));
     }
 }
 
 // Puts a line with a mark behind so many blanks.
-fn put_mark(text: &mut String, blanks: usize) -> Result<(), AllocError> {
-    text.push_str(MARGIN)?;
+fn put_mark(text: &mut Told, blanks: usize) {
+    text.push_str(MARGIN);
     for _ in 0..blanks {
-        text.push(' ')?;
+        text.push(' ');
     }
-    text.push_str("^\n")
+    text.push_str("^\n");
 }
 
 // Where the last line of a text begins.

@@ -2,7 +2,8 @@
 
 use crate::record::{Record, trimmed};
 use crate::shown::put_quoted;
-use std::alloc::{AllocError, Global};
+use crate::told::Told;
+use std::alloc::Global;
 use ub_table::{Name, Schema};
 use ub_words::DataWords;
 
@@ -34,22 +35,32 @@ fn columns_of(alloc: Global, header: &Record) -> Option<Vec<Name>> {
 }
 
 /// Puts why a text with this header is no table.
-pub(crate) fn put_misfit(
-    line: &mut String,
-    source: &DataWords<'_>,
-    header: &Record,
-) -> Result<(), AllocError> {
+pub(crate) fn put_misfit(line: &mut Told, source: &DataWords<'_>, header: &Record) {
     let (count, dims) = (header.fields.len(), source.dims as usize);
     let most = dims.saturating_add(MOST_MEASURES);
     if count < dims || count > most {
-        return write!(
-            line,
-            "columns in the header: {count}; --dims {dims} takes {dims} to {most}"
-        );
+        put_bad_count(line, count, dims, most);
+    } else if Name::new(source.name.as_bytes()).is_err() {
+        put_bad_table(line, source.name);
+    } else {
+        put_bad_column(line, header);
     }
-    if Name::new(source.name.as_bytes()).is_err() {
-        return put_bad_table(line, source.name);
-    }
+}
+
+// Puts that a header has not so many columns as a table with so many dimensions.
+fn put_bad_count(line: &mut Told, count: usize, dims: usize, most: usize) {
+    line.push_str("columns in the header: ");
+    line.push_number(count);
+    line.push_str("; --dims ");
+    line.push_number(dims);
+    line.push_str(" takes ");
+    line.push_number(dims);
+    line.push_str(" to ");
+    line.push_number(most);
+}
+
+// Puts which column of a header is badly named.
+fn put_bad_column(line: &mut Told, header: &Record) {
     match first_bad(header) {
         Some(column) => put_bad(line, column, header.field(column)),
         None => line.push_str("this header makes no table"),
@@ -77,10 +88,17 @@ fn place_of(header: &Record, name: &[u8]) -> usize {
     header.fields.len()
 }
 
+/// Puts of which column, from 1, something is told.
+pub(crate) fn put_column(line: &mut Told, column: u32) {
+    line.push_str("column ");
+    line.push_number(column as usize);
+    line.push_str(": ");
+}
+
 // Puts that a column is badly named.
-fn put_bad(line: &mut String, column: u32, name: &[u8]) -> Result<(), AllocError> {
-    write!(line, "column {column}: ")?;
-    put_quoted(line, name)?;
+fn put_bad(line: &mut Told, column: u32, name: &[u8]) {
+    put_column(line, column);
+    put_quoted(line, name);
     match Name::new(name) {
         Ok(_) => line.push_str(" stands twice"),
         Err(_) => line.push_str(
@@ -90,25 +108,20 @@ fn put_bad(line: &mut String, column: u32, name: &[u8]) -> Result<(), AllocError
 }
 
 // Puts that the table is badly named.
-fn put_bad_table(line: &mut String, name: &str) -> Result<(), AllocError> {
-    put_quoted(line, name.as_bytes())?;
-    line.push_str(" is no name of a table")
+fn put_bad_table(line: &mut Told, name: &str) {
+    put_quoted(line, name.as_bytes());
+    line.push_str(" is no name of a table");
 }
 
 /// Puts the names of the table's columns that the header doesn't name.
-pub(crate) fn put_missing(
-    line: &mut String,
-    schema: &Schema,
-    header: &Record,
-) -> Result<(), AllocError> {
-    line.push_str("the header has no")?;
+pub(crate) fn put_missing(line: &mut Told, schema: &Schema, header: &Record) {
+    line.push_str("the header has no");
     let mut comma = " ";
     for name in schema.columns() {
         if place_of(header, name.bytes()) == header.fields.len() {
-            line.push_str(comma)?;
-            put_quoted(line, name.bytes())?;
+            line.push_str(comma);
+            put_quoted(line, name.bytes());
             comma = ", ";
         }
     }
-    Ok(())
 }

@@ -5,8 +5,8 @@
 // `telling` is the whole of it: it asks the words again what was asked, and reads anew what that names (`reading`). Of a CSV text
 // `data` tells the first thing that is wrong, by its `heading` and one of its records (`record`); of a script `statements` tells its
 // first refused statements, `excerpt` shows the line with a mark below it, and `advice` says what to write instead. `shown` is how bytes
-// of a file are shown, and `names` how columns are listed. The refusals are those of the crates below, found again by the calls
-// that found them first.
+// of a file are shown, `names` how columns are listed, and `told` a text in the making, into which all of them put their parts. The
+// refusals are those of the crates below, found again by the calls that found them first.
 #![tactic(auto)]
 
 mod advice;
@@ -19,5 +19,6 @@ mod record;
 mod shown;
 mod statements;
 mod telling;
+mod told;
 
 pub use telling::hint;

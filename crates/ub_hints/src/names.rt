@@ -1,31 +1,29 @@
 //! The names of a table's columns, as they are listed for people.
 
 use crate::shown::put_quoted;
-use std::alloc::AllocError;
+use crate::told::Told;
 use ub_table::{Name, Schema};
 
 /// Puts the names of all columns, with commas between them.
-pub(crate) fn put_columns(line: &mut String, schema: &Schema) -> Result<(), AllocError> {
+pub(crate) fn put_columns(line: &mut Told, schema: &Schema) {
     let mut comma = "";
     for name in schema.columns() {
-        line.push_str(comma)?;
-        put_name(line, name)?;
+        line.push_str(comma);
+        put_name(line, name);
         comma = ", ";
     }
-    Ok(())
 }
 
 /// Puts a name, in quotes.
-pub(crate) fn put_quoted_name(line: &mut String, name: &Name) -> Result<(), AllocError> {
-    put_quoted(line, name.bytes())
+pub(crate) fn put_quoted_name(line: &mut Told, name: &Name) {
+    put_quoted(line, name.bytes());
 }
 
 // Puts a name: its bytes are letters, digits and `_`.
-fn put_name(line: &mut String, name: &Name) -> Result<(), AllocError> {
+fn put_name(line: &mut Told, name: &Name) {
     for byte in name.bytes() {
-        line.push(char::from(*byte))?;
+        line.push(char::from(*byte));
     }
-    Ok(())
 }
 
 /// Whether a column has this name.

@@ -7,6 +7,7 @@ use crate::data::put_other_case;
 use crate::excerpt::Spot;
 use crate::names::{put_columns, put_quoted_name};
 use crate::shown::{put_path, put_quoted};
+use crate::told::Told;
 use std::alloc::{AllocError, Global};
 use ub_lexer::{Token, lex, statements};
 use ub_parser::{SqlFault, parse};
@@ -40,14 +41,14 @@ pub(crate) fn statement_hints(
     let script = Script { path, text, schema };
     let tokens = lex(alloc, text)?;
     let ranges = statements(alloc, &tokens)?;
-    let mut told = String::new(alloc);
+    let mut told = Told::new(alloc);
     let mut left = MOST_HINTS;
     for range in &ranges {
         if left > 0 && put_hint(alloc, &mut told, script, piece_at(text, &tokens, *range))? {
             left = left.saturating_sub(1);
         }
     }
-    Ok(told)
+    told.whole()
 }
 
 // The statement of this range of a script's tokens.
@@ -68,13 +69,13 @@ fn piece_at<'a>(text: &'a [u8], tokens: &[Token], range: (usize, usize)) -> Piec
 // Puts what is told of a statement, if it is refused, and says whether it is.
 fn put_hint(
     alloc: Global,
-    told: &mut String,
+    told: &mut Told,
     script: Script<'_>,
     piece: Piece<'_>,
 ) -> Result<bool, AllocError> {
     let tokens = lex(alloc, piece.text)?;
     match refusal(alloc, piece.text, &tokens, script.schema) {
-        Some(fault) => put_refusal(told, script, piece, &tokens, fault),
+        Some(fault) => Ok(put_refusal(told, script, piece, &tokens, fault)),
         None => Ok(false),
     }
 }
@@ -92,26 +93,26 @@ fn refusal(alloc: Global, text: &[u8], tokens: &[Token], schema: &Schema) -> Opt
     }
 }
 
-// Puts what is told of a refusal, if it has a place.
+// Puts what is told of a refusal, if it has a place, and says whether it has.
 fn put_refusal(
-    told: &mut String,
+    told: &mut Told,
     script: Script<'_>,
     piece: Piece<'_>,
     tokens: &[Token],
     fault: SqlFault,
-) -> Result<bool, AllocError> {
+) -> bool {
     let Some(at) = offset_of(fault) else {
-        return Ok(false);
+        return false;
     };
     let around = Around::of(tokens, at);
     let spot = Spot::at(script.text, piece.start.saturating_add(at));
-    put_path(told, script.path)?;
-    put_spot(told, &spot)?;
-    put_reason(told, piece.text, &around, script.schema, fault)?;
-    told.push('\n')?;
-    spot.put_lines(told)?;
-    put_advice(told, advice_on(piece.text, &around, fault))?;
-    Ok(true)
+    put_path(told, script.path);
+    put_spot(told, &spot);
+    put_reason(told, piece.text, &around, script.schema, fault);
+    told.push('\n');
+    spot.put_lines(told);
+    put_advice(told, advice_on(piece.text, &around, fault));
+    true
 }
 
 // Where a refusal is seen.
@@ -133,49 +134,41 @@ fn offset_of(fault: SqlFault) -> Option<usize> {
 }
 
 // Puts a place in a script.
-fn put_spot(told: &mut String, spot: &Spot<'_>) -> Result<(), AllocError> {
-    let (line, column) = (spot.line, spot.column());
-    write!(told, "line {line}, column {column}: ")
+fn put_spot(told: &mut Told, spot: &Spot<'_>) {
+    told.push_str("line ");
+    told.push_number(spot.line);
+    told.push_str(", column ");
+    told.push_number(spot.column());
+    told.push_str(": ");
 }
 
 // Puts why a statement is refused, by the token at which it is.
-fn put_reason(
-    told: &mut String,
-    text: &[u8],
-    around: &Around,
-    schema: &Schema,
-    fault: SqlFault,
-) -> Result<(), AllocError> {
+fn put_reason(told: &mut Told, text: &[u8], around: &Around, schema: &Schema, fault: SqlFault) {
     match around.there {
         Some(token) => {
             let word = bytes_of(text, &token);
-            put_quoted(told, word)?;
-            put_reason_on(told, word, schema, fault)
+            put_quoted(told, word);
+            put_reason_on(told, word, schema, fault);
         }
         None => told.push_str("the statement isn't complete"),
     }
 }
 
 // Puts what is wrong with this word.
-fn put_reason_on(
-    told: &mut String,
-    word: &[u8],
-    schema: &Schema,
-    fault: SqlFault,
-) -> Result<(), AllocError> {
+fn put_reason_on(told: &mut Told, word: &[u8], schema: &Schema, fault: SqlFault) {
     match fault {
         SqlFault::UnknownTable { .. } => {
-            told.push_str(" isn't the table, which is named ")?;
-            put_quoted_name(told, schema.name())
+            told.push_str(" isn't the table, which is named ");
+            put_quoted_name(told, schema.name());
         }
         SqlFault::UnknownColumn { .. } => {
-            told.push_str(" is no column: the table has ")?;
-            put_columns(told, schema)?;
-            put_other_case(told, schema, word)
+            told.push_str(" is no column: the table has ");
+            put_columns(told, schema);
+            put_other_case(told, schema, word);
         }
         SqlFault::ValueCount { .. } => {
-            told.push_str(": one value is wanted for each of ")?;
-            put_columns(told, schema)
+            told.push_str(": one value is wanted for each of ");
+            put_columns(told, schema);
         }
         fault => told.push_str(reason(fault)),
     }
@@ -197,11 +190,10 @@ fn reason(fault: SqlFault) -> &'static str {
 }
 
 // Puts what to write instead on a line, if anything is known.
-fn put_advice(told: &mut String, advice: Option<&str>) -> Result<(), AllocError> {
-    let Some(advice) = advice else {
-        return Ok(());
-    };
-    told.push_str("    ")?;
-    told.push_str(advice)?;
-    told.push('\n')
+fn put_advice(told: &mut Told, advice: Option<&str>) {
+    if let Some(advice) = advice {
+        told.push_str("    ");
+        told.push_str(advice);
+        told.push('\n');
+    }
 }
