@@ -3,7 +3,7 @@ use Rattle.std.proofs.Common.{◌≡◌, ◌≢◌, ◌<◌, ℕ, eqb, zero, suc
 use Rattle.std.proofs.lemmas.Bool.{cases_Bool}
 use Rattle.std.proofs.lemmas.Slice.Eq.{bytes_eq-Decides}
 use Rattle.std.specs.Option.{ok_or, option_map}
-use Rattle.std.specs.Prelude.{MatchOption, MatchResult, Result, Ok, Err}
+use Rattle.std.specs.Prelude.{◌↔◌, IfErr, IfOk, IsErrOf, MatchOption, MatchResult, Result, Ok, Err}
 use Rattle.std.specs.Str.{bytes_eq}
 use Rattle.ub_files.specs.Files.{Held, absent, bytes, standard_input, untold}
 use Rattle.ub_journal.specs.Image.{Journal}
@@ -131,6 +131,23 @@ used_up_read path old new Is (Some text) fault is h = record {
   used_up = λ _. h.1.0;
   refused = tt;
 }
+
+-- so what is read is the text that was used up, and a fault comes exactly where there was none
+pub text_taken : {T E : Type 0} (held : Held) (items : T → List ℕ) (Kept Done : Type 0) (taken : Option T) (fault : E)
+    → MatchOption taken (((text : List ℕ) → held ≢ bytes text) × Kept) (λ text. (held ≡ bytes (items text)) × Done)
+    → IfOk (ok_or taken fault) (λ text. held ≡ bytes (items text))
+text_taken held items Kept Done None fault h = tt
+text_taken held items Kept Done (Some text) fault h = h.0
+
+pub none_taken : {T E : Type 0} (held : Held) (items : T → List ℕ) (Kept Done : Type 0) (taken : Option T) (fault : E)
+    → MatchOption taken (((text : List ℕ) → held ≢ bytes text) × Kept) (λ text. (held ≡ bytes (items text)) × Done)
+    → IsErrOf (ok_or taken fault) fault ↔ ((text : List ℕ) → held ≢ bytes text)
+none_taken held items Kept Done None fault h = (λ is. h.0, λ no. refl)
+none_taken held items Kept Done (Some text) fault h = (λ is. cc, λ no. absurd (no (items text) h.0))
+
+pub fault_taken : {T E : Type 0} (Is : E → Type 0) (taken : Option T) (fault : E) → Is fault → IfErr (ok_or taken fault) Is
+fault_taken Is None fault is = is
+fault_taken Is (Some text) fault is = tt
 
 -- where nothing was told of a path's file, and nothing is of the one that it was exchanged for, all hold what they did
 pub left_all : (path : List ℕ) (old new : List Entry) (result : Result MemFile MemFile) (file : MemFile) → held_in old path ≡ untold → told file ≡ untold

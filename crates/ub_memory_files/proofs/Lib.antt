@@ -1,3 +1,4 @@
+pub mod CallFacts
 pub mod ClockFacts
 pub mod EntryFacts
 pub mod TableFacts
