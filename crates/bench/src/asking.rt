@@ -46,16 +46,20 @@ fn lies(column: usize, low: u32, high: u32) -> Cond
     }
 }
 
+// That both hold.
+fn and(alloc: Global, a: Cond, b: Cond) -> Result<Cond, AllocError>
+    ensures { IfOk result (λ c. shape c ≡ both (shape a) (shape b)) }
+{
+    Ok(Cond::And(Box::new(alloc, a)?, Box::new(alloc, b)?))
+}
+
 // That each of the three dimensions does.
 fn inside(alloc: Global, low: u32, high: u32) -> Result<Cond, AllocError>
     ensures { IfOk result (λ c. shape c ≡ both (between 0 (pos low) (pos high))
         (both (between 1 (pos low) (pos high)) (between 2 (pos low) (pos high)))) }
 {
-    let last = Cond::And(
-        Box::new(alloc, lies(1, low, high))?,
-        Box::new(alloc, lies(2, low, high))?,
-    );
-    Ok(Cond::And(Box::new(alloc, lies(0, low, high))?, Box::new(alloc, last)?))
+    let last = and(alloc, lies(1, low, high), lies(2, low, high))?;
+    and(alloc, lies(0, low, high), last)
 }
 
 // SELECT x, y, z FROM t WHERE each lies between low and high ORDER BY a column LIMIT limit

@@ -54,7 +54,7 @@ mod trouble;
 
 use addresses::{interleaved, spread_out};
 use conditions::boxes_of_many_cells;
-use events::events;
+use events::{box_between, events};
 use fill::{Filling, Order};
 use generator::Generator;
 use pages::read_and_filter;
@@ -64,7 +64,7 @@ use telling::{COUNTING, CUBES, ORDERS, tell};
 use trial::try_trees;
 use ub_bigmin::ZBox;
 use ub_bigmin::laws::next_by_bits;
-use ub_zaddr::{Point, Shape, last};
+use ub_zaddr::{Shape, last};
 
 // What is called.
 #[derive(Clone, Copy)]
@@ -105,13 +105,7 @@ fn checksum(way: Way, shape: Shape, calls: u64) -> u128 {
     for _ in 0..calls {
         let (low, high) = numbers.corners();
         let z = numbers.address() & last(shape);
-        let dims = shape.dims() as usize;
-        if let (Ok(lo), Ok(hi)) = (
-            Point::new(shape, &low[..dims]),
-            Point::new(shape, &high[..dims]),
-        )
-            && let Some(space) = ZBox::new(shape, &lo, &hi)
-        {
+        if let Some(space) = box_between(shape, &low, &high) {
             sum = sum.rotate_left(1) ^ answer(way, &space, z);
         }
     }
