@@ -233,6 +233,8 @@ pub fn journal_beside(alloc: Global, path: &str) -> Result<String, AllocError> {
 }
 
 // Reads the journal that a store spells. Beside a fault stands the system's reason, where it gave one.
+// Never compiled into its caller, whose frame would hold pages also where no journal stands.
+#[inline(never)]
 fn read_whole<F: RawFile>(
     alloc: Global,
     mut store: FileStore<HostFile<F>>,
