@@ -6,7 +6,8 @@
 A table of 200,000 random rows of three dimensions and two measures is put in by `load`; then scripts of 1, 10,000 and 100,000
 INSERTs run on copies of it, a script that asks once, and a load where no table stands. Each line has the least of the rounds' times of OLD and of NEW in
 milliseconds, without the time inside fsync (by `strace`, which traces nothing else), their ratio, how many calls of fsync each makes, and the most memory of
-each in MB. Keep the machine quiet.
+each in MB. Last comes the query alone, each program started 500 times by turns with no `strace`: the least, the middle one, and how much more NEW takes. Keep the
+machine quiet.
 
 Before each run memory is touched and given back: on a virtual machine whose host takes free memory away, what is new to the machine costs much
 more than what was used a moment ago, so that a program would be timed by what ran before it."""
@@ -23,6 +24,9 @@ import time
 
 # So many bytes are touched: more than a run takes, with the files that it makes in memory.
 TOUCHED = 512 << 20
+
+# How often each program is started for the query alone.
+STARTS = 500
 
 
 def rows(count, seed):
@@ -65,6 +69,19 @@ def memory(words, work, text=None):
         return int(told.read()) / 1024
 
 
+def tell_starts(old, new, words, work):
+    """Prints the least and the middle of the milliseconds of a command that hardly does anything, by turns, and what NEW takes more."""
+    took = {old: [], new: []}
+    for _ in range(STARTS):
+        for program in took:
+            begun = time.perf_counter()
+            subprocess.run([program, *words], cwd=work, check=True, stdout=subprocess.DEVNULL)
+            took[program].append((time.perf_counter() - begun) * 1000)
+    for name, choice in (("least", min), ("middle", lambda times: sorted(times)[len(times) // 2])):
+        before, after = choice(took[old]), choice(took[new])
+        print(f"one query alone, {name} of {STARTS}: {before:.3f}, {after:.3f}, {after - before:.3f} more", flush=True)
+
+
 def main():
     old, new = (os.path.abspath(word) for word in sys.argv[1:3])
     rounds = int(sys.argv[3]) if len(sys.argv) > 3 else 5
@@ -94,6 +111,9 @@ def main():
                     least[program] = min(took, least.get(program, took))
             ratio = least[new] / least[old]
             print(f"{name}, {least[old]:.2f}, {least[new]:.2f}, {ratio:.2f}, {syncs[old]}, {syncs[new]}, {held[old]:.1f}, {held[new]:.1f}", flush=True)
+        with open(os.path.join(work, "query.sql"), "w") as to:
+            to.write("SELECT COUNT(*) FROM t WHERE x < 1000000;")
+        tell_starts(old, new, ["run", "full.ub", "query.sql"], work)
 
 
 if __name__ == "__main__":
