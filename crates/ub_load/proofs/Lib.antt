@@ -1,3 +1,4 @@
+pub mod DigitFacts
 pub mod FieldFacts
 pub mod RefusalFacts
 pub mod RowFacts

@@ -1,9 +1,9 @@
 //! What one field of a record says.
 
-ghost use Rattle.std.specs.Prelude.{◌≡◌, ◌<◌, ◌^◌, ◌↔◌, reverse, IsSome, IfSome, MatchResult};
+ghost use Rattle.std.specs.Prelude.{◌≡◌, ◌<◌, ◌≤◌, ◌^◌, ◌↔◌, true, length, reverse, IsSome, IfSome, MatchResult};
 ghost use Rattle.std.specs.Char.{is_ascii_digit};
 ghost use Rattle.std.specs.List.{list_all};
-ghost use Rattle.std.specs.Str.Parse.{without_leading_sign};
+ghost use Rattle.std.specs.Str.Parse.{AllDigits, digits_value, starts_with_minus, without_leading_sign};
 ghost use Rattle.ub_load.specs.Refusals.{field_refusal, HoldsValue};
 ghost use Rattle.ub_load.specs.Field as spec;
 
@@ -73,8 +73,46 @@ fn without_sign(text: &[u8]) -> &[u8]
     }
 }
 
-// The number that the text writes, where the text is a number (`is_number`) and fits 64 bits with sign.
+// Each number of so many digits fits 64 bits with sign.
+const SURE_DIGITS: usize = 18;
+
+// Whether the text begins with `-`.
+fn is_negative(text: &[u8]) -> bool
+    ensures { result ≡ starts_with_minus text.now }
+{
+    !text.is_empty() && text[0] == b'-'
+}
+
+// The number that a few digits write.
+fn read_digits(digits: &[u8]) -> u64
+    requires few { length digits.now ≤ SURE_DIGITS }
+    requires digits { AllDigits 10 digits.now }
+    ensures value { result ≡ digits_value 10 digits.now }
+    ensures small { result < 10 ^ 18 }
+{
+    let mut value = 0;
+    for byte in digits {
+        value = 10 * value + u64::from(*byte - b'0');
+    }
+    value
+}
+
+// The number that the text writes, which is a number (`is_number`), where it fits 64 bits with sign.
 fn read_number(text: &[u8]) -> Option<i64>
+    requires { spec.is_number text.now ≡ true }
+    ensures value { IfSome result (λ v. v ≡ spec.number_of text.now) }
+    ensures valid { IsSome result ↔ spec.IsWord text.now }
+{
+    let digits = without_sign(text);
+    if digits.len() > SURE_DIGITS {
+        return parse_number(text);
+    }
+    let value = read_digits(digits) as i64;
+    Some(if is_negative(text) { -value } else { value })
+}
+
+// The same of any text, as std parses it.
+fn parse_number(text: &[u8]) -> Option<i64>
     ensures value { IfSome result (λ v. v ≡ spec.number_of text.now) }
     ensures valid { IsSome result ↔ spec.IsWord text.now }
 {

@@ -1,12 +1,20 @@
-use Rattle.std.proofs.lemmas.Bool.{false≢true}
-use Rattle.ub_load.proofs.FieldFacts.{parsed_value, parsed_valid, utf8_from}
+use Rattle.std.proofs.Common.{◌∙◌, sym, refl, subst}
+use Rattle.std.specs.Str.Parse.{AllDigits}
+use Rattle.ub_load.proofs.DigitFacts.{negative_is, negative_word, positive_is, positive_word}
+use Rattle.ub_load.proofs.FieldFacts.{numeral_from}
 use Rattle.ub_load.proofs.field.read_number.Goals as goal
 
-pub returns-in-Ok-clause-value : goal.returns-in-Ok-clause-value
-returns-in-Ok-clause-value c = rw c.ok.ensures.value (parsed_value c.args.text.now c.parse.result (rw c.in-Ok.ensures.cases.0 at c.parse.ensures.value.0))
+pub read_digits-value-requires-clause-digits : goal.read_digits-value-requires-clause-digits
+read_digits-value-requires-clause-digits c = subst (AllDigits 10) (sym c.without_sign-digits.ensures) (numeral_from c.args.text.now c.requires).1
 
-pub returns-in-Ok-clause-valid : goal.returns-in-Ok-clause-valid
-returns-in-Ok-clause-valid c = rw c.ok.ensures.value (parsed_valid c.args.text.now c.parse.result (rw c.in-Ok.ensures.cases.0 at c.parse.ensures.value.0))
+pub returns-then-is_negative-clause-value : goal.returns-then-is_negative-clause-value
+returns-then-is_negative-clause-value c = negative_is c.args.text.now c.read_digits-value.result (rw c.without_sign-digits.ensures at c.read_digits-value.ensures.value) c.read_digits-value.ensures.small (sym c.is_negative.ensures ∙ c.if-is_negative.true)
 
-pub returns-in-Err-clause-valid : goal.returns-in-Err-clause-valid
-returns-in-Err-clause-valid c = (λ bad. absurd (false≢true bad), λ h. absurd (c.in-Err.ensures.cases.0 (utf8_from c.args.text.now h.0)))
+pub returns-then-is_negative-clause-valid : goal.returns-then-is_negative-clause-valid
+returns-then-is_negative-clause-valid c = (λ _. negative_word c.args.text.now c.read_digits-value.result (rw c.without_sign-digits.ensures at c.read_digits-value.ensures.value) c.read_digits-value.ensures.small c.requires (sym c.is_negative.ensures ∙ c.if-is_negative.true), λ _. refl)
+
+pub returns-else-is_negative-clause-value : goal.returns-else-is_negative-clause-value
+returns-else-is_negative-clause-value c = positive_is c.args.text.now c.read_digits-value.result (rw c.without_sign-digits.ensures at c.read_digits-value.ensures.value) c.read_digits-value.ensures.small (sym c.is_negative.ensures ∙ c.if-is_negative.false)
+
+pub returns-else-is_negative-clause-valid : goal.returns-else-is_negative-clause-valid
+returns-else-is_negative-clause-valid c = (λ _. positive_word c.args.text.now c.read_digits-value.result (rw c.without_sign-digits.ensures at c.read_digits-value.ensures.value) c.read_digits-value.ensures.small c.requires (sym c.is_negative.ensures ∙ c.if-is_negative.false), λ _. refl)
