@@ -1,4 +1,5 @@
 pub mod ChangeFacts
+pub mod SlotFacts
 pub mod OverlayFacts
 pub mod JournalFacts
 pub mod ThroughFacts

@@ -1,5 +1,5 @@
 -- Changed pages by their numbers, in ascending order.
-use Rattle.std.specs.Prelude.{◌<◌, ℕ, List, [], ◌∷◌, Option, Some, None, Box, map, nat_eq, cond}
+use Rattle.std.specs.Prelude.{◌<◌, ◌+◌, ℕ, List, [], ◌∷◌, Option, Some, None, Box, map, nat_eq, cond}
 use Rattle.std.specs.Ordering.{match_ordering, nat_cmp}
 use Rattle.std.specs.declared.alloc.Global.{Global}
 use Rattle.ub_journal.specs.declared.journal.Change.{Change}
@@ -11,6 +11,12 @@ change n page = record { number = n; page = page }
 -- the pages that stand in boxes under their numbers
 abbrev pub changes_of : List (ℕ × Box (List ℕ) Global) → List Change
 changes_of entries = map (λ entry. change entry.0 entry.1.value) entries
+
+-- of slots for the numbers from this one on, the pages that are there, each with its number
+abbrev pub held_from : ℕ → List (Option (Box (List ℕ) Global)) → List Change
+held_from n [] = []
+held_from n (None ∷ slots) = held_from (n + 1) slots
+held_from n (Some page ∷ slots) = change n page.value ∷ held_from (n + 1) slots
 
 -- the page of this number among the changes
 abbrev pub changed_page : List Change → ℕ → Option (List ℕ)

@@ -1,29 +1,34 @@
-ghost use Rattle.std.specs.Prelude.{◌≡◌, ◌↔◌, ◌∷◌, [], None, false, IfSome, IfNone, IfOk, OnOk, OnErr, IsTrue};
+ghost use Rattle.std.specs.Prelude.{◌≡◌, ◌<◌, ◌≤◌, ◌+◌, ◌↔◌, ◌∷◌, [], max, None, false, IfSome, IfNone, IfOk, OnOk, OnErr, IsTrue, length};
+ghost use Rattle.std.specs.List.{list_any};
 ghost use Rattle.std.specs.Option.{is_some, option_copied};
 ghost use Rattle.ub_journal.specs.Image.{IsUntouched};
-ghost use Rattle.ub_overlay.specs.Changes.{change, changed_page, changes_of, put_change, put_each};
+ghost use Rattle.ub_overlay.specs.Changes.{change, changed_page, changes_of, held_from, put_change, put_each};
 
 use std::alloc::{AllocError, Global};
-use std::collections::BTreeMap;
 use std::marker::Model;
 use ub_journal::Journal;
 use ub_store::Page;
 
-/// The pages that were changed, under their numbers. Each stands in a box of its own.
+/// The pages that were changed, by their numbers. Each stands in a box of its own.
+///
+/// A change is looked for at each page that is read and written, in no order: so there is a slot for each number up to the greatest
+/// that was changed.
 #[derive(Drop)]
 pub struct Changes {
     alloc: Global,
-    pages: BTreeMap<u32, Box<Page>>,
+    slots: Vec<Option<Box<Page>>>,
 }
 
 impl Model for Changes {
-    ghost use Rattle.std.specs.Prelude.{List};
+    ghost use Rattle.std.specs.Prelude.{◌≤◌, ◌^◌, List, length};
     ghost use Rattle.ub_journal.specs.declared.journal.Change.{Change as Declared};
-    ghost use Rattle.ub_overlay.specs.Changes.{changes_of};
+    ghost use Rattle.ub_overlay.specs.Changes.{held_from};
 
     ghost Value = { List Declared };
 
-    ghost view = { λ c. changes_of c.pages.entries };
+    ghost view = { λ c. held_from 0 c.slots.items };
+
+    ghost invariant = { λ c. length c.slots.items ≤ 2 ^ 32 };
 }
 
 impl Changes {
@@ -33,7 +38,7 @@ impl Changes {
     {
         Changes {
             alloc,
-            pages: BTreeMap::new(alloc),
+            slots: Vec::new(alloc),
         }
     }
 
@@ -41,14 +46,14 @@ impl Changes {
     pub fn is_empty(&self) -> bool
         ensures { IsTrue result ↔ (self.now ≡ []) }
     {
-        self.pages.is_empty()
+        !is_any_held(self.slots.as_slice())
     }
 
     /// The page of this number, if it was changed.
     pub fn get(&self, n: u32) -> Option<&Page>
         ensures { option_copied result ≡ changed_page self.now n }
     {
-        match self.pages.get(&n) {
+        match self.slots.get(n as usize)? {
             Some(page) => Some(page),
             None => None,
         }
@@ -63,7 +68,14 @@ impl Changes {
         if self.write(n, page) {
             return Ok(());
         }
-        self.add(n, page)
+        let at = n as usize;
+        reach(&mut self.slots, at)?;
+        // By `?` the page that was refused would be handed on, and copied for it.
+        let Ok(page) = Box::new(self.alloc, *page) else {
+            return Err(AllocError);
+        };
+        self.slots[at] = Some(page);
+        Ok(())
     }
 
     // Writes over the page of this number, where it is held, and tells whether it is.
@@ -72,26 +84,17 @@ impl Changes {
         ensures written { IsTrue result → self.new ≡ put_change (change n page.now) self.old }
         ensures kept { result ≡ false → self.new ≡ self.old }
     {
-        match self.pages.get_mut(&n) {
+        let at = n as usize;
+        if at >= self.slots.len() {
+            return false;
+        }
+        match &mut self.slots[at] {
             Some(held) => {
                 **held = *page;
                 true
             }
             None => false,
         }
-    }
-
-    // Holds a page of this number that isn't held yet.
-    fn add(&mut self, n: u32, page: &Page) -> Result<(), AllocError>
-        ensures put { OnOk result (self.new ≡ put_change (change n page.now) self.old) }
-        ensures refused { OnErr result (self.new ≡ self.old) }
-    {
-        // By `?` the page that was refused would be handed on, and copied for it.
-        let Ok(page) = Box::new(self.alloc, *page) else {
-            return Err(AllocError);
-        };
-        self.pages.insert(n, page)?;
-        Ok(())
     }
 
     /// Puts the pages of a journal, the first one last. Where memory is refused some of them were put.
@@ -111,21 +114,43 @@ impl Changes {
         ensures taken { IfSome result (λ page. self.old ≡ change 0 page.value ∷ self.new) }
         ensures none { IfNone result ((self.new ≡ self.old) × IsUntouched self.old 0) }
     {
-        if !self.pages.contains_key(&0) {
+        if self.slots.is_empty() {
             return None;
         }
-        let (_, page) = self.pages.pop_first()?;
-        Some(page)
+        self.slots[0].take()
     }
 
     /// The changes as a list, in ascending order of their numbers. Each page stays in its box.
     pub fn into_list(self) -> Result<Vec<(u32, Box<Page>)>, AllocError>
         ensures { IfOk result (λ list. changes_of list.items ≡ self) }
     {
-        let mut list = Vec::with_capacity(self.alloc, self.pages.len())?;
-        for (number, page) in self.pages {
-            list.push((number, page))?;
+        let mut list = Vec::new(self.alloc);
+        let mut number = 0usize;
+        for slot in self.slots {
+            if let Some(page) = slot {
+                list.push((number as u32, page))?;
+            }
+            number += 1;
         }
         Ok(list)
     }
+}
+
+// Whether a page stands in one of the slots.
+fn is_any_held(slots: &[Option<Box<Page>>]) -> bool
+    ensures { result ≡ list_any is_some slots.now }
+{
+    slots.iter().any(|slot| slot.is_some())
+}
+
+// Has a slot at this place, and those before it. Memory may be refused; what is held is the same in any case.
+fn reach(slots: &mut Vec<Option<Box<Page>>>, at: usize) -> Result<(), AllocError>
+    ensures there { OnOk result (at < length slots.new.items) }
+    ensures few { length slots.new.items ≤ max (length slots.old.items) (at + 1) }
+    ensures held { held_from 0 slots.new.items ≡ held_from 0 slots.old.items }
+{
+    while slots.len() <= at {
+        slots.push(None)?;
+    }
+    Ok(())
 }

@@ -1,9 +1,7 @@
-use Rattle.std.proofs.Common.{refl}
-use Rattle.ub_overlay.proofs.ChangeFacts as facts
-use Rattle.ub_overlay.proofs.OverlayFacts.{not_held}
-use Rattle.ub_overlay.specs.Changes.{changes_of}
+use Rattle.std.proofs.Common.{◌∙◌, rules}
+use Rattle.ub_overlay.proofs.SlotFacts as facts
 use Rattle.ub_overlay.proofs.changes.Changes.take_first.Goals as goal
 
-pub returns-then-not-contains_key-clause-none : goal.returns-then-not-contains_key-clause-none
-returns-then-not-contains_key-clause-none c = rw (← c.self.view_is)
-    (refl, not_held 0 (changes_of c.self.inside.pages.entries) (facts.none_held 0 c.self.inside.pages.entries c.if-not-contains_key.ensures))
+pub returns-clause-none : goal.returns-clause-none
+returns-clause-none c = rw (c.take.ensures.after, ← c.self.view_is)
+    (facts.none_out c.take.result c.self.inside.slots.items _ (search rules) (c.take.ensures.value ∙ c.index_mut.ensures.value))
