@@ -55,8 +55,18 @@
 // place, and that of a root (`Place`, `root_place`); a page that is brought and checked in full (`bring_fitting`, `bring_root`);
 // and where the next entry begins (`first_after`).
 //
-// What belongs here is the way through several pages. How one page is spelled and searched (`ub_page`), and how pages are
-// kept (`ub_store`), stands below; how the pages of an index change (`ub_index_change`), and which pages are a table's, above. The
+// WORDS. An *entry* is a key and the number of a page; a *place* is an entry, and where the next one of its level begins. A page
+// *fits* the place from which an entry names it. The *way* to a key goes down from the root, by the entries to which the key
+// falls: it *leads* to a region's entry, or *stops* at a page that isn't taken. A *goal* is what a later region is sought for:
+// an address, or boxes.
+//
+// DEFINITIONS (specs). What an index is: `Index`, and what contracts see of one: `View`; where its regions stand: `Spans`. Which
+// page is taken: `Fitting`; what is known of the pages that are held: `Held`. The way to a key: `Way`; a page that is brought,
+// and the steps down: `Bringing`, `Descending`; what searches answer, and why they are refused: `Searching`; `Opening`. What an
+// index is to those who keep regions on other pages of its store, which grows: `Standing`. `Laws`.
+//
+// What belongs here is the way through several pages. How one page is spelled and searched (`ub_page`), and how pages are kept
+// (`ub_store`), stands below; how the pages of an index change (`ub_index_change`), and which pages are a table's, above. The
 // functions of `law` ensure what holds of every index.
 
 #![tactic(auto)]

@@ -20,13 +20,12 @@ use ub_region::Region;
 use ub_store::{PageStore, Pager};
 use ub_table::Key;
 
-/// Prepares that a region comes behind another one, with this first key, on a page that the store gets first. Nothing is
-/// written.
+/// Prepares that a region comes behind another one, with this first key, on a page that the store gets first. Nothing is written.
 ///
-/// Refused as `region_holding` is, each page on the way looked at in full, on the way to that one's first key. With BadSize of the
-/// store exactly where it would have more than 4294967295 pages: the region takes one, each page of 170 entries on that way
-/// one, from the lowest up to the first that has fewer, and a new root one, where all are full. With Full exactly where that
-/// is room enough, and all 16 levels are full on that way. Where there is no page for the region, that is told before any is
+/// Refused as `Index::region_holding` is, each page on the way looked at in full, on the way to that one's first key. With
+/// BadSize of the store exactly where it would have more than 4294967295 pages: the region takes one, each page of 170 entries on
+/// that way one, from the lowest up to the first that has fewer, and a new root one, where all are full. With Full exactly where
+/// that is room enough, and all 16 levels are full on that way. Where there is no page for the region, that is told before any is
 /// read. Index and store are then as they were.
 pub fn prepare_add<S: PageStore>(
     index: &Index,
@@ -78,8 +77,8 @@ pub fn prepare_add<S: PageStore>(
 
 /// Prepares that a region goes, which isn't the first. Nothing is written, and no page is added.
 ///
-/// Refused as `region_holding` is, each page on the way looked at in full, on the way to its first key, and where a page that
-/// would be the root can't be taken; with BadCount of the root where no region would be left. Index and store are then as
+/// Refused as `Index::region_holding` is, each page on the way looked at in full, on the way to its first key, and where a page
+/// that would be the root can't be taken; with BadCount of the root where no region would be left. Index and store are then as
 /// they were.
 pub fn prepare_drop<S: PageStore>(
     index: &Index,
