@@ -52,8 +52,7 @@
 //  - Who looks at all pages asks for them one by one (`entries`): each is checked in full, held or not.
 //
 // CHANGES of an index are made in the crate above (`ub_index_change`). It goes down with what this crate shows of its own way: a
-// place, and that of a root (`Place`, `root_place`); a page that is brought and checked in full (`bring_fitting`, `bring_root`);
-// and where the next entry begins (`first_after`).
+// place, and that of a root (`Place`, `root_place`); and a page that is brought and checked in full (`bring_fitting`, `bring_root`).
 //
 // WORDS. An *entry* is a key and the number of a page; a *place* is an entry, and where the next one of its level begins. A page
 // *fits* the place from which an entry names it. The *way* to a key goes down from the root, by the entries to which the key
@@ -79,7 +78,7 @@ pub mod index;
 pub mod law;
 mod opening;
 
-pub use descent::{Place, bring_fitting, bring_root, first_after, root_place};
+pub use descent::{Place, bring_fitting, bring_root, root_place};
 pub use entries::entries_at;
 pub use fault::IndexFault;
 pub use index::{Index, region_at};

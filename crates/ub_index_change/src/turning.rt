@@ -3,6 +3,7 @@ ghost use Rattle.std.specs.Prelude.{◌≡◌, ◌+◌, ◌<◌, ◌≤◌, ℕ,
 ghost use Rattle.ub_index_change.specs.Changing.{NeedsNoGrowth, OpensTo, Prepares, Turns};
 ghost use Rattle.ub_index.specs.Descending.{IsForgotten, Steps};
 ghost use Rattle.ub_index.specs.Fitting.{FallsTo};
+ghost use Rattle.ub_index.specs.Index.{first_or};
 ghost use Rattle.ub_page.specs.Index.{head_on, node_on};
 ghost use Rattle.ub_page.specs.declared.header.TheConstants.{MAX_LEVEL};
 ghost use Rattle.ub_page.specs.declared.entries.TheConstants.{MAX_ENTRIES};
@@ -11,7 +12,7 @@ ghost use Rattle.ub_store.specs.Facts.{IsHonest};
 use crate::sheets::Sheets;
 use crate::told::{Told, with_added};
 use std::alloc::{AllocError, Global};
-use ub_index::{IndexFault, Place, bring_fitting, first_after};
+use ub_index::{IndexFault, Place, bring_fitting};
 use ub_page::entries::read_entries;
 use ub_page::{Entry, MAX_ENTRIES, Page, entry_at, slot_in};
 use ub_store::{PageStore, Pager};
@@ -110,13 +111,23 @@ fn opened_at(
     let (before, after) = around(alloc, held.as_slice(), slot)?;
     let below = Place {
         entry: entry_at(page, slot),
-        next: first_after(page, count, slot, end),
+        next: first_of(&after, end),
     };
     Ok(Opened {
         before,
         below,
         after,
     })
+}
+
+// Where these entries begin, or else the end.
+fn first_of(entries: &[Entry], end: Option<Key>) -> Option<Key>
+    ensures { result ≡ first_or entries.now end }
+{
+    match entries.first() {
+        Some(entry) => Some(entry.first),
+        None => end,
+    }
 }
 
 // The entries before a slot, and those after it.
