@@ -74,13 +74,13 @@ SECTIONS = [
         "Where a table stands: its rows, their regions and the next number; what an INSERT and a DELETE make of that. Most of it\n"
         "is about any tree, also one that isn't sound: what was asked of it, and what a fault leaves.",
         "ub_exec.Stand ub_exec.Deleting ub_script.Changes ub_tree.Change ub_tree.Removal ub_tree.Effects ub_tree.Holding"
-        " ub_tree.Others ub_index.Changing ub_index.Preparing ub_index.Lowering",
+        " ub_tree.Others ub_index_change.Changing ub_index_change.Preparing ub_index_change.Lowering",
     ),
     (
         "Pages of a file",
         "How regions come of rows; the bytes of pages; what a store of pages is; which pages are a table, and which tree\n"
         "they or a CSV text give; which faults come.",
-        "ub_bytes ub_region ub_page ub_store ub_file ub_index ub_check ub_upgrade ub_writing ub_tree ub_table.Block"
+        "ub_bytes ub_region ub_page ub_store ub_file ub_index ub_index_change ub_check ub_upgrade ub_writing ub_tree ub_table.Block"
         " ub_load.Loading ub_load.LoadedTree",
     ),
     (

@@ -4,7 +4,8 @@ use crate::opening::begins;
 use crate::pages::{Listed, Sheet, Tried, page_of, stored};
 use std::alloc::Global;
 use std::process::Abort;
-use ub_index::{Change, Index, IndexFault};
+use ub_index::{Index, IndexFault};
+use ub_index_change::{Change, commit, prepare_add, prepare_drop};
 use ub_page::{Key, PageFault};
 use ub_region::Region;
 use ub_store::StoreFault;
@@ -287,13 +288,13 @@ impl Held {
 
     // Prepares that a region comes behind the one that was taken.
     fn add(&mut self, alloc: Global, pager: &mut Tried, key: &Key) -> Answer {
-        let prepared = self.index.prepare_add(alloc, pager, &self.region, key);
+        let prepared = prepare_add(&self.index, alloc, pager, &self.region, key);
         self.hold(prepared)
     }
 
     // Prepares that the region that was taken goes.
     fn drop_region(&mut self, alloc: Global, pager: &mut Tried) -> Answer {
-        let prepared = self.index.prepare_drop(alloc, pager, &self.region);
+        let prepared = prepare_drop(&self.index, alloc, pager, &self.region);
         self.hold(prepared)
     }
 
@@ -316,7 +317,7 @@ impl Held {
     // Makes the change.
     fn commit(&mut self, pager: &mut Tried) -> Answer {
         match &self.change {
-            Some(change) => ended(self.index.commit(pager, change)),
+            Some(change) => ended(commit(&mut self.index, pager, change)),
             None => Answer::Wrong,
         }
     }

@@ -12,7 +12,7 @@ use Rattle.ub_index.specs.Index.{NamesFitting, entries_of, top}
 use Rattle.ub_index.specs.View.{IndexView, Leads, Stops, entry_at}
 use Rattle.ub_index.specs.Way.{LeadsTo, StopsAt}
 use Rattle.ub_region.specs.declared.region.Region.{Region}
-use Rattle.ub_index.proofs.Changes.{same_page}
+use Rattle.ub_index.proofs.KeptFacts.{same_page}
 use Rattle.ub_index.proofs.LeadFacts.{kept_fitting, moved}
 
 -- an entry of a page that fits doesn't name it

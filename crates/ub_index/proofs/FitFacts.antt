@@ -9,7 +9,6 @@ use Rattle.ub_page.specs.Entries.{AreAscending}
 use Rattle.ub_region.specs.declared.entry.Entry.{Entry}
 use Rattle.ub_table.specs.Keys.{IsBefore}
 use Rattle.ub_table.specs.declared.row.Key.{Key}
-use Rattle.ub_index.specs.Changing.{OpensTo}
 use Rattle.ub_index.specs.Fitting.{FallsTo, IsNotTaken, IsUnfit}
 use Rattle.ub_index.specs.Index.{entries_of, first_or, page_in, AscendTo, Fits}
 use Rattle.ub_store.specs.Facts.{StoreFacts, IsPage}
@@ -139,20 +138,3 @@ is_refused pages last level entry end page fault at misfit =
 -- what a store's page is doesn't depend on its counts
 pub same_page : (old new : StoreFacts) (n reads : ℕ) (page : List ℕ) → new ≡ record old { failed_reads = reads } → IsPage new n page → IsPage old n page
 same_page old new n reads page same h = subst (λ (s : StoreFacts). IsPage s n page) same h
-
--- the page that stands there and fits opens to what its entries tell
-pub opens_page : (pages : List (List ℕ)) (last : ℕ) (key : Key) (level : ℕ) (entry : Entry) (end : Option Key) (before : List Entry) (below : Entry) (next : Option Key) (after : List Entry)
-    (page : List ℕ) → slice_get pages entry.page ≡ Some page → Fits last page level entry end
-    → (x : FallsTo key (node_on page).entries end below next) × (x.before ≡ before) × (x.after ≡ after) → OpensTo last pages key level entry end before below next after
-opens_page pages last key level entry end before below next after page at fits to =
-    let is = page_is pages entry.page page at in
-    let parts = subst (λ (p : List ℕ). (x : FallsTo key (node_on p).entries end below next) × (x.before ≡ before) × (x.after ≡ after)) (sym is) to in
-    record {
-      named = record {
-        there = at ∙ ap (λ (p : List ℕ). Some p) (sym is);
-        fits = subst (λ (p : List ℕ). Fits last p level entry end) (sym is) fits;
-      };
-      falls = parts.0;
-      before_is = parts.1;
-      after_is = parts.2;
-    }

@@ -20,10 +20,10 @@ use Rattle.ub_index.specs.Standing.{AddsNoIndexPage, OldStayOutside}
 use Rattle.ub_index.specs.View.{IndexView, IsIndexOn, IsRegionAt, Leads, Stops, entries_in, entry_at}
 use Rattle.ub_index.specs.Way.{HoldsKey, LeadsTo, StopsAt}
 use Rattle.ub_region.specs.declared.region.Region.{Region}
-use Rattle.ub_index.proofs.Changes.{same_entries, same_page}
+use Rattle.ub_index.proofs.KeptFacts.{same_entries, same_page}
 use Rattle.ub_index.proofs.KeyFacts.{before_le, le_trans}
 use Rattle.ub_index.proofs.Lists.{ascend_right, each_right}
-use Rattle.ub_index.proofs.ReadyFacts.{region_found}
+use Rattle.ub_index.proofs.PlaceFacts.{region_found}
 use Rattle.ub_index.proofs.SpanFacts.{with_span}
 use Rattle.ub_index.proofs.WayFacts.{falls_from, holds_below, way_ends_at}
 use Rattle.ub_index.proofs.WaysFacts.{compare, ends_from, ends_to, first_up_to}

@@ -1,15 +1,13 @@
 -- Numbers that stand apart, and which pages the numbers under an entry are.
-use Rattle.std.proofs.Common.{inl, inr, arith, ◌≡◌, ◌≢◌, ◌≤◌, ◌<◌, ◌++◌, ◌∙◌, ap, refl, slice_get, ℕ, zero, suc, List, [], ◌∷◌, Option, false, nat_eq, length, sym}
+use Rattle.std.proofs.Common.{arith, ◌≡◌, ◌≢◌, ◌<◌, ◌++◌, ◌∙◌, ap, refl, slice_get, ℕ, zero, suc, List, [], ◌∷◌, Option, false, nat_eq, length, sym}
 use Rattle.std.proofs.lemmas.Bool.{eq-eqb, ne_eqb}
 use Rattle.std.proofs.lemmas.Option.{slice_get_within}
 use Rattle.std.specs.List.{AllByRecursion, IsDistinct, flat_map}
 use Rattle.ub_region.specs.declared.entry.Entry.{Entry}
 use Rattle.ub_region.proofs.Laws.{all_append, all_left, all_more, all_right}
 use Rattle.ub_table.specs.declared.row.Key.{Key}
-use Rattle.ub_index.specs.Changed.{PagesStay}
-use Rattle.ub_index.specs.Changing.{AreOnce, IsNoNew, IsOutside, IsUnspelled}
-use Rattle.ub_index.specs.declared.sheet.Sheet.{Sheet}
-use Rattle.ub_index.proofs.Changes.{same_entries}
+use Rattle.ub_index.specs.Standing.{PagesStay, IsOutside}
+use Rattle.ub_index.proofs.KeptFacts.{same_entries}
 use Rattle.ub_index.specs.Index.{entries_of, first_or, page_in, EachTo, IsUnder, pages_under}
 
 pub differs : (a b : ℕ) → nat_eq a b ≡ false → a ≢ b
@@ -80,19 +78,6 @@ distinct_join (x ∷ xs) ys h k apart = (
   distinct_join xs ys h.1 k apart.1,
 )
 
-pub distinct_put : (m : ℕ) (xs ys : List ℕ) → IsDistinct nat_eq (xs ++ ys) → IsOutside m (xs ++ ys) → IsDistinct nat_eq (xs ++ (m ∷ ys))
-unfolding IsDistinct
-distinct_put m [] ys h out = (all_more (λ k. m ≢ k) (λ k. nat_eq m k ≡ false) (λ k ne. ne_eqb m k ne) ys out, h)
-distinct_put m (x ∷ xs) ys h out = (put xs h.0, distinct_put m xs ys h.1 out.1)
-  where
-    put : (us : List ℕ) → AllByRecursion (λ k. nat_eq x k ≡ false) (us ++ ys) → AllByRecursion (λ k. nat_eq x k ≡ false) (us ++ (m ∷ ys))
-    put [] all = (ne_eqb x m (λ e. out.0 (sym e)), all)
-    put (u ∷ us) all = (all.0, put us all.1)
-
-pub outside_put : (n m : ℕ) (xs ys : List ℕ) → n ≢ m → IsOutside n (xs ++ ys) → IsOutside n (xs ++ (m ∷ ys))
-outside_put n m [] ys ne out = (ne, out)
-outside_put n m (x ∷ xs) ys ne out = (out.0, outside_put n m xs ys ne out.1)
-
 -- two functions of entries agree on a list where they agree on each whose numbers all have a property
 same_numbers : (P : ℕ → Type 0) (numbers f g : Entry → List ℕ) → ((x : Entry) → AllByRecursion P (numbers x) → f x ≡ g x)
     → (xs : List Entry) → AllByRecursion P (flat_map numbers xs) → flat_map f xs ≡ flat_map g xs
@@ -113,23 +98,6 @@ pub kept_pages_list : (old new : List (List ℕ)) (level : ℕ) (entries : List 
     → flat_map (pages_under new level) entries ≡ flat_map (pages_under old level) entries
 kept_pages_list old new level entries h =
     same_numbers (λ n. slice_get new n ≡ slice_get old n) (pages_under old level) (pages_under new level) (pages_under old level) (kept_pages old new level) entries h
-
--- numbers of sheets that stand apart
-pub once_join : (xs ys : List Sheet) → AreOnce xs → AreOnce ys → AllByRecursion (λ y. IsUnspelled y.number xs) ys → AreOnce (xs ++ ys)
-once_join [] ys h k apart = k
-once_join (x ∷ xs) ys h k apart = (
-  all_append (λ (s : Sheet). x.number ≢ s.number) xs ys h.0
-      (all_more (λ (y : Sheet). IsUnspelled y.number (x ∷ xs)) (λ (y : Sheet). x.number ≢ y.number) (λ y u e. u.0 (sym e)) ys apart),
-  once_join xs ys h.1 k (all_more (λ (y : Sheet). IsUnspelled y.number (x ∷ xs)) (λ (y : Sheet). IsUnspelled y.number xs) (λ y u. u.1) ys apart),
-)
-
-pub no_new_left : (from middle to n : ℕ) → middle ≤ to → IsNoNew from to n → IsNoNew from middle n
-no_new_left from middle to n le (inl less) = inl less
-no_new_left from middle to n le (inr more) = inr (omega arith)
-
-pub no_new_right : (from middle to n : ℕ) → from ≤ middle → IsNoNew from to n → IsNoNew middle to n
-no_new_right from middle to n le (inl less) = inl (omega arith)
-no_new_right from middle to n le (inr more) = inr more
 
 -- a number that numbers are less than is none of them
 pub outside_less : (n : ℕ) (numbers : List ℕ) → AllByRecursion (λ m. m < n) numbers → IsOutside n numbers

@@ -3,7 +3,7 @@ use Rattle.std.proofs.Common.{◌≡◌, ◌≤◌, ◌+◌, ◌⊎◌, inl, inr
 use Rattle.std.proofs.lemmas.Bool.{and_from, and_parts, cases_Bool}
 use Rattle.std.proofs.lemmas.Option.{slice_get_within, slice_get_cases}
 use Rattle.std.specs.List.{All, AllByRecursion, flat_map}
-use Rattle.ub_index.specs.Spans.{first_keys}
+use Rattle.ub_index.specs.Spans.{first_keys, region_of}
 use Rattle.ub_index.proofs.Laws.{first_at}
 use Rattle.ub_page.specs.Entries.{IsEntry}
 use Rattle.ub_region.specs.declared.entry.Entry.{Entry}
@@ -19,6 +19,7 @@ use Rattle.ub_region.specs.declared.region.Region.{Region}
 use Rattle.ub_index.proofs.Lists.{all_join}
 use Rattle.ub_index.proofs.OrderFacts.{under_first}
 use Rattle.ub_index.proofs.WayFacts.{in_order, not_true, way_ends_at}
+use Rattle.ub_index.specs.Way.{LeadsTo}
 
 length-first_keys : (entries : List Entry) → length (first_keys entries) ≡ length entries
 length-first_keys [] = refl
@@ -224,3 +225,13 @@ module _ (index : IndexView) (store : StoreFacts) (is : IsIndexOn index store) w
             (j, omega arith, subst (λ (n : ℕ). IsRegionAt (entries_in index store) n before) at_j (way_ends_at index store key before is (given.way is.honest)))
         | inr past ↦ let far = past.0 in absurd (omega (arith, length-first_keys (entries_in index store)))
       ]
+
+-- the way to the first key of a region ends at its region
+pub region_found : (index : IndexView) (store : StoreFacts) (i : ℕ) (region : Region) → IsIndexOn index store → IsRegionAt (entries_in index store) i region → (found : Entry) (next : Option Key)
+    → LeadsTo index.last store.pages region.first index.levels (top index.root) None found next → (found ≡ entry_at region) × (next ≡ region.next)
+region_found index store i region is at found next leads =
+    let there = way_ends_at index store region.first (region_of index.last found next) is leads in
+    let same = index_of_first (first_keys (entries_in index store)) i region.first (up index store is) (first_there (entries_in index store) i region at) in
+    let here = subst (λ (n : ℕ). IsRegionAt (entries_in index store) n (region_of index.last found next)) same there in
+    let entries : Some found ≡ Some (entry_at region) = sym here.entry ∙ at.entry in
+    (cc, here.next ∙ sym at.next)

@@ -1,5 +1,5 @@
 -- What an index is to those who keep regions on other pages of its store.
-use Rattle.std.proofs.Common.{Ok, ◌≡◌, ◌≤◌, ◌<◌, ◌∙◌, ◌^◌, ℕ, zero, List, [], ◌∷◌, Some, None, length, nat_eq, ap, sym, subst, refl, arith, slice_get}
+use Rattle.std.proofs.Common.{Ok, ◌≡◌, ◌≤◌, ◌<◌, ◌∙◌, ◌^◌, ℕ, zero, List, [], ◌∷◌, Some, None, length, nat_eq, ap, sym, subst, refl, arith, slice_get, inl, suc, Bool, Option, option_map, ◌⊎◌, inr, slice_set}
 use Rattle.std.specs.List.{AllByRecursion, IsDistinct, flat_map}
 use Rattle.ub_index.specs.Spans.{ArePlaces}
 use Rattle.ub_page.specs.Entries.{IsEntry}
@@ -7,22 +7,58 @@ use Rattle.ub_region.specs.declared.entry.Entry.{Entry}
 use Rattle.ub_store.specs.Facts.{StoreFacts, IsHonest, WritesAt, page_count}
 use Rattle.ub_table.specs.Keys.{origin}
 use Rattle.ub_table.specs.declared.row.Key.{Key}
-use Rattle.ub_page.specs.Index.{IsNode}
-use Rattle.ub_index.specs.Changed.{PagesStay}
-use Rattle.ub_index.specs.Changing.{IsOutside, NamesPage}
-use Rattle.ub_index.specs.Filling.{IsFilled}
-use Rattle.ub_index.specs.Index.{first_or, pages_under, top, under}
+use Rattle.ub_page.specs.Index.{IsNode, Node, index_page}
+use Rattle.ub_index.specs.Standing.{PagesStay, IsOutside, OldStayOutside, StandsAsOn, AreOwnPages, region_pages}
+use Rattle.ub_index.specs.Index.{first_or, pages_under, page_in, top, under, IsIndexPage, IsTold}
 use Rattle.ub_index.specs.Opening.{IsAlone, root_page}
-use Rattle.ub_index.specs.Preparing.{IsReachedOnce, pages_of_index}
-use Rattle.ub_index.specs.Standing.{OldStayOutside, StandsAsOn}
-use Rattle.ub_index.specs.View.{IndexView, IsIndexOn, entries_in, index_view}
-use Rattle.ub_index.proofs.Changes.{kept_index, kept_under, told_index}
-use Rattle.ub_index.proofs.FillFacts.{kept_filled}
-use Rattle.ub_index.proofs.Numbers.{StandApart, apart_swap, distinct_cons, kept_pages, within_store}
+use Rattle.ub_index.specs.View.{IsReachedOnce, pages_of_index, IndexView, IsIndexOn, entries_in, index_view}
+use Rattle.ub_index.proofs.FitFacts.{page_is}
+use Rattle.ub_index.proofs.KeptFacts.{kept_index, kept_under, told_index}
+use Rattle.ub_index.proofs.Numbers.{StandApart, apart_swap, distinct_cons, kept_pages, within_store, distinct_apart, distinct_first, distinct_left}
 use Rattle.ub_index.proofs.OrderFacts.{under_first}
 use Rattle.ub_index.proofs.PlaceFacts.{begins, each_entry, up, within}
-use Rattle.ub_index.proofs.PutFacts.{put_get}
-use Rattle.ub_index.proofs.SpreadFacts.{told_on}
+use Rattle.std.proofs.lemmas.Bool.{cases_eq}
+use Rattle.ub_region.proofs.Laws.{all_more}
+use Rattle.std.specs.Prelude.{IsTrue}
+use Rattle.ub_store.specs.Cache.{SameBut, page_at}
+use Rattle.ub_store.specs.View.{PagerView}
+use Rattle.ub_index.specs.Held.{KeepsChecked}
+use Rattle.ub_page.proofs.IndexLaws.{node_parts}
+
+abbrev pub node : ℕ → List Entry → Node
+node level entries = record { level = level; entries = entries }
+
+-- the page of a node is one of an index
+pub node_is : (last : ℕ) → last < 2 ^ 128 → (n : Node) → IsNode last n → IsIndexPage last (index_page n)
+node_is last small n is =
+    let on = (node_parts n (index_page n) last small is refl).on in
+    record { spelled = ap (λ (m : Node). index_page m) (sym on); is = subst (λ (m : Node). IsNode last m) (sym on) is }
+
+-- entries stand on the page of an entry that begins as they do
+pub told_there : (last : ℕ) → last < 2 ^ 128 → (pages : List (List ℕ)) (level : ℕ) (entries : List Entry) (entry : Entry) → slice_get pages entry.page ≡ Some (index_page (node level entries))
+    → IsNode last (node level entries) → first_or entries None ≡ Some entry.first → IsTold last pages level entries entry
+told_there last small pages level entries entry at is begins =
+    let page = page_is pages entry.page (index_page (node level entries)) at in
+    let on = (node_parts (node level entries) (page_in pages entry.page) last small is page).on in
+    record {
+      there = at ∙ ap (λ (p : List ℕ). Some p) (sym page);
+      is = record { spelled = page ∙ ap (λ (m : Node). index_page m) (sym on); is = subst (λ (m : Node). IsNode last m) (sym on) is };
+      level_is = ap (λ (m : Node). m.level) on;
+      entries_are = ap (λ (m : Node). m.entries) on;
+      begins = begins;
+    }
+
+-- the page of a root that names one region is one
+pub root_page_is : (last page : ℕ) → last < 2 ^ 128 → 1 ≤ page → page < 4294967296 → IsIndexPage last (root_page page)
+root_page_is last page small some less =
+    node_is last small (node 1 (top page ∷ [])) (record {
+      low = omega arith;
+      high = omega arith;
+      some = omega arith;
+      few = omega arith;
+      entries = (record { z = omega arith; number = omega arith; some_page = some; page = less }, tt);
+      ascending = tt;
+    })
 
 some_entries : (xs : List Entry) (key : Key) → first_or xs None ≡ Some key → 1 ≤ length xs
 some_entries [] key h = cc
@@ -38,7 +74,7 @@ are_places index store is = (
 )
 
 -- pages that are none of those put anew stay
-stay_apart : (old new : List (List ℕ)) (numbers ns : List ℕ) → OldStayOutside numbers old new → AllByRecursion (λ n. n < length old) ns → StandApart ns numbers → PagesStay old new ns
+pub stay_apart : (old new : List (List ℕ)) (numbers ns : List ℕ) → OldStayOutside numbers old new → AllByRecursion (λ n. n < length old) ns → StandApart ns numbers → PagesStay old new ns
 stay_apart old new numbers [] keeps less apart = tt
 stay_apart old new numbers (n ∷ ns) keeps less apart = (keeps n less.0 apart.0, stay_apart old new numbers ns keeps less.1 apart.1)
 
@@ -57,21 +93,44 @@ stands_as index old new numbers is own honest keeps outside =
       pages_are = same;
     }
 
--- and is filled as it was
-pub stands_filled : (index : IndexView) (old new : StoreFacts) (numbers : List ℕ) → IsIndexOn index old → IsReachedOnce index old → IsHonest new → OldStayOutside numbers old.pages new.pages
-    → AllByRecursion (λ n. IsOutside n (pages_of_index index old)) numbers → IsFilled index old.pages → IsFilled index new.pages
-stands_filled index old new numbers is own honest keeps outside filled =
-    let stay : PagesStay old.pages new.pages (pages_of_index index old) =
-    stay_apart old.pages new.pages numbers (pages_of_index index old) keeps (within_store index.last old.pages index.levels (top index.root) None is.under_it)
-    (apart_swap numbers (pages_of_index index old) outside) in
-    kept_filled old.pages new.pages index.levels (top index.root) stay filled
+-- the first page and those of the regions are none of the index, where no page serves twice
+pub own_apart : (index : IndexView) (store : StoreFacts) → AreOwnPages index store
+    → AllByRecursion (λ n. IsOutside n (pages_of_index index store)) (0 ∷ region_pages (entries_in index store))
+own_apart index store own = (
+  distinct_first 0 (pages_of_index index store) (distinct_left (0 ∷ pages_of_index index store) (region_pages (entries_in index store)) own),
+  all_more (λ n. IsOutside n (0 ∷ pages_of_index index store)) (λ n. IsOutside n (pages_of_index index store)) (λ n out. out.1) (region_pages (entries_in index store))
+      (apart_swap (0 ∷ pages_of_index index store) (region_pages (entries_in index store))
+      (distinct_apart (0 ∷ pages_of_index index store) (region_pages (entries_in index store)) own)),
+)
+
+pub put_get : (pages : List (List ℕ)) (n : ℕ) (page : List ℕ) → n < length pages → slice_get (slice_set pages n page) n ≡ Some page
+put_get [] n page lt = absurd (omega arith)
+put_get (p ∷ pages) zero page lt = refl
+put_get (p ∷ pages) (suc n) page lt = put_get pages n page (omega arith)
+
+pub put_checked : (last n : ℕ) (put : List ℕ) (old new : PagerView) → new.store.honest ≡ old.store.honest → IsIndexPage last put
+    → (page_at new.cached n ≡ option_map (λ _. put) (page_at old.cached n)) ⊎ (page_at new.cached n ≡ None) → SameBut n old.cached new.cached → KeepsChecked last old new
+put_checked last n put old new honest is here others was good m page held = elim (cases_eq m n) [
+  | inl same ↦ inl (subst (λ (p : List ℕ). IsIndexPage last p) (sym (put_page (subst (λ (k : ℕ). page_at new.cached k ≡ Some page) same held))) is)
+  | inr other ↦ was (subst (λ (b : Bool). IsTrue b) honest good) m page (sym (others m other) ∙ held)
+]
+  where
+    mapped : (o : Option (List ℕ)) → option_map (λ _. put) o ≡ Some page → page ≡ put
+    mapped None e = cc
+    mapped (Some p) e = cc
+
+    put_page : page_at new.cached n ≡ Some page → page ≡ put
+    put_page at = elim here [
+      | inl renewed ↦ mapped (page_at old.cached n) (sym renewed ∙ at)
+      | inr gone ↦ cc
+    ]
 
 -- where the page of a root stands that names one region, there is an index of one region
 is_alone : (root page last : ℕ) (store : StoreFacts) → last < 2 ^ 128 → IsHonest store → 1 ≤ root → 1 ≤ page → page < 2 ^ 32
     → slice_get store.pages root ≡ Some (root_page page) → IsAlone (index_view root 1 last) page store
 unfolding IsDistinct
 is_alone root page last store small honest some_root some few at =
-    let node : IsNode last (record { level = 1; entries = top page ∷ [] }) = record {
+    let is_node : IsNode last (record { level = 1; entries = top page ∷ [] }) = record {
       low = omega arith;
       high = omega arith;
       some = omega arith;
@@ -79,8 +138,7 @@ is_alone root page last store small honest some_root some few at =
       entries = (record { z = omega arith; number = omega arith; some_page = some; page = omega arith }, tt);
       ascending = tt;
     } in
-    let names : NamesPage root (top page ∷ []) (top root) = record { page_is = refl; begins = refl } in
-    let told = told_on last small store.pages root 1 (top page ∷ []) (top root) at node names in
+    let told = told_there last small store.pages 1 (top page ∷ []) (top root) at is_node refl in
     let pages : pages_under store.pages 1 (top root) ≡ root ∷ [] =
     ap (λ (xs : List Entry). root ∷ flat_map (pages_under store.pages zero) xs) told.entries_are in
     record {

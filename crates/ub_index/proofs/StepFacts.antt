@@ -10,7 +10,6 @@ use Rattle.ub_store.specs.declared.fault.StoreFault.{StoreFault}
 use Rattle.ub_store.specs.declared.fault.StoreFault.TheVariants as store
 use Rattle.ub_table.specs.declared.row.Key.{Key}
 use Rattle.ub_index.specs.Bringing.{BringsFitting, IsBringFault}
-use Rattle.ub_index.specs.Changing.{IsNoGrowth}
 use Rattle.ub_index.specs.Descending.{IsStepFault, Steps, StepsDown}
 use Rattle.ub_index.specs.Index.{entries_of, top, Fits, NamesFitting}
 use Rattle.ub_index.specs.Opening.{IsPassing, Opens}
@@ -215,12 +214,3 @@ open_misfits {T = T} index old new r e is h = subst (λ (x : Result T IndexFault
   cached = h.others;
   faults = h.faults;
 })
-
--- a step that is refused is so not for want of pages, nor of levels
-pub step_no_growth : (last : ℕ) (old : StoreFacts) (level : ℕ) (entry : Entry) (end : Option Key) (e : IndexFault) → IsStepFault last old level entry end e → IsNoGrowth e
-step_no_growth last old level entry end (Page n fault) h = tt
-step_no_growth last old level entry end (Store store.Memory) h = tt
-step_no_growth last old level entry end (Store store.Device) h = tt
-step_no_growth last old level entry end (Store store.NoPage) h = tt
-step_no_growth last old level entry end (Store store.BadSize) h = h
-step_no_growth last old level entry end Full h = h

@@ -63,6 +63,14 @@ IsUnder last pages zero entry end = Unit {0}
 IsUnder last pages (suc level) entry end =
     NamesFitting last pages (suc level) entry end × EachTo (IsUnder last pages level) (entries_of pages entry.page) end
 
+-- these entries stand on the page that an entry names, which has their first key
+pub record IsTold (last : ℕ) (pages : List (List ℕ)) (level : ℕ) (entries : List Entry) (entry : Entry) : Type 0 where
+  pub there : slice_get pages entry.page ≡ Some (page_in pages entry.page)
+  pub is : IsIndexPage last (page_in pages entry.page)
+  pub level_is : (node_on (page_in pages entry.page)).level ≡ level
+  pub entries_are : entries_of pages entry.page ≡ entries
+  pub begins : first_or entries None ≡ Some entry.first
+
 -- the entry by which a root is named
 abbrev pub top : ℕ → Entry
 top root = record { first = origin; page = root }

@@ -1,6 +1,5 @@
 pub mod Spans
 pub mod Index
-pub mod Changed
 pub mod Laws
 pub mod Fitting
 pub mod Way
@@ -9,10 +8,5 @@ pub mod Held
 pub mod Searching
 pub mod Descending
 pub mod Bringing
-pub mod Changing
-pub mod Preparing
-pub mod Lowering
-pub mod Making
-pub mod Filling
 pub mod Opening
 pub mod Standing

@@ -3,9 +3,8 @@ use Rattle.std.specs.Prelude.{◌≡◌, ◌≤◌, ℕ, IsTrue, List, [], ◌�
 use Rattle.ub_index.specs.Bringing.{IsBringFault}
 use Rattle.ub_index.specs.Held.{KeepsChecked}
 use Rattle.ub_index.specs.Index.{Fits, NamesFitting, top}
-use Rattle.ub_index.specs.Preparing.{IsReachedOnce, pages_of_index}
+use Rattle.ub_index.specs.View.{IsReachedOnce, pages_of_index, IndexView, IsIndexOn, entries_in}
 use Rattle.ub_index.specs.Searching.{store_after}
-use Rattle.ub_index.specs.View.{IndexView, IsIndexOn, entries_in}
 use Rattle.ub_index.specs.declared.fault.IndexFault.{IndexFault}
 use Rattle.ub_index.specs.declared.fault.IndexFault.TheVariants.{Store}
 use Rattle.ub_page.specs.Index.{index_page}

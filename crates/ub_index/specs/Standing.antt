@@ -1,12 +1,20 @@
 -- What an index is to those who keep regions on other pages of its store.
-use Rattle.std.specs.Prelude.{◌≡◌, ◌≤◌, ◌<◌, ◌++◌, ◌∷◌, ℕ, nat_eq, List, Some, map, length, slice_get}
+use Rattle.std.specs.Prelude.{◌≡◌, ◌≤◌, ◌<◌, ◌++◌, ◌∷◌, ℕ, nat_eq, List, Some, map, length, slice_get, ◌≢◌, ◌+◌, IsTrue}
 use Rattle.std.specs.List.{AllByRecursion, IsDistinct}
-use Rattle.ub_index.specs.Changing.{IsOutside}
 use Rattle.ub_index.specs.Index.{IsIndexPage}
-use Rattle.ub_index.specs.Preparing.{IsReachedOnce, pages_of_index}
-use Rattle.ub_index.specs.View.{IndexView, IsIndexOn, entries_in}
+use Rattle.ub_index.specs.View.{IsReachedOnce, pages_of_index, IndexView, IsIndexOn, entries_in}
 use Rattle.ub_region.specs.declared.entry.Entry.{Entry}
 use Rattle.ub_store.specs.Facts.{StoreFacts, page_count}
+use Rattle.ub_store.specs.declared.fault.StoreFault.TheVariants as store
+use Rattle.ub_store.specs.declared.fault.StoreFault.{StoreFault}
+
+-- the pages of these numbers are as they were
+abbrev pub PagesStay : List (List ℕ) → List (List ℕ) → List ℕ → Type 0
+PagesStay old new numbers = AllByRecursion (λ n. slice_get new n ≡ slice_get old n) numbers
+
+-- this number is none of those
+abbrev pub IsOutside : ℕ → List ℕ → Type 0
+IsOutside n numbers = AllByRecursion (λ m. n ≢ m) numbers
 
 -- the pages that there were are as they were, but for those of these numbers; others may stand after them
 abbrev pub OldStayOutside : List ℕ → List (List ℕ) → List (List ℕ) → Type 0
@@ -16,6 +24,14 @@ OldStayOutside numbers old new = (m : ℕ) → m < length old → IsOutside m nu
 abbrev pub AddsNoIndexPage : ℕ → List (List ℕ) → List (List ℕ) → Type 0
 AddsNoIndexPage last old new =
     (m : ℕ) (page : List ℕ) → length old ≤ m → slice_get new m ≡ Some page → ¬ (IsIndexPage last page)
+
+-- why a store doesn't get so many pages more: memory was refused; the store failed, which it then can; or it would have too
+-- many
+abbrev pub IsGrowFault : ℕ → StoreFacts → StoreFault → Type 0
+IsGrowFault by old store.Memory = Unit {0}
+IsGrowFault by old store.Device = IsTrue old.can_fail
+IsGrowFault by old store.BadSize = 4294967295 < page_count old + by
+IsGrowFault by old store.NoPage = ⊥
 
 -- the index stands on the new store as on the old one: with the same entries, on the same pages
 pub record StandsAsOn (index : IndexView) (old new : StoreFacts) : Type 0 where

@@ -1,13 +1,14 @@
 -- What contracts see of an index.
-use Rattle.std.specs.Prelude.{◌≡◌, ◌≤◌, ◌<◌, ◌+◌, ℕ, suc, List, Option, Some, None, length, slice_get}
+use Rattle.std.specs.Prelude.{◌≡◌, ◌≤◌, ◌<◌, ◌+◌, ℕ, suc, List, Option, Some, None, length, slice_get, nat_eq, ◌∷◌}
 use Rattle.ub_index.specs.Spans.{first_keys}
-use Rattle.ub_index.specs.Index.{IsUnder, top, under}
+use Rattle.ub_index.specs.Index.{IsUnder, top, under, pages_under}
 use Rattle.ub_index.specs.Way.{LeadsTo, StopsAt}
 use Rattle.ub_region.specs.declared.region.Region.{Region}
 use Rattle.ub_region.specs.declared.entry.Entry.{Entry}
 use Rattle.ub_store.specs.Facts.{StoreFacts, IsHonest}
 use Rattle.ub_table.specs.declared.fault.PageFault.{PageFault}
 use Rattle.ub_table.specs.declared.row.Key.{Key}
+use Rattle.std.specs.List.{IsDistinct}
 
 -- an index: the page of its root, of which level that is, and the last address of the space
 pub record IndexView : Type 0 where
@@ -22,11 +23,19 @@ index_view root levels last = record { root = root; levels = levels; last = last
 abbrev pub entries_in : IndexView → StoreFacts → List Entry
 entries_in index store = under store.pages index.levels (top index.root)
 
+-- the pages of an index, each upper one before those below it
+abbrev pub pages_of_index : IndexView → StoreFacts → List ℕ
+pages_of_index index store = pages_under store.pages index.levels (top index.root)
+
 -- the store is honest, and on its pages an index stands
 pub record IsIndexOn (index : IndexView) (store : StoreFacts) : Type 0 where
   pub honest : IsHonest store
   pub some : 1 ≤ index.levels
   pub under_it : IsUnder index.last store.pages index.levels (top index.root) None
+
+-- each page of it is reached once, and none is the store's first
+abbrev pub IsReachedOnce : IndexView → StoreFacts → Type 0
+IsReachedOnce index store = IsDistinct nat_eq (0 ∷ pages_of_index index store)
 
 -- the entry of a region
 abbrev pub entry_at : Region → Entry

@@ -339,7 +339,7 @@ fn is_slot(page: &Page, count: usize, slot: usize, key: &Key) -> bool
 }
 
 // Where the entry after that of a slot begins, or else the end.
-pub fn first_after(page: &Page, count: usize, slot: usize, end: Option<Key>) -> Option<Key>
+fn first_after(page: &Page, count: usize, slot: usize, end: Option<Key>) -> Option<Key>
     requires count { count ≡ (head_on page.now).count }
     requires within { slot < count }
     requires few { count ≤ MAX_ENTRIES }

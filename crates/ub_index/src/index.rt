@@ -1,39 +1,24 @@
-ghost use Rattle.std.specs.Prelude.{◌≡◌, ◌≤◌, ◌<◌, ◌+◌, ◌^◌, ◌⊎◌, ℕ, [], ◌∷◌, None, Some, IfOk, IfErr, IfSome, OnOk, OnErr, option_copied};
+ghost use Rattle.std.specs.Prelude.{◌≡◌, ◌≤◌, ◌<◌, ◌^◌, ℕ, None, Some, IfOk, IfErr, IfSome, option_copied};
 ghost use Rattle.ub_bigmin.specs.Box.{HoldsAny};
 ghost use Rattle.ub_bigmin.specs.Extremes.{LeastFrom};
 ghost use Rattle.ub_index.specs.Spans.{first_keys, regions_of, Meets, IsLater, First, region_of};
-ghost use Rattle.ub_index.specs.Changed.{Replaces};
-ghost use Rattle.ub_store.specs.Writing.{put_store};
-ghost use Rattle.ub_index.specs.Changing.{AreIndexPages, AreOnce, IsNoGrowth, Stand, so_far};
-ghost use Rattle.ub_index.specs.Making.{IsPutFault, PutsSheets};
-ghost use Rattle.ub_store.specs.View.{SameTrace};
-ghost use Rattle.ub_index.specs.Filling.{KeepsFilled};
-ghost use Rattle.ub_index.specs.Index.{top};
-ghost use Rattle.ub_index.specs.Lowering.{IsDropped, MakesLow, PreparesDrop};
-ghost use Rattle.ub_index.specs.Preparing.{IsPrepared, IsReachedOnce, MakesIndex, IsWithinRegion, PreparesAll, TakesFew, TakesNeeded, added_at};
+ghost use Rattle.ub_index.specs.View.{IsIndexOn, IsRegionAt, IsNextRegion, IsPreviousRegion, entries_in, index_view};
 ghost use Rattle.ub_index.specs.Descending.{FindsAfter, HoldsLeaf, IsForgotten, LeadsDown};
-ghost use Rattle.ub_index.specs.Held.{AreChecked, KeepsChecked};
+ghost use Rattle.ub_index.specs.Held.{AreChecked};
 ghost use Rattle.ub_index.specs.Searching.{Aims, Gives, GivesAny, GivesAfter, IsSought, GoesDown, key_before};
 ghost use Rattle.ub_region.specs.Spans.{end_before};
-ghost use Rattle.ub_index.specs.View.{IsIndexOn, IsRegionAt, Leads, IsNextRegion, IsPreviousRegion, entries_in, index_view, entry_at};
 ghost use Rattle.ub_page.specs.declared.header.TheConstants.{MAX_LEVEL};
 ghost use Rattle.ub_region.specs.Regions.{index_holding};
-ghost use Rattle.ub_store.specs.Facts.{IsHonest, page_count};
-ghost use Rattle.ub_table.specs.Keys.{IsBefore, origin};
+ghost use Rattle.ub_store.specs.Facts.{IsHonest};
 
-use crate::change::Change;
 use crate::descent::{Found, Leaf, aim, earlier, look, root_place, step_down};
 use crate::fault::IndexFault;
 use crate::goal::Goal;
-use crate::making::put_all;
-use crate::sheets::Sheets;
-use crate::turning::{Aim, turn};
-use std::alloc::Global;
 use std::marker::Model;
 use ub_bigmin::ZBox;
 use ub_page::Entry;
 use ub_region::{ORIGIN, Region};
-use ub_store::{PageStore, Pager, StoreFault};
+use ub_store::{PageStore, Pager};
 use ub_table::{Key, PageFault};
 
 /// An index of several levels over the pages of a store: where its root stands, and how many levels it has. No page of it is
@@ -77,6 +62,13 @@ impl Index {
         ensures high { self.now.levels ≤ MAX_LEVEL }
     {
         (self.root, self.levels)
+    }
+
+    /// The last address of its space.
+    pub fn last(&self) -> u128
+        ensures { result ≡ self.now.last }
+    {
+        self.last
     }
 
     /// The region that holds a key: the last one that does not begin after it.
@@ -203,162 +195,6 @@ impl Index {
             self.now pager.old pager.new result }
     {
         self.later_region(pager, &Goal::Boxes(boxes), after)
-    }
-
-    /// Prepares that a region comes behind another one, with this first key, on a page that the store gets first. Nothing is
-    /// written.
-    ///
-    /// Refused as `region_holding` is, each page on the way looked at in full, on the way to that one's first key. With BadSize of the
-    /// store exactly where it would have more than 4294967295 pages: the region takes one, each page of 170 entries on that way
-    /// one, from the lowest up to the first that has fewer, and a new root one, where all are full. With Full exactly where that
-    /// is room enough, and all 16 levels are full on that way. Where there is no page for the region, that is told before any is
-    /// read. Index and store are then as they were.
-    pub fn prepare_add<S: PageStore>(
-        &self,
-        alloc: Global,
-        pager: &mut Pager<S>,
-        region: &Region,
-        first: &Key,
-    ) -> Result<Change, IndexFault>
-        ensures made { IsHonest pager.old.store → IfOk result (IsPrepared self.now pager.old.store
-            region.now.first (Some (added_at first.now pager.old.store))
-            (page_count pager.old.store) (so_far [] (page_count pager.old.store + 1))) }
-        ensures few { IfOk result (TakesFew (page_count pager.old.store)
-            (page_count pager.old.store + 1) (self.now.levels + 1)) }
-        ensures takes { IsHonest pager.old.store → IfOk result
-            (TakesNeeded self.now pager.old.store region.now.first) }
-        ensures pages { IsHonest pager.old.store
-            → Leads self.now pager.old.store region.now.first region.now
-            → IsWithinRegion self.now.last region.now.first region.now.next first.now
-            → IfOk result (λ c. AreIndexPages self.now.last c.sheets) }
-        ensures ready { (i : ℕ) → IsIndexOn self.now pager.old.store
-            → IsReachedOnce self.now pager.old.store
-            → IsRegionAt (entries_in self.now pager.old.store) i region.now
-            → IsWithinRegion self.now.last region.now.first region.now.next first.now
-            → IfOk result (λ c. MakesIndex self.now pager.old.store
-            (page_count pager.old.store + 1) c (Replaces (entry_at region.now)
-            (entry_at region.now ∷ added_at first.now pager.old.store ∷ [])
-            (entries_in self.now pager.old.store))) }
-        ensures fills { (i : ℕ) → IsIndexOn self.now pager.old.store
-            → IsReachedOnce self.now pager.old.store
-            → IsRegionAt (entries_in self.now pager.old.store) i region.now
-            → IsWithinRegion self.now.last region.now.first region.now.next first.now
-            → IfOk result (KeepsFilled self.now pager.old.store) }
-        ensures effect { PreparesAll self.now region.now.first
-            (Some (added_at first.now pager.old.store)) (so_far [] (page_count pager.old.store + 1))
-            pager.old pager.new result }
-    {
-        let start = pager.pages();
-        let mut sheets = Sheets::new(alloc, start);
-        let page = sheets.take_number()?;
-        let aim = Aim {
-            key: region.first,
-            added: Some(Entry {
-                first: *first,
-                page,
-            }),
-        };
-        self.prepare(alloc, pager, &aim, start, sheets)
-    }
-
-    /// Prepares that a region goes, which isn't the first. Nothing is written, and no page is added.
-    ///
-    /// Refused as `region_holding` is, each page on the way looked at in full, on the way to its first key, and where a page that
-    /// would be the root can't be taken; with BadCount of the root where no region would be left. Index and store are then as
-    /// they were.
-    pub fn prepare_drop<S: PageStore>(
-        &self,
-        alloc: Global,
-        pager: &mut Pager<S>,
-        region: &Region,
-    ) -> Result<Change, IndexFault>
-        ensures made { IsHonest pager.old.store → IfOk result
-            (IsDropped self.now pager.old.store region.now.first) }
-        ensures pages { IsHonest pager.old.store
-            → IfOk result (λ c. AreIndexPages self.now.last c.sheets) }
-        ensures ready { (i : ℕ) → IsIndexOn self.now pager.old.store
-            → IsReachedOnce self.now pager.old.store
-            → IsRegionAt (entries_in self.now pager.old.store) i region.now
-            → IsBefore origin region.now.first
-            → IfOk result (λ c. MakesIndex self.now pager.old.store (page_count pager.old.store) c
-            (Replaces (entry_at region.now) [] (entries_in self.now pager.old.store))) }
-        ensures low { (i : ℕ) → IsIndexOn self.now pager.old.store
-            → IsReachedOnce self.now pager.old.store
-            → IsRegionAt (entries_in self.now pager.old.store) i region.now
-            → IsBefore origin region.now.first
-            → IfOk result (λ c. (c.next ≡ c.start) × MakesLow self.now pager.old.store c) }
-        ensures effect { PreparesDrop self.now region.now.first pager.old pager.new result }
-    {
-        let start = pager.pages();
-        let aim = Aim {
-            key: region.first,
-            added: None,
-        };
-        let change = self.prepare(alloc, pager, &aim, start, Sheets::new(alloc, start))?;
-        change.lowered(pager, self.last)
-    }
-
-    /// Makes a change, once the store has grown: puts the pages that it spells, and then takes over the root. Device comes
-    /// where the store failed in this call, NoPage where it has no page of that number; the index is then as it was, and the
-    /// pages that the change spells may hold any bytes.
-    pub fn commit<S: PageStore>(
-        &mut self,
-        pager: &mut Pager<S>,
-        change: &Change,
-    ) -> Result<(), StoreFault>
-        ensures now { OnOk result (self.new ≡ record self.old {
-          root = change.now.root;
-          levels = change.now.levels;
-        }) }
-        ensures left { OnErr result (self.new ≡ self.old) }
-        ensures trace { SameTrace pager.old pager.new }
-        ensures stand { AreOnce change.now.sheets → IsHonest pager.old.store
-            → OnOk result (Stand pager.new.store.pages change.now.sheets) }
-        ensures kept { PutsSheets change.now.sheets pager.old.store pager.new.store }
-        ensures checked { AreIndexPages self.old.last change.now.sheets
-            → KeepsChecked self.old.last pager.old pager.new }
-        ensures same { pager.new.store ≡ put_store result pager.old.store pager.new.store }
-        ensures refused { IfErr result (IsPutFault change.now.sheets pager.old.store) }
-    {
-        put_all(pager, change.sheets())?;
-        let (root, levels) = change.root();
-        self.root = root;
-        self.levels = levels;
-        Ok(())
-    }
-
-    // Prepares a change, where the store has so many pages, and some may be spelled already: one at least that the store gets,
-    // where a region comes.
-    fn prepare<S: PageStore>(
-        &self,
-        alloc: Global,
-        pager: &mut Pager<S>,
-        aim: &Aim,
-        start: u32,
-        sheets: Sheets,
-    ) -> Result<Change, IndexFault>
-        requires { (aim.now.added ≡ None) ⊎ (1 ≤ sheets.next) }
-        ensures bounds { (self.now.last < 2 ^ 128) × (self.now.levels ≤ MAX_LEVEL)
-            × (1 ≤ self.now.levels) × (1 ≤ self.now.root) }
-        ensures made { IsHonest pager.old.store → IfOk result
-            (IsPrepared self.now pager.old.store aim.now.key aim.now.added start sheets) }
-        ensures few { IfOk result (TakesFew start sheets.next (self.now.levels + 1)) }
-        ensures narrow { aim.now.added ≡ None → IfErr result IsNoGrowth }
-        ensures effect { PreparesAll self.now aim.now.key aim.now.added sheets pager.old pager.new
-            result }
-    {
-        let mut sheets = sheets;
-        let place = root_place(self.root);
-        let told = turn(
-            alloc,
-            pager,
-            self.last,
-            self.levels,
-            &place,
-            aim,
-            &mut sheets,
-        )?;
-        Change::settled(self.root, self.levels, told, start, sheets)
     }
 
     // The region that is found after another one, if one is given. It is refused where it would not begin later.

@@ -1,4 +1,4 @@
-ghost use Rattle.ub_index.specs.Laws.{AddedPagesAreOwn, ChangeFills, ChangeHasPages, ChangeIsMade, ChangeKeepsOrder, ChangeReplaces, DroppedPagesAreOwn, EntriesArePlaces, EntriesCount, FilledIndexIsLow, FullWaysPart, NewIndexIsFilled, OthersStay, OwnPagesStandApart, PagesAreThere, RegionsAreForeign, RegionsKeepFilled, RegionsMayChange, ReplacesAtRegion, RootsAreTaken, RegionsAreLedTo, TurnsBecome, WaysAreOne, WaysAreTheSame, WaysHold, WaysMissFirst, WaysNeverStop, WaysStay, WholeAscends, ZerosAreNoIndexPage};
+ghost use Rattle.ub_index.specs.Laws.{EntriesArePlaces, OthersStay, OwnPagesStandApart, PagesAreThere, RegionsAreLedTo, RegionsMayChange, WaysAreOne, WaysAreTheSame, WaysHold, WaysMissFirst, WaysNeverStop, WaysStay, WholeAscends, ZerosAreNoIndexPage};
 
 /// What an entry leads to is in order.
 pub fn whole_ascends()
@@ -15,39 +15,9 @@ pub fn others_stay()
     ensures { OthersStay }
 {}
 
-/// Where a region's entry became others, they stand in its place in the whole list.
-pub fn change_replaces()
-    ensures { ChangeReplaces }
-{}
-
-/// And what an upper entry became is an index again.
-pub fn change_keeps_order()
-    ensures { ChangeKeepsOrder }
-{}
-
-/// What a change spells makes of an entry what it tells, on all later pages on which that stands.
-pub fn turns_become()
-    ensures { TurnsBecome }
-{}
-
-/// A page is parted only where each page on the way to the region is full.
-pub fn full_ways_part()
-    ensures { FullWaysPart }
-{}
-
 /// The pages of an index are pages of the store.
 pub fn pages_are_there()
     ensures { PagesAreThere }
-{}
-
-/// A change that is prepared is made once the store has grown, the regions' pages are put, and then the pages that it spells.
-pub fn change_is_made()
-    ensures { ChangeIsMade }
-{}
-
-/// No page that a change spells is missing, once the store has grown.
-pub fn change_has_pages()
-    ensures { ChangeHasPages }
 {}
 
 /// The entries of an index are those of a table's regions.
@@ -90,31 +60,6 @@ pub fn ways_are_one()
     ensures { WaysAreOne }
 {}
 
-/// A change of an index puts none of the regions' pages.
-pub fn regions_are_foreign()
-    ensures { RegionsAreForeign }
-{}
-
-/// No page serves twice once a region has come.
-pub fn added_pages_are_own()
-    ensures { AddedPagesAreOwn }
-{}
-
-/// No page serves twice once a region has gone.
-pub fn dropped_pages_are_own()
-    ensures { DroppedPagesAreOwn }
-{}
-
-/// How many regions there are after a change.
-pub fn entries_count()
-    ensures { EntriesCount }
-{}
-
-/// A change stands at the index of the region.
-pub fn replaces_at_region()
-    ensures { ReplacesAtRegion }
-{}
-
 /// On an index ways lead to its regions, and to each of them.
 pub fn regions_are_led_to()
     ensures { RegionsAreLedTo }
@@ -123,29 +68,4 @@ pub fn regions_are_led_to()
 /// The regions' pages are none of the index.
 pub fn own_pages_stand_apart()
     ensures { OwnPagesStandApart }
-{}
-
-/// On an index no root is refused to which its root gives way.
-pub fn roots_are_taken()
-    ensures { RootsAreTaken }
-{}
-
-/// An index of one level is filled.
-pub fn new_index_is_filled()
-    ensures { NewIndexIsFilled }
-{}
-
-/// An index that was filled is filled once a change is made that keeps it so.
-pub fn change_fills()
-    ensures { ChangeFills }
-{}
-
-/// An index is filled as it was where pages change that aren't its own.
-pub fn regions_keep_filled()
-    ensures { RegionsKeepFilled }
-{}
-
-/// An index that is filled has fewer levels than there can be.
-pub fn filled_index_is_low()
-    ensures { FilledIndexIsLow }
 {}

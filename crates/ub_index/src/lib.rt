@@ -42,57 +42,43 @@
 //  - Of a page that the pager holds already, a search looks at the ends alone. That is enough where each page that is held was
 //    checked: over an honest store it is an index's page in full, or doesn't begin as one (`AreChecked` in specs/Held). Then what
 //    a search answers is what the store's pages say, whatever was read before.
-//  - Each call here keeps that. A page that is read and refused is let go again, and a change puts pages of an index alone. Who
-//    brings pages of the same pager for another use keeps it too: what isn't taken there is let go.
+//  - Each call here keeps that. A page that is read and refused is let go again. Who puts pages of an index, or brings pages of
+//    the same pager for another use, keeps it too: what isn't taken there is let go.
 //  - Searches don't require it: their clauses on what is found, and why they are refused, have it as a premise. On a pager that
 //    holds other pages what stands between the ends is followed as it is. A search still comes to an end, changes nothing of the
 //    store, and lets a page go that it refuses on its way.
 //  - Only a store that isn't honest, or a pager whose pages weren't checked, gives one page in two ways. Where a later region
 //    would not begin later then, OutOfRegion of the root is told: so each walk ends, and none comes to a first key twice.
-//  - A change checks each page on its way in full, held or not, since it spells the entries anew that stand there.
 //  - Who looks at all pages asks for them one by one (`entries`): each is checked in full, held or not.
 //
-// CHANGES. A change is one region's entry that goes, or gets another one behind it. It goes down as a search does and back up
-// (`turning`), and tells each page above by which entries to name what it led to (`told`):
+// CHANGES of an index are made in the crate above (`ub_index_change`). It goes down with what this crate shows of its own way: a
+// place, and that of a root (`Place`, `root_place`); and a page that is brought and checked in full (`bring_fitting`, `bring_root`).
 //
-//  - by the same one: then no page above changes, nor is one of them spelled;
-//  - by one with another first key, where the first entry of the page went: the page above gets that key, and so on up;
-//  - by none, where its last entry went: an empty page leaves the page above it, and stands in the store with no use;
-//  - by two, where 171 entries stand on two pages: the first 86 stay on the old page, and 85 stand on a new one.
+// WORDS. An *entry* is a key and the number of a page; a *place* is an entry, and where the next one of its level begins. A page
+// *fits* the place from which an entry names it. The *way* to a key goes down from the root, by the entries to which the key
+// falls: it *leads* to a region's entry, or *stops* at a page that isn't taken. A *goal* is what a later region is sought for:
+// an address, or boxes.
 //
-// A root of two pages gets a new one above it, which names both: it grows by a level. With 16 levels that is refused as Full. A
-// root above level 1 that names one page alone gives way to it when a region went, and so on down (`change`).
+// DEFINITIONS (specs). What an index is: `Index`, and what contracts see of one: `View`; where its regions stand: `Spans`. Which
+// page is taken: `Fitting`; what is known of the pages that are held: `Held`. The way to a key: `Way`; a page that is brought,
+// and the steps down: `Bringing`, `Descending`; what searches answer, and why they are refused: `Searching`; `Opening`. What an
+// index is to those who keep regions on other pages of its store, which grows: `Standing`. `Laws`.
 //
-// An index that has only grown is filled: each page below its root has 85 entries at least, and a root above level 1 has two. So
-// it has fewer than 16 levels where it has fewer than 2^32 regions, and none of its additions is refused as Full then.
-//
-// THE ORDER. What changes is spelled in memory (`sheets`), with the numbers that the store's next pages will have: the region's
-// page first, then a new page as it comes on the way up, the new root last. All reading, and all want of memory for it, comes
-// before that: a call that is refused so far has changed nothing. Then the store grows, and the region's page is put by the
-// caller; then the pages are put, a new one before any that names it; and the root is taken over last, when all of them stand
-// (`making`). A failure in between leaves the old root, and pages of which some may be those of the change.
-//
-// What belongs here is the way through several pages. How one page is spelled and searched (`ub_page`), and how pages are
-// kept (`ub_store`), stands below; which pages are a table's, above. The functions of `law` ensure what holds of every index,
-// and what a change of one entry does to the whole.
+// What belongs here is the way through several pages. How one page is spelled and searched (`ub_page`), and how pages are kept
+// (`ub_store`), stands below; how the pages of an index change (`ub_index_change`), and which pages are a table's, above. The
+// functions of `law` ensure what holds of every index.
 
 #![tactic(auto)]
 
-pub mod change;
 mod descent;
 pub mod entries;
 pub mod fault;
 mod goal;
 pub mod index;
 pub mod law;
-mod making;
 mod opening;
-pub mod sheet;
-mod sheets;
-mod told;
-mod turning;
 
-pub use change::Change;
+pub use descent::{Place, bring_fitting, bring_root, root_place};
 pub use entries::entries_at;
 pub use fault::IndexFault;
 pub use index::{Index, region_at};

@@ -2,14 +2,14 @@
 use Rattle.std.proofs.Common.{◌≡◌, ◌<◌, ◌+◌, ◌∙◌, ℕ, suc, List, [], ◌∷◌, Some, length, map, take, drop, ap, sym, subst, refl, arith, slice_get}
 use Rattle.std.specs.List.{AllByRecursion}
 use Rattle.ub_store.specs.Writing.{Grows}
-use Rattle.ub_index.proofs.MadeFacts.{made_filled}
-use Rattle.ub_index.proofs.OwnFacts.{count_replaced, foreign_regions, own_added}
-use Rattle.ub_index.specs.Changed.{Replaces}
-use Rattle.ub_index.specs.Changing.{IsOutside, Stand}
-use Rattle.ub_index.specs.Filling.{IsFilled, KeepsFilled}
-use Rattle.ub_index.specs.Making.{IsCommitted, PutsSheets, StayOutside, changed}
-use Rattle.ub_index.specs.Preparing.{ChangeView, IsForeign, MakesIndex, added_at}
-use Rattle.ub_index.specs.Standing.{AreOwnPages, region_pages}
+use Rattle.ub_index_change.proofs.MadeFacts.{made_filled}
+use Rattle.ub_index_change.proofs.OwnFacts.{count_replaced, foreign_regions, own_added}
+use Rattle.ub_index_change.specs.Changed.{Replaces}
+use Rattle.ub_index.specs.Standing.{IsOutside, AreOwnPages, region_pages}
+use Rattle.ub_index_change.specs.Changing.{Stand}
+use Rattle.ub_index_change.specs.Filling.{IsFilled, KeepsFilled}
+use Rattle.ub_index_change.specs.Making.{IsCommitted, PutsSheets, StayOutside, changed}
+use Rattle.ub_index_change.specs.Preparing.{ChangeView, IsForeign, MakesIndex, added_at}
 use Rattle.ub_index.specs.View.{IndexView, entries_in, entry_at}
 use Rattle.ub_region.specs.declared.region.Region.{Region}
 use Rattle.ub_page.proofs.PageLaws.{region_parts}

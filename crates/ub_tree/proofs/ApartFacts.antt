@@ -7,7 +7,7 @@ use Rattle.ub_index.proofs.FitFacts.{page_is}
 use Rattle.ub_index.proofs.KeyFacts.{le_trans}
 use Rattle.ub_index.proofs.Lists.{ascend_first}
 use Rattle.ub_index.proofs.Numbers.{StandApart, distinct_cons, distinct_join}
-use Rattle.ub_index.specs.Changing.{IsOutside}
+use Rattle.ub_index.specs.Standing.{IsOutside}
 use Rattle.ub_index.specs.Index.{entries_of, first_or, page_in, AscendTo, EachTo, IsIndexPage, IsUnder, pages_under}
 use Rattle.ub_page.proofs.IndexLaws.{node_parts}
 use Rattle.ub_page.specs.Index.{node_on}

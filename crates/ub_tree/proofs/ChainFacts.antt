@@ -4,7 +4,7 @@ use Rattle.std.proofs.lemmas.Option.{slice_get_within}
 use Rattle.std.specs.List.{AllByRecursion, IsDistinct, flat_map}
 use Rattle.ub_index.proofs.FitFacts.{page_is}
 use Rattle.ub_index.proofs.Numbers.{StandApart, distinct_cons}
-use Rattle.ub_index.specs.Changing.{IsOutside}
+use Rattle.ub_index.specs.Standing.{IsOutside}
 use Rattle.ub_index.specs.Index.{page_in}
 use Rattle.ub_bytes.proofs.BytesFacts.{length-layout, read_at}
 use Rattle.ub_page.proofs.EntryFacts.{entries_read}

@@ -2,9 +2,9 @@
 use Rattle.std.proofs.Common.{◌≡◌, ◌≢◌, ◌<◌, ◌∙◌, ◌++◌, ℕ, false, List, [], ◌∷◌, None, length, map, nat_eq, sym, ap, subst, refl, arith}
 use Rattle.std.proofs.lemmas.List.Elements.{All-from_recursion, recursion_from_All}
 use Rattle.std.specs.List.{All, AllByRecursion, IsDistinct}
-use Rattle.ub_index.proofs.Changes.{kept_index, kept_under}
+use Rattle.ub_index.proofs.KeptFacts.{kept_index, kept_under}
 use Rattle.ub_index.proofs.Numbers.{distinct_first, kept_pages}
-use Rattle.ub_index.specs.Changed.{PagesStay}
+use Rattle.ub_index.specs.Standing.{PagesStay}
 use Rattle.ub_index.specs.Index.{pages_under, top}
 use Rattle.ub_index.specs.View.{IndexView, index_view}
 use Rattle.ub_region.proofs.Laws.{all_left, all_right}

@@ -6,7 +6,7 @@ use Rattle.std.proofs.lemmas.Map.Made.{IsDistinct-from_count}
 use Rattle.std.specs.Bool.{nat_eq}
 use Rattle.std.specs.Cmp.{nat_eq_equiv}
 use Rattle.std.specs.List.{All, IsDistinct}
-use Rattle.ub_index.proofs.FillFacts.{filled_low}
+use Rattle.ub_index_change.proofs.FillFacts.{filled_low}
 use Rattle.ub_index.specs.Index.{top}
 use Rattle.ub_index.specs.Opening.{IsAlone}
 use Rattle.ub_index.specs.View.{IndexView, index_view}

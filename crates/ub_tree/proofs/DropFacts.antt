@@ -8,17 +8,17 @@ use Rattle.std.specs.List.{AllByRecursion, IsDistinct, remove as remove_at_index
 use Rattle.ub_check.proofs.StandingFacts.{each_get}
 use Rattle.ub_store.specs.Writing.{Grows}
 use Rattle.ub_index.proofs.Numbers.{apart_swap, within_store}
-use Rattle.ub_index.proofs.OwnFacts.{count_replaced, own_apart, own_dropped}
-use Rattle.ub_index.proofs.StandFacts.{stands_as}
-use Rattle.ub_index.specs.Changed.{Replaces}
-use Rattle.ub_index.specs.Changing.{IsOutside, Stand, StayBut}
+use Rattle.ub_index_change.proofs.OwnFacts.{count_replaced, own_dropped}
+use Rattle.ub_index.proofs.StandFacts.{own_apart, stands_as}
+use Rattle.ub_index_change.specs.Changed.{Replaces}
+use Rattle.ub_index.specs.Standing.{IsOutside, AreOwnPages, AreRegionsThere, StandsAsOn, region_pages}
+use Rattle.ub_index_change.specs.Changing.{Stand, StayBut}
 use Rattle.ub_index.specs.Index.{top}
-use Rattle.ub_index.specs.Making.{IsCommitted, PutsSheets, changed}
-use Rattle.ub_index.specs.Preparing.{ChangeView, IsForeign, IsReachedOnce, MakesIndex, pages_of_index}
-use Rattle.ub_index.specs.Standing.{AreOwnPages, AreRegionsThere, StandsAsOn, region_pages}
-use Rattle.ub_index.specs.View.{IndexView, IsIndexOn, IsRegionAt, entries_in, entry_at}
+use Rattle.ub_index_change.specs.Making.{IsCommitted, PutsSheets, changed}
+use Rattle.ub_index_change.specs.Preparing.{ChangeView, IsForeign, MakesIndex}
+use Rattle.ub_index.specs.View.{IsReachedOnce, pages_of_index, IndexView, IsIndexOn, IsRegionAt, entries_in, entry_at}
 use Rattle.ub_region.specs.declared.region.Region.{Region}
-use Rattle.ub_index.specs.declared.sheet.Sheet.{Sheet}
+use Rattle.ub_index_change.specs.declared.sheet.Sheet.{Sheet}
 use Rattle.ub_page.proofs.PageLaws.{region_parts}
 use Rattle.ub_region.specs.RegionPage.{region_page}
 use Rattle.ub_region.specs.declared.entry.Entry.{Entry}

@@ -1,10 +1,11 @@
 -- What a call leaves that calls others: a search, a refusal or a write, as a change.
 use Rattle.std.proofs.Common.{◌≡◌, ◌≢◌, ◌<◌, ◌∙◌, ◌++◌, inl, inr, ◌⊎◌, ℕ, true, List, [], ◌∷◌, Ok, Err, Result, IfErr, IfOk, OnOk, sym, ap, subst, refl, arith}
 use Rattle.std.specs.Result.{IsErrAnd}
-use Rattle.ub_index.specs.Changing.{IsOutside, IsUnspelled}
+use Rattle.ub_index.specs.Standing.{IsOutside}
+use Rattle.ub_index_change.specs.Changing.{IsUnspelled}
 use Rattle.ub_index.specs.Index.{pages_under, top}
-use Rattle.ub_index.specs.Making.{PutsSheets, SameButSheets}
-use Rattle.ub_index.specs.declared.sheet.Sheet.{Sheet}
+use Rattle.ub_index_change.specs.Making.{PutsSheets, SameButSheets}
+use Rattle.ub_index_change.specs.declared.sheet.Sheet.{Sheet}
 use Rattle.ub_region.specs.declared.region.Region.{Region}
 use Rattle.ub_region.proofs.Laws.{all_left, all_right}
 use Rattle.ub_store.specs.Facts.{StoreFacts, IsHonest, page_count}

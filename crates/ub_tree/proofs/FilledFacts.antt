@@ -2,13 +2,11 @@
 use Rattle.std.proofs.Common.{◌≡◌, ◌∙◌, ◌++◌, ℕ, List, [], ◌∷◌, Result, map, nat_eq, ap, sym, subst}
 use Rattle.std.specs.List.{AllByRecursion, IsDistinct}
 use Rattle.ub_check.proofs.StandingFacts.{each_get}
-use Rattle.ub_index.proofs.StandFacts.{stands_filled}
-use Rattle.ub_index.proofs.OwnFacts.{own_apart}
-use Rattle.ub_index.specs.Changing.{IsOutside}
-use Rattle.ub_index.specs.Filling.{IsFilled}
-use Rattle.ub_index.specs.Preparing.{pages_of_index}
-use Rattle.ub_index.specs.Standing.{AreOwnPages, region_pages}
-use Rattle.ub_index.specs.View.{IndexView, entries_in, entry_at}
+use Rattle.ub_index_change.proofs.FillFacts.{stands_filled}
+use Rattle.ub_index.proofs.StandFacts.{own_apart}
+use Rattle.ub_index.specs.Standing.{IsOutside, AreOwnPages, region_pages}
+use Rattle.ub_index_change.specs.Filling.{IsFilled}
+use Rattle.ub_index.specs.View.{pages_of_index, IndexView, entries_in, entry_at}
 use Rattle.ub_region.specs.declared.region.Region.{Region}
 use Rattle.ub_tree.proofs.CallFacts.{stored_on}
 use Rattle.ub_tree.proofs.IndexedFacts.{reached_once}

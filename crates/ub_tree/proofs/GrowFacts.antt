@@ -9,7 +9,8 @@ use Rattle.ub_index.proofs.WaysFacts.{ends_from, ends_to}
 use Rattle.ub_index.specs.View.{entry_at}
 use Rattle.ub_index.specs.Index.{entries_of, first_or, top}
 use Rattle.ub_index.specs.Fitting.{FallsTo as FallsToEntry}
-use Rattle.ub_index.specs.Way.{EndsFull, HoldsKey, IsFullWay, LeadsTo}
+use Rattle.ub_index_change.specs.FullWay.{EndsFull, IsFullWay}
+use Rattle.ub_index.specs.Way.{HoldsKey, LeadsTo}
 use Rattle.ub_region.specs.declared.entry.Entry.{Entry}
 use Rattle.ub_region.proofs.Laws.{all_left, all_right, insert_keeps, insert_table}
 use Rattle.ub_region.specs.Regions.{firsts_of, index_holding, insert, rows_of, split_region}

@@ -4,12 +4,11 @@ use Rattle.std.proofs.lemmas.List.Elements.{recursion_from_All}
 use Rattle.std.proofs.lemmas.Option.{slice_get_within}
 use Rattle.std.specs.List.{All, AllByRecursion, IsDistinct}
 use Rattle.ub_store.specs.Writing.{Grows, put_store}
-use Rattle.ub_index.proofs.Changes.{kept_index, kept_under}
+use Rattle.ub_index.proofs.KeptFacts.{kept_index, kept_under}
 use Rattle.ub_index.proofs.LeadFacts.{ways_stay}
 use Rattle.ub_index.proofs.Numbers.{kept_pages, within_store}
-use Rattle.ub_index.specs.Changed.{PagesStay}
+use Rattle.ub_index.specs.Standing.{PagesStay, IsGrowFault}
 use Rattle.ub_index.specs.Index.{pages_under, top}
-use Rattle.ub_index.specs.Making.{IsGrowFault}
 use Rattle.ub_index.specs.View.{IndexView}
 use Rattle.ub_region.specs.declared.entry.Entry.{Entry}
 use Rattle.ub_region.specs.Regions.{AreRegions, rows_of}

@@ -9,10 +9,9 @@ use Rattle.ub_region.specs.declared.region.Region.{Region}
 use Rattle.ub_index.proofs.FoundFacts.{meeting_given, region_there}
 use Rattle.ub_index.proofs.LeadFacts.{led_to, ways_hold}
 use Rattle.ub_index.proofs.WayFacts.{way_ends_at}
-use Rattle.ub_index.specs.Preparing.{IsReachedOnce}
+use Rattle.ub_index.specs.View.{IsReachedOnce, IndexView, IsIndexOn, IsRegionAt, entries_in}
 use Rattle.ub_index.specs.Searching.{GivesAfter}
 use Rattle.ub_region.specs.Spans.{end_before}
-use Rattle.ub_index.specs.View.{IndexView, IsIndexOn, IsRegionAt, entries_in}
 use Rattle.ub_region.specs.declared.entry.Entry.{Entry}
 use Rattle.ub_region.specs.Regions.{index_holding}
 use Rattle.ub_store.specs.Facts.{StoreFacts, IsHonest}

@@ -6,17 +6,18 @@ use Rattle.std.proofs.lemmas.List.{length-map}
 use Rattle.std.proofs.lemmas.Option.{slice_get_past}
 use Rattle.std.specs.Result.{IsErrAnd}
 use Rattle.ub_check.proofs.StandingFacts.{each_get}
-use Rattle.ub_index.specs.Changed.{Replaces}
-use Rattle.ub_index.specs.Changing.{AreOnce, IsOutside, IsUnspelled, Stand}
+use Rattle.ub_index_change.specs.Changed.{Replaces}
+use Rattle.ub_index_change.specs.Changing.{AreOnce, IsUnspelled, Stand}
+use Rattle.ub_index.specs.Standing.{IsOutside}
 use Rattle.ub_index.specs.Index.{pages_under, top}
-use Rattle.ub_index.specs.Lowering.{IsDropFault}
-use Rattle.ub_index.specs.Making.{IsPutFault, PutsSheets, changed}
-use Rattle.ub_index.specs.Preparing.{ChangeView, MakesIndex}
+use Rattle.ub_index_change.specs.Lowering.{IsDropFault}
+use Rattle.ub_index_change.specs.Making.{IsPutFault, PutsSheets, changed}
+use Rattle.ub_index_change.specs.Preparing.{ChangeView, MakesIndex}
 use Rattle.ub_index.specs.View.{IndexView, entries_in, entry_at}
 use Rattle.ub_index.specs.declared.fault.IndexFault.{IndexFault}
 use Rattle.ub_index.specs.declared.fault.IndexFault.TheVariants as index
 use Rattle.ub_region.specs.declared.region.Region.{Region}
-use Rattle.ub_index.specs.declared.sheet.Sheet.{Sheet}
+use Rattle.ub_index_change.specs.declared.sheet.Sheet.{Sheet}
 use Rattle.ub_region.specs.declared.entry.Entry.{Entry}
 use Rattle.ub_region.proofs.Laws.{all_more}
 use Rattle.ub_region.specs.Joins.{put_rows}

@@ -16,7 +16,7 @@ use Rattle.ub_tree.proofs.CoverFacts.{covered}
 use Rattle.ub_tree.proofs.IndexedFacts.{contained_told, first_given, sound_index, spans_told, told_contained}
 use Rattle.ub_tree.proofs.WalkFacts.{answers_are_those, those_few}
 use Rattle.ub_bigmin.specs.Box.{Corners}
-use Rattle.ub_index.proofs.FillFacts.{filled_low_levels}
+use Rattle.ub_index_change.proofs.FillFacts.{filled_low_levels}
 use Rattle.ub_index.proofs.Numbers.{distinct_right}
 use Rattle.ub_index.specs.View.{entries_in}
 use Rattle.ub_page.specs.declared.header.TheConstants.{MAX_LEVEL}

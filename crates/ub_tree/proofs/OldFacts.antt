@@ -4,10 +4,9 @@ use Rattle.std.proofs.lemmas.List.Elements.{All-from_recursion, recursion_from_A
 use Rattle.std.proofs.lemmas.Option.{slice_get_within}
 use Rattle.std.specs.List.{All, AllByRecursion, IsDistinct}
 use Rattle.ub_index.specs.Spans.{first_keys}
-use Rattle.ub_index.proofs.Changes.{kept_index, kept_under}
+use Rattle.ub_index.proofs.KeptFacts.{kept_index, kept_under}
 use Rattle.ub_index.proofs.Numbers.{distinct_apart, distinct_cons, distinct_first, distinct_join, distinct_left, distinct_right, kept_pages, within_store}
-use Rattle.ub_index.specs.Changed.{PagesStay}
-use Rattle.ub_index.specs.Changing.{IsOutside}
+use Rattle.ub_index.specs.Standing.{PagesStay, IsOutside}
 use Rattle.ub_index.specs.Index.{pages_under, top}
 use Rattle.ub_index.specs.View.{IndexView}
 use Rattle.ub_region.proofs.AddressFacts.{small_address}

@@ -4,12 +4,13 @@ use Rattle.std.proofs.Common.{◌≡◌, ◌≢◌, ◌<◌, ◌≤◌, ◌+◌,
 use Rattle.std.specs.List.{AllByRecursion}
 use Rattle.std.specs.Result.{IsErrAnd}
 use Rattle.ub_check.proofs.StandingFacts.{each_get}
-use Rattle.ub_index.specs.Changing.{IsOutside, IsUnspelled}
+use Rattle.ub_index.specs.Standing.{IsOutside}
+use Rattle.ub_index_change.specs.Changing.{IsUnspelled}
 use Rattle.ub_index.specs.Index.{pages_under, top}
-use Rattle.ub_index.specs.Making.{IsPutFault, PutsSheets}
-use Rattle.ub_index.specs.Preparing.{ChangeView, HasFullWay, NeedsPages}
+use Rattle.ub_index_change.specs.Making.{IsPutFault, PutsSheets}
+use Rattle.ub_index_change.specs.Preparing.{ChangeView, HasFullWay, NeedsPages}
 use Rattle.ub_region.specs.declared.region.Region.{Region}
-use Rattle.ub_index.specs.declared.sheet.Sheet.{Sheet}
+use Rattle.ub_index_change.specs.declared.sheet.Sheet.{Sheet}
 use Rattle.ub_page.specs.declared.header.TheConstants.{MAX_LEVEL}
 use Rattle.ub_region.proofs.Laws.{all_more}
 use Rattle.ub_page.specs.Header.{header_page}

@@ -7,14 +7,12 @@ use Rattle.std.proofs.lemmas.Option.{slice_get_within}
 use Rattle.std.specs.List.{All, AllByRecursion, IsDistinct}
 use Rattle.ub_check.proofs.PlacedFacts.{placed_at}
 use Rattle.ub_index.proofs.FirstFacts.{below_some, ways_miss}
-use Rattle.ub_index.proofs.Changes.{kept_named, kept_index, kept_under, same_entries as under_same}
+use Rattle.ub_index.proofs.KeptFacts.{kept_named, kept_index, kept_under, same_entries as under_same}
 use Rattle.ub_index.proofs.HeldFacts.{ends_of}
 use Rattle.ub_index.proofs.Numbers.{distinct_apart, distinct_first, kept_pages}
-use Rattle.ub_index.specs.Changed.{PagesStay}
-use Rattle.ub_index.specs.Changing.{IsOutside}
+use Rattle.ub_index.specs.Standing.{PagesStay, IsOutside, region_pages}
 use Rattle.ub_index.specs.Fitting.{FallsTo}
 use Rattle.ub_index.specs.Index.{NamesFitting, page_in, pages_under, top}
-use Rattle.ub_index.specs.Standing.{region_pages}
 use Rattle.ub_index.specs.View.{IndexView, IsRegionAt, entry_at}
 use Rattle.ub_index.specs.Way.{LeadsTo}
 use Rattle.ub_page.specs.Index.{IsIndexKind}

@@ -3,19 +3,19 @@ use Rattle.std.proofs.Common.{◌≡◌, ◌≢◌, ◌≤◌, ◌<◌, ◌+◌,
 use Rattle.std.proofs.lemmas.List.{append-nil, length-map}
 use Rattle.std.specs.List.{AllByRecursion, flat_map}
 use Rattle.std.specs.Result.{IsErrAnd}
-use Rattle.ub_index.proofs.FullFacts.{mended_few}
+use Rattle.ub_index_change.proofs.FullFacts.{mended_few}
 use Rattle.ub_index.proofs.KeyFacts.{le_before}
-use Rattle.ub_index.specs.Changing.{IsAtMostOne, Mends, Spelled, Spreads, Turns, named_as, so_far}
+use Rattle.ub_index_change.specs.Changing.{IsAtMostOne, Mends, Spelled, Spreads, Turns, named_as, so_far}
 use Rattle.ub_index.specs.Index.{entries_of, pages_under, top, under}
-use Rattle.ub_index.specs.Lowering.{IsDropFault, IsDropped, IsLowerFault, IsRootRefused}
-use Rattle.ub_index.specs.Preparing.{ChangeView, IsChangeFault, IsPrepared, Settles, change_view}
+use Rattle.ub_index_change.specs.Lowering.{IsDropFault, IsDropped, IsLowerFault, IsRootRefused}
+use Rattle.ub_index_change.specs.Preparing.{ChangeView, IsChangeFault, IsPrepared, Settles, change_view}
 use Rattle.ub_index.specs.Searching.{Gives, store_after}
 use Rattle.ub_index.specs.View.{IndexView, entry_at}
 use Rattle.ub_index.specs.declared.fault.IndexFault.{IndexFault}
 use Rattle.ub_index.specs.declared.fault.IndexFault.TheVariants as index
 use Rattle.ub_region.specs.declared.region.Region.{Region}
-use Rattle.ub_index.specs.declared.told.Told.{Told}
-use Rattle.ub_index.specs.declared.told.Told.TheVariants.{Same, Gone, One, Two}
+use Rattle.ub_index_change.specs.declared.told.Told.{Told}
+use Rattle.ub_index_change.specs.declared.told.Told.TheVariants.{Same, Gone, One, Two}
 use Rattle.ub_page.specs.declared.header.TheConstants.{MAX_LEVEL}
 use Rattle.ub_region.specs.declared.entry.Entry.{Entry}
 use Rattle.ub_region.proofs.Laws.{all_append, all_more}

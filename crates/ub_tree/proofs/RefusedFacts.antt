@@ -1,7 +1,7 @@
 -- What a call answers that makes others: what it found, or why one of them was refused.
 use Rattle.std.proofs.Common.{◌≡◌, Ok, Err, Result, sym, subst}
 use Rattle.std.specs.Result.{IsErrAnd}
-use Rattle.ub_index.specs.Preparing.{ChangeView}
+use Rattle.ub_index_change.specs.Preparing.{ChangeView}
 use Rattle.ub_store.specs.Facts.{StoreFacts}
 use Rattle.ub_store.specs.declared.fault.StoreFault.TheVariants as store
 use Rattle.ub_tree.specs.Effects.{Searches}

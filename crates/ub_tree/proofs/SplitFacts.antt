@@ -7,16 +7,16 @@ use Rattle.std.proofs.lemmas.Option.{slice_get_within}
 use Rattle.std.specs.List.{All, AllByRecursion, IsDistinct}
 use Rattle.ub_check.proofs.PlacedFacts.{placed_at}
 use Rattle.ub_store.specs.Writing.{Grows}
-use Rattle.ub_index.proofs.MadeFacts.{made}
+use Rattle.ub_index_change.proofs.MadeFacts.{made}
 use Rattle.ub_index.proofs.Numbers.{distinct_apart, distinct_first, distinct_right, within_store}
-use Rattle.ub_index.proofs.OwnFacts.{foreign_regions, replaced_at}
+use Rattle.ub_index_change.proofs.OwnFacts.{foreign_regions, replaced_at}
 use Rattle.ub_index.proofs.StandFacts.{are_places}
-use Rattle.ub_index.specs.Changed.{Replaces}
-use Rattle.ub_index.specs.Changing.{IsOutside, Stand}
+use Rattle.ub_index_change.specs.Changed.{Replaces}
+use Rattle.ub_index.specs.Standing.{IsOutside, AreOwnPages, AreRegionsThere, region_pages}
+use Rattle.ub_index_change.specs.Changing.{Stand}
 use Rattle.ub_index.specs.Index.{pages_under, top}
-use Rattle.ub_index.specs.Making.{IsCommitted, PutsSheets, StayOutside, changed}
-use Rattle.ub_index.specs.Preparing.{ChangeView, IsForeign, MakesIndex}
-use Rattle.ub_index.specs.Standing.{AreOwnPages, AreRegionsThere, region_pages}
+use Rattle.ub_index_change.specs.Making.{IsCommitted, PutsSheets, StayOutside, changed}
+use Rattle.ub_index_change.specs.Preparing.{ChangeView, IsForeign, MakesIndex}
 use Rattle.ub_index.specs.View.{IndexView, IsIndexOn, IsRegionAt, entries_in, entry_at}
 use Rattle.ub_region.specs.declared.region.Region.{Region}
 use Rattle.ub_region.specs.declared.entry.Entry.{Entry}

@@ -5,10 +5,9 @@ use Rattle.std.proofs.lemmas.Option.{get_or_from_slice_get, slice_get_within}
 use Rattle.std.specs.List.{All, AllByRecursion}
 use Rattle.std.specs.Result.{IsErrAnd}
 use Rattle.ub_check.specs.Checking.{StopsIn}
-use Rattle.ub_index.proofs.Changes.{kept_index, kept_under}
+use Rattle.ub_index.proofs.KeptFacts.{kept_index, kept_under}
 use Rattle.ub_index.proofs.Numbers.{distinct_apart, distinct_cons, distinct_first, distinct_join, distinct_left, distinct_right, kept_pages}
-use Rattle.ub_index.specs.Changed.{PagesStay}
-use Rattle.ub_index.specs.Changing.{IsOutside}
+use Rattle.ub_index.specs.Standing.{PagesStay, IsOutside}
 use Rattle.ub_index.specs.Index.{IsUnder, NamesFitting, page_in, pages_under, top}
 use Rattle.ub_index.specs.Fitting.{IsNotTaken, IsUnfit}
 use Rattle.ub_index.specs.Opening.{IsOpenFault as IsRootFault, IsPassing as IsPassingRoot, IsRooted}

@@ -4,7 +4,7 @@ use Rattle.std.proofs.Common.{◌≡◌, ◌≢◌, ◌≤◌, ◌<◌, ◌+◌,
 use Rattle.std.proofs.lemmas.List.{length-append, append-nil}
 use Rattle.std.proofs.lemmas.Option.{slice_get_within}
 use Rattle.std.specs.List.{AllByRecursion, flat_map}
-use Rattle.ub_index.proofs.Changes.{kept_named, same_entries}
+use Rattle.ub_index.proofs.KeptFacts.{kept_named, same_entries}
 use Rattle.ub_index.proofs.HeldFacts.{ends_of}
 use Rattle.ub_index.proofs.FirstFacts.{below_some}
 use Rattle.ub_index.proofs.KeyFacts.{before_le}
@@ -12,13 +12,14 @@ use Rattle.ub_index.proofs.Lists.{ascend_right}
 use Rattle.ub_index.proofs.WayFacts.{named_not_refused}
 use Rattle.ub_index.proofs.WaysFacts.{compare, first_up_to}
 use Rattle.ub_page.proofs.IndexLaws.{node_not_refused}
-use Rattle.ub_index.specs.Changing.{IsOutside, Mends, Spelled, Spreads, Turns, sheet_of, so_far}
+use Rattle.ub_index.specs.Standing.{IsOutside}
+use Rattle.ub_index_change.specs.Changing.{Mends, Spelled, Spreads, Turns, sheet_of, so_far}
 use Rattle.ub_index.specs.Fitting.{FallsTo}
 use Rattle.ub_index.specs.Index.{AscendTo, IsIndexPage, NamesFitting, entries_of, first_or, page_in, pages_under}
 use Rattle.ub_index.specs.Way.{LeadsTo, StopsAt}
-use Rattle.ub_index.specs.declared.sheet.Sheet.{Sheet}
-use Rattle.ub_index.specs.declared.told.Told.{Told}
-use Rattle.ub_index.specs.declared.told.Told.TheVariants.{Same, Gone, One, Two}
+use Rattle.ub_index_change.specs.declared.sheet.Sheet.{Sheet}
+use Rattle.ub_index_change.specs.declared.told.Told.{Told}
+use Rattle.ub_index_change.specs.declared.told.Told.TheVariants.{Same, Gone, One, Two}
 use Rattle.ub_page.proofs.PageLaws.{region_parts}
 use Rattle.ub_region.specs.RegionPage.{region_page}
 use Rattle.ub_region.specs.declared.entry.Entry.{Entry}

@@ -2,7 +2,7 @@
 use Rattle.std.proofs.Common.{◌≡◌, ◌≢◌, ◌∙◌, ◌⊎◌, inl, inr, ℕ, Bool, true, List, [], ◌∷◌, Err, IsTrue, Result, sym, ap, subst, refl}
 use Rattle.std.specs.List.{AllByRecursion}
 use Rattle.ub_store.specs.Writing.{IsOther, KeepsBut, SameBut, put_store}
-use Rattle.ub_index.specs.Changing.{IsOutside}
+use Rattle.ub_index.specs.Standing.{IsOutside}
 use Rattle.ub_index.specs.View.{IndexView}
 use Rattle.ub_page.specs.Header.{header_page}
 use Rattle.ub_store.specs.Facts.{StoreFacts, IsHonest}

@@ -3,8 +3,8 @@ use Rattle.std.specs.Prelude.{◌+◌, ◌≡◌, ◌<◌, ◌≤◌, ◌⊎◌,
 use Rattle.std.specs.List.{Contains}
 use Rattle.ub_check.specs.Standing.{IsHeldBy, IsRegionRefused}
 use Rattle.ub_store.specs.Writing.{Grows}
-use Rattle.ub_index.specs.Lowering.{IsDropFault}
-use Rattle.ub_index.specs.Preparing.{HasFullWay, NeedsPages}
+use Rattle.ub_index_change.specs.Lowering.{IsDropFault}
+use Rattle.ub_index_change.specs.Preparing.{HasFullWay, NeedsPages}
 use Rattle.ub_index.specs.View.{Stops}
 use Rattle.ub_index.specs.declared.fault.IndexFault.TheVariants as index
 use Rattle.ub_page.specs.declared.header.TheConstants.{MAX_LEVEL}

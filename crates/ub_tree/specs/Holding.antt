@@ -1,7 +1,7 @@
 -- The region that a key falls into, on any tree, and what a change of it must answer.
 use Rattle.std.specs.Prelude.{◌≡◌, ◌≢◌, ◌+◌, ◌<◌, ◌⊎◌, ℕ, Bool, true, false, Some, Result, Err, IfErr, IfOk, length}
 use Rattle.std.specs.Result.{IsErrAnd}
-use Rattle.ub_index.specs.Preparing.{HasFullWay, NeedsPages}
+use Rattle.ub_index_change.specs.Preparing.{HasFullWay, NeedsPages}
 use Rattle.ub_index.specs.Searching.{key_before}
 use Rattle.ub_page.specs.declared.header.TheConstants.{MAX_LEVEL}
 use Rattle.ub_region.specs.Rows.{has_key}

@@ -1,7 +1,7 @@
 -- Which pages of its store a change of a tree leaves as they are, and what it does to the regions that the tree counts.
 use Rattle.std.specs.Prelude.{◌≡◌, ◌≤◌, ◌+◌, ◌<◌, ◌⊎◌, ◌++◌, ℕ, List, [], ◌∷◌, length, slice_get}
-use Rattle.ub_index.specs.Changing.{IsOutside}
-use Rattle.ub_index.specs.Preparing.{NeedsPages}
+use Rattle.ub_index.specs.Standing.{IsOutside}
+use Rattle.ub_index_change.specs.Preparing.{NeedsPages}
 use Rattle.ub_page.specs.declared.header.TheConstants.{MAX_LEVEL}
 use Rattle.ub_store.specs.Facts.{StoreFacts, IsHonest, page_count}
 use Rattle.ub_table.specs.declared.row.Key.{Key}

@@ -1,9 +1,9 @@
 ghost use Rattle.std.specs.Int.{w64};
 ghost use Rattle.std.specs.Prelude.{FitsSigned, ℕ, map, ◌≡◌, ◌≢◌, ◌+◌, ◌-◌, pos, replicate, ◌<◌, ◌≤◌, ◌++◌, ◌∷◌, [], true, false, IsTrue, Some, Err, length, slice_get, IfOk, IfErr, MatchResult, OnOk};
 ghost use Rattle.std.specs.List.{AllByRecursion, insert};
-ghost use Rattle.ub_index.specs.Changing.{AreIndexPages, AreOnce, Stand};
-ghost use Rattle.ub_index.specs.Making.{PutsSheets, changed};
-ghost use Rattle.ub_index.specs.Preparing.{IsWithinRegion};
+ghost use Rattle.ub_index_change.specs.Changing.{AreIndexPages, AreOnce, Stand};
+ghost use Rattle.ub_index_change.specs.Making.{PutsSheets, changed};
+ghost use Rattle.ub_index_change.specs.Preparing.{IsWithinRegion};
 ghost use Rattle.ub_page.specs.Index.{IsIndexKind};
 ghost use Rattle.ub_bytes.specs.Bytes.{padded};
 ghost use Rattle.ub_region.specs.RegionPage.{region_page};
@@ -26,7 +26,7 @@ use crate::fault::{TreeFault, bad_count};
 use crate::room::{Drafts, Room, new_room};
 use crate::tree::Tree;
 use ub_check::take_region;
-use ub_index::Change;
+use ub_index_change::{Change, commit};
 use ub_page::{Page, RegionPage};
 use ub_region::{Region, index_in};
 use ub_store::{MAX_PAGES, PageStore, StoreFault};
@@ -213,7 +213,7 @@ impl<S: PageStore> Tree<S> {
         ensures stopped { IfErr result (λ fault. HasStopped fault self.old self.new
             × IsIndexFault change.now self.old.store fault) }
     {
-        match self.index.commit(&mut self.pager, change) {
+        match commit(&mut self.index, &mut self.pager, change) {
             Ok(()) => Ok(()),
             Err(fault) => Err(failing(&mut self.is_failed, fault)),
         }

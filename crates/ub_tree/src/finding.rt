@@ -1,5 +1,5 @@
 ghost use Rattle.std.specs.Prelude.{◌≡◌, ◌≢◌, ◌↔◌, ℕ, Some, None, map, IfErr, IfOk, IfSome, IsOk, IsTrue, MatchResult};
-ghost use Rattle.ub_index.specs.Preparing.{HasFullWay};
+ghost use Rattle.ub_index_change.specs.Preparing.{HasFullWay};
 ghost use Rattle.ub_index.specs.Searching.{key_before};
 ghost use Rattle.ub_index.specs.View.{IsNextRegion, IsPreviousRegion};
 ghost use Rattle.ub_page.specs.declared.header.TheConstants.{MAX_LEVEL};
@@ -19,7 +19,7 @@ ghost use Rattle.ub_tree.specs.inner.Change.{IsAddReady, IsDropReady, IsRegionIn
 
 use crate::fault::TreeFault;
 use crate::tree::Tree;
-use ub_index::Change;
+use ub_index_change::{Change, prepare_add, prepare_drop};
 use ub_region::{Region, is_equal};
 use ub_store::PageStore;
 use ub_table::{Key, PageFault};
@@ -97,9 +97,7 @@ impl<S: PageStore> Tree<S> {
     {
         // Its contract tells the proof how many levels there can be.
         let _root = self.index.root();
-        let change = self
-            .index
-            .prepare_add(self.alloc, &mut self.pager, region, first)?;
+        let change = prepare_add(&self.index, self.alloc, &mut self.pager, region, first)?;
         Ok(change)
     }
 
@@ -115,9 +113,7 @@ impl<S: PageStore> Tree<S> {
         // Their contracts tell the proof how many levels and pages there can be.
         let _root = self.index.root();
         let _pages = self.pager.pages();
-        let change = self
-            .index
-            .prepare_drop(self.alloc, &mut self.pager, region)?;
+        let change = prepare_drop(&self.index, self.alloc, &mut self.pager, region)?;
         Ok(change)
     }
 

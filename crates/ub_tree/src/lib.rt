@@ -8,9 +8,9 @@
 // to end; `finding` asks the index where a region is.
 //
 // What belongs here is what a tree does over a store. In which order its pages go out, and the mark of a changed table, stand in
-// `ub_writing`; where each region's page is, in `ub_index`; how a region is taken in, and all pages are checked, in `ub_check`; how the
-// pages of an older format are brought over, in `ub_upgrade`; what regions are, in `ub_region`; how pages are spelled, and stores kept,
-// in the other crates below.
+// `ub_writing`; where each region's page is, in `ub_index`, and how that changes, in `ub_index_change`; how a region is taken in, and all
+// pages are checked, in `ub_check`; how the pages of an older format are brought over, in `ub_upgrade`; what regions are, in
+// `ub_region`; how pages are spelled, and stores kept, in the other crates below.
 
 #![tactic(auto)]
 

@@ -4,7 +4,7 @@ use Rattle.std.specs.Prelude.{OnOk, OnErr, IfErr, option_map}
 use Rattle.std.proofs.lemmas.Bool.{cases_eq}
 use Rattle.std.specs.Result.{IsErrAnd}
 use Rattle.ub_store.specs.Writing.{Grows}
-use Rattle.ub_index.specs.Making.{IsGrowFault}
+use Rattle.ub_index.specs.Standing.{IsGrowFault}
 use Rattle.ub_store.specs.Cache.{NoneMore, NoneMoreBut, SameBut, page_at}
 use Rattle.ub_store.specs.Facts.{StoreFacts, Appends, Extends, IsHonest, MayFlush, Reads, WritesAt, counted, page_count, raised, zero_page}
 use Rattle.ub_store.specs.View.{PagerView, SameTrace, Trace}

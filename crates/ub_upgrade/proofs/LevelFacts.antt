@@ -4,12 +4,11 @@ use Rattle.std.proofs.lemmas.Grind.{flat_map-append}
 use Rattle.std.proofs.lemmas.List.{append-nil, length-append}
 use Rattle.std.specs.List.{AllByRecursion, IsDistinct, flat_map}
 use Rattle.ub_index.specs.Spans.{ArePlaces, first_keys}
-use Rattle.ub_index.proofs.Changes.{kept_index, kept_list, same_page, told_index}
+use Rattle.ub_index.proofs.KeptFacts.{kept_index, kept_list, same_page, told_index}
 use Rattle.ub_index.proofs.Lists.{all_left as numbers_left, all_right as numbers_right, ascend_first, ascend_left, ascend_right, each_left, each_right, each_same}
 use Rattle.ub_index.proofs.Numbers.{StandApart, distinct_apart, distinct_cons, distinct_join, distinct_left, distinct_right, kept_pages_list}
-use Rattle.ub_index.specs.Changed.{IsTold, PagesStay}
-use Rattle.ub_index.specs.Changing.{IsOutside}
-use Rattle.ub_index.specs.Index.{AscendTo, EachTo, IsUnder, entries_of, first_or, page_in, pages_under, top, under}
+use Rattle.ub_index.specs.Index.{IsTold, AscendTo, EachTo, IsUnder, entries_of, first_or, page_in, pages_under, top, under}
+use Rattle.ub_index.specs.Standing.{PagesStay, IsOutside}
 use Rattle.ub_page.proofs.IndexLaws.{length-node_on, node_get, node_parts}
 use Rattle.ub_page.specs.Index.{IsNode, Node, index_page, node_on}
 use Rattle.ub_bytes.specs.Bytes.{number_at}

@@ -1,6 +1,6 @@
 // Pages that are added to the new store, and the first keys of those that were.
 ghost use Rattle.std.specs.Prelude.{◌≡◌, ◌<◌, ◌≤◌, ◌+◌, length, take, IfErr, IfOk, OnOk};
-ghost use Rattle.ub_index.specs.Making.{IsGrowFault};
+ghost use Rattle.ub_index.specs.Standing.{IsGrowFault};
 ghost use Rattle.ub_page.specs.Index.{index_page};
 ghost use Rattle.ub_page.specs.declared.header.TheConstants.{MAX_LEVEL};
 ghost use Rattle.ub_page.specs.declared.entries.TheConstants.{MAX_ENTRIES};

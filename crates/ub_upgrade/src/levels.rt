@@ -1,6 +1,6 @@
 // The levels of an index above its lowest one.
 ghost use Rattle.std.specs.Prelude.{◌≡◌, ◌<◌, ◌≤◌, ◌+◌, IfErr, IfOk, OnOk};
-ghost use Rattle.ub_index.specs.Making.{IsGrowFault};
+ghost use Rattle.ub_index.specs.Standing.{IsGrowFault};
 ghost use Rattle.ub_page.specs.declared.header.TheConstants.{MAX_LEVEL};
 ghost use Rattle.ub_store.specs.Facts.{IsHonest, page_count};
 ghost use Rattle.ub_upgrade.specs.Building.{IsRoot};

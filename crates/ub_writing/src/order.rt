@@ -5,7 +5,7 @@
 // A change: first the header, marked as changed, unless it is marked already: a table of which any other page was written is not
 // opened until it is closed again. Where a region is split, the page of the new region comes next, and then that of the old one,
 // which holds all their rows until it is written; where two are joined, the page that takes the rows of both. Those of the index come
-// after them, put by `ub_index`, so that none of them names a page that does not stand yet.
+// after them, put by `ub_index_change`, so that none of them names a page that does not stand yet.
 // Closing: a sync; the clean header; and a sync. So what the header that lasts tells of lasts.
 
 ghost use Rattle.std.specs.Prelude.{◌≡◌, ◌⊎◌, ◌<◌, ◌≤◌, [], ◌∷◌, false, IfErr, OnOk, OnErr, IsErrOf};

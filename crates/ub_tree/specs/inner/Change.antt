@@ -2,13 +2,14 @@
 use Rattle.std.specs.Prelude.{IfSome, ◌≡◌, ◌≢◌, ◌+◌, ◌<◌, ◌≤◌, ◌++◌, ◌⊎◌, ℕ, suc, true, false, List, [], ◌∷◌, Option, IsTrue, Result, Err, IfErr, OnOk, Some, length, map, take, drop, slice_get}
 use Rattle.std.specs.List.{AllByRecursion}
 use Rattle.ub_store.specs.Writing.{Grows}
-use Rattle.ub_index.specs.Changed.{Replaces}
-use Rattle.ub_index.specs.Changing.{AreIndexPages, IsOutside}
-use Rattle.ub_index.specs.Filling.{KeepsFilled}
-use Rattle.ub_index.specs.Making.{IsPutFault}
-use Rattle.ub_index.specs.Preparing.{ChangeView, IsWithinRegion, MakesIndex, TakesNeeded, added_at}
+use Rattle.ub_index_change.specs.Changed.{Replaces}
+use Rattle.ub_index_change.specs.Changing.{AreIndexPages}
+use Rattle.ub_index.specs.Standing.{IsOutside}
+use Rattle.ub_index_change.specs.Filling.{KeepsFilled}
+use Rattle.ub_index_change.specs.Making.{IsPutFault}
+use Rattle.ub_index_change.specs.Preparing.{ChangeView, IsWithinRegion, MakesIndex, TakesNeeded, added_at}
 use Rattle.ub_index.specs.View.{IsRegionAt, entries_in, entry_at}
-use Rattle.ub_index.specs.declared.sheet.Sheet.{Sheet}
+use Rattle.ub_index_change.specs.declared.sheet.Sheet.{Sheet}
 use Rattle.ub_region.specs.RegionPage.{RegionView, region_page}
 use Rattle.ub_region.specs.Regions.{index_holding, split_region}
 use Rattle.ub_region.specs.Rows.{Halves, split}

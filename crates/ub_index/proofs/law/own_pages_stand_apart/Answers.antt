@@ -1,4 +1,4 @@
-use Rattle.ub_index.proofs.OwnFacts.{own_apart}
+use Rattle.ub_index.proofs.StandFacts.{own_apart}
 use Rattle.ub_index.proofs.law.own_pages_stand_apart.Goals as goal
 
 pub returns : goal.returns

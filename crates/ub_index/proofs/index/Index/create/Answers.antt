@@ -3,9 +3,7 @@ use Rattle.ub_index.specs.Opening.{IsAlone, root_page}
 use Rattle.ub_index.specs.View.{IndexView}
 use Rattle.ub_index.specs.Index.{IsIndexPage}
 use Rattle.ub_store.specs.Facts.{StoreFacts}
-use Rattle.ub_index.proofs.PutFacts.{put_checked}
-use Rattle.ub_index.proofs.SheetFacts.{root_page_is}
-use Rattle.ub_index.proofs.StandFacts.{made_alone}
+use Rattle.ub_index.proofs.StandFacts.{put_checked, root_page_is, made_alone}
 use Rattle.ub_index.proofs.index.Index.create.Goals as goal
 
 pub returns-clause-stands : goal.returns-clause-stands

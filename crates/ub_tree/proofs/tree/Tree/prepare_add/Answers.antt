@@ -1,6 +1,6 @@
 use Rattle.std.proofs.Common.{◌<◌, ◌+◌, ◌^◌, List, Some, inr, subst, sym, arith}
 use Rattle.ub_index.specs.Index.{top}
-use Rattle.ub_index.specs.Preparing.{added_at}
+use Rattle.ub_index_change.specs.Preparing.{added_at}
 use Rattle.ub_index.specs.View.{IsRegionAt}
 use Rattle.ub_region.specs.declared.entry.Entry.{Entry}
 use Rattle.ub_store.specs.Facts.{page_count}

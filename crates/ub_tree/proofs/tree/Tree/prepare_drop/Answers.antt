@@ -1,6 +1,6 @@
 use Rattle.std.proofs.Common.{◌≢◌, ◌<◌, ◌^◌, List, map, subst, sym, arith}
-use Rattle.ub_index.proofs.DropFacts.{roots_taken}
-use Rattle.ub_index.specs.Lowering.{IsDropFault}
+use Rattle.ub_index_change.proofs.DropFacts.{roots_taken}
+use Rattle.ub_index_change.specs.Lowering.{IsDropFault}
 use Rattle.ub_index.specs.View.{IsRegionAt}
 use Rattle.ub_region.specs.declared.entry.Entry.{Entry}
 use Rattle.ub_region.specs.Regions.{index_holding}

@@ -1,6 +1,6 @@
 use Rattle.std.proofs.Common.{◌≡◌, ◌≤◌, ◌+◌, ◌-◌, ◌∙◌, ℕ, Err, Ok, ap, arith, inl, inr, subst, sym, refl, List}
 use Rattle.ub_store.specs.Facts.{StoreFacts, IsHonest, page_count}
-use Rattle.ub_index.specs.Making.{changed}
+use Rattle.ub_index_change.specs.Making.{changed}
 use Rattle.ub_index.specs.View.{IndexView}
 use Rattle.ub_page.specs.declared.header.TheConstants.{MAX_LEVEL}
 use Rattle.ub_region.specs.RegionPage.{region_page}
@@ -17,7 +17,7 @@ use Rattle.ub_tree.specs.declared.fault.TreeFault.{TreeFault}
 use Rattle.ub_tree.specs.declared.fault.TreeFault.TheVariants.{Page}
 use Rattle.ub_tree.specs.inner.Change.{GrowsTo, IsGrowthLeft, IsIndexFault, IsWriteFault}
 use Rattle.ub_index.proofs.LeadFacts.{ways_hold}
-use Rattle.ub_index.specs.Changing.{AreIndexPages}
+use Rattle.ub_index_change.specs.Changing.{AreIndexPages}
 use Rattle.ub_page.specs.Index.{IsIndexKind}
 use Rattle.ub_tree.proofs.WayFacts.{region_no_kind}
 use Rattle.ub_writing.specs.Marks.{is_written}

@@ -2,7 +2,7 @@ use Rattle.std.proofs.Common.{◌≡◌, ◌+◌, ◌∙◌, List, ap, false, na
 use Rattle.std.proofs.lemmas.Bool.{lt-leb}
 use Rattle.std.proofs.lemmas.List.Edits.{length-insert}
 use Rattle.std.specs.List.{insert}
-use Rattle.ub_index.specs.Preparing.{IsWithinRegion}
+use Rattle.ub_index_change.specs.Preparing.{IsWithinRegion}
 use Rattle.ub_region.specs.RegionPage.{RegionView}
 use Rattle.ub_region.specs.Rows.{Halves}
 use Rattle.ub_table.specs.Region.{IsRegion, RegionRows}

@@ -1,5 +1,0 @@
-use Rattle.ub_index.proofs.MadeFacts.{made_filled}
-use Rattle.ub_index.proofs.law.change_fills.Goals as goal
-
-pub returns : goal.returns
-returns c = made_filled

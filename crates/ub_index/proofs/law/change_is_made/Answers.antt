@@ -1,5 +1,0 @@
-use Rattle.ub_index.proofs.MadeFacts.{made}
-use Rattle.ub_index.proofs.law.change_is_made.Goals as goal
-
-pub returns : goal.returns
-returns c = made

@@ -1,5 +1,0 @@
-use Rattle.ub_index.proofs.Changes.{stays}
-use Rattle.ub_index.proofs.law.change_keeps_order.Goals as goal
-
-pub returns : goal.returns
-returns c = stays

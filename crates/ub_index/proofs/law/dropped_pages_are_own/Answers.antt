@@ -1,5 +1,0 @@
-use Rattle.ub_index.proofs.OwnFacts.{own_dropped}
-use Rattle.ub_index.proofs.law.dropped_pages_are_own.Goals as goal
-
-pub returns : goal.returns
-returns c = λ index old filled new change f is own there made. own_dropped index old is own there change f filled new made

@@ -1,5 +1,0 @@
-use Rattle.ub_index.proofs.FillFacts.{filled_low_levels}
-use Rattle.ub_index.proofs.law.filled_index_is_low.Goals as goal
-
-pub returns : goal.returns
-returns c = filled_low_levels

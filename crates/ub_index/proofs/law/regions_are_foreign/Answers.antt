@@ -1,5 +1,0 @@
-use Rattle.ub_index.proofs.OwnFacts.{foreign_regions}
-use Rattle.ub_index.proofs.law.regions_are_foreign.Goals as goal
-
-pub returns : goal.returns
-returns c = λ index old from change is own there later. foreign_regions index old is own there from change later

@@ -1,5 +1,0 @@
-use Rattle.ub_index.proofs.DropFacts.{roots_taken}
-use Rattle.ub_index.proofs.law.roots_are_taken.Goals as goal
-
-pub returns : goal.returns
-returns c = roots_taken

@@ -1,7 +1,0 @@
-use Rattle.ub_index.proofs.TurnFacts.{rises}
-use Rattle.ub_index.proofs.law.turns_become.Goals as goal
-
-pub returns : goal.returns
-returns c = λ last old key added level entry end from to told small room is whole distinct fine turns.
-    let r = rises last small old key added level entry end from to told room is whole distinct fine turns in
-    (r.found, r.next, r.leads, r.sheets, r.sheets_are, r.becomes)

@@ -1,0 +1,15 @@
+pub mod Changes
+pub mod SheetNumbers
+pub mod SpreadFacts
+pub mod ClimbFacts
+pub mod FillFacts
+pub mod TurnFacts
+pub mod ReadyFacts
+pub mod LowerFacts
+pub mod RefusedFacts
+pub mod DropFacts
+pub mod FullFacts
+pub mod MadeFacts
+pub mod PutFacts
+pub mod SheetFacts
+pub mod OwnFacts

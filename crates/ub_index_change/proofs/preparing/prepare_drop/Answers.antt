@@ -1,0 +1,61 @@
+use Rattle.std.proofs.Common.{◌≡◌, [], None, IfOk, ap, rules, subst, sym}
+use Rattle.ub_index_change.specs.Changed.{Replaces}
+use Rattle.ub_index_change.specs.Changing.{AreIndexPages, so_far}
+use Rattle.ub_index_change.specs.Lowering.{LowersTo, MakesLow}
+use Rattle.ub_index_change.specs.Preparing.{ChangeView, IsPrepared, MakesIndex}
+use Rattle.ub_index.specs.View.{entries_in, entry_at}
+use Rattle.ub_index_change.specs.declared.change.Change.{Change}
+use Rattle.ub_store.specs.Facts.{page_count}
+use Rattle.ub_store.specs.View.{PagerView}
+use Rattle.ub_index_change.proofs.DropFacts.{dropped_effect, dropped_low, dropped_makes}
+use Rattle.ub_index.proofs.FoundFacts.{if_ok}
+use Rattle.ub_index_change.proofs.SheetFacts.{dropped_pages}
+use Rattle.ub_index_change.proofs.preparing.prepare_drop.Goals as goal
+
+pub returns-clause-ready : goal.returns-clause-ready
+returns-clause-ready g c = λ i is own at later.
+    let store = c.args.pager.now.store in
+    let honest = is.honest in
+    let first : IsPrepared c.args.index.now c.args.pager.now.store c.args.region.now.first None (page_count c.args.pager.now.store) (so_far [] (page_count c.args.pager.now.store)) c.in_ok-change.change =
+    search (rules, honest) in
+    let lowers : IfOk c.lowered.result (LowersTo c.args.pager.now.store.pages c.in_ok-change.change) = search (rules, honest) in
+    if_ok c.lowered.result (LowersTo c.args.pager.now.store.pages c.in_ok-change.change)
+    (λ change. MakesIndex c.args.index.now c.args.pager.now.store (page_count c.args.pager.now.store) change (Replaces (entry_at c.args.region.now) [] (entries_in c.args.index.now c.args.pager.now.store)))
+    (λ (change : ChangeView) lowered.
+    dropped_makes c.args.index.now c.args.pager.now.store i c.args.region.now c.in_ok-change.ensures.bounds.0 c.in_ok-change.ensures.bounds.1 (search rules) is own at later c.in_ok-change.change
+    first.0 first.1 first.2 first.3 change lowered)
+    lowers
+
+pub returns-clause-low : goal.returns-clause-low
+returns-clause-low g c = λ i is own at later.
+    let store = c.args.pager.now.store in
+    let honest = is.honest in
+    let first : IsPrepared c.args.index.now c.args.pager.now.store c.args.region.now.first None (page_count c.args.pager.now.store) (so_far [] (page_count c.args.pager.now.store)) c.in_ok-change.change =
+    search (rules, honest) in
+    let lowers : IfOk c.lowered.result (LowersTo c.args.pager.now.store.pages c.in_ok-change.change) = search (rules, honest) in
+    if_ok c.lowered.result (LowersTo c.args.pager.now.store.pages c.in_ok-change.change)
+    (λ change. (change.next ≡ change.start) × MakesLow c.args.index.now c.args.pager.now.store change)
+    (λ (change : ChangeView) lowered.
+    dropped_low c.args.index.now c.args.pager.now.store i c.args.region.now c.in_ok-change.ensures.bounds.0 c.in_ok-change.ensures.bounds.1 (search rules) is own at later c.in_ok-change.change
+    first.0 first.1 first.2 first.3 change lowered)
+    lowers
+
+pub returns-clause-effect : goal.returns-clause-effect
+returns-clause-effect g c =
+    dropped_effect Change c.args.index.now c.last.result c.args.region.now.first c.args.pager.now c.prepare.new.pager c.lowered.new.pager c.in_ok-change.change c.lowered.result
+    c.last.ensures
+    (ap (λ (p : PagerView). p.store) c.in_ok-change.ensures.effect.same) (ap (λ (p : PagerView). p.trace) c.in_ok-change.ensures.effect.same) (c.in_ok-change.ensures.effect.checked, c.in_ok-change.ensures.effect.more)
+    (λ honest. search (rules, honest)) c.lowered.ensures.effect
+
+pub returns-clause-pages : goal.returns-clause-pages
+returns-clause-pages g c = λ honest.
+    let first : IsPrepared c.args.index.now c.args.pager.now.store c.args.region.now.first None (page_count c.args.pager.now.store) (so_far [] (page_count c.args.pager.now.store)) c.in_ok-change.change =
+    search (rules, honest) in
+    let lowers : IfOk c.lowered.result (LowersTo c.args.pager.now.store.pages c.in_ok-change.change) = search (rules, honest) in
+    if_ok c.lowered.result (LowersTo c.args.pager.now.store.pages c.in_ok-change.change)
+    (λ (change : ChangeView). AreIndexPages c.args.index.now.last change.sheets)
+    (λ (change : ChangeView) lowered.
+    subst (λ (v : ChangeView). AreIndexPages c.args.index.now.last v.sheets) (sym lowered.same)
+    (dropped_pages c.args.index.now c.args.pager.now.store c.args.region.now.first c.in_ok-change.change c.in_ok-change.ensures.bounds.0 c.in_ok-change.ensures.bounds.2 c.in_ok-change.ensures.bounds.3
+    (search rules) first))
+    lowers

@@ -1,0 +1,76 @@
+// How a change is made in a store.
+ghost use Rattle.std.specs.Prelude.{◌≡◌, ◌+◌, ℕ, IfErr, OnErr, OnOk};
+ghost use Rattle.ub_store.specs.Writing.{Grows, put_store};
+ghost use Rattle.ub_index_change.specs.Changing.{AreIndexPages, AreOnce, Stand};
+ghost use Rattle.ub_index.specs.Held.{KeepsChecked};
+ghost use Rattle.ub_index.specs.Standing.{IsGrowFault};
+ghost use Rattle.ub_index_change.specs.Making.{IsPutFault, PutsSheets};
+ghost use Rattle.ub_store.specs.Facts.{IsHonest, page_count};
+ghost use Rattle.ub_store.specs.View.{SameTrace};
+
+use crate::change::Change;
+use crate::sheet::Sheet;
+use ub_index::Index;
+use ub_store::{PageStore, Pager, StoreFault};
+
+/// Gives the store so many pages more.
+pub fn extend_by<S: PageStore>(pager: &mut Pager<S>, by: u32) -> Result<(), StoreFault>
+    ensures trace { SameTrace pager.old pager.new }
+    ensures cached { pager.new.cached ≡ pager.old.cached }
+    ensures grown { OnOk result (page_count pager.new.store ≡ page_count pager.old.store + by) }
+    ensures grows { Grows pager.old.store pager.new.store }
+    ensures same { pager.new.store ≡ put_store result pager.old.store pager.new.store }
+    ensures refused { IfErr result (IsGrowFault by pager.old.store) }
+{
+    let mut left = by;
+    while left > 0 {
+        pager.extend()?;
+        left -= 1;
+    }
+    Ok(())
+}
+
+/// Makes a change, once the store has grown: puts the pages that it spells, and then takes over the root. Device comes
+/// where the store failed in this call, NoPage where it has no page of that number; the index is then as it was, and the
+/// pages that the change spells may hold any bytes.
+pub fn commit<S: PageStore>(
+    index: &mut Index,
+    pager: &mut Pager<S>,
+    change: &Change,
+) -> Result<(), StoreFault>
+    ensures now { OnOk result (index.new ≡ record index.old {
+      root = change.now.root;
+      levels = change.now.levels;
+    }) }
+    ensures left { OnErr result (index.new ≡ index.old) }
+    ensures trace { SameTrace pager.old pager.new }
+    ensures stand { AreOnce change.now.sheets → IsHonest pager.old.store
+        → OnOk result (Stand pager.new.store.pages change.now.sheets) }
+    ensures kept { PutsSheets change.now.sheets pager.old.store pager.new.store }
+    ensures checked { AreIndexPages index.old.last change.now.sheets
+        → KeepsChecked index.old.last pager.old pager.new }
+    ensures same { pager.new.store ≡ put_store result pager.old.store pager.new.store }
+    ensures refused { IfErr result (IsPutFault change.now.sheets pager.old.store) }
+{
+    put_all(pager, change.sheets())?;
+    let (root, levels) = change.root();
+    *index = Index::new(root, levels, index.last());
+    Ok(())
+}
+
+// Puts the pages that are spelled, one after the other.
+fn put_all<S: PageStore>(pager: &mut Pager<S>, sheets: &[Sheet]) -> Result<(), StoreFault>
+    ensures trace { SameTrace pager.old pager.new }
+    ensures kept { PutsSheets sheets.now pager.old.store pager.new.store }
+    ensures checked { (last : ℕ) → AreIndexPages last sheets.now
+        → KeepsChecked last pager.old pager.new }
+    ensures stand { AreOnce sheets.now → IsHonest pager.old.store
+        → OnOk result (Stand pager.new.store.pages sheets.now) }
+    ensures same { pager.new.store ≡ put_store result pager.old.store pager.new.store }
+    ensures refused { IfErr result (IsPutFault sheets.now pager.old.store) }
+{
+    for sheet in sheets {
+        pager.put(sheet.number, &sheet.page)?;
+    }
+    Ok(())
+}
