@@ -23,7 +23,6 @@ ghost use Rattle.ub_tree.specs.View.{IsSound, region_count};
 ghost use Rattle.ub_writing.specs.Puts.{PutsTwo};
 
 use crate::fault::{TreeFault, bad_count};
-use crate::room::{Drafts, Room, new_room};
 use crate::tree::Tree;
 use ub_check::take_region;
 use ub_index::Change;
@@ -31,7 +30,7 @@ use ub_page::{Page, RegionPage};
 use ub_region::{Region, index_in};
 use ub_store::{MAX_PAGES, PageStore, StoreFault};
 use ub_table::{Key, MAX_ROW_NUMBER, PageFault, Row};
-use ub_writing::{write_page, write_pages};
+use ub_writing::{Drafts, Room, take_room, write_page, write_pages};
 
 // One above the last number that a row can have.
 const NEXT_END: u32 = MAX_ROW_NUMBER + 1;
@@ -46,18 +45,6 @@ fn failing(is_failed: &mut bool, fault: StoreFault) -> TreeFault
 }
 
 impl<S: PageStore> Tree<S> {
-    // The room for a region, which is given back to `room` after use.
-    pub(crate) fn take_room(&mut self) -> Result<Box<Room>, TreeFault>
-        ensures same { self.new ≡ self.old }
-        ensures passing { IfErr result IsPassing }
-        ensures effect { Searches self.old self.new result }
-    {
-        if let Some(room) = self.room.take() {
-            return Ok(room);
-        }
-        Ok(new_room(self.alloc, self.schema.shape())?)
-    }
-
     // Reads a region. After a fault any region may stand in `page`. A page that is refused isn't held after it.
     pub(crate) fn read_at(
         &mut self,
@@ -375,7 +362,7 @@ impl<S: PageStore> Tree<S> {
             number: self.next,
             ..*row
         };
-        let mut room = self.take_room()?;
+        let mut room = take_room(&mut self.room, self.alloc, self.schema.shape())?;
         let inserted = self.insert_within(&row, &mut room);
         self.room = Some(room);
         inserted

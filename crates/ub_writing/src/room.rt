@@ -2,7 +2,7 @@ use std::alloc::{AllocError, Global};
 use ub_page::{Draft, RegionPage};
 use ub_zaddr::Shape;
 
-/// Room for what a tree changes: the regions that it reads, and the pages that it writes.
+/// Room for what a change of a table needs: the regions that it reads, and the pages that it writes.
 #[derive(Drop)]
 pub struct Room {
     /// The region that is changed.
@@ -22,8 +22,21 @@ pub struct Drafts {
     pub other: Draft,
 }
 
-/// Such room, in a box of its own, so that nothing of it moves.
-pub fn new_room(alloc: Global, shape: Shape) -> Result<Box<Room>, AllocError> {
+/// The room that is kept, which is given back after use; or else such room from memory, in a box of its own, so that nothing of it
+/// moves.
+pub fn take_room(
+    kept: &mut Option<Box<Room>>,
+    alloc: Global,
+    shape: Shape,
+) -> Result<Box<Room>, AllocError> {
+    match kept.take() {
+        Some(room) => Ok(room),
+        None => new_room(alloc, shape),
+    }
+}
+
+// Such room.
+fn new_room(alloc: Global, shape: Shape) -> Result<Box<Room>, AllocError> {
     Ok(Box::new(
         alloc,
         Room {
