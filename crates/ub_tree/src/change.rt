@@ -1,11 +1,9 @@
 ghost use Rattle.std.specs.Int.{w64};
-ghost use Rattle.std.specs.Prelude.{FitsSigned, ℕ, map, ◌≡◌, ◌≢◌, ◌+◌, ◌-◌, pos, replicate, ◌<◌, ◌≤◌, ◌++◌, ◌∷◌, [], true, false, IsTrue, Some, Err, length, slice_get, IfOk, IfErr, MatchResult, OnOk};
+ghost use Rattle.std.specs.Prelude.{FitsSigned, ℕ, ◌≡◌, ◌≢◌, ◌+◌, ◌-◌, pos, replicate, ◌<◌, ◌≤◌, ◌++◌, ◌∷◌, [], true, false, IsTrue, Some, Err, length, slice_get, IfOk, IfErr, MatchResult, OnOk};
 ghost use Rattle.std.specs.List.{AllByRecursion, insert};
 ghost use Rattle.ub_index.specs.Changing.{AreIndexPages, AreOnce, Stand};
 ghost use Rattle.ub_index.specs.Making.{PutsSheets, changed};
 ghost use Rattle.ub_index.specs.Preparing.{IsWithinRegion};
-ghost use Rattle.ub_page.specs.Index.{IsIndexKind};
-ghost use Rattle.ub_bytes.specs.Bytes.{padded};
 ghost use Rattle.ub_region.specs.RegionPage.{region_page};
 ghost use Rattle.ub_region.specs.Rows.{insert_row};
 ghost use Rattle.ub_store.specs.Facts as facts;
@@ -13,7 +11,7 @@ ghost use Rattle.ub_store.specs.Facts.{page_count};
 ghost use Rattle.ub_table.specs.Region.{RegionRows, IsRegion, key_of, measures_of};
 ghost use Rattle.ub_tree.specs.Change as spec;
 ghost use Rattle.ub_tree.specs.Change.{IsInserted, Suits, numbered};
-ghost use Rattle.ub_tree.specs.inner.Change.{CanStand, GrowsTo, HasReadAt, HasStopped, IsIndexFault, IsPut, IsReadAt, IsRegionIn, IsRegionThere, IsSplitAt, IsStored, KeepsGrown, PutsRows, StoresAt, StoresRows, Writes, WritesBoth, placed_with};
+ghost use Rattle.ub_tree.specs.inner.Change.{CanStand, GrowsTo, HasReadAt, HasStopped, IsIndexFault, IsPut, IsReadAt, IsRegionIn, IsRegionThere, IsSplitAt, IsStored, KeepsGrown, StoresAt, StoresRows, Writes, WritesBoth, placed_with};
 ghost use Rattle.ub_tree.specs.Effects.{Searches, Changes, IsTakenIn};
 ghost use Rattle.ub_tree.specs.Holding.{AnswersKey, AnswersRow, AnswersAt, FallsInto, GrowsAt};
 ghost use Rattle.ub_tree.specs.Opened.{IsPassing};
@@ -26,11 +24,11 @@ use crate::fault::{TreeFault, bad_count};
 use crate::tree::Tree;
 use ub_check::take_region;
 use ub_index::Change;
-use ub_page::{Page, RegionPage};
+use ub_page::RegionPage;
 use ub_region::{Region, index_in};
 use ub_store::{MAX_PAGES, PageStore, StoreFault};
 use ub_table::{Key, MAX_ROW_NUMBER, PageFault, Row};
-use ub_writing::{Drafts, Room, take_room, write_page, write_pages};
+use ub_writing::{Drafts, Room, put_halves, put_region, take_room};
 
 // One above the last number that a row can have.
 const NEXT_END: u32 = MAX_ROW_NUMBER + 1;
@@ -83,7 +81,8 @@ impl<S: PageStore> Tree<S> {
         Ok(region)
     }
 
-    // Puts this region on the page of the one that it was made of. After a fault the tree has failed.
+    // Puts this region on the page of the one that it was made of, and before it the mark, where it is due. After a fault the tree has
+    // failed.
     pub(crate) fn rewrite(
         &mut self,
         region: &Region,
@@ -105,26 +104,16 @@ impl<S: PageStore> Tree<S> {
         ensures stays { self.old.is_changed ≡ true → self.new.is_changed ≡ true }
         ensures effect { Writes region.now self.old self.new result }
     {
-        page.write(&self.schema, &mut drafts.page);
-        self.put_page(region, drafts.page.page())
-    }
-
-    // Puts a page, which spells a region, in the place of that of a region, and before it the mark, where it is due.
-    // After a fault the tree has failed.
-    fn put_page(&mut self, region: &Region, page: &Page) -> Result<(), TreeFault>
-        requires there { IsRegionThere self.old region.now }
-        requires page { (r : RegionRows) × IsRegion self.old.schema r
-            × (page.now ≡ region_page self.old.schema r) }
-        ensures same { OnOk result (IsPut self.old self.new) }
-        ensures written { PutsRows region.now page.now self.old self.new result }
-        ensures told { OnOk result (KeepsTold self.old self.new) }
-        ensures faults { IfErr result (λ fault. fault ≡ TreeFault.Store StoreFault.Device) }
-        ensures stays { self.old.is_changed ≡ true → self.new.is_changed ≡ true }
-        ensures effect { Writes region.now self.old self.new result }
-    {
         // Its contract tells the proof that the index doesn't stand on the first page.
         let _root = self.index.root();
-        match write_page(&mut self.pager, &mut self.mark, region.page, page) {
+        match put_region(
+            &mut self.pager,
+            &mut self.mark,
+            &self.schema,
+            region.page,
+            page,
+            &mut drafts.page,
+        ) {
             Ok(()) => Ok(()),
             Err(fault) => Err(failing(&mut self.is_failed, fault)),
         }
@@ -154,24 +143,33 @@ impl<S: PageStore> Tree<S> {
         }
     }
 
-    // Puts the pages of the halves of a region: that of the new one, on the page of this number, and that of the old one. After a fault
-    // the tree has failed.
-    fn put_halves(&mut self, region: &Region, number: u32, drafts: &Drafts) -> Result<(), TreeFault>
+    // Puts the halves of a region: the right one on the page of this number, and then the left one on its own. After a fault the tree
+    // has failed.
+    fn put_halves(
+        &mut self,
+        region: &Region,
+        left: &RegionPage,
+        number: u32,
+        right: &RegionPage,
+        drafts: &mut Drafts,
+    ) -> Result<(), TreeFault>
         requires own { region.now.page < page_count self.old.store }
         requires there { number < page_count self.old.store }
-        requires kinds { (¬ (IsIndexKind (padded drafts.now.other)))
-            × (¬ (IsIndexKind (padded drafts.now.page))) }
+        requires left { IsRegion self.old.schema left.now.region }
+        requires right { IsRegion self.old.schema right.now.region }
         ensures same { OnOk result (IsPut self.old self.new) }
-        ensures put { OnOk result (PutsTwo number (padded drafts.now.other) region.now.page
-            (padded drafts.now.page)
-            self.old.store self.new.store) }
+        ensures put { OnOk result (PutsTwo number
+            (region_page self.old.schema right.now.region) region.now.page
+            (region_page self.old.schema left.now.region) self.old.store self.new.store) }
         ensures effect { WritesBoth number region.now self.old self.new result }
     {
-        match write_pages(
+        match put_halves(
             &mut self.pager,
             &mut self.mark,
-            (number, drafts.other.page()),
-            (region.page, drafts.page.page()),
+            &self.schema,
+            (number, right),
+            (region.page, left),
+            drafts,
         ) {
             Ok(()) => Ok(()),
             Err(fault) => Err(failing(&mut self.is_failed, fault)),
@@ -240,10 +238,8 @@ impl<S: PageStore> Tree<S> {
             return Err(self.uncounted());
         }
         let change = self.prepare_add(region, &right.first())?;
-        left.write(&self.schema, &mut drafts.page);
-        right.write(&self.schema, &mut drafts.other);
         self.grow(&change)?;
-        self.put_halves(region, change.page(), drafts)?;
+        self.put_halves(region, left, change.page(), right, drafts)?;
         self.put_index(&change)?;
         self.count += 1;
         Ok(())
@@ -279,8 +275,7 @@ impl<S: PageStore> Tree<S> {
             return self.split_with(region, index, row, room);
         }
         room.region.insert_at(index, row);
-        room.region.write(&self.schema, &mut room.drafts.page);
-        self.put_page(region, room.drafts.page.page())
+        self.rewrite(region, &room.region, &mut room.drafts)
     }
 
     // Puts a row in among the rows of a region, which was read into this room and fills

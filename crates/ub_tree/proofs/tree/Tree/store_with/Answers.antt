@@ -1,13 +1,12 @@
-use Rattle.std.proofs.Common.{◌≡◌, ◌<◌, ◌≤◌, ◌∙◌, ℕ, List, OnOk, true, nat_le, ap, subst, sym, length, arith}
+use Rattle.std.proofs.Common.{◌≡◌, ◌<◌, ◌≤◌, ◌∙◌, [], ◌∷◌, ℕ, List, OnOk, true, nat_le, ap, subst, sym, length, arith}
 use Rattle.std.proofs.lemmas.Bool.{le-leb}
 use Rattle.std.proofs.lemmas.List.{length-map}
 use Rattle.std.specs.List.{insert}
-use Rattle.ub_bytes.specs.Bytes.{padded}
-use Rattle.ub_region.specs.RegionPage.{RegionView, region_page}
+use Rattle.ub_region.specs.RegionPage.{RegionView}
 use Rattle.ub_region.proofs.Laws.{length-insert_row}
 use Rattle.ub_region.specs.Rows.{insert_row}
 use Rattle.ub_table.specs.Keys.{AreKeysAscending}
-use Rattle.ub_table.specs.Region.{IsRegion, RegionRows, key_of, keys_of}
+use Rattle.ub_table.specs.Region.{IsRegion, key_of, keys_of}
 use Rattle.ub_table.specs.declared.row.Key.{Key}
 use Rattle.ub_table.specs.declared.row.Row.{Row}
 use Rattle.ub_tree.proofs.EffectFacts.{changed_by}
@@ -15,11 +14,11 @@ use Rattle.ub_tree.proofs.FilledFacts.{writes_grown}
 use Rattle.ub_tree.proofs.GrowFacts.{filled_answers, one_stored, put_at, spared_answers}
 use Rattle.ub_tree.proofs.RoomFacts.{one_stands}
 use Rattle.ub_tree.specs.View.{TreeView}
-use Rattle.ub_tree.specs.inner.Change.{CanStand, StoresAt, StoresRows}
+use Rattle.ub_tree.specs.inner.Change.{CanStand, IsStored, StoresAt, StoresRows, placed_with}
 use Rattle.ub_tree.proofs.tree.Tree.store_with.Goals as goal
 
 pub returns-clause-effect : goal.returns-clause-effect
-returns-clause-effect g c = changed_by c.args.self.now c.put_page.new.self c.args.region.now c.requires.there.0 c.put_page.result c.put_page.ensures.effect
+returns-clause-effect g c = changed_by c.args.self.now c.rewrite.new.self c.args.region.now c.requires.there.0 c.rewrite.result c.rewrite.ensures.effect
 
 pub returns-clause-written : goal.returns-clause-written
 returns-clause-written g c = λ i stored at all.
@@ -34,15 +33,11 @@ returns-clause-written g c = λ i stored at all.
     let less : length rows < b.schema.page_rows = (let long = c.len.ensures.len in let other = c.if-len-page_rows.false in omega arith) in
     let more = length-insert_row b.schema.dims row rows in
     let fits : nat_le (length new) b.schema.page_rows ≡ true = le-leb (length new) b.schema.page_rows (omega arith) in
-    let good = one_stands b c.args.region.now new c.requires.rows (omega arith) in
-    let region : c.insert_at.new.self.region ≡ record { first = c.args.region.now.first; rows = new } =
-    ap (λ (v : RegionView). v.region) c.insert_at.ensures
-    ∙ ap (λ (k : Key). record { first = k; rows = insert rows c.index_in-index.result row }) c.requires.read.on.1.0
-    ∙ ap (λ (rs : List Row). record { first = c.args.region.now.first; rows = rs }) (sym made) in
-    let page : padded c.write.new.draft ≡ region_page b.schema (record { first = c.args.region.now.first; rows = new }) =
-    c.write.ensures ∙ ap (λ (v : TreeView). region_page v.schema c.insert_at.new.self.region) c.self.view_is ∙ ap (region_page b.schema) region in
-    one_stored b c.put_page.new.self i c.args.region.now new c.put_page.result fits (c.put_page.ensures.written i new stored at good (c.page.ensures ∙ page))
-    (writes_grown b c.put_page.new.self i c.args.region.now c.put_page.result stored at c.put_page.ensures.effect)
+    let rows_are : c.insert_at.new.self.region.rows ≡ new = ap (λ (v : RegionView). v.region.rows) c.insert_at.ensures ∙ sym made in
+    let written = subst (λ (rs : List Row). OnOk c.rewrite.result (IsStored c.rewrite.new.self × (c.rewrite.new.self.placed ≡ placed_with i (record { page = c.args.region.now.page; region = record { first = c.args.region.now.first; rows = rs } } ∷ []) b.placed)))
+    rows_are (c.rewrite.ensures.written i stored at) in
+    one_stored b c.rewrite.new.self i c.args.region.now new c.rewrite.result fits written
+    (writes_grown b c.rewrite.new.self i c.args.region.now c.rewrite.result stored at c.rewrite.ensures.effect)
 
 pub index_in-index-requires : goal.index_in-index-requires
 index_in-index-requires g c =
@@ -116,37 +111,19 @@ insert_at-requires-clause-within g c =
     let long = ap (λ (ks : List Key). length ks) c.keys.ensures.keys ∙ length-map region.region.rows (key_of region.dims) in
     subst (λ (n : ℕ). c.index_in-index.result ≤ n) long c.index_in-index.ensures.within
 
-pub write-requires : goal.write-requires
-write-requires g c =
-    let b = c.args.self.now in
-    let row = c.args.row.now in
-    let rows = c.args.room.now.region.region.rows in
-    let new = insert_row b.schema.dims row rows in
-    let keys = c.keys.ensures.keys ∙ ap (λ (d : ℕ). keys_of d rows) c.requires.read.dims in
-    let made : new ≡ insert rows c.index_in-index.result row = c.index_in-index.ensures.index b.schema.dims row rows keys c.requires.key in
-    let same : c.page_rows.result ≡ b.schema.page_rows = c.page_rows.ensures.page_rows ∙ ap (λ (v : TreeView). v.schema.page_rows) c.self.view_is in
-    let few = c.requires.read.on.0.few in
-    let long = c.len.ensures.len in
-    let other = c.if-len-page_rows.false in
-    let more = length-insert_row b.schema.dims row rows in
-    let good = one_stands b c.args.region.now new c.requires.rows (omega arith) in
-    let region : c.insert_at.new.self.region ≡ record { first = c.args.region.now.first; rows = new } =
-    ap (λ (v : RegionView). v.region) c.insert_at.ensures
-    ∙ ap (λ (k : Key). record { first = k; rows = insert rows c.index_in-index.result row }) c.requires.read.on.1.0
-    ∙ ap (λ (rs : List Row). record { first = c.args.region.now.first; rows = rs }) (sym made) in
-    subst (λ (r : RegionRows). IsRegion c.self.inside.schema r) (sym region)
-    (subst (λ (v : TreeView). IsRegion v.schema (record { first = c.args.region.now.first; rows = new })) (sym c.self.view_is) good)
-
-pub put_page-requires-clause-there : goal.put_page-requires-clause-there
-put_page-requires-clause-there g c = record {
+pub rewrite-requires-clause-there : goal.rewrite-requires-clause-there
+rewrite-requires-clause-there g c = record {
   told = c.requires.there.0;
   there = c.requires.there.1;
   region = c.args.room.now.region.region;
   on = c.requires.read.on;
 }
 
-pub put_page-requires-clause-page : goal.put_page-requires-clause-page
-put_page-requires-clause-page g c =
+pub rewrite-requires-clause-first : goal.rewrite-requires-clause-first
+rewrite-requires-clause-first g c = ap (λ (v : RegionView). v.region.first) c.insert_at.ensures ∙ c.requires.read.on.1.0
+
+pub rewrite-requires-clause-region : goal.rewrite-requires-clause-region
+rewrite-requires-clause-region g c =
     let b = c.args.self.now in
     let row = c.args.row.now in
     let rows = c.args.room.now.region.region.rows in
@@ -158,23 +135,16 @@ put_page-requires-clause-page g c =
     let long = c.len.ensures.len in
     let other = c.if-len-page_rows.false in
     let more = length-insert_row b.schema.dims row rows in
-    let good = one_stands b c.args.region.now new c.requires.rows (omega arith) in
-    let region : c.insert_at.new.self.region ≡ record { first = c.args.region.now.first; rows = new } =
-    ap (λ (v : RegionView). v.region) c.insert_at.ensures
-    ∙ ap (λ (k : Key). record { first = k; rows = insert rows c.index_in-index.result row }) c.requires.read.on.1.0
-    ∙ ap (λ (rs : List Row). record { first = c.args.region.now.first; rows = rs }) (sym made) in (
-      record { first = c.args.region.now.first; rows = new },
-      good,
-      c.page.ensures ∙ c.write.ensures ∙ ap (λ (v : TreeView). region_page v.schema c.insert_at.new.self.region) c.self.view_is ∙ ap (region_page b.schema) region,
-    )
+    let rows_are : c.insert_at.new.self.region.rows ≡ new = ap (λ (v : RegionView). v.region.rows) c.insert_at.ensures ∙ sym made in
+    subst (λ (rs : List Row). IsRegion b.schema (record { first = c.args.region.now.first; rows = rs })) (sym rows_are) (one_stands b c.args.region.now new c.requires.rows (omega arith))
 
 pub returns-clause-same : goal.returns-clause-same
 returns-clause-same g c =
     let same = c.page_rows.ensures.page_rows ∙ ap (λ (v : TreeView). v.schema.page_rows) c.self.view_is in
-    put_at c.put_page.result c.args.self.now c.put_page.new.self c.args.region.now _ (λ full. c.if-len-page_rows.false (c.len.ensures.len ∙ full ∙ sym same))
-    c.put_page.ensures.same c.put_page.ensures.told c.put_page.ensures.effect
+    put_at c.rewrite.result c.args.self.now c.rewrite.new.self c.args.region.now _ (λ full. c.if-len-page_rows.false (c.len.ensures.len ∙ full ∙ sym same))
+    c.rewrite.ensures.same c.rewrite.ensures.told c.rewrite.ensures.effect
 
 pub returns-clause-counted : goal.returns-clause-counted
 returns-clause-counted g c =
     let same = c.page_rows.ensures.page_rows ∙ ap (λ (v : TreeView). v.schema.page_rows) c.self.view_is in
-    spared_answers _ c.args.self.now c.args.region.now c.put_page.result (λ full. c.if-len-page_rows.false (c.len.ensures.len ∙ full ∙ sym same)) c.put_page.ensures.faults
+    spared_answers _ c.args.self.now c.args.region.now c.rewrite.result (λ full. c.if-len-page_rows.false (c.len.ensures.len ∙ full ∙ sym same)) c.rewrite.ensures.faults
