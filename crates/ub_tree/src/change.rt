@@ -1,6 +1,5 @@
-ghost use Rattle.std.specs.Int.{w64};
-ghost use Rattle.std.specs.Prelude.{FitsSigned, ℕ, ◌≡◌, ◌≢◌, ◌+◌, ◌-◌, pos, replicate, ◌<◌, ◌≤◌, ◌++◌, ◌∷◌, [], true, false, IsTrue, Some, Err, length, slice_get, IfOk, IfErr, MatchResult, OnOk};
-ghost use Rattle.std.specs.List.{AllByRecursion, insert};
+ghost use Rattle.std.specs.Prelude.{ℕ, ◌≡◌, ◌≢◌, ◌+◌, ◌-◌, ◌<◌, ◌≤◌, ◌∷◌, [], true, false, IsTrue, Some, Err, length, slice_get, IfOk, IfErr, MatchResult, OnOk};
+ghost use Rattle.std.specs.List.{insert};
 ghost use Rattle.ub_index.specs.Changing.{AreIndexPages, AreOnce, Stand};
 ghost use Rattle.ub_index.specs.Making.{PutsSheets, changed};
 ghost use Rattle.ub_index.specs.Preparing.{IsWithinRegion};
@@ -27,7 +26,7 @@ use ub_index::Change;
 use ub_page::RegionPage;
 use ub_region::{Region, index_in};
 use ub_store::{MAX_PAGES, PageStore, StoreFault};
-use ub_table::{Key, MAX_ROW_NUMBER, PageFault, Row};
+use ub_table::{Key, MAX_ROW_NUMBER, PageFault, Row, row_of};
 use ub_writing::{Drafts, Room, put_halves, put_region, take_room};
 
 // One above the last number that a row can have.
@@ -391,41 +390,4 @@ impl<S: PageStore> Tree<S> {
         self.rows += 1;
         Ok(row.number)
     }
-}
-
-// A row of this number.
-fn row_of(number: u32, dims: &[u32], measures: &[i64]) -> Row
-    requires dims { length dims.now ≤ 4 }
-    requires measures { length measures.now ≤ 4 }
-    ensures row { result ≡ spec.row_of number dims.now measures.now }
-    ensures words { AllByRecursion (λ x. FitsSigned w64 x) measures.now }
-{
-    Row {
-        number,
-        dims: four_dims(dims),
-        measures: four_measures(measures),
-    }
-}
-
-// The coordinates, and zeros after them.
-fn four_dims(dims: &[u32]) -> [u32; 4]
-    requires { length dims.now ≤ 4 }
-    ensures { result ≡ dims.now ++ replicate (4 - length dims.now) 0 }
-{
-    let mut all = [0; 4];
-    all[..dims.len()].copy_from_slice(dims);
-    all
-}
-
-// The measures, each a number of 64 bits, and zeros after them.
-fn four_measures(measures: &[i64]) -> [i64; 4]
-    requires { length measures.now ≤ 4 }
-    ensures all { result ≡ measures.now ++ replicate (4 - length measures.now) (pos 0) }
-    ensures words { AllByRecursion (λ x. FitsSigned w64 x) measures.now }
-{
-    let mut all = [0; 4];
-    for (i, x) in measures.iter().enumerate() {
-        all[i] = *x;
-    }
-    all
 }
