@@ -1,5 +1,4 @@
-ghost use Rattle.std.specs.Prelude.{ℕ, ◌≡◌, ◌≢◌, ◌+◌, ◌-◌, ◌<◌, ◌≤◌, ◌∷◌, [], true, false, IsTrue, Some, Err, length, slice_get, IfOk, IfErr, MatchResult, OnOk};
-ghost use Rattle.std.specs.List.{insert};
+ghost use Rattle.std.specs.Prelude.{ℕ, ◌≡◌, ◌≢◌, ◌+◌, ◌-◌, ◌<◌, ◌∷◌, [], true, false, IsTrue, Some, Err, length, slice_get, IfOk, IfErr, MatchResult, OnOk};
 ghost use Rattle.ub_index.specs.Changing.{AreIndexPages, AreOnce, Stand};
 ghost use Rattle.ub_index.specs.Making.{PutsSheets, changed};
 ghost use Rattle.ub_index.specs.Preparing.{IsWithinRegion};
@@ -271,36 +270,11 @@ impl<S: PageStore> Tree<S> {
     {
         let index = index_in(room.region.keys(), key);
         if room.region.len() == self.schema.page_rows() as usize {
-            return self.split_with(region, index, row, room);
+            room.region.split_with(index, row, &mut room.other);
+            return self.split(region, &room.region, &room.other, &mut room.drafts);
         }
         room.region.insert_at(index, row);
         self.rewrite(region, &room.region, &mut room.drafts)
-    }
-
-    // Puts a row in among the rows of a region, which was read into this room and fills
-    // its page, and puts them on that and a new one.
-    fn split_with(
-        &mut self,
-        region: &Region,
-        index: usize,
-        row: &Row,
-        room: &mut Room,
-    ) -> Result<(), TreeFault>
-        requires there { IsRegionThere self.old region.now }
-        requires read { IsReadAt self.old region.now room.old.region }
-        requires full { length room.old.region.region.rows ≡ self.old.schema.page_rows }
-        requires within { index ≤ length room.old.region.region.rows }
-        requires rows { CanStand self.old region.now
-            (insert room.old.region.region.rows index row.now) }
-        ensures same { OnOk result (StoresAt region.now self.old.schema.page_rows
-            self.old self.new) }
-        ensures written { StoresRows region.now
-            (insert room.old.region.region.rows index row.now) self.old self.new result }
-        ensures counted { AnswersAt (Unit {0}) self.old region.now result }
-        ensures effect { Changes self.old self.new result }
-    {
-        room.region.split_with(index, row, &mut room.other);
-        self.split(region, &room.region, &room.other, &mut room.drafts)
     }
 
     /// Puts a row in, with these coordinates and measures, and gives its number: one more than the last row got.
