@@ -5,3 +5,4 @@ pub mod NameFacts
 pub mod SchemaFacts
 pub mod ValueFacts
 pub mod Laws
+pub mod FillingFacts

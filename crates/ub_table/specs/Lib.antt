@@ -6,3 +6,4 @@ pub mod Region
 pub mod Schema
 pub mod Table
 pub mod Value
+pub mod Filling

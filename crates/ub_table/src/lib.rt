@@ -11,6 +11,7 @@
 pub mod axes;
 pub mod columns;
 pub mod fault;
+pub mod filling;
 pub mod items;
 pub mod keyword;
 pub mod law;
@@ -22,6 +23,7 @@ pub mod value;
 pub use axes::Axes;
 pub use columns::Columns;
 pub use fault::PageFault;
+pub use filling::row_of;
 pub use items::Items;
 pub use keyword::is_keyword;
 pub use name::Name;

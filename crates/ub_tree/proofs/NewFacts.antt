@@ -1,5 +1,5 @@
 -- A new row: its values, as they come, and its number.
-use Rattle.std.proofs.Common.{◌≡◌, ◌<◌, ◌≤◌, ◌-◌, ◌^◌, ℕ, ℤ, pos, zero, suc, List, [], ◌∷◌, ◌++◌, Some, Ok, Err, Result, OnOk, length, take, replicate, ◌∙◌, sym, ap, subst, arith, rules, slice_get, slice_set, get_or, Fits, w32}
+use Rattle.std.proofs.Common.{◌≡◌, ◌<◌, ◌≤◌, ◌-◌, ◌^◌, ℕ, ℤ, pos, zero, suc, List, ◌++◌, Ok, Err, Result, OnOk, length, replicate, ◌∙◌, subst, arith, rules, get_or, Fits, w32}
 use Rattle.std.proofs.lemmas.Grind.{get_or_default_zero}
 use Rattle.std.proofs.lemmas.List.{length-append, length-replicate}
 use Rattle.std.proofs.lemmas.List.Elements.{All-append, All-from_recursion}
@@ -55,14 +55,3 @@ inserted_as (Ok n) row ds ms a b is h number = rw number (subst (λ (x : Row). I
 
 pub words_of : (xs : List ℕ) → ((i : ℕ) → Fits w32 (get_or xs i 0)) → All (λ x. x < 2 ^ 32) xs
 words_of xs fits k d lt = let fit = fits k in rw (get_or_default_zero xs k d lt) (Fits-lt-pow fit)
-
--- measures put one after the other in the place of zeros
-pub filled_next : (ms : List ℤ) (i left : ℕ) (x : ℤ) → slice_get ms i ≡ Some x → slice_set (take i ms ++ replicate (suc left) (pos 0)) i x ≡ take (suc i) ms ++ replicate left (pos 0)
-filled_next [] i left x at = cc
-filled_next (m ∷ ms) zero left x at = let same : m ≡ x = cc in ap (λ (y : ℤ). y ∷ replicate left (pos 0)) (sym same)
-filled_next (m ∷ ms) (suc i) left x at = ap (λ (ys : List ℤ). m ∷ ys) (filled_next ms i left x at)
-
-pub measured_next : (ms : List ℤ) (i : ℕ) (x : ℤ) → slice_get ms i ≡ Some x → FitsSigned w64 x → AllByRecursion (λ y. FitsSigned w64 y) (take i ms) → AllByRecursion (λ y. FitsSigned w64 y) (take (suc i) ms)
-measured_next [] i x at fits all = cc
-measured_next (m ∷ ms) zero x at fits all = let same : m ≡ x = cc in (subst (λ (y : ℤ). FitsSigned w64 y) (sym same) fits, tt)
-measured_next (m ∷ ms) (suc i) x at fits all = (all.0, measured_next ms i x at fits all.1)

@@ -22,7 +22,7 @@ use Rattle.ub_table.specs.declared.row.Key.{Key}
 use Rattle.ub_tree.proofs.ApartFacts.{IsOnPage}
 use Rattle.ub_tree.proofs.ChainFacts.{chain_apart, chain_differ, chain_within, each_of_chain}
 use Rattle.ub_tree.proofs.TreeFacts.{firsts_placed}
-use Rattle.ub_tree.proofs.UpgradeFacts.{versions}
+use Rattle.ub_upgrade.proofs.TableFacts.{versions}
 use Rattle.ub_tree.specs.Indexed.{HasIndex, reserved}
 use Rattle.ub_tree.specs.Old.{AreOldPages, AreTold}
 use Rattle.ub_tree.specs.Placed.{Placed, ArePlaced, entry_of, regions_in}

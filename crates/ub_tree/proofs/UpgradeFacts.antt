@@ -1,90 +1,38 @@
 -- The pages of an old table, brought over: what stands on them, and why they aren't.
-use Rattle.std.proofs.Common.{◌≡◌, ◌≢◌, ◌≤◌, ◌<◌, ◌+◌, ◌++◌, ◌∙◌, ◌⊎◌, inl, inr, ℕ, zero, suc, true, false, List, [], ◌∷◌, Option, Some, None, Result, Ok, Err, IfErr, OnErr, MatchResult, length, map, slice_get, ap, sym, subst, refl, arith}
+use Rattle.std.proofs.Common.{◌≡◌, ◌≢◌, ◌≤◌, ◌<◌, ◌+◌, ◌++◌, ◌∙◌, inl, inr, ℕ, zero, suc, true, false, List, [], ◌∷◌, Some, None, Result, Ok, Err, OnErr, length, map, slice_get, ap, sym, subst, refl, arith}
 use Rattle.std.proofs.lemmas.List.Elements.{All-from_recursion, recursion_from_All}
-use Rattle.std.proofs.lemmas.Option.{get_or_from_slice_get, slice_get_within}
+use Rattle.std.proofs.lemmas.Option.{slice_get_within}
 use Rattle.std.specs.List.{All, AllByRecursion}
-use Rattle.std.specs.Result.{IsErrAnd}
-use Rattle.ub_check.specs.Checking.{StopsIn}
 use Rattle.ub_index.proofs.KeptFacts.{kept_index, kept_under}
 use Rattle.ub_index.proofs.Numbers.{distinct_apart, distinct_cons, distinct_first, distinct_join, distinct_left, distinct_right, kept_pages}
 use Rattle.ub_index.specs.Standing.{PagesStay, IsOutside}
-use Rattle.ub_index.specs.Index.{IsUnder, NamesFitting, page_in, pages_under, top}
-use Rattle.ub_index.specs.Fitting.{IsNotTaken, IsUnfit}
-use Rattle.ub_index.specs.Opening.{IsOpenFault as IsRootFault, IsPassing as IsPassingRoot, IsRooted}
+use Rattle.ub_index.specs.Index.{IsUnder, NamesFitting, pages_under, top}
 use Rattle.ub_index.specs.View.{IndexView, index_view}
-use Rattle.ub_index.specs.declared.fault.IndexFault.{IndexFault}
-use Rattle.ub_index.specs.declared.fault.IndexFault.TheVariants as index
 use Rattle.ub_region.specs.declared.entry.Entry.{Entry}
 use Rattle.ub_page.specs.declared.header.OldHeader.{OldHeader}
-use Rattle.ub_page.specs.Header.{IsOldHeader}
+use Rattle.ub_page.specs.Header.{header_page_of}
 use Rattle.ub_region.specs.RegionPage.{region_page}
 use Rattle.ub_region.proofs.Laws.{all_append, all_more}
 use Rattle.ub_store.specs.Facts.{StoreFacts, IsHonest, page_count}
 use Rattle.ub_store.specs.View.{PagerView}
-use Rattle.ub_store.specs.declared.fault.StoreFault.TheVariants as store
-use Rattle.ub_table.specs.declared.fault.PageFault.{PageFault}
 use Rattle.ub_table.specs.declared.schema.Schema.{Schema}
-use Rattle.ub_tree.specs.Checking.{StopsTree, asked_of}
-use Rattle.ub_tree.specs.Faults.{index_fault, upgrade_fault}
 use Rattle.ub_tree.specs.Indexed.{HasIndex, reserved}
 use Rattle.ub_tree.specs.Old.{AreOldPages, head_of}
 use Rattle.ub_tree.specs.Placed.{Placed, ArePlaced, entry_of}
 use Rattle.ub_tree.specs.Stored.{index_of}
 use Rattle.ub_tree.specs.Tree.{tree_view}
-use Rattle.ub_tree.specs.Upgrade.{IsUpgradeFault, IsUpgradePassing, StandsOver}
+use Rattle.ub_tree.specs.Upgrade.{IsUpgradePassing, StandsOver}
 use Rattle.ub_tree.specs.View.{TreeView}
 use Rattle.ub_tree.specs.Opened.{IsPassing}
 use Rattle.ub_tree.specs.declared.fault.TreeFault.{TreeFault}
-use Rattle.ub_tree.specs.declared.fault.TreeFault.TheVariants.{Full, Page, Store, Failed as HasFailed, Memory}
-use Rattle.ub_tree.specs.inner.Upgrading.{IsCarried, root_in}
-use Rattle.ub_upgrade.specs.Bringing.{HasIndexOf, HasOldHeader, IsBringFault, IsBrought, directory_of}
-use Rattle.ub_upgrade.specs.Building.{IsPassing as IsPassingPages}
+use Rattle.ub_tree.specs.inner.Upgrading.{IsCarried}
+use Rattle.ub_upgrade.proofs.TableFacts.{root_fits}
+use Rattle.ub_upgrade.specs.Table.{CanBring, root_in}
+use Rattle.ub_upgrade.specs.Bringing.{HasIndexOf, HasOldHeader, IsBrought, directory_of}
 use Rattle.ub_upgrade.specs.Levels.{index_pages}
 use Rattle.ub_upgrade.specs.Reading.{AreBelow, IsDirectory}
 use Rattle.ub_upgrade.specs.declared.building.Root.{Root}
-use Rattle.ub_upgrade.specs.declared.fault.UpgradeFault.{UpgradeFault}
-use Rattle.ub_upgrade.specs.declared.fault.UpgradeFault.TheVariants as upgrade
 use Rattle.ub_zaddr.specs.Address.{last_address}
-
--- ---- what passes, and why pages aren't brought over
-
-pages_pass : (e : UpgradeFault) → IsPassingPages e → IsUpgradePassing (upgrade_fault e)
-pages_pass (upgrade.Page n fault) h = absurd h
-pages_pass (upgrade.Old store.Device) h = tt
-pages_pass (upgrade.Old store.NoPage) h = absurd h
-pages_pass (upgrade.Old store.Memory) h = tt
-pages_pass (upgrade.Old store.BadSize) h = absurd h
-pages_pass (upgrade.New store.Device) h = tt
-pages_pass (upgrade.New store.NoPage) h = absurd h
-pages_pass (upgrade.New store.Memory) h = tt
-pages_pass (upgrade.New store.BadSize) h = tt
-
-pub root_pass : (e : IndexFault) → IsPassingRoot e → IsUpgradePassing (index_fault e)
-root_pass (index.Page n fault) h = absurd h
-root_pass index.Full h = absurd h
-root_pass (index.Store store.Device) h = tt
-root_pass (index.Store store.NoPage) h = absurd h
-root_pass (index.Store store.Memory) h = tt
-root_pass (index.Store store.BadSize) h = absurd h
-
-pub err_passes : {T : Type 0} (r : Result T TreeFault) (Q : T → Type 0) (e : TreeFault) → IsErrAnd r (λ x. x ≡ e) → IsUpgradePassing e → MatchResult r Q IsUpgradePassing
-err_passes (Ok x) Q e is h = absurd is
-err_passes (Err f) Q e is h = subst IsUpgradePassing (sym is) h
-
-pub err_refused : {T : Type 0} (r : Result T TreeFault) (Q : TreeFault → Type 0) (e : TreeFault) → IsErrAnd r (λ x. x ≡ e) → Q e → IfErr r Q
-err_refused (Ok x) Q e is h = absurd is
-err_refused (Err f) Q e is h = subst Q (sym is) h
-
-pub bring_fault : (head : OldHeader) (from new : StoreFacts) → HasOldHeader from head → (e : UpgradeFault) → IsBringFault head from new e → IsUpgradeFault from new (upgrade_fault e)
-bring_fault head from new has (upgrade.Page n fault) h = λ honest _. (h.1, h.2 honest, inr (head, has, inl (h.0, h.3)))
-bring_fault head from new has (upgrade.Old store.Device) h = inl h
-bring_fault head from new has (upgrade.Old store.NoPage) h = λ _ _. (h.1, h.2, inr (head, has, inl (h.0, h.3)))
-bring_fault head from new has (upgrade.Old store.Memory) h = tt
-bring_fault head from new has (upgrade.Old store.BadSize) h = absurd h
-bring_fault head from new has (upgrade.New store.Device) h = inr h
-bring_fault head from new has (upgrade.New store.NoPage) h = absurd h
-bring_fault head from new has (upgrade.New store.Memory) h = tt
-bring_fault head from new has (upgrade.New store.BadSize) h = (head, has, h.0, h.1)
 
 -- ---- the index that stands on the new pages
 
@@ -104,30 +52,25 @@ module _ (version next : ℕ) (schema : Schema) (placed : List Placed) (from : S
   spelled : AllByRecursion (λ p. slice_get from.pages p.page ≡ Some (region_page schema p.region)) placed
   spelled = recursion_from_All (λ p. slice_get from.pages p.page ≡ Some (region_page schema p.region)) placed s.placed_are.spelled
 
-  pub below : AreBelow (page_count from) entries
+  below : AreBelow (page_count from) entries
   below = below_each placed spelled
 
-  pub version_is : head.version ≡ version
+  version_is : head.version ≡ version
   version_is = ap (λ (h : OldHeader). h.version) is
 
-  pub directory_is : version ≡ 1 → (x : IsDirectory from.pages (directory_of s.header) s.numbers entries) → IsDirectory from.pages (directory_of head.header) s.numbers entries
+  directory_is : version ≡ 1 → (x : IsDirectory from.pages (directory_of s.header) s.numbers entries) → IsDirectory from.pages (directory_of head.header) s.numbers entries
   directory_is first x = subst (λ (h : OldHeader). IsDirectory from.pages (directory_of h.header) s.numbers entries) (sym is) x
 
-  pub directory_told : version ≡ 1 → IsDirectory from.pages (directory_of head.header) s.numbers entries
-  directory_told one = elim s.told [
-    | inl first ↦ directory_is one first.1
-    | inr second ↦ (let two = second.0 in absurd (omega arith))
+  -- so they can be brought over
+  pub can_bring : CanBring head from.pages entries
+  can_bring = elim s.told [
+    | inl first ↦ inl (version_is ∙ first.0, s.numbers, directory_is first.0 first.1, below)
+    | inr second ↦ inr (
+      version_is ∙ second.0,
+      subst (λ (h : OldHeader). NamesFitting (last_address h.header.schema.dims) from.pages h.header.levels (top h.header.root) None) (sym is)
+          (root_fits (last_address s.header.schema.dims) from.pages s.header.levels s.header.root second.1.some second.1.under_it),
+    )
   ]
-
-  -- why the pages aren't brought over
-  pub bring_passes : {T : Type 0} (r : Result T TreeFault) (Q : T → Type 0) (e : UpgradeFault) → IsErrAnd r (λ x. x ≡ upgrade_fault e)
-      → ((chain : List ℕ) (es : List Entry) → head.version ≡ 1 → IsDirectory from.pages (directory_of head.header) chain es → AreBelow (page_count from) es → IsPassingPages e)
-      → (head.version ≡ 2 → IsPassingPages e) → MatchResult r Q IsUpgradePassing
-  bring_passes r Q e told exact plain =
-      err_passes r Q (upgrade_fault e) told (pages_pass e (elim s.told [
-        | inl first ↦ exact s.numbers entries (version_is ∙ first.0) (directory_is first.0 first.1) below
-        | inr second ↦ plain (version_is ∙ second.0)
-      ]))
 
   -- ---- no region stands on the first page, nor does the index or the directory
 
@@ -156,13 +99,16 @@ module _ (version next : ℕ) (schema : Schema) (placed : List Placed) (from : S
   inside : AllByRecursion IsInside numbers_of_regions
   inside = inside_each placed outside_pages spelled
 
-  module _ (root : Root) (new : List (List ℕ)) (brought : IsBrought head from new root) (level : 1 ≤ root.level) (more : page_count from ≤ length new) (some : 1 ≤ page_count from)
+  module _ (root : Root) (new : List (List ℕ)) (brought : IsBrought head from new root) (level : 1 ≤ root.level) (more : page_count from ≤ length new)
       (built : version ≡ 1 → HasIndexOf head from new root entries) where
     abbrev last : ℕ
     last = last_address head.header.schema.dims
 
     abbrev view : IndexView
     view = index_view root.page root.level last
+
+    some_page : 0 < length new
+    some_page = let some = slice_get_within from.pages 0 (header_page_of version s.header) s.spelled in omega arith
 
     moved_each : (ps : List Placed) → AllByRecursion IsInside (map (λ (p : Placed). p.page) ps) → AllByRecursion (λ p. slice_get from.pages p.page ≡ Some (region_page schema p.region)) ps
         → AllByRecursion (λ p. slice_get new p.page ≡ Some (region_page schema p.region)) ps
@@ -191,13 +137,13 @@ module _ (version next : ℕ) (schema : Schema) (placed : List Placed) (from : S
       built_placed =
           let ns = pages_under new root.level (top root.page) in
           let apart = all_more (λ n. (page_count from ≤ n) × (n < length new)) (λ n. IsOutside n numbers_of_regions) (λ n h. apart_one n h.0 numbers_of_regions inside) ns behind in
-          let zero_out : IsOutside 0 ns = all_more (λ n. (page_count from ≤ n) × (n < length new)) (λ n. 0 ≢ n) (λ n h e. let far = h.0 in absurd (omega arith)) ns behind in
+          let zero_out : IsOutside 0 ns = all_more (λ n. (page_count from ≤ n) × (n < length new)) (λ n. 0 ≢ n) (λ n h e. let far = h.0 in let some = slice_get_within from.pages 0 (header_page_of version s.header) s.spelled in absurd (omega arith)) ns behind in
           record {
             spelled = moved;
             own = distinct_cons 0 (ns ++ numbers_of_regions) (all_append (λ m. 0 ≢ m) ns numbers_of_regions zero_out outside_pages)
                 (distinct_join ns numbers_of_regions (built first).reached (distinct_right (0 ∷ s.numbers) numbers_of_regions s.placed_are.own) apart);
             within = All-from_recursion (λ n. n < length new) (0 ∷ ns)
-                (omega arith, all_more (λ n. (page_count from ≤ n) × (n < length new)) (λ n. n < length new) (λ n h. h.1) ns behind);
+                (some_page, all_more (λ n. (page_count from ≤ n) × (n < length new)) (λ n. n < length new) (λ n h. h.1) ns behind);
           }
 
     -- in version 2 it stands where it stood
@@ -257,14 +203,6 @@ module _ (version next : ℕ) (schema : Schema) (placed : List Placed) (from : S
       placed_are = there.1;
     }
 
-    -- and the root fits
-    pub rooted : NamesFitting last new root.level (top root.page) None
-    rooted = by_level root.level level there.0.under_it
-      where
-        by_level : (n : ℕ) → 1 ≤ n → IsUnder last new n (top root.page) None → NamesFitting last new n (top root.page) None
-        by_level zero low h = absurd (omega arith)
-        by_level (suc n) low h = h.0
-
 -- ---- the tree over the pages that were brought over
 
 abbrev pub over : OldHeader → IndexView → PagerView → TreeView
@@ -297,84 +235,6 @@ module _ (from : StoreFacts) (head : OldHeader) (i : IndexView) (pager : PagerVi
         );
   }
 
-  -- in version 1 the root of the index fits
-  pub built_root : head.version ≡ 1 → IsRooted i pager.store
-  built_root first = by_level i.levels level (subst (λ (n : ℕ). IsUnder n pager.store.pages i.levels (top i.root) None) (sym last_is) (brought.directory first).4.under_it)
-    where
-      by_level : (n : ℕ) → 1 ≤ n → IsUnder i.last pager.store.pages n (top i.root) None → NamesFitting i.last pager.store.pages n (top i.root) None
-      by_level zero low h = absurd (omega arith)
-      by_level (suc n) low h = h.0
-
--- a header of an old version is of version 1 or 2
-pub versions : (head : OldHeader) → IsOldHeader head → (head.version ≡ 1) ⊎ (head.version ≡ 2)
-versions head is = by_version head.version is.version.0 is.version.1
-  where
-    by_version : (n : ℕ) → 1 ≤ n → n < 3 → (n ≡ 1) ⊎ (n ≡ 2)
-    by_version zero low high = absurd (omega arith)
-    by_version (suc zero) low high = inl refl
-    by_version (suc (suc zero)) low high = inr refl
-    by_version (suc (suc (suc n))) low high = absurd (omega arith)
-
--- a check stops at the root, where that isn't taken
-stops_at_root : (t : TreeView) (fault : Option PageFault) → 1 ≤ t.inner.index.levels → IsNotTaken t.inner.index.last t.store.pages t.inner.index.levels (top t.inner.index.root) None fault
-    → StopsTree t t.inner.index.root fault
-stops_at_root t fault level h = by_level t.inner.index.levels level h
-  where
-    by_level : (n : ℕ) → 1 ≤ n → IsNotTaken t.inner.index.last t.store.pages n (top t.inner.index.root) None fault → StopsIn (asked_of t) n (top t.inner.index.root) None [] t.inner.index.root fault
-    by_level zero low h = absurd (omega arith)
-    by_level (suc n) low h = inl (refl, h)
-
--- why the root of the index is refused
-module _ (from new : StoreFacts) (head : OldHeader) (i : IndexView) (pager : PagerView) (has : HasOldHeader from head) (more : page_count from ≤ page_count pager.store) (root_some : 1 ≤ i.root)
-    (fails : pager.store.can_fail ≡ new.can_fail) (still : IsHonest new → IsHonest pager.store) (last_is : i.last ≡ last_address head.header.schema.dims) (level : 1 ≤ i.levels)
-    (size : head.version ≡ 1 → page_count pager.store ≡ page_count from + index_pages head.header.regions) (brought : IsHonest from → IsHonest new → IsBrought head from pager.store.pages (root_in i)) where
-  abbrev t : TreeView
-  t = over head i pager
-
-  -- over honest stores that comes in version 2 alone
-  second_of : (e : IndexFault) → (IsHonest pager.store → IsRooted i pager.store → IsPassingRoot e) → (¬ (IsPassingRoot e)) → IsHonest from → IsHonest new → head.version ≡ 2
-  second_of e exact never honest new_honest = elim (versions head has.is) [
-    | inl first ↦ absurd (never (exact (still new_honest) (built_root from head i pager (still new_honest) last_is level size (brought honest new_honest) first)))
-    | inr second ↦ second
-  ]
-
-  stands : IsHonest from → IsHonest new → StandsOver from head t
-  stands honest new_honest = stands_over from head i pager (still new_honest) last_is level size (brought honest new_honest)
-
-  pub root_fault : (e : IndexFault) → (IsHonest pager.store → IsRooted i pager.store → IsPassingRoot e) → IsRootFault i pager.store e → IsUpgradeFault from new (index_fault e)
-  root_fault index.Full exact h = absurd h
-  root_fault (index.Store store.Memory) exact h = tt
-  root_fault (index.Store store.Device) exact h = inr (sym fails ∙ h)
-  root_fault (index.Store store.BadSize) exact h = absurd h
-  root_fault (index.Store store.NoPage) exact h = λ honest new_honest. (
-    i.root,
-    omega (arith, h, more),
-    inr (head, has, inr (t, stands honest new_honest, stops_at_root t None level h)),
-  )
-  root_fault (index.Page n fault) exact h = λ honest new_honest.
-      let second = second_of (index.Page n fault) exact (λ never. never) honest new_honest in
-      let b = brought honest new_honest in
-      let at : slice_get pager.store.pages n ≡ Some h.1 = h.2 (still new_honest) in
-      let old_at : slice_get from.pages n ≡ Some h.1 = sym ((b.index second).0 n (subst (λ (m : ℕ). 1 ≤ m) (sym h.0) root_some)) ∙ at in
-      let at_root : slice_get pager.store.pages i.root ≡ Some h.1 = ap (slice_get pager.store.pages) (sym h.0) ∙ at in
-      let page : page_in pager.store.pages i.root ≡ h.1 = get_or_from_slice_get pager.store.pages i.root h.1 [] at_root in
-      let taken : IsNotTaken i.last pager.store.pages i.levels (top i.root) None (Some fault) =
-      (at_root ∙ ap (λ (x : List ℕ). Some x) (sym page), subst (λ (x : List ℕ). IsUnfit i.last x i.levels (top i.root) None fault) (sym page) h.3) in (
-        h.1,
-        old_at,
-        inr (
-          head,
-          has,
-          inr (
-            t,
-            stands honest new_honest,
-            inl (subst (λ (m : ℕ). StopsTree t m (Some fault)) (sym h.0) (stops_at_root t (Some fault) level taken)),
-          ),
-        ),
-      )
-
--- ---- the steps together
-
 pub on_err_by : {T E : Type 0} (r : Result T E) (P : Type 0) → P → OnErr r P
 on_err_by (Ok x) P p = tt
 on_err_by (Err e) P p = p
@@ -386,15 +246,3 @@ passing_up f (inr is) = rw is tt
 -- the header of the pages of an old table
 pub head_is : (version next : ℕ) (schema : Schema) (placed : List Placed) (from : StoreFacts) (s : AreOldPages version from.pages schema placed next) → HasOldHeader from (head_of version s.header)
 head_is version next schema placed from s = record { spelled = λ _. s.spelled; is = s.in_range; clean = s.clean }
-
--- a refusal is told of the stores alone, not of what was done before
-pub fault_moved : (from a b : StoreFacts) → a.can_fail ≡ b.can_fail → (IsHonest b → IsHonest a) → (f : TreeFault) → IsUpgradeFault from a f → IsUpgradeFault from b f
-fault_moved from a b fails still Full h = absurd h
-fault_moved from a b fails still HasFailed h = absurd h
-fault_moved from a b fails still Memory h = tt
-fault_moved from a b fails still (Store store.Memory) h = absurd h
-fault_moved from a b fails still (Store store.Device) (inl old) = inl old
-fault_moved from a b fails still (Store store.Device) (inr new) = inr (sym fails ∙ new)
-fault_moved from a b fails still (Store store.NoPage) h = λ honest new_honest. h honest (still new_honest)
-fault_moved from a b fails still (Store store.BadSize) h = h
-fault_moved from a b fails still (Page n fault) h = λ honest new_honest. h honest (still new_honest)

@@ -5,7 +5,7 @@ use Rattle.std.proofs.lemmas.Option.{slice_get_within}
 use Rattle.std.specs.List.{AllByRecursion}
 use Rattle.ub_check.proofs.StopFacts.{stops_low, stops_there}
 use Rattle.ub_index.specs.Index.{top}
-use Rattle.ub_index.specs.View.{IndexView}
+use Rattle.ub_index.specs.View.{IndexView, index_view}
 use Rattle.ub_page.proofs.PageLaws.{region_parts}
 use Rattle.ub_page.specs.Header.{header_page_of}
 use Rattle.ub_region.specs.RegionPage.{region_page}
@@ -21,11 +21,13 @@ use Rattle.ub_tree.proofs.CallFacts.{last_small}
 use Rattle.ub_tree.proofs.OldFacts.{old_are}
 use Rattle.ub_tree.proofs.SearchFacts.{known_is}
 use Rattle.ub_tree.proofs.StoredFacts.{IsSpelled, IsTold, placed_told}
-use Rattle.ub_tree.proofs.UpgradeFacts.{over, passing_up, versions}
+use Rattle.ub_tree.proofs.UpgradeFacts.{carried, over, passing_up, stands_over}
+use Rattle.ub_upgrade.proofs.TableFacts.{versions}
 use Rattle.ub_tree.proofs.WellFacts.{well_index, well_placed, well_regions}
 use Rattle.ub_tree.specs.Checking.{IsCheckFault, IsFirstFault, IsWell, StopsTree, asked_of}
 use Rattle.ub_tree.specs.Effects.{read_store}
 use Rattle.ub_tree.specs.Indexed.{HasIndex, entries_on, reserved}
+use Rattle.ub_tree.specs.Old.{AreOldPages, head_of}
 use Rattle.ub_tree.specs.Opened.{IsPassing}
 use Rattle.ub_tree.specs.Placed.{Placed, ArePlaced, entry_of, placed_of, regions_in}
 use Rattle.ub_tree.specs.Tree.{placed_in}
@@ -34,9 +36,23 @@ use Rattle.ub_tree.specs.View.{TreeView, IsSound}
 use Rattle.ub_tree.specs.declared.fault.TreeFault.{TreeFault}
 use Rattle.ub_tree.specs.declared.fault.TreeFault.TheVariants.{Full, Page, Store, Failed as HasFailed, Memory}
 use Rattle.ub_tree.specs.inner.Upgrading.{IsCarried}
-use Rattle.ub_upgrade.specs.Bringing.{HasOldHeader}
+use Rattle.ub_upgrade.specs.Bringing.{HasIndexOf, HasOldHeader}
+use Rattle.ub_upgrade.specs.Table.{IsMade, IsMadeOf, root_in}
 use Rattle.ub_writing.specs.Marks.{HasMark}
 use Rattle.ub_zaddr.specs.Address.{last_address}
+
+-- ---- what was made of an old store
+
+module _ (from : StoreFacts) (old new : PagerView) (head : OldHeader) (i : IndexView) (made : IsMade from old new head i) where
+  pub carried_by : (version next : ℕ) (schema : Schema) (placed : List Placed) (s : AreOldPages version from.pages schema placed next) → IsHonest from → IsHonest old.store
+      → IsMadeOf (head_of version s.header) from new.store.pages (map entry_of placed) head i → IsCarried schema placed next head i new.store.pages
+  carried_by version next schema placed s honest begun of =
+      subst (λ (x : IndexView). IsCarried schema placed next head x new.store.pages) (ap (index_view i.root i.levels) (sym made.last_is))
+      (carried version next schema placed from s head of.0 (root_in i) new.store.pages (made.brought honest begun) made.level made.count
+      (λ first. subst (λ (h : OldHeader). HasIndexOf h from new.store.pages (root_in i) (map entry_of placed)) (sym of.0) (of.1 first)))
+
+  pub stands_made : IsHonest from → IsHonest old.store → IsHonest new.store → StandsOver from head (over head i new)
+  stands_made honest begun here = stands_over from head i new here made.last_is made.level made.size (made.brought honest begun)
 
 -- ---- the regions of an old table, on the new pages: a sound tree
 

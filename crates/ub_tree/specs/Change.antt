@@ -1,19 +1,15 @@
 -- What an insertion does to a tree, and which rows it takes.
-use Rattle.std.specs.Prelude.{FitsSigned, ◌≡◌, ◌+◌, ◌-◌, ◌^◌, ◌<◌, ◌++◌, ℕ, ℤ, pos, List, [], ◌∷◌, length, replicate}
+use Rattle.std.specs.Prelude.{FitsSigned, ◌≡◌, ◌+◌, ◌^◌, ◌<◌, ◌++◌, ℕ, pos, List, [], ◌∷◌}
 use Rattle.std.specs.Int.{w64}
 use Rattle.std.specs.List.{All}
 use Rattle.ub_region.specs.Regions.{AreTableRows, insert}
+pub use Rattle.ub_table.specs.Filling.{row_of}
 use Rattle.ub_table.specs.Region.{HasRest}
 use Rattle.ub_table.specs.declared.row.Row.{Row}
 use Rattle.ub_tree.specs.Grown.{IsOnlyGrown}
 use Rattle.ub_tree.specs.View.{TreeView, IsSound, regions}
 
--- a row of this number with these coordinates and measures
-abbrev pub row_of : ℕ → List ℕ → List ℤ → Row
-row_of number dims measures =
-    record { number = number; dims = dims ++ replicate (4 - length dims) 0; measures = measures ++ replicate (4 - length measures) (pos 0) }
-
--- the same row with this number
+-- a row with this number in the place of its own
 abbrev pub numbered : ℕ → Row → Row
 numbered n row = record row { number = n }
 

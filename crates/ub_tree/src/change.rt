@@ -1,11 +1,7 @@
-ghost use Rattle.std.specs.Int.{w64};
-ghost use Rattle.std.specs.Prelude.{FitsSigned, ℕ, map, ◌≡◌, ◌≢◌, ◌+◌, ◌-◌, pos, replicate, ◌<◌, ◌≤◌, ◌++◌, ◌∷◌, [], true, false, IsTrue, Some, Err, length, slice_get, IfOk, IfErr, MatchResult, OnOk};
-ghost use Rattle.std.specs.List.{AllByRecursion, insert};
+ghost use Rattle.std.specs.Prelude.{ℕ, ◌≡◌, ◌≢◌, ◌+◌, ◌-◌, ◌<◌, ◌∷◌, [], true, false, IsTrue, Some, Err, length, slice_get, IfOk, IfErr, MatchResult, OnOk};
 ghost use Rattle.ub_index_change.specs.Changing.{AreIndexPages, AreOnce, Stand};
 ghost use Rattle.ub_index_change.specs.Making.{PutsSheets, changed};
 ghost use Rattle.ub_index_change.specs.Preparing.{IsWithinRegion};
-ghost use Rattle.ub_page.specs.Index.{IsIndexKind};
-ghost use Rattle.ub_bytes.specs.Bytes.{padded};
 ghost use Rattle.ub_region.specs.RegionPage.{region_page};
 ghost use Rattle.ub_region.specs.Rows.{insert_row};
 ghost use Rattle.ub_store.specs.Facts as facts;
@@ -13,7 +9,7 @@ ghost use Rattle.ub_store.specs.Facts.{page_count};
 ghost use Rattle.ub_table.specs.Region.{RegionRows, IsRegion, key_of, measures_of};
 ghost use Rattle.ub_tree.specs.Change as spec;
 ghost use Rattle.ub_tree.specs.Change.{IsInserted, Suits, numbered};
-ghost use Rattle.ub_tree.specs.inner.Change.{CanStand, GrowsTo, HasReadAt, HasStopped, IsIndexFault, IsPut, IsReadAt, IsRegionIn, IsRegionThere, IsSplitAt, IsStored, KeepsGrown, PutsRows, StoresAt, StoresRows, Writes, WritesBoth, placed_with};
+ghost use Rattle.ub_tree.specs.inner.Change.{CanStand, GrowsTo, HasReadAt, HasStopped, IsIndexFault, IsPut, IsReadAt, IsRegionIn, IsRegionThere, IsSplitAt, IsStored, KeepsGrown, StoresAt, StoresRows, Writes, WritesBoth, placed_with};
 ghost use Rattle.ub_tree.specs.Effects.{Searches, Changes, IsTakenIn};
 ghost use Rattle.ub_tree.specs.Holding.{AnswersKey, AnswersRow, AnswersAt, FallsInto, GrowsAt};
 ghost use Rattle.ub_tree.specs.Opened.{IsPassing};
@@ -23,15 +19,14 @@ ghost use Rattle.ub_tree.specs.View.{IsSound, region_count};
 ghost use Rattle.ub_writing.specs.Puts.{PutsTwo};
 
 use crate::fault::{TreeFault, bad_count};
-use crate::room::{Drafts, Room, new_room};
 use crate::tree::Tree;
 use ub_check::take_region;
 use ub_index_change::{Change, commit};
-use ub_page::{Page, RegionPage};
+use ub_page::RegionPage;
 use ub_region::{Region, index_in};
 use ub_store::{MAX_PAGES, PageStore, StoreFault};
-use ub_table::{Key, MAX_ROW_NUMBER, PageFault, Row};
-use ub_writing::{write_page, write_pages};
+use ub_table::{Key, MAX_ROW_NUMBER, PageFault, Row, row_of};
+use ub_writing::{Drafts, Room, put_halves, put_region, take_room};
 
 // One above the last number that a row can have.
 const NEXT_END: u32 = MAX_ROW_NUMBER + 1;
@@ -46,18 +41,6 @@ fn failing(is_failed: &mut bool, fault: StoreFault) -> TreeFault
 }
 
 impl<S: PageStore> Tree<S> {
-    // The room for a region, which is given back to `room` after use.
-    pub(crate) fn take_room(&mut self) -> Result<Box<Room>, TreeFault>
-        ensures same { self.new ≡ self.old }
-        ensures passing { IfErr result IsPassing }
-        ensures effect { Searches self.old self.new result }
-    {
-        if let Some(room) = self.room.take() {
-            return Ok(room);
-        }
-        Ok(new_room(self.alloc, self.schema.shape())?)
-    }
-
     // Reads a region. After a fault any region may stand in `page`. A page that is refused isn't held after it.
     pub(crate) fn read_at(
         &mut self,
@@ -96,7 +79,8 @@ impl<S: PageStore> Tree<S> {
         Ok(region)
     }
 
-    // Puts this region on the page of the one that it was made of. After a fault the tree has failed.
+    // Puts this region on the page of the one that it was made of, and before it the mark, where it is due. After a fault the tree has
+    // failed.
     pub(crate) fn rewrite(
         &mut self,
         region: &Region,
@@ -118,26 +102,16 @@ impl<S: PageStore> Tree<S> {
         ensures stays { self.old.is_changed ≡ true → self.new.is_changed ≡ true }
         ensures effect { Writes region.now self.old self.new result }
     {
-        page.write(&self.schema, &mut drafts.page);
-        self.put_page(region, drafts.page.page())
-    }
-
-    // Puts a page, which spells a region, in the place of that of a region, and before it the mark, where it is due.
-    // After a fault the tree has failed.
-    fn put_page(&mut self, region: &Region, page: &Page) -> Result<(), TreeFault>
-        requires there { IsRegionThere self.old region.now }
-        requires page { (r : RegionRows) × IsRegion self.old.schema r
-            × (page.now ≡ region_page self.old.schema r) }
-        ensures same { OnOk result (IsPut self.old self.new) }
-        ensures written { PutsRows region.now page.now self.old self.new result }
-        ensures told { OnOk result (KeepsTold self.old self.new) }
-        ensures faults { IfErr result (λ fault. fault ≡ TreeFault.Store StoreFault.Device) }
-        ensures stays { self.old.is_changed ≡ true → self.new.is_changed ≡ true }
-        ensures effect { Writes region.now self.old self.new result }
-    {
         // Its contract tells the proof that the index doesn't stand on the first page.
         let _root = self.index.root();
-        match write_page(&mut self.pager, &mut self.mark, region.page, page) {
+        match put_region(
+            &mut self.pager,
+            &mut self.mark,
+            &self.schema,
+            region.page,
+            page,
+            &mut drafts.page,
+        ) {
             Ok(()) => Ok(()),
             Err(fault) => Err(failing(&mut self.is_failed, fault)),
         }
@@ -167,24 +141,33 @@ impl<S: PageStore> Tree<S> {
         }
     }
 
-    // Puts the pages of the halves of a region: that of the new one, on the page of this number, and that of the old one. After a fault
-    // the tree has failed.
-    fn put_halves(&mut self, region: &Region, number: u32, drafts: &Drafts) -> Result<(), TreeFault>
+    // Puts the halves of a region: the right one on the page of this number, and then the left one on its own. After a fault the tree
+    // has failed.
+    fn put_halves(
+        &mut self,
+        region: &Region,
+        left: &RegionPage,
+        number: u32,
+        right: &RegionPage,
+        drafts: &mut Drafts,
+    ) -> Result<(), TreeFault>
         requires own { region.now.page < page_count self.old.store }
         requires there { number < page_count self.old.store }
-        requires kinds { (¬ (IsIndexKind (padded drafts.now.other)))
-            × (¬ (IsIndexKind (padded drafts.now.page))) }
+        requires left { IsRegion self.old.schema left.now.region }
+        requires right { IsRegion self.old.schema right.now.region }
         ensures same { OnOk result (IsPut self.old self.new) }
-        ensures put { OnOk result (PutsTwo number (padded drafts.now.other) region.now.page
-            (padded drafts.now.page)
-            self.old.store self.new.store) }
+        ensures put { OnOk result (PutsTwo number
+            (region_page self.old.schema right.now.region) region.now.page
+            (region_page self.old.schema left.now.region) self.old.store self.new.store) }
         ensures effect { WritesBoth number region.now self.old self.new result }
     {
-        match write_pages(
+        match put_halves(
             &mut self.pager,
             &mut self.mark,
-            (number, drafts.other.page()),
-            (region.page, drafts.page.page()),
+            &self.schema,
+            (number, right),
+            (region.page, left),
+            drafts,
         ) {
             Ok(()) => Ok(()),
             Err(fault) => Err(failing(&mut self.is_failed, fault)),
@@ -253,10 +236,8 @@ impl<S: PageStore> Tree<S> {
             return Err(self.uncounted());
         }
         let change = self.prepare_add(region, &right.first())?;
-        left.write(&self.schema, &mut drafts.page);
-        right.write(&self.schema, &mut drafts.other);
         self.grow(&change)?;
-        self.put_halves(region, change.page(), drafts)?;
+        self.put_halves(region, left, change.page(), right, drafts)?;
         self.put_index(&change)?;
         self.count += 1;
         Ok(())
@@ -289,37 +270,11 @@ impl<S: PageStore> Tree<S> {
     {
         let index = index_in(room.region.keys(), key);
         if room.region.len() == self.schema.page_rows() as usize {
-            return self.split_with(region, index, row, room);
+            room.region.split_with(index, row, &mut room.other);
+            return self.split(region, &room.region, &room.other, &mut room.drafts);
         }
         room.region.insert_at(index, row);
-        room.region.write(&self.schema, &mut room.drafts.page);
-        self.put_page(region, room.drafts.page.page())
-    }
-
-    // Puts a row in among the rows of a region, which was read into this room and fills
-    // its page, and puts them on that and a new one.
-    fn split_with(
-        &mut self,
-        region: &Region,
-        index: usize,
-        row: &Row,
-        room: &mut Room,
-    ) -> Result<(), TreeFault>
-        requires there { IsRegionThere self.old region.now }
-        requires read { IsReadAt self.old region.now room.old.region }
-        requires full { length room.old.region.region.rows ≡ self.old.schema.page_rows }
-        requires within { index ≤ length room.old.region.region.rows }
-        requires rows { CanStand self.old region.now
-            (insert room.old.region.region.rows index row.now) }
-        ensures same { OnOk result (StoresAt region.now self.old.schema.page_rows
-            self.old self.new) }
-        ensures written { StoresRows region.now
-            (insert room.old.region.region.rows index row.now) self.old self.new result }
-        ensures counted { AnswersAt (Unit {0}) self.old region.now result }
-        ensures effect { Changes self.old self.new result }
-    {
-        room.region.split_with(index, row, &mut room.other);
-        self.split(region, &room.region, &room.other, &mut room.drafts)
+        self.rewrite(region, &room.region, &mut room.drafts)
     }
 
     /// Puts a row in, with these coordinates and measures, and gives its number: one more than the last row got.
@@ -375,7 +330,7 @@ impl<S: PageStore> Tree<S> {
             number: self.next,
             ..*row
         };
-        let mut room = self.take_room()?;
+        let mut room = take_room(&mut self.room, self.alloc, self.schema.shape())?;
         let inserted = self.insert_within(&row, &mut room);
         self.room = Some(room);
         inserted
@@ -409,41 +364,4 @@ impl<S: PageStore> Tree<S> {
         self.rows += 1;
         Ok(row.number)
     }
-}
-
-// A row of this number.
-fn row_of(number: u32, dims: &[u32], measures: &[i64]) -> Row
-    requires dims { length dims.now ≤ 4 }
-    requires measures { length measures.now ≤ 4 }
-    ensures row { result ≡ spec.row_of number dims.now measures.now }
-    ensures words { AllByRecursion (λ x. FitsSigned w64 x) measures.now }
-{
-    Row {
-        number,
-        dims: four_dims(dims),
-        measures: four_measures(measures),
-    }
-}
-
-// The coordinates, and zeros after them.
-fn four_dims(dims: &[u32]) -> [u32; 4]
-    requires { length dims.now ≤ 4 }
-    ensures { result ≡ dims.now ++ replicate (4 - length dims.now) 0 }
-{
-    let mut all = [0; 4];
-    all[..dims.len()].copy_from_slice(dims);
-    all
-}
-
-// The measures, each a number of 64 bits, and zeros after them.
-fn four_measures(measures: &[i64]) -> [i64; 4]
-    requires { length measures.now ≤ 4 }
-    ensures all { result ≡ measures.now ++ replicate (4 - length measures.now) (pos 0) }
-    ensures words { AllByRecursion (λ x. FitsSigned w64 x) measures.now }
-{
-    let mut all = [0; 4];
-    for (i, x) in measures.iter().enumerate() {
-        all[i] = *x;
-    }
-    all
 }

@@ -24,7 +24,6 @@ pub mod law;
 mod opening;
 pub mod read_fault;
 mod removal;
-mod room;
 pub mod sink;
 pub mod tree;
 mod upgrading;

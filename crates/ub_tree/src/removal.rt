@@ -15,13 +15,13 @@ ghost use Rattle.ub_tree.specs.Told.{FallsTo, IsRegionOf};
 ghost use Rattle.ub_tree.specs.View.{IsSound, regions};
 
 use crate::fault::{TreeFault, bad_count};
-use crate::room::{Drafts, Room};
 use crate::tree::Tree;
 use std::mem::swap;
 use ub_page::RegionPage;
 use ub_region::Region;
 use ub_store::PageStore;
 use ub_table::Key;
+use ub_writing::{Drafts, Room, take_room};
 
 impl<S: PageStore> Tree<S> {
     // Puts a region with the rows of the next one too on the page of the one that it was made of; the next one is then no
@@ -183,7 +183,7 @@ impl<S: PageStore> Tree<S> {
         if self.is_failed {
             return Err(TreeFault::Failed);
         }
-        let mut room = self.take_room()?;
+        let mut room = take_room(&mut self.room, self.alloc, self.schema.shape())?;
         let removed = self.remove_within(&key, &mut room);
         self.room = Some(room);
         removed

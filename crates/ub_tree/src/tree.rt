@@ -11,7 +11,6 @@ ghost use Rattle.ub_tree.specs.View.{IsSound, level_count, region_count, spans_o
 ghost use Rattle.ub_writing.specs.Marks.{is_written};
 
 use crate::fault::TreeFault;
-use crate::room::Room;
 use std::alloc::Global;
 use std::marker::Model;
 use ub_bigmin::ZBox;
@@ -21,7 +20,7 @@ use ub_page::{Header, RegionPage};
 use ub_region::Region;
 use ub_store::{PageStore, Pager};
 use ub_table::Schema;
-use ub_writing::Mark;
+use ub_writing::{Mark, Room};
 
 /// A UB-tree (Bayer 1997) over a store of pages: the rows of a table in regions, each on a page, in the order of their
 /// addresses.

@@ -5,3 +5,4 @@ pub mod ReadFacts
 pub mod WholeFacts
 pub mod LeafFacts
 pub mod BringFacts
+pub mod TableFacts

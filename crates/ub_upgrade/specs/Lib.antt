@@ -4,3 +4,5 @@ pub mod Levels
 pub mod Effects
 pub mod Building
 pub mod Bringing
+pub mod Table
+pub mod inner

@@ -1,5 +1,6 @@
 // What of the pages of an older table file is brought over to a new store: its pages one by one, and of format 1 an index in the
-// place of its directory. `bringing` reads the header of such a table, and brings its other pages over.
+// place of its directory. `bringing` reads the header of such a table, and brings its other pages over; `table` does both, over a new
+// store that it marks as changed first, and opens the index that stands there then.
 //
 // A table of format 1 has no index, but a directory: a chain of pages, each of which tells of up to 170 regions and names the next
 // one. `copying` copies all pages of the old store but the first under their own numbers; `building` reads the chain page by page
@@ -19,7 +20,8 @@
 // region's page. The regions' pages themselves aren't looked at here.
 //
 // What belongs here is what needs no tree. The definitions stand in specs/: `Chain` and `Reading` (the old directory, and why it is
-// refused), `Levels` (the pages of a level), `Effects` and `Building` (what the two calls do), `Bringing` (what they do for a header).
+// refused), `Levels` (the pages of a level), `Effects` and `Building` (what the two calls do), `Bringing` (what they do for a header),
+// `Table` (what is made of a whole table).
 
 #![tactic(auto)]
 
@@ -30,8 +32,10 @@ mod chain;
 pub mod copying;
 pub mod fault;
 mod levels;
+pub mod table;
 
 pub use bringing::{bring_pages, read_head};
 pub use building::{Root, build_index};
 pub use copying::copy_pages;
 pub use fault::UpgradeFault;
+pub use table::bring_table;

@@ -10,7 +10,7 @@ use Rattle.ub_index_change.specs.Making.{IsPutFault}
 use Rattle.ub_index_change.specs.Preparing.{ChangeView, IsWithinRegion, MakesIndex, TakesNeeded, added_at}
 use Rattle.ub_index.specs.View.{IsRegionAt, entries_in, entry_at}
 use Rattle.ub_index_change.specs.declared.sheet.Sheet.{Sheet}
-use Rattle.ub_region.specs.RegionPage.{RegionView, region_page}
+use Rattle.ub_region.specs.RegionPage.{RegionView}
 use Rattle.ub_region.specs.Regions.{index_holding, split_region}
 use Rattle.ub_region.specs.Rows.{Halves, split}
 use Rattle.ub_store.specs.Facts.{StoreFacts, IsHonest, page_count}
@@ -101,13 +101,6 @@ pub record IsRegionThere (t : TreeView) (span : Region) : Type 0 where
   pub there : span.page < page_count t.store
   pub region : RegionRows
   pub on : IsTakenIn t span region
-
--- where the page spells rows, they are those of the region now
-abbrev pub PutsRows : {A : Type 0} → Region → List ℕ → TreeView → TreeView → Result A TreeFault → Type 0
-PutsRows span page old new result =
-    (i : ℕ) (rows : List Row) → IsStored old → IsRegionIn old i span → IsRegion old.schema (record { first = span.first; rows = rows })
-    → page ≡ region_page old.schema (record { first = span.first; rows = rows })
-    → OnOk result (IsStored new × (new.placed ≡ placed_with i (record { page = span.page; region = record { first = span.first; rows = rows } } ∷ []) old.placed))
 
 -- a region was read
 pub record IsReadAt (t : TreeView) (span : Region) (page : RegionView) : Type 0 where

@@ -6,7 +6,7 @@ use Rattle.ub_tree.proofs.HoldingFacts.{no_answer}
 use Rattle.ub_tree.proofs.RefusedFacts.{refused_search, searched, then_refused_search}
 use Rattle.ub_region.specs.Joins.{JoinsBefore}
 use Rattle.ub_region.specs.RegionPage.{RegionView}
-use Rattle.ub_tree.specs.declared.room.Room.{Room}
+use Rattle.ub_writing.specs.declared.room.Room.{Room}
 use Rattle.ub_tree.specs.View.{TreeView, regions}
 use Rattle.ub_tree.specs.inner.Change.{IsRegionThere}
 use Rattle.ub_tree.specs.Told.{IsRegionOf}

@@ -1,4 +1,4 @@
-use Rattle.std.proofs.Common.{◌≡◌, ◌≤◌, ◌+◌, ◌-◌, ◌∙◌, ℕ, Err, Ok, ap, arith, inl, inr, subst, sym, refl, List}
+use Rattle.std.proofs.Common.{◌≡◌, ◌≤◌, ◌+◌, ◌-◌, ◌∙◌, ℕ, Err, Ok, ap, arith, inl, inr, subst, sym, refl}
 use Rattle.ub_store.specs.Facts.{StoreFacts, IsHonest, page_count}
 use Rattle.ub_index_change.specs.Making.{changed}
 use Rattle.ub_index.specs.View.{IndexView}
@@ -18,8 +18,7 @@ use Rattle.ub_tree.specs.declared.fault.TreeFault.TheVariants.{Page}
 use Rattle.ub_tree.specs.inner.Change.{GrowsTo, IsGrowthLeft, IsIndexFault, IsWriteFault}
 use Rattle.ub_index.proofs.LeadFacts.{ways_hold}
 use Rattle.ub_index_change.specs.Changing.{AreIndexPages}
-use Rattle.ub_page.specs.Index.{IsIndexKind}
-use Rattle.ub_tree.proofs.WayFacts.{region_no_kind}
+use Rattle.ub_table.specs.Region.{IsRegion}
 use Rattle.ub_writing.specs.Marks.{is_written}
 use Rattle.ub_tree.proofs.tree.Tree.split.Goals as goal
 
@@ -51,7 +50,7 @@ returns-in_err-put_index-clause-effect g c =
 pub returns-clause-same : goal.returns-clause-same
 returns-clause-same g c =
     let change = c.in_ok-change.change in
-    let u = c.self-3.inside in
+    let u = c.self-2.inside in
     let n = c.put_index.new.self in
     let d : TreeView = tree_view u.schema u.index (u.count + 1) u.next u.rows (is_written u.mark) u.is_failed u.pager in
     let grew = subst (λ (v : TreeView). GrowsTo {A = Unit {0}} (page_count v.store + (change.next - change.start)) v c.grow.new.self (Ok tt)) c.in_ok-change.ensures.effect.same c.in_ok-grow.ensures in
@@ -59,13 +58,13 @@ returns-clause-same g c =
     (ready_for c.first.ensures c.in_ok-change.ensures.ready) c.page.ensures grew n c.in_ok-put_halves.ensures.effect c.in_ok-put_halves.ensures.same c.in_ok-put_halves.ensures.put.count
     c.in_ok-put_index.ensures.kept d _ c.in_ok-put_index.ensures.now
     (ap (λ (v : TreeView). v.inner.count) c.in_ok-put_halves.ensures.same ∙ (ap (λ (v : TreeView). v.inner.count) grew.frame))
-    c.in_ok-put_index.ensures.works (ap (λ (v : TreeView). record v { inner = record v.inner { count = v.inner.count + 1 } }) c.self-3.view_is)
+    c.in_ok-put_index.ensures.works (ap (λ (v : TreeView). record v { inner = record v.inner { count = v.inner.count + 1 } }) c.self-2.view_is)
     (subst (λ (v : TreeView). v.inner.index.levels ≤ MAX_LEVEL) c.self.view_is c.root-root.ensures.high)
 
 pub returns-clause-written : goal.returns-clause-written
 returns-clause-written g c = λ i stored at.
     let change = c.in_ok-change.change in
-    let u = c.self-3.inside in
+    let u = c.self-2.inside in
     let t = c.self.inside in
     let a = c.args.self.now in
     let n = c.put_index.new.self in
@@ -81,15 +80,15 @@ returns-clause-written g c = λ i stored at.
     let honest_n = ap (λ (s : StoreFacts). s.honest) c.in_ok-put_index.ensures.works ∙ honest_h in
     let now = c.in_ok-put_index.ensures.now in
     let same = c.in_ok-put_halves.ensures.same in
-    let d_is = ap (λ (v : TreeView). record v { inner = record v.inner { count = v.inner.count + 1 } }) c.self-3.view_is in
+    let d_is = ap (λ (v : TreeView). record v { inner = record v.inner { count = v.inner.count + 1 } }) c.self-2.view_is in
     let seen : a.placed ≡ placed_in a.schema a.inner.index a.store =
     sym (ap (λ (v : TreeView). v.placed) c.self.view_is) ∙ ap (λ (v : TreeView). placed_in v.schema v.inner.index v.store) c.self.view_is in
-    let schema_2 : c.self-2.inside.schema ≡ a.schema = ap (λ (v : TreeView). v.schema) c.self-2.view_is ∙ ap (λ (v : TreeView). v.schema) c.in_ok-change.ensures.effect.same in
+    let schema_g : c.grow.new.self.schema ≡ a.schema = ap (λ (v : TreeView). v.schema) grew.frame in
     let both = parts_stored a seen stored i c.args.region.now at c.requires.there.there right.first left.region.rows right.rows _ _ change c.page.result c.grow.new.self.store h.store n.store
     makes grew.grows honest_g honest_h honest_n (c.page.ensures ∙ ready.start) c.in_ok-put_halves.ensures.put c.in_ok-put_index.ensures.kept
     (c.in_ok-put_index.ensures.stand makes.once honest_h)
-    c.requires.left (c.write.ensures ∙ ap (λ (s : Schema). region_page s left.region) schema_2 ∙ ap (λ (k : Key). region_page a.schema (record { first = k; rows = left.region.rows })) c.requires.first)
-    c.requires.right (c.write-2.ensures ∙ ap (λ (s : Schema). region_page s right) schema_2)
+    c.requires.left (ap (λ (s : Schema). region_page s left.region) schema_g ∙ ap (λ (k : Key). region_page a.schema (record { first = k; rows = left.region.rows })) c.requires.first)
+    c.requires.right (ap (λ (s : Schema). region_page s right) schema_g)
     (ready.fills i stored at c.requires.within) d refl
     (ap (λ (v : TreeView). v.schema) d_is ∙ (ap (λ (v : TreeView). v.schema) now ∙ (ap (λ (v : TreeView). v.schema) same ∙ ap (λ (v : TreeView). v.schema) grew.frame)))
     (ap (λ (v : TreeView). v.inner.index) d_is ∙ (ap (λ (v : TreeView). v.inner.index) now
@@ -103,7 +102,7 @@ returns-clause-written g c = λ i stored at.
 pub returns-clause-effect : goal.returns-clause-effect
 returns-clause-effect g c =
     let change = c.in_ok-change.change in
-    let u = c.self-3.inside in
+    let u = c.self-2.inside in
     let n = c.put_index.new.self in
     let d : TreeView = tree_view u.schema u.index (u.count + 1) u.next u.rows (is_written u.mark) u.is_failed u.pager in
     let grew = subst (λ (v : TreeView). GrowsTo {A = Unit {0}} (page_count v.store + (change.next - change.start)) v c.grow.new.self (Ok tt)) c.in_ok-change.ensures.effect.same c.in_ok-grow.ensures in
@@ -111,7 +110,7 @@ returns-clause-effect g c =
     (ready_for c.first.ensures c.in_ok-change.ensures.ready) c.page.ensures grew n c.in_ok-put_halves.ensures.effect c.in_ok-put_halves.ensures.same c.in_ok-put_halves.ensures.put.count
     c.in_ok-put_index.ensures.kept d _ c.in_ok-put_index.ensures.now
     (ap (λ (v : TreeView). v.inner.count) c.in_ok-put_halves.ensures.same ∙ (ap (λ (v : TreeView). v.inner.count) grew.frame))
-    c.in_ok-put_index.ensures.works (ap (λ (v : TreeView). record v { inner = record v.inner { count = v.inner.count + 1 } }) c.self-3.view_is)
+    c.in_ok-put_index.ensures.works (ap (λ (v : TreeView). record v { inner = record v.inner { count = v.inner.count + 1 } }) c.self-2.view_is)
     (subst (λ (v : TreeView). v.inner.index.levels ≤ MAX_LEVEL) c.self.view_is c.root-root.ensures.high)
 
 pub returns-then-self-clause-counted : goal.returns-then-self-clause-counted
@@ -217,14 +216,18 @@ returns-clause-counted g c =
     let count = ap (λ (v : TreeView). v.inner.count) c.self.view_is in
     parted_answers c.args.self.now c.args.region.now tt (λ many. few (count ∙ many)) (λ honest levels way. c.in_ok-change.ensures.full honest levels way refl)
 
-pub put_halves-requires-clause-kinds : goal.put_halves-requires-clause-kinds
-put_halves-requires-clause-kinds g c =
-    let schema : c.self-2.inside.schema ≡ c.args.self.now.schema = ap (λ (v : TreeView). v.schema) c.self-2.view_is ∙ ap (λ (v : TreeView). v.schema) c.in_ok-change.ensures.effect.same in
-    let right = c.write-2.ensures ∙ ap (λ (s : Schema). region_page s c.args.right.now.region) schema in
-    let left = c.write.ensures ∙ ap (λ (s : Schema). region_page s c.args.left.now.region) schema ∙ ap (λ (k : Key). region_page c.args.self.now.schema (record { first = k; rows = c.args.left.now.region.rows })) c.requires.first in (
-      subst (λ (p : List ℕ). ¬ (IsIndexKind p)) (sym right) (region_no_kind c.args.self.now.schema _ c.requires.right),
-      subst (λ (p : List ℕ). ¬ (IsIndexKind p)) (sym left) (region_no_kind c.args.self.now.schema _ c.requires.left),
-    )
+pub put_halves-requires-clause-left : goal.put_halves-requires-clause-left
+put_halves-requires-clause-left g c =
+    let grew = subst (λ (v : TreeView). GrowsTo {A = Unit {0}} (page_count v.store + (c.in_ok-change.change.next - c.in_ok-change.change.start)) v c.grow.new.self (Ok tt)) c.in_ok-change.ensures.effect.same
+    c.in_ok-grow.ensures in
+    let is = subst (λ (k : Key). IsRegion c.args.self.now.schema (record { first = k; rows = c.args.left.now.region.rows })) (sym c.requires.first) c.requires.left in
+    subst (λ (s : Schema). IsRegion s c.args.left.now.region) (sym (ap (λ (v : TreeView). v.schema) grew.frame)) is
+
+pub put_halves-requires-clause-right : goal.put_halves-requires-clause-right
+put_halves-requires-clause-right g c =
+    let grew = subst (λ (v : TreeView). GrowsTo {A = Unit {0}} (page_count v.store + (c.in_ok-change.change.next - c.in_ok-change.change.start)) v c.grow.new.self (Ok tt)) c.in_ok-change.ensures.effect.same
+    c.in_ok-grow.ensures in
+    subst (λ (s : Schema). IsRegion s c.args.right.now.region) (sym (ap (λ (v : TreeView). v.schema) grew.frame)) c.requires.right
 
 pub put_index-requires : goal.put_index-requires
 put_index-requires g c = λ honest.

@@ -1,9 +1,11 @@
-use Rattle.std.proofs.Common.{◌≡◌, ◌<◌, ◌≤◌, ◌∙◌, ℕ, List, OnOk, true, nat_le, ap, subst, sym, length, arith}
-use Rattle.std.proofs.lemmas.Bool.{le-leb}
+use Rattle.std.proofs.Common.{◌≡◌, ◌<◌, ◌≤◌, ◌∙◌, [], ◌∷◌, ℕ, List, OnOk, true, nat_le, ap, subst, sym, length, arith, false, refl, ◌+◌}
+use Rattle.std.proofs.lemmas.Bool.{le-leb, lt-leb}
+use Rattle.std.proofs.lemmas.List.Edits.{length-insert}
+use Rattle.ub_index_change.specs.Preparing.{IsWithinRegion}
+use Rattle.ub_region.specs.Rows.{Halves}
 use Rattle.std.proofs.lemmas.List.{length-map}
 use Rattle.std.specs.List.{insert}
-use Rattle.ub_bytes.specs.Bytes.{padded}
-use Rattle.ub_region.specs.RegionPage.{RegionView, region_page}
+use Rattle.ub_region.specs.RegionPage.{RegionView}
 use Rattle.ub_region.proofs.Laws.{length-insert_row}
 use Rattle.ub_region.specs.Rows.{insert_row}
 use Rattle.ub_table.specs.Keys.{AreKeysAscending}
@@ -12,14 +14,14 @@ use Rattle.ub_table.specs.declared.row.Key.{Key}
 use Rattle.ub_table.specs.declared.row.Row.{Row}
 use Rattle.ub_tree.proofs.EffectFacts.{changed_by}
 use Rattle.ub_tree.proofs.FilledFacts.{writes_grown}
-use Rattle.ub_tree.proofs.GrowFacts.{filled_answers, one_stored, put_at, spared_answers}
-use Rattle.ub_tree.proofs.RoomFacts.{one_stands}
+use Rattle.ub_tree.proofs.GrowFacts.{filled_answers, one_stored, put_at, same_split, spared_answers, two_stored}
+use Rattle.ub_tree.proofs.RoomFacts.{one_stands, two_stand}
 use Rattle.ub_tree.specs.View.{TreeView}
-use Rattle.ub_tree.specs.inner.Change.{CanStand, StoresAt, StoresRows}
+use Rattle.ub_tree.specs.inner.Change.{CanStand, IsStored, StoresAt, StoresRows, placed_with}
 use Rattle.ub_tree.proofs.tree.Tree.store_with.Goals as goal
 
 pub returns-clause-effect : goal.returns-clause-effect
-returns-clause-effect g c = changed_by c.args.self.now c.put_page.new.self c.args.region.now c.requires.there.0 c.put_page.result c.put_page.ensures.effect
+returns-clause-effect g c = changed_by c.args.self.now c.rewrite.new.self c.args.region.now c.requires.there.0 c.rewrite.result c.rewrite.ensures.effect
 
 pub returns-clause-written : goal.returns-clause-written
 returns-clause-written g c = λ i stored at all.
@@ -34,15 +36,11 @@ returns-clause-written g c = λ i stored at all.
     let less : length rows < b.schema.page_rows = (let long = c.len.ensures.len in let other = c.if-len-page_rows.false in omega arith) in
     let more = length-insert_row b.schema.dims row rows in
     let fits : nat_le (length new) b.schema.page_rows ≡ true = le-leb (length new) b.schema.page_rows (omega arith) in
-    let good = one_stands b c.args.region.now new c.requires.rows (omega arith) in
-    let region : c.insert_at.new.self.region ≡ record { first = c.args.region.now.first; rows = new } =
-    ap (λ (v : RegionView). v.region) c.insert_at.ensures
-    ∙ ap (λ (k : Key). record { first = k; rows = insert rows c.index_in-index.result row }) c.requires.read.on.1.0
-    ∙ ap (λ (rs : List Row). record { first = c.args.region.now.first; rows = rs }) (sym made) in
-    let page : padded c.write.new.draft ≡ region_page b.schema (record { first = c.args.region.now.first; rows = new }) =
-    c.write.ensures ∙ ap (λ (v : TreeView). region_page v.schema c.insert_at.new.self.region) c.self.view_is ∙ ap (region_page b.schema) region in
-    one_stored b c.put_page.new.self i c.args.region.now new c.put_page.result fits (c.put_page.ensures.written i new stored at good (c.page.ensures ∙ page))
-    (writes_grown b c.put_page.new.self i c.args.region.now c.put_page.result stored at c.put_page.ensures.effect)
+    let rows_are : c.insert_at.new.self.region.rows ≡ new = ap (λ (v : RegionView). v.region.rows) c.insert_at.ensures ∙ sym made in
+    let written = subst (λ (rs : List Row). OnOk c.rewrite.result (IsStored c.rewrite.new.self × (c.rewrite.new.self.placed ≡ placed_with i (record { page = c.args.region.now.page; region = record { first = c.args.region.now.first; rows = rs } } ∷ []) b.placed)))
+    rows_are (c.rewrite.ensures.written i stored at) in
+    one_stored b c.rewrite.new.self i c.args.region.now new c.rewrite.result fits written
+    (writes_grown b c.rewrite.new.self i c.args.region.now c.rewrite.result stored at c.rewrite.ensures.effect)
 
 pub index_in-index-requires : goal.index_in-index-requires
 index_in-index-requires g c =
@@ -50,20 +48,11 @@ index_in-index-requires g c =
     let keys = c.keys.ensures.keys ∙ ap (λ (d : ℕ). keys_of d rows) c.requires.read.dims in
     subst AreKeysAscending (sym keys) c.requires.read.on.0.ascending
 
-pub split_with-requires-clause-there : goal.split_with-requires-clause-there
-split_with-requires-clause-there g c = record {
-  told = c.requires.there.0;
-  there = c.requires.there.1;
-  region = c.args.room.now.region.region;
-  on = c.requires.read.on;
-}
-
-pub split_with-requires-clause-read : goal.split_with-requires-clause-read
-split_with-requires-clause-read g c = c.requires.read
-
-pub split_with-requires-clause-full : goal.split_with-requires-clause-full
-split_with-requires-clause-full g c =
-    sym c.len.ensures.len ∙ c.if-len-page_rows.true ∙ c.page_rows.ensures.page_rows ∙ ap (λ (v : TreeView). v.schema.page_rows) c.self.view_is
+pub split_with-requires-clause-some : goal.split_with-requires-clause-some
+split_with-requires-clause-some g c =
+    let some = c.args.self.now.schema.counts.some_rows in
+    let full = sym c.len.ensures.len ∙ c.if-len-page_rows.true ∙ c.page_rows.ensures.page_rows ∙ ap (λ (v : TreeView). v.schema.page_rows) c.self.view_is in
+    omega arith
 
 pub split_with-requires-clause-within : goal.split_with-requires-clause-within
 split_with-requires-clause-within g c =
@@ -71,35 +60,100 @@ split_with-requires-clause-within g c =
     let long = ap (λ (ks : List Key). length ks) c.keys.ensures.keys ∙ length-map region.region.rows (key_of region.dims) in
     subst (λ (n : ℕ). c.index_in-index.result ≤ n) long c.index_in-index.ensures.within
 
-pub split_with-requires-clause-rows : goal.split_with-requires-clause-rows
-split_with-requires-clause-rows g c =
+pub split-requires-clause-there : goal.split-requires-clause-there
+split-requires-clause-there g c = record {
+  told = c.requires.there.0;
+  there = c.requires.there.1;
+  region = c.args.room.now.region.region;
+  on = c.requires.read.on;
+}
+
+pub split-requires-clause-first : goal.split-requires-clause-first
+split-requires-clause-first g c = ap (λ (v : RegionView). v.region.first) c.split_with.ensures.left ∙ c.requires.read.on.1.0
+
+pub split-requires-clause-within : goal.split-requires-clause-within
+split-requires-clause-within g c =
     let b = c.args.self.now in
     let row = c.args.row.now in
-    let rows = c.args.room.now.region.region.rows in
-    let keys = c.keys.ensures.keys ∙ ap (λ (d : ℕ). keys_of d rows) c.requires.read.dims in
-    subst (λ (rs : List Row). CanStand b c.args.region.now rs) (c.index_in-index.ensures.index b.schema.dims row rows keys c.requires.key) c.requires.rows
+    let before = c.args.room.now.region.region.rows in
+    let keys = c.keys.ensures.keys ∙ ap (λ (d : ℕ). keys_of d before) c.requires.read.dims in
+    let made = c.index_in-index.ensures.index b.schema.dims row before keys c.requires.key in
+    let rows = insert before c.index_in-index.result row in
+    let full = sym c.len.ensures.len ∙ c.if-len-page_rows.true ∙ c.page_rows.ensures.page_rows ∙ ap (λ (v : TreeView). v.schema.page_rows) c.self.view_is in
+    let stand : CanStand b c.args.region.now rows = subst (λ (rs : List Row). CanStand b c.args.region.now rs) made c.requires.rows in
+    let region = c.args.room.now.region in
+    let long = ap (λ (ks : List Key). length ks) c.keys.ensures.keys ∙ length-map region.region.rows (key_of region.dims) in
+    let within : c.index_in-index.result ≤ length before = subst (λ (n : ℕ). c.index_in-index.result ≤ n) long c.index_in-index.ensures.within in
+    let more : length rows ≡ length before + 1 = length-insert before c.index_in-index.result row within in
+    let first = ap (λ (v : RegionView). v.region.first) c.split_with.ensures.right ∙ ap (λ (h : Halves). h.first) (same_split c.requires.read.dims full refl) in
+    subst (λ (k : Key). IsWithinRegion b.inner.index.last c.args.region.now.first c.args.region.now.next k) (sym first) (stand.within (omega arith))
+
+pub split-requires-clause-left : goal.split-requires-clause-left
+split-requires-clause-left g c =
+    let b = c.args.self.now in
+    let row = c.args.row.now in
+    let before = c.args.room.now.region.region.rows in
+    let keys = c.keys.ensures.keys ∙ ap (λ (d : ℕ). keys_of d before) c.requires.read.dims in
+    let made = c.index_in-index.ensures.index b.schema.dims row before keys c.requires.key in
+    let rows = insert before c.index_in-index.result row in
+    let full = sym c.len.ensures.len ∙ c.if-len-page_rows.true ∙ c.page_rows.ensures.page_rows ∙ ap (λ (v : TreeView). v.schema.page_rows) c.self.view_is in
+    let stand : CanStand b c.args.region.now rows = subst (λ (rs : List Row). CanStand b c.args.region.now rs) made c.requires.rows in
+    let region = c.args.room.now.region in
+    let long = ap (λ (ks : List Key). length ks) c.keys.ensures.keys ∙ length-map region.region.rows (key_of region.dims) in
+    let within : c.index_in-index.result ≤ length before = subst (λ (n : ℕ). c.index_in-index.result ≤ n) long c.index_in-index.ensures.within in
+    let more : length rows ≡ length before + 1 = length-insert before c.index_in-index.result row within in
+    let left = ap (λ (v : RegionView). v.region.rows) c.split_with.ensures.left ∙ ap (λ (h : Halves). h.left) (same_split c.requires.read.dims full refl) in
+    subst (λ (rs : List Row). IsRegion b.schema (record { first = c.args.region.now.first; rows = rs })) (sym left) (two_stand b c.args.region.now rows stand (omega arith)).0
+
+pub split-requires-clause-right : goal.split-requires-clause-right
+split-requires-clause-right g c =
+    let b = c.args.self.now in
+    let row = c.args.row.now in
+    let before = c.args.room.now.region.region.rows in
+    let keys = c.keys.ensures.keys ∙ ap (λ (d : ℕ). keys_of d before) c.requires.read.dims in
+    let made = c.index_in-index.ensures.index b.schema.dims row before keys c.requires.key in
+    let rows = insert before c.index_in-index.result row in
+    let full = sym c.len.ensures.len ∙ c.if-len-page_rows.true ∙ c.page_rows.ensures.page_rows ∙ ap (λ (v : TreeView). v.schema.page_rows) c.self.view_is in
+    let stand : CanStand b c.args.region.now rows = subst (λ (rs : List Row). CanStand b c.args.region.now rs) made c.requires.rows in
+    let region = c.args.room.now.region in
+    let long = ap (λ (ks : List Key). length ks) c.keys.ensures.keys ∙ length-map region.region.rows (key_of region.dims) in
+    let within : c.index_in-index.result ≤ length before = subst (λ (n : ℕ). c.index_in-index.result ≤ n) long c.index_in-index.ensures.within in
+    let more : length rows ≡ length before + 1 = length-insert before c.index_in-index.result row within in
+    let right = ap (λ (v : RegionView). v.region) c.split_with.ensures.right
+    ∙ ap (λ (h : Halves). record { first = h.first; rows = h.right }) (same_split c.requires.read.dims full refl) in
+    subst (λ (r : RegionRows). IsRegion b.schema r) (sym right) (two_stand b c.args.region.now rows stand (omega arith)).1
 
 pub returns-then-len-page_rows-clause-same : goal.returns-then-len-page_rows-clause-same
 returns-then-len-page_rows-clause-same g c =
     let full = sym c.len.ensures.len ∙ c.if-len-page_rows.true ∙ c.page_rows.ensures.page_rows ∙ ap (λ (v : TreeView). v.schema.page_rows) c.self.view_is in
-    subst (λ (n : ℕ). OnOk c.split_with.result (StoresAt c.args.region.now n c.args.self.now c.split_with.new.self)) (sym full) c.split_with.ensures.same
+    subst (λ (n : ℕ). OnOk c.split.result (StoresAt c.args.region.now n c.args.self.now c.split.new.self)) (sym full) c.split.ensures.same
 
 pub returns-then-len-page_rows-clause-written : goal.returns-then-len-page_rows-clause-written
 returns-then-len-page_rows-clause-written g c =
     let b = c.args.self.now in
     let row = c.args.row.now in
-    let rows = c.args.room.now.region.region.rows in
-    let keys = c.keys.ensures.keys ∙ ap (λ (d : ℕ). keys_of d rows) c.requires.read.dims in
-    let made = c.index_in-index.ensures.index b.schema.dims row rows keys c.requires.key in
-    subst (λ (rs : List Row). StoresRows c.args.region.now rs b c.split_with.new.self c.split_with.result) (sym made) c.split_with.ensures.written
+    let before = c.args.room.now.region.region.rows in
+    let keys = c.keys.ensures.keys ∙ ap (λ (d : ℕ). keys_of d before) c.requires.read.dims in
+    let made = c.index_in-index.ensures.index b.schema.dims row before keys c.requires.key in
+    let rows = insert before c.index_in-index.result row in
+    let full = sym c.len.ensures.len ∙ c.if-len-page_rows.true ∙ c.page_rows.ensures.page_rows ∙ ap (λ (v : TreeView). v.schema.page_rows) c.self.view_is in
+    let stand : CanStand b c.args.region.now rows = subst (λ (rs : List Row). CanStand b c.args.region.now rs) made c.requires.rows in
+    let region = c.args.room.now.region in
+    let long = ap (λ (ks : List Key). length ks) c.keys.ensures.keys ∙ length-map region.region.rows (key_of region.dims) in
+    let within : c.index_in-index.result ≤ length before = subst (λ (n : ℕ). c.index_in-index.result ≤ n) long c.index_in-index.ensures.within in
+    let more : length rows ≡ length before + 1 = length-insert before c.index_in-index.result row within in
+    let over : nat_le (length rows) b.schema.page_rows ≡ false = lt-leb (length rows) b.schema.page_rows (omega arith) in
+    let written = rw (c.split_with.ensures.left, c.split_with.ensures.right, c.requires.read.dims, full) at c.split.ensures.written in
+    subst (λ (rs : List Row). StoresRows c.args.region.now rs b c.split.new.self c.split.result) (sym made)
+    (λ i stored at all. two_stored b c.split.new.self i c.args.region.now rows c.split.result over (written i stored at))
 
 pub returns-then-len-page_rows-clause-counted : goal.returns-then-len-page_rows-clause-counted
 returns-then-len-page_rows-clause-counted g c =
     let full = sym c.len.ensures.len ∙ c.if-len-page_rows.true ∙ c.page_rows.ensures.page_rows ∙ ap (λ (v : TreeView). v.schema.page_rows) c.self.view_is in
-    filled_answers _ c.args.self.now c.args.region.now c.split_with.result full c.split_with.ensures.counted
+    filled_answers _ c.args.self.now c.args.region.now c.split.result full c.split.ensures.counted
 
 pub returns-then-len-page_rows-clause-effect : goal.returns-then-len-page_rows-clause-effect
-returns-then-len-page_rows-clause-effect g c = c.split_with.ensures.effect
+returns-then-len-page_rows-clause-effect g c = c.split.ensures.effect
 
 pub insert_at-requires-clause-room : goal.insert_at-requires-clause-room
 insert_at-requires-clause-room g c =
@@ -116,37 +170,19 @@ insert_at-requires-clause-within g c =
     let long = ap (λ (ks : List Key). length ks) c.keys.ensures.keys ∙ length-map region.region.rows (key_of region.dims) in
     subst (λ (n : ℕ). c.index_in-index.result ≤ n) long c.index_in-index.ensures.within
 
-pub write-requires : goal.write-requires
-write-requires g c =
-    let b = c.args.self.now in
-    let row = c.args.row.now in
-    let rows = c.args.room.now.region.region.rows in
-    let new = insert_row b.schema.dims row rows in
-    let keys = c.keys.ensures.keys ∙ ap (λ (d : ℕ). keys_of d rows) c.requires.read.dims in
-    let made : new ≡ insert rows c.index_in-index.result row = c.index_in-index.ensures.index b.schema.dims row rows keys c.requires.key in
-    let same : c.page_rows.result ≡ b.schema.page_rows = c.page_rows.ensures.page_rows ∙ ap (λ (v : TreeView). v.schema.page_rows) c.self.view_is in
-    let few = c.requires.read.on.0.few in
-    let long = c.len.ensures.len in
-    let other = c.if-len-page_rows.false in
-    let more = length-insert_row b.schema.dims row rows in
-    let good = one_stands b c.args.region.now new c.requires.rows (omega arith) in
-    let region : c.insert_at.new.self.region ≡ record { first = c.args.region.now.first; rows = new } =
-    ap (λ (v : RegionView). v.region) c.insert_at.ensures
-    ∙ ap (λ (k : Key). record { first = k; rows = insert rows c.index_in-index.result row }) c.requires.read.on.1.0
-    ∙ ap (λ (rs : List Row). record { first = c.args.region.now.first; rows = rs }) (sym made) in
-    subst (λ (r : RegionRows). IsRegion c.self.inside.schema r) (sym region)
-    (subst (λ (v : TreeView). IsRegion v.schema (record { first = c.args.region.now.first; rows = new })) (sym c.self.view_is) good)
-
-pub put_page-requires-clause-there : goal.put_page-requires-clause-there
-put_page-requires-clause-there g c = record {
+pub rewrite-requires-clause-there : goal.rewrite-requires-clause-there
+rewrite-requires-clause-there g c = record {
   told = c.requires.there.0;
   there = c.requires.there.1;
   region = c.args.room.now.region.region;
   on = c.requires.read.on;
 }
 
-pub put_page-requires-clause-page : goal.put_page-requires-clause-page
-put_page-requires-clause-page g c =
+pub rewrite-requires-clause-first : goal.rewrite-requires-clause-first
+rewrite-requires-clause-first g c = ap (λ (v : RegionView). v.region.first) c.insert_at.ensures ∙ c.requires.read.on.1.0
+
+pub rewrite-requires-clause-region : goal.rewrite-requires-clause-region
+rewrite-requires-clause-region g c =
     let b = c.args.self.now in
     let row = c.args.row.now in
     let rows = c.args.room.now.region.region.rows in
@@ -158,23 +194,16 @@ put_page-requires-clause-page g c =
     let long = c.len.ensures.len in
     let other = c.if-len-page_rows.false in
     let more = length-insert_row b.schema.dims row rows in
-    let good = one_stands b c.args.region.now new c.requires.rows (omega arith) in
-    let region : c.insert_at.new.self.region ≡ record { first = c.args.region.now.first; rows = new } =
-    ap (λ (v : RegionView). v.region) c.insert_at.ensures
-    ∙ ap (λ (k : Key). record { first = k; rows = insert rows c.index_in-index.result row }) c.requires.read.on.1.0
-    ∙ ap (λ (rs : List Row). record { first = c.args.region.now.first; rows = rs }) (sym made) in (
-      record { first = c.args.region.now.first; rows = new },
-      good,
-      c.page.ensures ∙ c.write.ensures ∙ ap (λ (v : TreeView). region_page v.schema c.insert_at.new.self.region) c.self.view_is ∙ ap (region_page b.schema) region,
-    )
+    let rows_are : c.insert_at.new.self.region.rows ≡ new = ap (λ (v : RegionView). v.region.rows) c.insert_at.ensures ∙ sym made in
+    subst (λ (rs : List Row). IsRegion b.schema (record { first = c.args.region.now.first; rows = rs })) (sym rows_are) (one_stands b c.args.region.now new c.requires.rows (omega arith))
 
 pub returns-clause-same : goal.returns-clause-same
 returns-clause-same g c =
     let same = c.page_rows.ensures.page_rows ∙ ap (λ (v : TreeView). v.schema.page_rows) c.self.view_is in
-    put_at c.put_page.result c.args.self.now c.put_page.new.self c.args.region.now _ (λ full. c.if-len-page_rows.false (c.len.ensures.len ∙ full ∙ sym same))
-    c.put_page.ensures.same c.put_page.ensures.told c.put_page.ensures.effect
+    put_at c.rewrite.result c.args.self.now c.rewrite.new.self c.args.region.now _ (λ full. c.if-len-page_rows.false (c.len.ensures.len ∙ full ∙ sym same))
+    c.rewrite.ensures.same c.rewrite.ensures.told c.rewrite.ensures.effect
 
 pub returns-clause-counted : goal.returns-clause-counted
 returns-clause-counted g c =
     let same = c.page_rows.ensures.page_rows ∙ ap (λ (v : TreeView). v.schema.page_rows) c.self.view_is in
-    spared_answers _ c.args.self.now c.args.region.now c.put_page.result (λ full. c.if-len-page_rows.false (c.len.ensures.len ∙ full ∙ sym same)) c.put_page.ensures.faults
+    spared_answers _ c.args.self.now c.args.region.now c.rewrite.result (λ full. c.if-len-page_rows.false (c.len.ensures.len ∙ full ∙ sym same)) c.rewrite.ensures.faults

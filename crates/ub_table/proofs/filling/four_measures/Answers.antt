@@ -5,8 +5,8 @@ use Rattle.std.proofs.lemmas.Option.{slice_get-get_or}
 use Rattle.std.specs.Int.{w64}
 use Rattle.std.specs.List.{AllByRecursion}
 use mir.Val.{of_z, to_z}
-use Rattle.ub_tree.proofs.NewFacts.{filled_next, measured_next}
-use Rattle.ub_tree.proofs.change.four_measures.Goals as goal
+use Rattle.ub_table.proofs.FillingFacts.{filled_next, measured_next}
+use Rattle.ub_table.proofs.filling.four_measures.Goals as goal
 
 pub loop-i-init : goal.loop-i-init
 loop-i-init c = (refl, tt)
