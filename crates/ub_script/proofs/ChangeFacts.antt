@@ -1,7 +1,7 @@
 -- What an INSERT and a DELETE make of a tree, and what they leave of it.
-use Rattle.std.proofs.Common.{◌≡◌, ◌∙◌, ◌+◌, ◌-◌, ◌<◌, ◌≤◌, ◌++◌, ◌∷◌, [], inl, inr, ◌⊎◌, ℕ, suc, ℤ, pos, true, false, IsTrue, Result, Ok, Err, Option, Some, List, length, take, drop, map, slice_index_or, subst, sym, ap, refl, arith, add-zero}
+use Rattle.std.proofs.Common.{◌≡◌, ◌∙◌, ◌+◌, ◌-◌, ◌<◌, ◌≤◌, ◌++◌, ◌∷◌, [], inl, inr, ◌⊎◌, ℕ, suc, ℤ, pos, true, false, IsTrue, Result, Ok, Err, Option, List, length, take, drop, map, slice_index_or, subst, sym, ap, refl, arith, add-zero}
 use Rattle.std.proofs.lemmas.Bool.{cases_Bool, true≢false}
-use Rattle.std.proofs.lemmas.List.{length-drop, length-map, length-take-le, take_all, take_more}
+use Rattle.std.proofs.lemmas.List.{length-drop, length-map, length-take-le, take_all}
 use Rattle.std.proofs.lemmas.List.FromFn.{get_or-enumerate_from, length-enumerate_from}
 use Rattle.std.specs.List.{enumerate_from}
 use Rattle.std.specs.Option.{IsSome}
@@ -57,10 +57,6 @@ module _ {X A : Type 0} (f : ℕ × X → A) where
 abbrev pub coordinates_to : Schema → ℕ → List ℤ → List ℕ
 coordinates_to schema i values = map (λ v. coordinate_in (coordinate schema v.0 v.1)) (enumerate_from 0 (take i values))
 
-pub no_coordinates : (schema : Schema) (values : List ℤ) → coordinates_to schema 0 values ≡ []
-no_coordinates schema [] = refl
-no_coordinates schema (v ∷ values) = refl
-
 -- a value that is given fits its column
 pub fits_here : (schema : Schema) (values : List ℤ) (i : ℕ) → IsGiven schema (puts values) → i < length values → fits schema i (slice_index_or values i (pos 0)) ≡ true
 fits_here schema values i given le =
@@ -70,17 +66,6 @@ fits_here schema values i given le =
 
 pub some_here : (schema : Schema) (i : ℕ) (v : ℤ) (o : Option ℕ) → i < schema.dims → fits schema i v ≡ true → o ≡ coordinate schema i v → IsSome o
 some_here schema i v o lt fit is = rw (is ∙ (fitting_coordinate (axes_of schema) i v lt fit).1) refl
-
-pub next_coordinate : (schema : Schema) (values : List ℤ) (i : ℕ) (dims new : List ℕ) (o : Option ℕ) (x : ℕ) → dims ≡ coordinates_to schema i values
-    → o ≡ coordinate schema i (slice_index_or values i (pos 0)) → o ≡ Some x → i < length values → new ≡ dims ++ x ∷ [] → new ≡ coordinates_to schema (i + 1) values
-next_coordinate schema values i dims new o x are is some lt e =
-    let v = slice_index_or values i (pos 0) in
-    let long : 0 + length (take i values) ≡ i = omega (arith, length-take-le i values (omega arith)) in
-    e ∙ ap (λ (ds : List ℕ). ds ++ x ∷ []) are
-    ∙ sym (ap (λ (vs : List ℤ). map (λ w. coordinate_in (coordinate schema w.0 w.1)) (enumerate_from 0 vs)) (take_more values i (pos 0) lt)
-    ∙ one_more (λ w. coordinate_in (coordinate schema w.0 w.1)) 0 (take i values) v
-    ∙ ap (λ (k : ℕ). coordinates_to schema i values ++ coordinate_in (coordinate schema k v) ∷ []) long
-    ∙ ap (λ (c : Option ℕ). coordinates_to schema i values ++ coordinate_in c ∷ []) (sym is ∙ some))
 
 pub length_coordinates : (schema : Schema) (values : List ℤ) (i : ℕ) (dims : List ℕ) → dims ≡ coordinates_to schema i values → i ≤ length values → length dims ≡ i
 length_coordinates schema values i dims are le =

@@ -12,7 +12,8 @@ ghost use Rattle.ub_script.specs.declared.fault.RunFault.{RunFault};
 use crate::fault::RunFault;
 use crate::script::Answer;
 use crate::text::{deleted_text, inserted_text};
-use std::alloc::{AllocError, Global};
+use arrayvec::ArrayVec;
+use std::alloc::Global;
 use ub_exec::delete;
 use ub_parser::Query;
 use ub_plan::plan;
@@ -37,7 +38,7 @@ pub(crate) fn insert_row<S: PageStore>(
     ensures no_write { ¬ (IsErrOf result RunFault.Write) }
     ensures effect { Runs tree.old tree.new result }
 {
-    let dims = coordinates(alloc, tree.schema(), values)?;
+    let dims = coordinates(tree.schema(), values);
     let text = inserted_text(alloc, tree.next())?;
     tree.insert(dims.as_slice(), &values[dims.len()..])?;
     Ok(Answer {
@@ -47,19 +48,18 @@ pub(crate) fn insert_row<S: PageStore>(
 }
 
 // The coordinates that stand for the values of the dimensions, which come first.
-fn coordinates(alloc: Global, schema: &Schema, values: &[i64]) -> Result<Vec<u32>, AllocError>
+fn coordinates(schema: &Schema, values: &[i64]) -> ArrayVec<u32, 4>
     requires { IsGiven schema.now (puts values.now) }
-    ensures coordinates { IfOk result (λ dims. dims.items
-        ≡ coordinates_of schema.now values.now) }
-    ensures all { IfOk result (λ dims. length dims.items ≡ schema.now.dims) }
+    ensures coordinates { result.items ≡ coordinates_of schema.now values.now }
+    ensures all { length result.items ≡ schema.now.dims }
 {
-    let mut dims = Vec::new(alloc);
+    let mut dims = ArrayVec::new();
     for dim in 0..schema.dims() as usize {
         // The value fits its dimension, so there is such a coordinate.
         let coordinate = schema.coordinate(dim, i128::from(values[dim]));
-        dims.push(coordinate.unwrap())?;
+        dims.push(coordinate.unwrap());
     }
-    Ok(dims)
+    dims
 }
 
 /// Takes out the rows that a query without groups, order and limit selects, and tells how many they were.

@@ -1,12 +1,9 @@
-use Rattle.std.proofs.Common.{◌≡◌, ◌<◌, ◌∙◌, rules, length, slice_index_or, pos, sym, subst, ℕ, arith}
+use Rattle.std.proofs.Common.{◌≡◌, ◌<◌, ◌∙◌, rules, length, slice_index_or, pos, arith}
 use Rattle.std.proofs.lemmas.Int.{to_z-of_z}
 use Rattle.std.specs.Int.{w64, w128}
 use Rattle.std.specs.Prelude.{FitsSigned}
-use Rattle.ub_script.proofs.ChangeFacts.{coordinates_to, fits_here, length_coordinates, next_coordinate, no_coordinates, some_here}
+use Rattle.ub_script.proofs.ChangeFacts.{fits_here, length_coordinates, some_here}
 use Rattle.ub_script.proofs.changing.coordinates.Goals as goal
-
-pub loop-dim-init : goal.loop-dim-init
-loop-dim-init c = record { items = c.new-dims.ensures.items ∙ sym (no_coordinates c.args.schema.now c.args.values.now) }
 
 pub unwrap-requires : goal.unwrap-requires
 unwrap-requires c =
@@ -17,23 +14,6 @@ unwrap-requires c =
     let of = rw (wide, c.from.ensures, same) at c.coordinate-coordinate.ensures in
     some_here c.args.schema.now c.loop-dim.dim _ c.coordinate-coordinate.result (omega (arith, c.dims-dim-end.ensures.dims, c.loop-dim-test.true))
     (fits_here c.args.schema.now c.args.values.now c.loop-dim.dim c.requires within) of
-
-pub loop-dim-preserved : goal.loop-dim-preserved
-loop-dim-preserved c =
-    let within : c.loop-dim.dim < length c.args.values.now = omega (arith, c.requires.0, c.dims-dim-end.ensures.within, c.loop-dim-test.true) in
-    let fit : FitsSigned w64 (slice_index_or c.args.values.now c.loop-dim.dim (pos 0)) = search rules in
-    let same = to_z-of_z w64 (slice_index_or c.args.values.now c.loop-dim.dim (pos 0)) fit in
-    let wide = to_z-of_z w128 c.from.result (search rules) in
-    let of = rw (wide, c.from.ensures, same) at c.coordinate-coordinate.ensures in
-    record {
-      items = next_coordinate c.args.schema.now c.args.values.now c.loop-dim.dim c.loop-dim.dims.items c.push.new.self.items c.coordinate-coordinate.result c.unwrap.result
-          c.loop-dim.invariant.items of c.unwrap.ensures within c.in_ok-push.ensures.items;
-    }
-
-pub returns-clause-coordinates : goal.returns-clause-coordinates
-returns-clause-coordinates c =
-    let end : c.loop-dim.dim ≡ c.args.schema.now.dims = omega (arith, c.dims-dim-end.ensures.dims, c.loop-dim-test.false, c.loop-dim.auto.dim-end) in
-    subst (λ (n : ℕ). c.loop-dim.dims.items ≡ coordinates_to c.args.schema.now n c.args.values.now) end c.loop-dim.invariant.items
 
 pub returns-clause-all : goal.returns-clause-all
 returns-clause-all c =
