@@ -1,5 +1,5 @@
 // The memory in which a region is changed, and its page put from there.
-ghost use Rattle.std.specs.Prelude.{◌≡◌, ◌⊎◌, ◌≤◌, [], ◌∷◌, IfErr, OnOk, IsErrOf};
+ghost use Rattle.std.specs.Prelude.{◌≡◌, ◌⊎◌, ◌≤◌, [], ◌∷◌, None, Ok, IfErr, IfSome, OnOk, IsErrOf};
 ghost use Rattle.ub_region.specs.RegionPage.{region_page};
 ghost use Rattle.ub_store.specs.Cache.{Renews};
 ghost use Rattle.ub_store.specs.Facts.{page_count};
@@ -40,12 +40,15 @@ pub struct Drafts {
 }
 
 /// The room that is kept, which is given back after use; or else such room from memory, in a box of its own, so that nothing of it
-/// moves.
+/// moves. None is kept then. What stands in the room isn't told: whoever takes it fills it.
 pub fn take_room(
     kept: &mut Option<Box<Room>>,
     alloc: Global,
     shape: Shape,
-) -> Result<Box<Room>, AllocError> {
+) -> Result<Box<Room>, AllocError>
+    ensures taken { kept.new ≡ None }
+    ensures held { IfSome kept.old (λ room. result ≡ Ok room) }
+{
     match kept.take() {
         Some(room) => Ok(room),
         None => new_room(alloc, shape),
