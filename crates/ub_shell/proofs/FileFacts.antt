@@ -14,6 +14,7 @@ use Rattle.ub_script.specs.declared.fault.RunFault.TheVariants as stop
 use Rattle.ub_tree.specs.Opened.{IsOpened}
 use Rattle.ub_load.specs.LoadedTree.{IsLoadedTree}
 use Rattle.ub_load.specs.Loading.{IsAtWork}
+use Rattle.ub_tree.proofs.ClosingFacts.{sound_some}
 use Rattle.ub_tree.specs.Closing.{IsCloseFault}
 use Rattle.ub_tree.specs.View.{TreeView}
 use Rattle.ub_tree.specs.declared.fault.TreeFault.{TreeFault}
@@ -91,7 +92,7 @@ pub never_unclosed : {text name : List ℕ} {axes : Axes} {page_rows : ℕ} (hel
 never_unclosed held t loaded work tree.Memory h = h
 never_unclosed held t loaded work tree.Failed h = let works = work.working in cc
 never_unclosed held t loaded work (tree.Store store.Device) h = let never = ap (λ (s : StoreFacts). s.can_fail) work.store_is in cc
-never_unclosed held t loaded work (tree.Store store.NoPage) h = h loaded.sound
+never_unclosed held t loaded work (tree.Store store.NoPage) h = sound_some t loaded.sound h
 never_unclosed held t loaded work (tree.Store store.BadSize) h = h
 never_unclosed held t loaded work (tree.Store store.Memory) h = h
 never_unclosed held t loaded work tree.Full h = h

@@ -5,6 +5,7 @@ use Rattle.std.proofs.lemmas.Bool.{false≢true}
 use Rattle.ub_shell.specs.Upgrading.{IsAfoot, IsTableAnew, IsUpgradeOf}
 use Rattle.ub_store.specs.Facts.{StoreFacts, IsHonest, memory_facts}
 use Rattle.ub_store.specs.declared.fault.StoreFault.TheVariants as store
+use Rattle.ub_tree.proofs.ClosingFacts.{sound_some}
 use Rattle.ub_tree.specs.Closing.{header_of, IsCloseFault}
 use Rattle.ub_tree.specs.Stored.{AreSoundPages}
 use Rattle.ub_tree.specs.Upgrade.{HasWorked, IsUpgraded}
@@ -48,7 +49,7 @@ pub always_closed : (from : StoreFacts) (t : TreeView) (fault : TreeFault) → I
 always_closed from t tree.Memory is under refused = absurd refused
 always_closed from t tree.Failed is under refused = let works = under.working in cc
 always_closed from t (tree.Store store.Device) is under refused = let never = under.unfailing in cc
-always_closed from t (tree.Store store.NoPage) is under refused = refused (is.upgraded.sound refl)
+always_closed from t (tree.Store store.NoPage) is under refused = sound_some t (is.upgraded.sound refl) refused
 always_closed from t (tree.Store store.BadSize) is under refused = absurd refused
 always_closed from t (tree.Store store.Memory) is under refused = absurd refused
 always_closed from t tree.Full is under refused = absurd refused

@@ -92,12 +92,16 @@ module _ (t : TreeView) (new : StoreFacts) (honest : new.honest ≡ t.store.hone
     },
   )
 
--- why closing is refused: a sound tree's store has a first page
+-- a sound tree's store has a first page
+pub sound_some : (t : TreeView) → IsSound t → page_count t.store ≢ 0
+sound_some t sound =
+    let within = recursion_from_All (λ n. n < length t.store.pages) (reserved t.inner.index t.store.pages) sound.placed_are.within in
+    let some : 0 < length t.store.pages = within.0 in
+    λ none. omega (arith, some, none)
+
+-- why closing is refused
 pub close_refused : (t : TreeView) (fault : StoreFault) → IsSaveFault t.store fault → IsCloseFault t (tree_fault fault)
 close_refused t store.Device h = h
 close_refused t store.BadSize h = absurd h
 close_refused t store.Memory h = absurd h
-close_refused t store.NoPage h = λ sound.
-    let within = recursion_from_All (λ n. n < length t.store.pages) (reserved t.inner.index t.store.pages) sound.placed_are.within in
-    let some : 0 < length t.store.pages = within.0 in
-    absurd (omega arith)
+close_refused t store.NoPage h = h

@@ -1,5 +1,5 @@
 -- The region that a key falls into, and what calls must answer.
-use Rattle.std.proofs.Common.{◌≡◌, ◌<◌, ◌^◌, ◌++◌, inl, inr, ℕ, Bool, true, false, List, [], ◌∷◌, Result, Ok, Err, IfErr, MatchResult, length, map, ◌∙◌, sym, ap, subst, refl, arith, nat_eq, IfOk}
+use Rattle.std.proofs.Common.{◌≡◌, ◌≢◌, ◌/◌, ◌≤◌, ◌<◌, ◌^◌, ◌++◌, inl, inr, ℕ, Bool, true, false, List, [], ◌∷◌, Result, Ok, Err, IfErr, MatchResult, length, map, ◌∙◌, sym, ap, subst, refl, arith, nat_eq, IfOk}
 use Rattle.std.proofs.lemmas.Bool.{cases_Bool, eqb-true}
 use Rattle.std.proofs.lemmas.List.{length-append, length-map}
 use Rattle.std.proofs.lemmas.List.Elements.{recursion_from_All}
@@ -9,7 +9,7 @@ use Rattle.std.specs.List.{AllByRecursion, list_any}
 use Rattle.std.specs.Result.{IsErrAnd, IsErrOf}
 use Rattle.ub_region.specs.declared.region.Region.{Region}
 use Rattle.ub_region.proofs.Laws.{all_append}
-use Rattle.ub_region.specs.Rows.{has_key}
+use Rattle.ub_region.specs.Rows.{has_key, remove_row}
 use Rattle.ub_store.specs.Facts.{IsHonest, page_count}
 use Rattle.ub_store.specs.declared.fault.StoreFault.{StoreFault}
 use Rattle.ub_store.specs.declared.fault.StoreFault.TheVariants as store
@@ -120,7 +120,7 @@ pub passing_removal : (a : TreeView) (key : Key) (r : Result Bool TreeFault) (e 
     → ((number : ℕ) (region : RegionRows) → IsHonest a.store → FallsInto a key number region → IsPassing e) → IsHonest a.store → AnswersRemoval a key r
 passing_removal a key r e told led honest number region into =
     let passing = led number region honest into in
-    (λ has none. passing_answers r e _ told passing, λ none. passing_fault r e told passing, no_answer r e _ told)
+    (λ has none. passing_answers r e _ told passing, λ none. passing_fault r e told passing, no_answer r e _ told, λ some many. passing_fault r e told passing)
 
 -- the region that a key falls to was read
 module _ (a : TreeView) (key : Key) (span : Region) (page : RegionView) (read : HasReadAt a key span page) where
@@ -143,12 +143,14 @@ module _ (a : TreeView) (key : Key) (span : Region) (page : RegionView) (read : 
 
   pub removal_answers : (r : Result Bool TreeFault) → (has_key a.schema.dims key page.region.rows ≡ true → a.rows ≡ 0 → IsErrAnd r (λ x. x ≡ Page 0 BadCount))
       → (has_key a.schema.dims key page.region.rows ≡ false → IfErr r IsPassing) → IfOk r (λ found. found ≡ has_key a.schema.dims key page.region.rows)
+      → (a.rows ≢ 0 → a.schema.page_rows / 2 ≤ length (remove_row a.schema.dims key page.region.rows) → IfErr r IsPassing)
       → IsHonest a.store → AnswersRemoval a key r
-  removal_answers r none passing found honest number region into =
+  removal_answers r none passing found left honest number region into =
       let same = (read_region honest number region into).0 in (
         λ has zero. fault_answers r (Page 0 BadCount) (none (rw same has) zero),
         λ free. passing (rw same free),
         subst (λ (rs : List Row). IfOk r (λ found. found ≡ has_key a.schema.dims key rs)) same found,
+        λ some many. left some (rw same many),
       )
 
 -- whether the region has the key, which was told by other names

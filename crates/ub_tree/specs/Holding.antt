@@ -1,10 +1,10 @@
 -- The region that a key falls into, on any tree, and what a change of it must answer.
-use Rattle.std.specs.Prelude.{◌≡◌, ◌≢◌, ◌+◌, ◌<◌, ◌⊎◌, ℕ, Bool, true, false, Some, Result, Err, IfErr, IfOk, length}
+use Rattle.std.specs.Prelude.{◌≡◌, ◌≢◌, ◌+◌, ◌/◌, ◌<◌, ◌≤◌, ◌⊎◌, ℕ, Bool, true, false, Some, Result, Err, IfErr, IfOk, length}
 use Rattle.std.specs.Result.{IsErrAnd}
 use Rattle.ub_index_change.specs.Preparing.{HasFullWay, NeedsPages}
 use Rattle.ub_index.specs.Searching.{key_before}
 use Rattle.ub_page.specs.declared.header.TheConstants.{MAX_LEVEL}
-use Rattle.ub_region.specs.Rows.{has_key}
+use Rattle.ub_region.specs.Rows.{has_key, remove_row}
 use Rattle.ub_store.specs.Facts.{IsHonest, page_count}
 use Rattle.ub_store.specs.declared.fault.StoreFault.TheVariants as store
 use Rattle.ub_table.specs.Region.{RegionRows}
@@ -103,10 +103,12 @@ AnswersRow t key result =
     × (t.next ≢ MAX_ROW_NUMBER + 1 → IsHonest t.store → AnswersKey t key result)
 
 -- what a removal of the row with this key must answer: BadCount of the first page where the region that it falls into has it
--- and no row is counted; no refusal where it hasn't it; and whether it has it
+-- and no row is counted; no refusal where it hasn't it, or where as many rows are left without it as half of what a page holds; and
+-- whether it has it
 abbrev pub AnswersRemoval : TreeView → Key → Result Bool TreeFault → Type 0
 AnswersRemoval t key result =
     (number : ℕ) (region : RegionRows) → FallsInto t key number region
     → (has_key t.schema.dims key region.rows ≡ true → t.rows ≡ 0 → Answers result (Page 0 BadCount))
     × (has_key t.schema.dims key region.rows ≡ false → IfErr result IsPassing)
     × IfOk result (λ found. found ≡ has_key t.schema.dims key region.rows)
+    × (t.rows ≢ 0 → t.schema.page_rows / 2 ≤ length (remove_row t.schema.dims key region.rows) → IfErr result IsPassing)

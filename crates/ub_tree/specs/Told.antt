@@ -24,6 +24,11 @@ pub record IsFoundAfter (last : ℕ) (after : Option Region) (region : Region) :
   pub z : region.first.z ≤ last
   pub number : region.first.number < 2 ^ 32
 
+-- what the tree gives, asked for the next region that ends at this address or later, after one or from the beginning on: of a sound
+-- tree the first one later than that which does, or none
+abbrev pub GivesAt : ℕ → TreeView → Option Region → Option Region → Type 0
+GivesAt z t after found = GivesAfter t.inner.index t.store (λ _ to. to ≡ Some z) after found
+
 -- what the tree gives, asked for the next region that meets the boxes, after one or from the beginning on: of a sound tree the
 -- first one later than that which meets them, or none
 pub record GivesNext (boxes : List Corners) (t : TreeView) (after found : Option Region) : Type 0 where

@@ -1,10 +1,11 @@
-ghost use Rattle.std.specs.Prelude.{◌≡◌, ◌+◌, ◌-◌, ◌<◌, ℕ, true, false, IsTrue, Err, Some, is_some, IfOk, IfErr, IfSome, MatchOption, OnOk};
+ghost use Rattle.std.specs.Prelude.{◌≡◌, ◌+◌, ◌-◌, ◌/◌, ◌<◌, ◌≤◌, length, ℕ, true, false, IsTrue, Err, Some, is_some, IfOk, IfErr, IfSome, MatchOption, OnOk};
 ghost use Rattle.std.specs.List.{AllByRecursion};
 ghost use Rattle.ub_index.specs.Searching.{key_before};
 ghost use Rattle.ub_region.specs.Joins.{JoinsNext, JoinsBefore, put_rows};
 ghost use Rattle.ub_region.specs.Regions.{settle};
 ghost use Rattle.ub_store.specs.Facts as facts;
 ghost use Rattle.ub_store.specs.Facts.{page_count};
+ghost use Rattle.ub_store.specs.declared.fault.StoreFault.{StoreFault};
 ghost use Rattle.ub_table.specs.Region.{IsRegion};
 ghost use Rattle.ub_table.specs.declared.row.Key as key;
 ghost use Rattle.ub_tree.specs.inner.Change.{IsMadeOf, IsRegionIn, IsRegionThere, IsStored, JoinsAt, TakesAt};
@@ -143,6 +144,8 @@ impl<S: PageStore> Tree<S> {
             (put_rows i false room.old.region.region.rows (regions self.old)))) }
         ensures effect { Changes self.old self.new result }
         ensures faults { IfErr result (IsRemovalFault self.old) }
+        ensures spare { self.old.schema.page_rows / 2 ≤ length room.old.region.region.rows
+            → IfErr result (λ fault. fault ≡ TreeFault.Store StoreFault.Device) }
         ensures stays { self.old.is_changed ≡ true → self.new.is_changed ≡ true }
     {
         if !room.region.are_few(self.schema.page_rows()) {

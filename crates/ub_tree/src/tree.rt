@@ -5,7 +5,7 @@ ghost use Rattle.ub_store.specs.View.{emptied};
 ghost use Rattle.ub_tree.specs.Calls.{StandsAt};
 ghost use Rattle.ub_tree.specs.Effects.{IsTakenIn, ReadsRegion, Searches};
 ghost use Rattle.ub_tree.specs.Spans.{IsLater, Meets, First};
-ghost use Rattle.ub_tree.specs.Told.{GivesNext, IsRegionOf};
+ghost use Rattle.ub_tree.specs.Told.{GivesAt, GivesNext, IsRegionOf};
 ghost use Rattle.ub_tree.specs.Tree.{IsTree, tree_view};
 ghost use Rattle.ub_tree.specs.View.{IsSound, level_count, region_count, spans_of};
 ghost use Rattle.ub_writing.specs.Marks.{is_written};
@@ -152,6 +152,7 @@ impl<S: PageStore> Tree<S> {
             (spans_of self.old) found) }
         ensures later { IfOk result (λ found. IfSome found (λ r. IsRegionOf self.old r
             × IsLater (option_copied after.entry) r × (z ≤ r.to))) }
+        ensures gives { IfOk result (GivesAt z self.old (option_copied after.entry)) }
         ensures failed { IsTrue self.old.is_failed → result ≡ Err TreeFault.Failed }
         ensures effect { Searches self.old self.new result }
     {

@@ -22,6 +22,10 @@ returns-clause-later g c =
     let given = subst (λ (v : TreeView). GivesAfter v.inner.index v.store (λ _ to. to ≡ Some c.args.z) (option_copied c.args.after) c.in_ok-found.found) c.self.view_is (c.in_ok-found.ensures.given c.self.invariant.checked) in
     seek_told c.args.self.now c.args.z (option_copied c.args.after) c.in_ok-found.found given (c.in_ok-found.ensures.later c.self.invariant.checked)
 
+pub returns-clause-gives : goal.returns-clause-gives
+returns-clause-gives g c =
+    subst (λ (v : TreeView). GivesAfter v.inner.index v.store (λ _ to. to ≡ Some c.args.z) (option_copied c.args.after) c.in_ok-found.found) c.self.view_is (c.in_ok-found.ensures.given c.self.invariant.checked)
+
 pub returns-in_err-found-clause-effect : goal.returns-in_err-found-clause-effect
 returns-in_err-found-clause-effect g c =
     let t = c.self.inside in

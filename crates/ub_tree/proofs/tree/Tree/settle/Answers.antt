@@ -1,4 +1,5 @@
-use Rattle.std.proofs.Common.{◌≡◌, ◌/◌, ◌∙◌, IfErr, inl, inr, refl, ap, sym, subst, length, nat_lt, true, false}
+use Rattle.std.proofs.Common.{◌≡◌, ◌/◌, ◌∙◌, IfErr, inl, inr, refl, ap, sym, subst, length, nat_lt, true, false, arith}
+use Rattle.std.proofs.lemmas.Bool.{ltb-true}
 use Rattle.ub_tree.specs.Holding.{IsThatOrBefore}
 use Rattle.ub_tree.specs.View.{TreeView}
 use Rattle.ub_table.specs.Region.{IsRegion}
@@ -213,3 +214,46 @@ returns-clause-faults g c = written_removal c.rewrite-2.result c.args.self.now c
 pub returns-clause-stays : goal.returns-clause-stays
 returns-clause-stays g c =
     λ was. c.rewrite-2.ensures.stays (subst (λ (v : TreeView). v.is_changed ≡ true) (sym (c.in_ok-before.ensures.effect.same ∙ c.in_ok-next.ensures.effect.same)) was)
+
+pub returns-then-not-are_few-clause-spare : goal.returns-then-not-are_few-clause-spare
+returns-then-not-are_few-clause-spare g c = λ _. c.rewrite.ensures.faults
+
+pub returns-in_err-next-clause-spare : goal.returns-in_err-next-clause-spare
+returns-in_err-next-clause-spare g c = λ large.
+    let a = c.args.self.now in
+    let count : c.page_rows.result ≡ a.schema.page_rows = c.page_rows.ensures.page_rows ∙ ap (λ (v : TreeView). v.schema.page_rows) c.self.view_is in
+    let few : nat_lt (length c.args.room.now.region.region.rows) (a.schema.page_rows / 2) ≡ true = rw (← count) (sym c.are_few.ensures ∙ c.if-not-are_few.false) in
+    let less = ltb-true (length c.args.room.now.region.region.rows) (a.schema.page_rows / 2) few in
+    absurd (omega (arith, less, large))
+
+pub returns-in-Some-clause-spare : goal.returns-in-Some-clause-spare
+returns-in-Some-clause-spare g c = λ large.
+    let a = c.args.self.now in
+    let count : c.page_rows.result ≡ a.schema.page_rows = c.page_rows.ensures.page_rows ∙ ap (λ (v : TreeView). v.schema.page_rows) c.self.view_is in
+    let few : nat_lt (length c.args.room.now.region.region.rows) (a.schema.page_rows / 2) ≡ true = rw (← count) (sym c.are_few.ensures ∙ c.if-not-are_few.false) in
+    let less = ltb-true (length c.args.room.now.region.region.rows) (a.schema.page_rows / 2) few in
+    absurd (omega (arith, less, large))
+
+pub returns-in_err-before-clause-spare : goal.returns-in_err-before-clause-spare
+returns-in_err-before-clause-spare g c = λ large.
+    let a = c.args.self.now in
+    let count : c.page_rows.result ≡ a.schema.page_rows = c.page_rows.ensures.page_rows ∙ ap (λ (v : TreeView). v.schema.page_rows) c.self.view_is in
+    let few : nat_lt (length c.args.room.now.region.region.rows) (a.schema.page_rows / 2) ≡ true = rw (← count) (sym c.are_few.ensures ∙ c.if-not-are_few.false) in
+    let less = ltb-true (length c.args.room.now.region.region.rows) (a.schema.page_rows / 2) few in
+    absurd (omega (arith, less, large))
+
+pub returns-in-Some-2-clause-spare : goal.returns-in-Some-2-clause-spare
+returns-in-Some-2-clause-spare g c = λ large.
+    let a = c.args.self.now in
+    let count : c.page_rows.result ≡ a.schema.page_rows = c.page_rows.ensures.page_rows ∙ ap (λ (v : TreeView). v.schema.page_rows) c.self.view_is in
+    let few : nat_lt (length c.args.room.now.region.region.rows) (a.schema.page_rows / 2) ≡ true = rw (← count) (sym c.are_few.ensures ∙ c.if-not-are_few.false) in
+    let less = ltb-true (length c.args.room.now.region.region.rows) (a.schema.page_rows / 2) few in
+    absurd (omega (arith, less, large))
+
+pub returns-clause-spare : goal.returns-clause-spare
+returns-clause-spare g c = λ large.
+    let a = c.args.self.now in
+    let count : c.page_rows.result ≡ a.schema.page_rows = c.page_rows.ensures.page_rows ∙ ap (λ (v : TreeView). v.schema.page_rows) c.self.view_is in
+    let few : nat_lt (length c.args.room.now.region.region.rows) (a.schema.page_rows / 2) ≡ true = rw (← count) (sym c.are_few.ensures ∙ c.if-not-are_few.false) in
+    let less = ltb-true (length c.args.room.now.region.region.rows) (a.schema.page_rows / 2) few in
+    absurd (omega (arith, less, large))
