@@ -150,8 +150,10 @@ fn trial_of(alloc: Global, schema: Schema) -> Trial {
     }
 }
 
-// Lets a tree go. No other step drops one.
-fn release(_tree: Option<Tree<Store>>) {}
+// Lets a tree go.
+fn release(_tree: Option<Tree<Store>>) {
+    // It is dropped here, and by no other step.
+}
 
 impl Trial {
     // How many steps of a run are answered so, up to the first wrong one of its first steps, of those that follow, and of its cases.

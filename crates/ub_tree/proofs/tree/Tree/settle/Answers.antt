@@ -1,5 +1,4 @@
-use Rattle.std.proofs.Common.{◌≡◌, ◌/◌, ◌∙◌, IfErr, inl, inr, refl, ap, sym, subst, length, nat_lt, true, false, arith}
-use Rattle.std.proofs.lemmas.Bool.{ltb-true}
+use Rattle.std.proofs.Common.{◌≡◌, ◌/◌, ◌∙◌, IfErr, inl, inr, refl, ap, sym, subst, length, nat_lt, true, false}
 use Rattle.ub_tree.specs.Holding.{IsThatOrBefore}
 use Rattle.ub_tree.specs.View.{TreeView}
 use Rattle.ub_table.specs.Region.{IsRegion}
@@ -7,7 +6,7 @@ use Rattle.ub_tree.specs.Removal.{IsRemovalFault}
 use Rattle.ub_tree.specs.inner.Change.{IsMadeOf, IsRegionThere}
 use Rattle.ub_tree.specs.Told.{IsRegionOf}
 use Rattle.ub_tree.proofs.EffectFacts.{changed_by, refused_none, searched_by, then_changed}
-use Rattle.ub_tree.proofs.RemovalFacts.{searched_removal, written_removal, settled_alone, settled_before, settled_large, settled_next, taken_alone, taken_joined}
+use Rattle.ub_tree.proofs.RemovalFacts.{not_few, searched_removal, written_removal, settled_alone, settled_before, settled_large, settled_next, taken_alone, taken_joined}
 use Rattle.ub_tree.proofs.tree.Tree.settle.Goals as goal
 
 pub returns-then-not-are_few-clause-written : goal.returns-then-not-are_few-clause-written
@@ -220,40 +219,25 @@ returns-then-not-are_few-clause-spare g c = λ _. c.rewrite.ensures.faults
 
 pub returns-in_err-next-clause-spare : goal.returns-in_err-next-clause-spare
 returns-in_err-next-clause-spare g c = λ large.
-    let a = c.args.self.now in
-    let count : c.page_rows.result ≡ a.schema.page_rows = c.page_rows.ensures.page_rows ∙ ap (λ (v : TreeView). v.schema.page_rows) c.self.view_is in
-    let few : nat_lt (length c.args.room.now.region.region.rows) (a.schema.page_rows / 2) ≡ true = rw (← count) (sym c.are_few.ensures ∙ c.if-not-are_few.false) in
-    let less = ltb-true (length c.args.room.now.region.region.rows) (a.schema.page_rows / 2) few in
-    absurd (omega (arith, less, large))
+    let count = c.page_rows.ensures.page_rows ∙ ap (λ (v : TreeView). v.schema.page_rows) c.self.view_is in
+    absurd (not_few count (sym c.are_few.ensures ∙ c.if-not-are_few.false) large)
 
 pub returns-in-Some-clause-spare : goal.returns-in-Some-clause-spare
 returns-in-Some-clause-spare g c = λ large.
-    let a = c.args.self.now in
-    let count : c.page_rows.result ≡ a.schema.page_rows = c.page_rows.ensures.page_rows ∙ ap (λ (v : TreeView). v.schema.page_rows) c.self.view_is in
-    let few : nat_lt (length c.args.room.now.region.region.rows) (a.schema.page_rows / 2) ≡ true = rw (← count) (sym c.are_few.ensures ∙ c.if-not-are_few.false) in
-    let less = ltb-true (length c.args.room.now.region.region.rows) (a.schema.page_rows / 2) few in
-    absurd (omega (arith, less, large))
+    let count = c.page_rows.ensures.page_rows ∙ ap (λ (v : TreeView). v.schema.page_rows) c.self.view_is in
+    absurd (not_few count (sym c.are_few.ensures ∙ c.if-not-are_few.false) large)
 
 pub returns-in_err-before-clause-spare : goal.returns-in_err-before-clause-spare
 returns-in_err-before-clause-spare g c = λ large.
-    let a = c.args.self.now in
-    let count : c.page_rows.result ≡ a.schema.page_rows = c.page_rows.ensures.page_rows ∙ ap (λ (v : TreeView). v.schema.page_rows) c.self.view_is in
-    let few : nat_lt (length c.args.room.now.region.region.rows) (a.schema.page_rows / 2) ≡ true = rw (← count) (sym c.are_few.ensures ∙ c.if-not-are_few.false) in
-    let less = ltb-true (length c.args.room.now.region.region.rows) (a.schema.page_rows / 2) few in
-    absurd (omega (arith, less, large))
+    let count = c.page_rows.ensures.page_rows ∙ ap (λ (v : TreeView). v.schema.page_rows) c.self.view_is in
+    absurd (not_few count (sym c.are_few.ensures ∙ c.if-not-are_few.false) large)
 
 pub returns-in-Some-2-clause-spare : goal.returns-in-Some-2-clause-spare
 returns-in-Some-2-clause-spare g c = λ large.
-    let a = c.args.self.now in
-    let count : c.page_rows.result ≡ a.schema.page_rows = c.page_rows.ensures.page_rows ∙ ap (λ (v : TreeView). v.schema.page_rows) c.self.view_is in
-    let few : nat_lt (length c.args.room.now.region.region.rows) (a.schema.page_rows / 2) ≡ true = rw (← count) (sym c.are_few.ensures ∙ c.if-not-are_few.false) in
-    let less = ltb-true (length c.args.room.now.region.region.rows) (a.schema.page_rows / 2) few in
-    absurd (omega (arith, less, large))
+    let count = c.page_rows.ensures.page_rows ∙ ap (λ (v : TreeView). v.schema.page_rows) c.self.view_is in
+    absurd (not_few count (sym c.are_few.ensures ∙ c.if-not-are_few.false) large)
 
 pub returns-clause-spare : goal.returns-clause-spare
 returns-clause-spare g c = λ large.
-    let a = c.args.self.now in
-    let count : c.page_rows.result ≡ a.schema.page_rows = c.page_rows.ensures.page_rows ∙ ap (λ (v : TreeView). v.schema.page_rows) c.self.view_is in
-    let few : nat_lt (length c.args.room.now.region.region.rows) (a.schema.page_rows / 2) ≡ true = rw (← count) (sym c.are_few.ensures ∙ c.if-not-are_few.false) in
-    let less = ltb-true (length c.args.room.now.region.region.rows) (a.schema.page_rows / 2) few in
-    absurd (omega (arith, less, large))
+    let count = c.page_rows.ensures.page_rows ∙ ap (λ (v : TreeView). v.schema.page_rows) c.self.view_is in
+    absurd (not_few count (sym c.are_few.ensures ∙ c.if-not-are_few.false) large)
