@@ -1,5 +1,5 @@
 -- What the searches of the index answer, as answers of the tree.
-use Rattle.std.proofs.Common.{◌≡◌, ◌<◌, ◌≤◌, ◌*◌, ◌^◌, map, inl, inr, Result, Ok, Err, MatchResult, ℕ, List, Option, Some, None, IfSome, ◌∙◌, ap, subst, sym, refl, arith}
+use Rattle.std.proofs.Common.{◌≡◌, ◌<◌, ◌≤◌, ◌*◌, ◌^◌, map, inl, inr, Result, Ok, Err, MatchResult, ℕ, List, Option, Some, None, IfSome, ◌∙◌, ap, subst, refl, arith}
 use Rattle.std.specs.Result.{IsErrAnd}
 use Rattle.std.proofs.Math.Pow.{pow-lt}
 use Rattle.std.proofs.lemmas.Bool.{cases_Bool, cases_lt}
@@ -20,7 +20,7 @@ use Rattle.ub_table.specs.declared.fault.PageFault.{PageFault}
 use Rattle.ub_table.specs.declared.row.Key.{Key}
 use Rattle.ub_tree.proofs.AnswerFacts.{at_least_z, begins_up_to, up_to}
 use Rattle.ub_tree.proofs.IndexedFacts.{index_on}
-use Rattle.ub_tree.proofs.WayFacts.{KeepsIndexKinds, led_not_stopped, still_led}
+use Rattle.ub_tree.proofs.WayFacts.{led_not_stopped}
 use Rattle.ub_tree.specs.Faults.{index_fault}
 use Rattle.ub_tree.specs.Opened.{IsPassing}
 use Rattle.ub_tree.specs.Placed.{entry_of}
@@ -106,18 +106,6 @@ way_passing i facts key span small honest given (index.Store store.NoPage) h = l
 -- what it gives is the region to which that way leads
 pub one_falls : (t : TreeView) (key : Key) (found span : Region) → IsHonest t.store → FallsTo t key found → FallsTo t key span → found ≡ span
 one_falls t key found span honest a b = one_given t.inner.index t.store key found span honest a b
-
--- where the index stays, and each page but the first that is of an index by its first byte, a key falls to the span to which it fell
-pub kept_falls : (old new : TreeView) (key : Key) (span : Region) → new.inner.index ≡ old.inner.index → (IsHonest new.store → IsHonest old.store) → 1 ≤ old.inner.index.root
-    → old.inner.index.last < 2 ^ 128 → (IsHonest old.store → KeepsIndexKinds old.store.pages new.store.pages) → FallsTo old key span → FallsTo new key span
-kept_falls old new key span indexes honesty some small keeps falls =
-    subst (λ (i : IndexView). Gives i new.store key span) (sym indexes) (record {
-      holds = falls.holds;
-      from = falls.from;
-      to = falls.to;
-      way = λ honest. let was = honesty honest in still_led old.inner.index.last small old.store.pages new.store.pages (keeps was) key old.inner.index.levels
-          (top old.inner.index.root) None (entry_at span) span.next some (falls.way was);
-    })
 
 -- a search to a key that leads to a span, which is refused
 pub holding_refused : (i : IndexView) (facts : StoreFacts) (key : Key) (span : Region) (r : Result Region TreeFault) (e : IndexFault) → i.last < 2 ^ 128 → IsHonest facts

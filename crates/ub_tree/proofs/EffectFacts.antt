@@ -1,5 +1,5 @@
 -- What a call leaves that calls others: a search, a refusal or a write, as a change.
-use Rattle.std.proofs.Common.{◌≡◌, ◌≢◌, ◌<◌, ◌∙◌, ◌++◌, inl, inr, ◌⊎◌, ℕ, true, List, [], ◌∷◌, Ok, Err, Result, IfErr, IfOk, OnOk, sym, ap, subst, refl, arith}
+use Rattle.std.proofs.Common.{◌≡◌, ◌≢◌, ◌<◌, ◌∙◌, ◌++◌, inl, inr, ◌⊎◌, ℕ, true, List, [], ◌∷◌, Ok, Err, Result, IfErr, OnOk, sym, ap, subst, refl, arith}
 use Rattle.std.specs.Result.{IsErrAnd}
 use Rattle.ub_index.specs.Standing.{IsOutside}
 use Rattle.ub_index_change.specs.Changing.{IsUnspelled}
@@ -102,10 +102,6 @@ ready_by r e a c is h = read_left r e a c is h.same (ready_left e a c (record { 
 pub then_changed : {T : Type 0} (r : Result T TreeFault) (a b c : TreeView) → b ≡ a → Changes b c r → Changes a c r
 then_changed r a b c same h = subst (λ (v : TreeView). Changes v c r) same h
 
--- nothing was changed
-pub nothing_changed : {T : Type 0} (x : T) (a b : TreeView) → b ≡ a → Changes a b (Ok x)
-nothing_changed x a b same = subst (λ (v : TreeView). Changes a v (Ok x)) (sym same) (record { frame = refl; marked = same_marked a; done = (refl, refl); left = tt })
-
 -- a change after which rows are counted
 pub counted_anew : {T U : Type 0} (x : T) (y : U) (a mid d : TreeView) (rows next : ℕ) → d ≡ record mid { rows = rows; next = next } → Changes {A = T} a mid (Ok x) → Changes {A = U} a d (Ok y)
 counted_anew x y a mid d rows next is h = record {
@@ -203,8 +199,3 @@ mark_stays was now (inr written) is = ap is_written written
 pub refused_none : {T : Type 0} (P : Type 0) (r : Result T TreeFault) (e : TreeFault) → IsErrAnd r (λ x. x ≡ e) → OnOk r P
 refused_none P (Ok x) e is = absurd is
 refused_none P (Err f) e is = tt
-
--- nor is anything told of what a call that was refused gives
-pub refused_all : {T : Type 0} (P : T → Type 0) (r : Result T TreeFault) (e : TreeFault) → IsErrAnd r (λ x. x ≡ e) → IfOk r P
-refused_all P (Ok x) e is = absurd is
-refused_all P (Err f) e is = tt

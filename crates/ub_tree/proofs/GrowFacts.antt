@@ -383,29 +383,6 @@ put_at (Ok x) old new span count room put told writes = record {
   spare = λ less. (told, writes.count);
 }
 
--- what a span answers where its region isn't full, and only the device can fail
-pub spared_answers : {A : Type 0} (F : Type 0) (t : TreeView) (span : Region) (r : Result A TreeFault) → (F → ⊥) → IfErr r (λ fault. fault ≡ Store store.Device) → AnswersAt F t span r
-spared_answers F t span (Ok x) room device =
-    (λ full many. absurd (room full), λ honest falls page fault told. cc, λ honest falls full few levels way. absurd (room full), λ honest falls. tt)
-spared_answers F t span (Err e) room device = (
-  λ full many. absurd (room full),
-  λ honest falls page fault told.
-      let same : e ≡ Page page fault = cc in
-      let bad : Store store.Device ≡ Page page fault = sym device ∙ same in
-      cc,
-  λ honest falls full few levels way. absurd (room full),
-  λ honest falls. subst (IsRoomFault F t span.first) (sym device) tt,
-)
-
--- and where it is full
-pub filled_answers : {A : Type 0} (F : Type 0) (t : TreeView) (span : Region) (r : Result A TreeFault) → F → AnswersAt (Unit {0}) t span r → AnswersAt F t span r
-filled_answers F t span r full h = (
-  λ is many. h.0 tt many,
-  λ honest falls page fault told. (full, (h.1 honest falls page fault told).1),
-  λ honest falls is. h.2 honest falls tt,
-  λ honest falls. err_so (IsRoomFault (Unit {0}) t span.first) (IsRoomFault F t span.first) (room_for (Unit {0}) F (λ x. full) t span.first) r (h.3 honest falls),
-)
-
 -- halves of the same rows
 pub same_split : {d e p q : ℕ} {rs ss : List Row} → d ≡ e → p ≡ q → rs ≡ ss → split d p rs ≡ split e q ss
 same_split {d} {e} {p} {q} {rs} {ss} dims count rows = ap (λ (n : ℕ). split n p rs) dims ∙ ap (λ (n : ℕ). split e n rs) count ∙ ap (λ (xs : List Row). split e q xs) rows

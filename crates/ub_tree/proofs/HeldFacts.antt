@@ -4,7 +4,7 @@ use Rattle.std.specs.Prelude.{Contains}
 use Rattle.std.specs.List.{AllByRecursion}
 use Rattle.ub_index.proofs.HeldFacts.{keeps_but, keeps_gone}
 use Rattle.ub_index.proofs.StepFacts.{held_once, honest_back, same_honest}
-use Rattle.ub_index.specs.Held.{AreChecked, KeepsChecked}
+use Rattle.ub_index.specs.Held.{KeepsChecked}
 use Rattle.ub_index.specs.View.{IndexView}
 use Rattle.ub_page.specs.Index.{IsIndexKind}
 use Rattle.ub_bytes.specs.Bytes.{number_at, number_bytes}
@@ -93,7 +93,3 @@ written_checked last pages old new honest others renews was good n page at =
     by_put : (page : List ℕ) → IsPutPage pages page → ¬ (IsIndexKind page)
     by_put page (inl there) = all_of (λ (p : List ℕ). ¬ (IsIndexKind p)) pages page others there
     by_put page (inr (header, is, spelled)) = subst (λ (p : List ℕ). ¬ (IsIndexKind p)) (sym spelled) (header_no_kind header)
-
--- a pager that holds no page
-pub none_checked : (last : ℕ) (pager : PagerView) → ((n : ℕ) → page_at pager.cached n ≡ None) → AreChecked last pager
-none_checked last pager none good n page at = let empty = none n in cc

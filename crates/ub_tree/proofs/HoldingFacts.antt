@@ -1,32 +1,27 @@
 -- The region that a key falls into, and what calls must answer.
-use Rattle.std.proofs.Common.{◌≡◌, ◌≢◌, ◌/◌, ◌≤◌, ◌<◌, ◌^◌, ◌++◌, inl, inr, ℕ, Bool, true, false, List, [], ◌∷◌, Result, Ok, Err, IfErr, MatchResult, length, map, ◌∙◌, sym, ap, subst, refl, arith, nat_eq, IfOk}
+use Rattle.std.proofs.Common.{◌≡◌, ◌≢◌, ◌/◌, ◌≤◌, ◌<◌, ◌^◌, ◌++◌, inl, inr, ℕ, Bool, true, false, List, [], ◌∷◌, Result, Ok, Err, IfErr, length, map, ◌∙◌, sym, ap, subst, arith, nat_eq, IfOk}
 use Rattle.std.proofs.lemmas.Bool.{cases_Bool, eqb-true}
 use Rattle.std.proofs.lemmas.List.{length-append, length-map}
 use Rattle.std.proofs.lemmas.List.Elements.{recursion_from_All}
 use Rattle.std.proofs.lemmas.Map.Steps.{length-le_from_distinct_below}
 use Rattle.std.proofs.lemmas.Option.{slice_get_within}
 use Rattle.std.specs.List.{AllByRecursion, list_any}
-use Rattle.std.specs.Result.{IsErrAnd, IsErrOf}
+use Rattle.std.specs.Result.{IsErrAnd}
 use Rattle.ub_region.specs.declared.region.Region.{Region}
 use Rattle.ub_region.proofs.Laws.{all_append}
 use Rattle.ub_region.specs.Rows.{has_key, remove_row}
 use Rattle.ub_store.specs.Facts.{IsHonest, page_count}
-use Rattle.ub_store.specs.declared.fault.StoreFault.{StoreFault}
-use Rattle.ub_store.specs.declared.fault.StoreFault.TheVariants as store
 use Rattle.ub_table.specs.Region.{RegionRows, key_of}
-use Rattle.ub_table.specs.declared.fault.PageFault.{PageFault}
 use Rattle.ub_table.specs.declared.fault.PageFault.TheVariants.{BadCount, BadOrder}
 use Rattle.ub_table.specs.declared.row.Key.{Key}
 use Rattle.ub_table.specs.declared.row.Row.{Row}
 use Rattle.ub_table.specs.declared.schema.Schema.{Schema}
 use Rattle.ub_tree.proofs.CallFacts.{one_falls}
 use Rattle.ub_tree.proofs.StoredFacts.{IsSpelled}
-use Rattle.ub_tree.specs.Faults.{tree_fault}
-use Rattle.ub_tree.specs.Holding.{Answers, AnswersKey, AnswersRemoval, FallsInto, HasNoRoom}
+use Rattle.ub_tree.specs.Holding.{Answers, AnswersKey, AnswersRemoval, FallsInto}
 use Rattle.ub_tree.specs.Indexed.{reserved}
 use Rattle.ub_tree.specs.Opened.{IsPassing}
 use Rattle.ub_tree.specs.Placed.{Placed}
-use Rattle.ub_tree.specs.Removal.{IsRemovalFault}
 use Rattle.ub_tree.specs.Told.{FallsTo}
 use Rattle.ub_tree.specs.View.{TreeView, IsSound, region_count}
 use Rattle.ub_tree.specs.declared.fault.TreeFault.{TreeFault}
@@ -67,29 +62,9 @@ on_region t key page region span honest h falls =
     subst (λ (s : Region). IsTakenIn t s region × (s.page ≡ page)) (sym (one_falls t key span h.span honest falls h.falls))
     (h.taken, h.page_is)
 
--- a read that failed, of a page that is there
-pub passing_read : (U : Type 0) (fault : StoreFault) → (IsErrOf {T = U} (Err fault) store.NoPage → ⊥) → (¬ (IsErrOf {T = U} (Err fault) store.BadSize)) → IsPassing (tree_fault fault)
-passing_read U store.Device missing size = inr refl
-passing_read U store.NoPage missing size = absurd (missing refl)
-passing_read U store.Memory missing size = inl refl
-passing_read U store.BadSize missing size = absurd (size refl)
-
-pub passing_by : {T : Type 0} (r : Result T TreeFault) (e : TreeFault) (P : T → Type 0) → IsErrAnd r (λ x. x ≡ e) → IsPassing e → MatchResult r P IsPassing
-passing_by (Ok x) e P is h = absurd is
-passing_by (Err f) e P is h = rw is h
-
 passing_answers : {A : Type 0} (r : Result A TreeFault) (e told : TreeFault) → IsErrAnd r (λ x. x ≡ e) → IsPassing e → Answers r told
 passing_answers (Ok x) e told is h = absurd is
 passing_answers (Err f) e told is h = rw is (inr h)
-
-passing_no_page : {A : Type 0} (r : Result A TreeFault) (e : TreeFault) (page : ℕ) (fault : PageFault) → IsErrAnd r (λ x. x ≡ e) → IsPassing e → r ≡ Err (Page page fault) → ⊥
-passing_no_page (Ok x) e page fault is h same = is
-passing_no_page (Err f) e page fault is (inl memory) same = cc
-passing_no_page (Err f) e page fault is (inr device) same = cc
-
-passing_no_room : {A : Type 0} (r : Result A TreeFault) (e : TreeFault) → IsErrAnd r (λ x. x ≡ e) → IsPassing e → IsErrAnd r HasNoRoom
-passing_no_room (Ok x) e is h = absurd is
-passing_no_room (Err f) e is h = rw is (inr (inr h))
 
 pub passing_fault : {A : Type 0} (r : Result A TreeFault) (e : TreeFault) → IsErrAnd r (λ x. x ≡ e) → IsPassing e → IfErr r IsPassing
 passing_fault (Ok x) e is h = tt
@@ -98,18 +73,6 @@ passing_fault (Err f) e is h = rw is h
 pub fault_answers : {A : Type 0} (r : Result A TreeFault) (told : TreeFault) → IsErrAnd r (λ x. x ≡ told) → Answers r told
 fault_answers (Ok x) told is = absurd is
 fault_answers (Err f) told is = inl is
-
-pub other_fault : {A : Type 0} (U : Type 0) (r : Result A TreeFault) (e told : TreeFault) (s q : Result U TreeFault) → s ≡ Err e → q ≡ Err told → IsErrAnd r (λ x. x ≡ e) → s ≡ q → IsErrAnd r (λ x. x ≡ told)
-other_fault U (Ok x) e told s q is_s is_q is same = absurd is
-other_fault U (Err f) e told s q is_s is_q is same = let one : e ≡ told = cc in is ∙ one
-
-pub told_as : {A : Type 0} (r : Result A TreeFault) (e told : TreeFault) → IsErrAnd r (λ x. x ≡ e) → r ≡ Err told → e ≡ told
-told_as (Ok x) e told is same = absurd is
-told_as (Err f) e told is same = let one : f ≡ told = cc in sym is ∙ one
-
-pub removal_fault : {A : Type 0} (r : Result A TreeFault) (e : TreeFault) (a b : TreeView) → IsErrAnd r (λ x. x ≡ e) → b ≡ a → IsRemovalFault b e → IfErr r (IsRemovalFault a)
-removal_fault (Ok x) e a b is same h = tt
-removal_fault (Err f) e a b is same h = rw is (subst (λ (v : TreeView). IsRemovalFault v e) same h)
 
 pub no_answer : {A : Type 0} (r : Result A TreeFault) (e : TreeFault) (P : A → Type 0) → IsErrAnd r (λ x. x ≡ e) → IfOk r P
 no_answer (Ok x) e P is = absurd is

@@ -7,7 +7,7 @@ use Rattle.ub_bigmin.specs.Box.{Corners}
 use Rattle.ub_region.specs.Those.{AreThose}
 use Rattle.ub_table.proofs.Laws.{not_both_before, not_before_self}
 use Rattle.ub_table.specs.Keys.{IsBefore}
-use Rattle.ub_tree.proofs.AnswerFacts.{HasAnswers, HasAnswers-none, HasAnswers-more, answers_ended, left_after, left_less}
+use Rattle.ub_tree.proofs.AnswerFacts.{HasAnswers, HasAnswers-more, answers_ended, left_after, left_less}
 use Rattle.ub_tree.specs.Handing.{AreMetBy, Began, TakesThese}
 use Rattle.ub_tree.specs.Placed.{Placed, entry_of}
 use Rattle.ub_tree.specs.Spans.{IsLater, regions_of, Region}
@@ -120,9 +120,6 @@ spans_long last (p ∷ placed) = ap suc (spans_long last placed)
 pub record Walks (boxes : List Corners) (t now : TreeView) (found : List Region) (after : Option Region) : Type 0 where
   pub same : now ≡ t
   pub come : HasAnswers boxes t found after
-
-pub Walks-none : (boxes : List Corners) (t : TreeView) → Walks boxes t t [] None
-Walks-none boxes t = record { same = refl; come = HasAnswers-none boxes t }
 
 module _ (boxes : List Corners) (t now : TreeView) (found : List Region) (after : Option Region) (walks : Walks boxes t now found after) where
   -- what the tree tells next, of one that is the same

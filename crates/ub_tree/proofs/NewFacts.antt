@@ -1,18 +1,16 @@
 -- A new row: its values, as they come, and its number.
-use Rattle.std.proofs.Common.{◌≡◌, ◌<◌, ◌≤◌, ◌-◌, ◌^◌, ℕ, ℤ, pos, zero, suc, List, ◌++◌, Ok, Err, Result, OnOk, length, replicate, ◌∙◌, subst, arith, rules, get_or, Fits, w32}
+use Rattle.std.proofs.Common.{◌≡◌, ◌<◌, ◌≤◌, ◌-◌, ◌^◌, ℕ, ℤ, pos, zero, suc, List, ◌++◌, length, replicate, ◌∙◌, arith, rules, get_or, Fits, w32}
 use Rattle.std.proofs.lemmas.Grind.{get_or_default_zero}
 use Rattle.std.proofs.lemmas.List.{length-append, length-replicate}
 use Rattle.std.proofs.lemmas.List.Elements.{All-append, All-from_recursion}
 use Rattle.std.proofs.Math.Facts.{Fits-lt-pow}
 use Rattle.std.proofs.Math.Seq.{drop-append_seam}
-use Rattle.std.specs.Prelude.{FitsSigned, IfOk}
+use Rattle.std.specs.Prelude.{FitsSigned}
 use Rattle.std.specs.Int.{w64}
 use Rattle.std.specs.List.{All, AllByRecursion}
 use Rattle.ub_table.specs.Region.{HasRest, IsNumbered, IsRow}
 use Rattle.ub_table.specs.declared.row.Row.{Row}
-use Rattle.ub_tree.specs.Change.{IsInserted, Suits, numbered, row_of}
-use Rattle.ub_tree.specs.View.{TreeView}
-use Rattle.ub_tree.specs.declared.fault.TreeFault.{TreeFault}
+use Rattle.ub_tree.specs.Change.{Suits, row_of}
 
 all_same : {X : Type 0} (P : X → Type 0) (x : X) (n : ℕ) → P x → AllByRecursion P (replicate n x)
 all_same P x zero h = tt
@@ -46,12 +44,6 @@ numbered_row _ _ row suits number = record {
   measures_rest = suits.measures_rest;
   measures_words = suits.measures_words;
 }
-
--- what is said of the row that is kept, said of its values
-pub inserted_as : (r : Result ℕ TreeFault) (row : Row) (ds : List ℕ) (ms : List ℤ) (a b : TreeView) → row ≡ row_of a.next ds ms → OnOk r (IsInserted (numbered a.next row) a b) → IfOk r (λ n. n ≡ a.next)
-    → IfOk r (λ n. IsInserted (row_of n ds ms) a b)
-inserted_as (Err e) row ds ms a b is h number = tt
-inserted_as (Ok n) row ds ms a b is h number = rw number (subst (λ (x : Row). IsInserted (numbered a.next x) a b) is h)
 
 pub words_of : (xs : List ℕ) → ((i : ℕ) → Fits w32 (get_or xs i 0)) → All (λ x. x < 2 ^ 32) xs
 words_of xs fits k d lt = let fit = fits k in rw (get_or_default_zero xs k d lt) (Fits-lt-pow fit)

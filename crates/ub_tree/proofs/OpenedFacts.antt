@@ -5,7 +5,7 @@ use Rattle.std.proofs.lemmas.Option.{slice_get_within}
 use Rattle.std.specs.List.{AllByRecursion}
 use Rattle.ub_index.specs.Index.{IsUnder, NamesFitting, top}
 use Rattle.ub_index.specs.View.{IndexView, index_view}
-use Rattle.ub_page.proofs.PageLaws.{HasParts, header_not_refused, header_parts, region_parts, same_header, unclean_refused}
+use Rattle.ub_page.proofs.PageLaws.{HasParts, header_parts, region_parts, same_header, unclean_refused}
 use Rattle.ub_bytes.specs.Bytes.{number_at}
 use Rattle.ub_page.specs.Header.{AreSame, IsHeader, IsHeaderFault, header_page}
 use Rattle.ub_region.specs.RegionPage.{region_page}
@@ -59,10 +59,6 @@ headers_same pages a b at_a is_a clean_a at_b is_b clean_b =
     let on_a = header_parts a (header_page a) is_a refl in
     let on_b = header_parts b (header_page a) is_b (some_same (slice_get pages 0) (header_page a) (header_page b) at_a at_b) in
     same_header a b (sym on_a.numbers ∙ on_b.numbers) (sym on_a.name ∙ on_b.name) (sym on_a.columns ∙ on_b.columns) (clean_a ∙ sym clean_b)
-
--- a store whose first page is such a header doesn't refuse it
-pub header_passes : (old : StoreFacts) (honest : IsHonest old) (b : Header) → IsRooted old.pages b → (page : List ℕ) (fault : PageFault) → slice_get old.pages 0 ≡ Some page → ¬ (IsHeaderFault page fault)
-header_passes old honest b h page fault at refused = header_not_refused b page h.in_range h.clean (some_same (slice_get old.pages 0) page (header_page b) at h.spelled) fault refused
 
 -- the header that was read is the one of which the pages tell, and so is the index
 module _ (pages : List (List ℕ)) (a b : Header) (at_a : slice_get pages 0 ≡ Some (header_page a)) (is_a : IsHeader a) (clean_a : a.unclean ≡ false)

@@ -8,7 +8,7 @@ use Rattle.ub_index.specs.Standing.{IsOutside}
 use Rattle.ub_index_change.specs.Changing.{IsUnspelled}
 use Rattle.ub_index.specs.Index.{pages_under, top}
 use Rattle.ub_index_change.specs.Making.{IsPutFault, PutsSheets}
-use Rattle.ub_index_change.specs.Preparing.{ChangeView, HasFullWay, NeedsPages}
+use Rattle.ub_index_change.specs.Preparing.{ChangeView, NeedsPages}
 use Rattle.ub_region.specs.declared.region.Region.{Region}
 use Rattle.ub_index_change.specs.declared.sheet.Sheet.{Sheet}
 use Rattle.ub_page.specs.declared.header.TheConstants.{MAX_LEVEL}
@@ -62,52 +62,6 @@ unready_answers t span (Err f) e is few led short = (
   λ honest falls full fewer levels way. rw is (led honest falls),
   λ honest falls. rw is (short honest),
 )
-
--- over an honest store the index has fewer levels than one can have, or a page on the way to the region of a span isn't full
-abbrev pub HasRoom : TreeView → Region → Type 0
-HasRoom t span = IsHonest t.store → t.inner.index.levels ≡ MAX_LEVEL → HasFullWay t.inner.index t.store span.first → ⊥
-
--- what a parting answers, once the index was made ready: nothing is refused, or something that is no fault of a page
-pub parted_answers : {A : Type 0} (t : TreeView) (span : Region) (x : A) → region_count t ≢ 4294967295 → HasRoom t span → AnswersAt (Unit {0}) t span (Ok x)
-parted_answers t span x few room = (
-  λ full many. absurd (few many),
-  λ honest falls page fault told. cc,
-  λ honest falls full fewer levels way. absurd (room honest levels way),
-  λ honest falls. tt,
-)
-
-pub unparted_answers : {A : Type 0} (t : TreeView) (span : Region) (r : Result A TreeFault) (e : TreeFault) → IsErrAnd r (λ x. x ≡ e) → region_count t ≢ 4294967295
-    → ((page : ℕ) (fault : PageFault) → e ≡ Page page fault → ⊥) → HasRoom t span → (IsHonest t.store → IsRoomFault (Unit {0}) t span.first e) → AnswersAt (Unit {0}) t span r
-unparted_answers t span (Ok x) e is few apart room short = absurd is
-unparted_answers t span (Err f) e is few apart room short = (
-  λ full many. absurd (few many),
-  λ honest falls page fault told.
-      let same : f ≡ Page page fault = cc in
-      absurd (apart page fault (sym is ∙ same)),
-  λ honest falls full fewer levels way. absurd (room honest levels way),
-  λ honest falls. rw is (short honest),
-)
-
--- what only writes is refused as the store, and not for want of room
-pub written_short : (t a b : TreeView) (key : Key) (e : TreeFault) → IsWriteFault a b e → IsRoomFault (Unit {0}) t key e
-written_short t a b key Full h = absurd h
-written_short t a b key HasFailed h = absurd h
-written_short t a b key Memory h = absurd h
-written_short t a b key (Page page fault) h = absurd h
-written_short t a b key (Store store.Device) h = tt
-written_short t a b key (Store store.NoPage) h = absurd h
-written_short t a b key (Store store.BadSize) h = absurd h
-written_short t a b key (Store store.Memory) h = absurd h
-
-pub indexed_short : (t : TreeView) (change : ChangeView) (old : StoreFacts) (key : Key) (e : TreeFault) → IsIndexFault change old e → IsRoomFault (Unit {0}) t key e
-indexed_short t change old key Full h = absurd h
-indexed_short t change old key HasFailed h = absurd h
-indexed_short t change old key Memory h = absurd h
-indexed_short t change old key (Page page fault) h = absurd h
-indexed_short t change old key (Store store.Device) h = tt
-indexed_short t change old key (Store store.NoPage) h = tt
-indexed_short t change old key (Store store.BadSize) h = absurd h
-indexed_short t change old key (Store store.Memory) h = absurd h
 
 -- the store wasn't given the pages
 module _ (a g : TreeView) (span : Region) (first : Key) (change : ChangeView) (there : span.page < page_count a.store) (ready : IsAddReady a span first change) (high : a.inner.index.levels ≤ MAX_LEVEL) where

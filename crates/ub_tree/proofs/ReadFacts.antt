@@ -1,5 +1,5 @@
 -- What a tree keeps over several calls that read it.
-use Rattle.std.proofs.Common.{◌≡◌, ◌≢◌, ◌≤◌, ◌∙◌, inl, inr, ℕ, IsTrue, List, Option, None, Result, Ok, Err, IfErr, subst, sym, ap, refl}
+use Rattle.std.proofs.Common.{◌≡◌, ◌≤◌, ◌∙◌, inl, inr, ℕ, IsTrue, List, Option, None, Result, Ok, Err, IfErr, subst, sym, ap, refl}
 use Rattle.std.specs.Result.{IsErrAnd}
 use Rattle.ub_bigmin.specs.Box.{Corners}
 use Rattle.ub_check.specs.Standing.{IsRegionRefused}
@@ -132,17 +132,6 @@ pub given_before : (a b : TreeView) (fault : ReadFault) → IsTraced a b → IsG
 given_before a b read.Memory h is = tt
 given_before a b (read.Tree fault) h is = (read_fault_before a b fault h is.0, is.1)
 
--- on a sound tree a call that only reads is refused where its store fails, and for want of memory
-pub sound_fault : (old : TreeView) (fault : TreeFault) → IsSound old → IsReadFault old fault → fault ≢ Memory → fault ≡ Store store.Device
-sound_fault old Full sound is differs = absurd is
-sound_fault old HasFailed sound is differs = let working = sound.working in cc
-sound_fault old Memory sound is differs = absurd (differs refl)
-sound_fault old (Page page of_page) sound is differs = absurd (is.0 sound)
-sound_fault old (Store store.Device) sound is differs = refl
-sound_fault old (Store store.NoPage) sound is differs = absurd (is.0 sound)
-sound_fault old (Store store.Memory) sound is differs = absurd is
-sound_fault old (Store store.BadSize) sound is differs = absurd is
-
 -- ---- calls that read, one after the other
 
 -- reading after reading is reading
@@ -211,22 +200,3 @@ SearchesTree-sound old new r searched sound = subst IsSound (sym searched.same) 
 pub SearchesTree-regions : {A : Type 0} (old new : TreeView) (r : Result A ReadFault) → SearchesTree old new r → KeepsRegions old new
 SearchesTree-regions old new r searched =
     subst (λ (t : TreeView). KeepsRegions old t) (sym searched.same) (record { schema = refl; placed = refl; rows = refl; next = refl })
-
-pub SearchesTree-trace : {A : Type 0} (old new : TreeView) (r : Result A ReadFault) → SearchesTree old new r → KeepsTrace old new
-SearchesTree-trace old new r searched = ap (λ (t : TreeView). t.trace) searched.same
-
--- memory was refused, and nothing has changed
-pub memory_searches : {T : Type 0} (r : Result T ReadFault) (a b : TreeView) → IsErrAnd r (λ x. x ≡ read.Memory) → b ≡ a → SearchesTree a b r
-memory_searches (Ok x) a b is same = absurd is
-memory_searches (Err f) a b is same = rw is (record { same = same; faults = tt })
-
--- a search was refused, after which nothing had changed
-pub tree_searches : {T : Type 0} (r : Result T ReadFault) (e : TreeFault) (a b c : TreeView) → IsErrAnd r (λ x. x ≡ fault_of_tree e) → b ≡ a
-    → c ≡ record b { store = record b.store { failed_reads = raised_by e b.store.failed_reads } } → IsReadFault b e → SearchesTree a c r
-tree_searches (Ok x) e a b c is before same fault = absurd is
-tree_searches {T = T} (Err f) e a b c is before same fault =
-    rw is (record {
-      same = same ∙ ap (λ (t : TreeView). record t { store = record t.store { failed_reads = raised_by e t.store.failed_reads } }) before
-          ∙ ap (λ (n : ℕ). record a { store = record a.store { failed_reads = n } }) (sym (counted_of T e a.store.failed_reads));
-      faults = subst (λ (t : TreeView). IsGiven t (fault_of_tree e)) before (given_of b e fault);
-    })

@@ -1,5 +1,5 @@
 -- What a call that reads a region answers, and why it is refused.
-use Rattle.std.proofs.Common.{◌⊎◌, inl, inr, ◌≡◌, ℕ, suc, Bool, IsTrue, List, Option, Some, IfSome, Result, Ok, Err, IfErr, IsOk, MatchResult, OnOk, ap, sym, subst, refl, slice_get, map, ◌≤◌, ◌<◌, ◌∙◌, arith}
+use Rattle.std.proofs.Common.{◌⊎◌, inl, inr, ◌≡◌, ℕ, suc, Bool, IsTrue, List, Option, Some, IfSome, Result, Ok, Err, IfErr, IsOk, OnOk, ap, sym, subst, refl, slice_get, map, ◌≤◌, ◌<◌, ◌∙◌, arith}
 use Rattle.std.specs.List.{AllByRecursion}
 use Rattle.std.specs.Result.{IsErrAnd, IsErrOf}
 use Rattle.ub_check.proofs.StandingFacts.{each_get}
@@ -20,9 +20,8 @@ use Rattle.ub_table.specs.declared.row.Key.{Key}
 use Rattle.ub_table.specs.declared.schema.Schema.{Schema}
 use Rattle.ub_tree.proofs.IndexedFacts.{at_of_key}
 use Rattle.ub_tree.proofs.TreeFacts.{all_get, apart_next, firsts_placed, region_get, placed_there}
-use Rattle.ub_tree.specs.Effects.{IsPageMissing, IsPageRefused, IsReadFault, IsSpanFault, IsTakenIn, Searches, read_store}
+use Rattle.ub_tree.specs.Effects.{IsPageMissing, IsPageRefused, IsReadFault, IsSpanFault, IsTakenIn, read_store}
 use Rattle.ub_tree.specs.Faults.{index_fault, tree_fault}
-use Rattle.ub_tree.specs.Opened.{IsPassing}
 use Rattle.ub_tree.specs.Placed.{entry_of}
 use Rattle.ub_tree.specs.Spans.{first_keys, Region}
 use Rattle.ub_tree.specs.Told.{IsRegionOf}
@@ -185,23 +184,3 @@ past_pages count number page there also (inr (inr past)) = omega arith
 -- a span of a tree that is as it was
 pub same_there : (a b : TreeView) (span : Region) → b ≡ a → IsRegionThere a span → IsRegionThere b span
 same_there a b span same h = subst (λ (v : TreeView). IsRegionThere v span) (sym same) h
-
--- a search after one that changed nothing, and the answers of searches as those of others
-pub then_searched : {T : Type 0} (r : Result T TreeFault) (a b c : TreeView) → b ≡ a → Searches b c r → Searches a c r
-then_searched r a b c same h = subst (λ (v : TreeView). Searches v c r) same h
-
-pub still_searched : {T U : Type 0} (x : T) (y : U) (a c : TreeView) → Searches {A = U} a c (Ok y) → Searches {A = T} a c (Ok x)
-still_searched x y a c h = record { same = h.same; faults = tt }
-
-pub missed_by : {T U : Type 0} (r : Result T TreeFault) (e : TreeFault) (a c : TreeView) → IsErrAnd r (λ x. x ≡ e) → Searches {A = U} a c (Err e) → Searches a c r
-missed_by (Ok x) e a c is h = absurd is
-missed_by (Err f) e a c is h = rw is (record { same = h.same; faults = h.faults })
-
--- a page that is there isn't read only where memory is refused, or the device fails
-pub passing_there : {T : Type 0} (U : Type 0) (P : T → Type 0) (r : Result T TreeFault) (fault : StoreFault) → IsErrAnd r (λ e. e ≡ tree_fault fault)
-    → (IsErrOf {T = U} (Err fault) store.NoPage → ⊥) → (IsErrOf {T = U} (Err fault) store.BadSize → ⊥) → MatchResult r P IsPassing
-passing_there U P (Ok x) fault is missing no_size = absurd is
-passing_there U P (Err f) store.Device is missing no_size = inr is
-passing_there U P (Err f) store.Memory is missing no_size = inl is
-passing_there U P (Err f) store.NoPage is missing no_size = absurd (missing refl)
-passing_there U P (Err f) store.BadSize is missing no_size = absurd (no_size refl)

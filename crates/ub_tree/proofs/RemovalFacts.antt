@@ -1,6 +1,5 @@
 -- A row taken out of a tree: what becomes of the regions where the one that had it is left with few rows.
-use Rattle.std.proofs.Common.{◌≤◌, ◌≡◌, ◌≢◌, ◌<◌, ◌+◌, ◌-◌, ◌/◌, ◌^◌, ◌⊎◌, inl, inr, ℕ, suc, Bool, true, false, List, [], ◌∷◌, ◌++◌, Some, Ok, Err, Result, IfErr, OnOk, length, map, nat_le, nat_lt, ◌∙◌, sym, ap, subst, refl, arith, slice_get, if◌then◌else◌}
-use Rattle.std.proofs.lemmas.Bool.{ltb-true}
+use Rattle.std.proofs.Common.{◌≡◌, ◌≢◌, ◌<◌, ◌+◌, ◌-◌, ◌/◌, ◌^◌, ◌⊎◌, inl, inr, ℕ, suc, Bool, true, false, List, [], ◌∷◌, ◌++◌, Some, Ok, Err, Result, IfErr, OnOk, length, map, nat_le, nat_lt, ◌∙◌, sym, ap, subst, refl, arith, slice_get, if◌then◌else◌}
 use Rattle.std.proofs.lemmas.List.Sorted.{length_permutation}
 use Rattle.std.specs.List.{AllByRecursion}
 use Rattle.std.specs.Result.{IsErrAnd}
@@ -30,10 +29,6 @@ use Rattle.ub_region.specs.RegionPage.{RegionView}
 use Rattle.ub_tree.specs.inner.Change.{HasReadAt, IsElsewhereSame, IsPut, IsRegionIn, IsRegionThere, IsStored, JoinsAt, TakesAt, Writes, placed_with, regions_with}
 use Rattle.ub_writing.specs.Marks.{HasMark}
 use Rattle.ub_zaddr.specs.Address.{last_address}
-
--- rows that are few are fewer than half of what a page holds
-pub not_few : {rows told size : ℕ} → told ≡ size → nat_lt rows (told / 2) ≡ true → size / 2 ≤ rows → ⊥
-not_few {rows} {told} {size} same few large = let less = ltb-true rows (told / 2) few in let alike : told / 2 ≡ size / 2 = ap (λ n. n / 2) same in omega (arith, less, alike, large)
 
 -- the rows that were read of the next region are put to these, where a page holds both
 pub joins_next : (a s m : TreeView) (i : ℕ) (next : Region) (rows new more : List Row) (fit : Bool) (c : ℕ) → s ≡ a → m ≡ s → IsRegionIn a (i + 1) next
@@ -324,8 +319,3 @@ read_removal t (Store store.Memory) h = tt
 pub searched_removal : {T : Type 0} (r : Result T TreeFault) (e : TreeFault) (a m : TreeView) → IsErrAnd r (λ x. x ≡ e) → m ≡ a → IsReadFault m e → IfErr r (IsRemovalFault a)
 searched_removal (Ok x) e a m is same h = tt
 searched_removal (Err f) e a m is same h = rw is (subst (λ (v : TreeView). IsRemovalFault v e) same (read_removal m e h))
-
--- a write that the device refused, as a removal answers it
-pub written_removal : {T : Type 0} (r : Result T TreeFault) (a : TreeView) → IfErr r (λ fault. fault ≡ Store store.Device) → IfErr r (IsRemovalFault a)
-written_removal (Ok x) a h = tt
-written_removal (Err f) a h = rw h tt

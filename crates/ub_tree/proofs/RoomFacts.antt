@@ -1,5 +1,5 @@
 -- Which rows can stand in the place of a region's, and where a region of theirs begins.
-use Rattle.std.proofs.Common.{◌≡◌, ◌<◌, ◌≤◌, ◌+◌, ◌-◌, inl, inr, ℕ, zero, suc, true, false, List, [], ◌∷◌, ◌++◌, Option, Some, None, IfSome, length, nat_le, take, drop, ◌∙◌, sym, ap, subst, refl, arith, slice_get, length-append}
+use Rattle.std.proofs.Common.{◌≡◌, ◌<◌, ◌≤◌, ◌+◌, ◌-◌, inl, inr, ℕ, zero, suc, true, false, List, [], ◌∷◌, ◌++◌, Option, Some, None, IfSome, length, nat_le, drop, ◌∙◌, sym, ap, subst, refl, arith, slice_get, length-append}
 use Rattle.std.proofs.lemmas.Bool.{cases_Bool, and_from, eq-eqb, le-leb, lt-leb, leb-true, leb-false}
 use Rattle.std.proofs.lemmas.List.{length-drop}
 use Rattle.std.specs.List.{AllByRecursion}
@@ -239,11 +239,6 @@ pub rows_each : (P : Row → Type 0) (regions : List RegionRows) (index : ℕ) (
 rows_each P [] index r at all = cc
 rows_each P (x ∷ regions) zero r at all = let same : x ≡ r = cc in subst (λ (y : RegionRows). AllByRecursion P y.rows) same (all_left P x.rows (rows_of regions) all)
 rows_each P (x ∷ regions) (suc index) r at all = rows_each P regions index r at (all_right P x.rows (rows_of regions) all)
-
-next_taken : (rows : List Row) (i : ℕ) (row : Row) → slice_get rows i ≡ Some row → take (suc i) rows ≡ take i rows ++ row ∷ []
-next_taken [] i row is = cc
-next_taken (r ∷ rows) zero row is = let same : r ≡ row = cc in ap (λ (x : Row). x ∷ []) same
-next_taken (r ∷ rows) (suc i) row is = ap (λ (rs : List Row). r ∷ rs) (next_taken rows i row is)
 
 -- what is prepared for a region that begins with a key, whatever that is called
 pub ready_for : {t : TreeView} {span : Region} {first named : Key} {change : ChangeView} → named ≡ first → IsAddReady t span named change → IsAddReady t span first change

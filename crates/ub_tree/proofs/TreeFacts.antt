@@ -131,25 +131,6 @@ placed_there placed i span h = by_index placed i h.entry
 pub length-placed : (schema : Schema) (pages : List (List ℕ)) (entries : List Entry) → length (placed_of schema pages entries) ≡ length entries
 length-placed schema pages entries = length-map entries (placed_at schema pages)
 
--- what is known of the region of an index and its entry, on a sound tree
-pub record IsKnownAt (schema : Schema) (entries : List Entry) (pages : List (List ℕ)) (i : ℕ) (e : Entry) : Type 0 where
-  pub spelled : slice_get pages e.page ≡ Some (region_page schema (placed_at schema pages e).region)
-  pub region : IsRegion schema (placed_at schema pages e).region
-  pub held : IsHeldBy schema.dims e.first (slice_get (first_keys entries) (suc i)) (placed_at schema pages e).region
-
-pub entry_known : (schema : Schema) (entries : List Entry) (pages : List (List ℕ)) (next : ℕ) (reserved : List ℕ) (i : ℕ) (e : Entry)
-    → AreRegions schema next (regions_in (placed_of schema pages entries))
-    → ArePlaced schema (placed_of schema pages entries) reserved pages → slice_get entries i ≡ Some e → IsKnownAt schema entries pages i e
-entry_known schema entries pages next reserved i e regions placed at =
-    let there = placed_get schema pages entries i e at in
-    let region = region_get (placed_of schema pages entries) i (placed_at schema pages e) there in
-    let apart = apart_next schema.dims (regions_in (placed_of schema pages entries)) i (placed_at schema pages e).region regions.apart region in
-    record {
-      spelled = all_get (λ p. slice_get pages p.page ≡ Some (region_page schema p.region)) (placed_of schema pages entries) i (placed_at schema pages e) placed.spelled there;
-      region = each_get (IsRegion schema) (regions_in (placed_of schema pages entries)) i (placed_at schema pages e).region regions.each region;
-      held = (refl, rw (← firsts_back schema pages entries) apart);
-    }
-
 pub rows_read : (schema : Schema) (pages : List (List ℕ)) (entries : List Entry) (index : ℕ) (e : Entry) (page : List ℕ) (rows : List Row) (region : RegionRows) (p : Placed)
     → slice_get entries index ≡ Some e → slice_get pages e.page ≡ Some page → rows ≡ region.rows → region ≡ region_on schema page
     → slice_get (placed_of schema pages entries) index ≡ Some p → rows ≡ p.region.rows

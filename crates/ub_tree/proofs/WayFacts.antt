@@ -11,7 +11,6 @@ use Rattle.ub_index.proofs.KeyFacts.{before_le}
 use Rattle.ub_index.proofs.Lists.{ascend_right}
 use Rattle.ub_index.proofs.WayFacts.{named_not_refused}
 use Rattle.ub_index.proofs.WaysFacts.{compare, first_up_to}
-use Rattle.ub_page.proofs.IndexLaws.{node_not_refused}
 use Rattle.ub_index.specs.Standing.{IsOutside}
 use Rattle.ub_index_change.specs.Changing.{Mends, Spelled, Spreads, Turns, sheet_of, so_far}
 use Rattle.ub_index.specs.Fitting.{FallsTo}
@@ -24,9 +23,8 @@ use Rattle.ub_page.proofs.PageLaws.{region_parts}
 use Rattle.ub_region.specs.RegionPage.{region_page}
 use Rattle.ub_region.specs.declared.entry.Entry.{Entry}
 use Rattle.ub_table.specs.Keys.{IsBefore}
-use Rattle.ub_page.specs.Index.{IsIndexKind, node_on}
+use Rattle.ub_page.specs.Index.{IsIndexKind}
 use Rattle.ub_table.specs.Region.{RegionRows, IsRegion}
-use Rattle.ub_table.specs.declared.fault.PageFault.TheVariants.{WrongKind}
 use Rattle.ub_table.specs.declared.fault.PageFault.{PageFault}
 use Rattle.ub_table.specs.declared.row.Key.{Key}
 use Rattle.ub_table.specs.declared.schema.Schema.{Schema}
@@ -129,13 +127,6 @@ module _ (last : ℕ) (small : last < 256 ^ 16) (old new : List (List ℕ)) (kee
         subst (λ (xs : List Entry). FallsTo key xs end below beyond) (sym (same_entries old new entry.page same)) falls,
         still_led level below beyond found next (below_some last old key (suc level) entry end below beyond named falls) leads,
       )
-
--- the page of a region is none of an index
-pub region_no_index : (last : ℕ) → last < 2 ^ 128 → (schema : Schema) (region : RegionRows) → IsRegion schema region → ¬ (IsIndexPage last (region_page schema region))
-region_no_index last small schema region is h =
-    let page = region_page schema region in
-    let kind = (region_parts schema region page is refl).kind in
-    node_not_refused (node_on page) page last small h.is h.spelled WrongKind (λ other. let e = sym kind ∙ other in absurd (omega arith))
 
 -- nor is it so by its first byte
 pub region_no_kind : (schema : Schema) (region : RegionRows) → IsRegion schema region → ¬ (IsIndexKind (region_page schema region))

@@ -1,30 +1,9 @@
-use Rattle.std.proofs.Common.{◌<◌, Bool, List, inl, ℕ, arith, refl, subst, sym}
+use Rattle.std.proofs.Common.{List, inl, ℕ, refl, subst, sym}
 use Rattle.ub_check.proofs.StandingFacts.{page_still}
 use Rattle.ub_index.proofs.StepFacts.{pager_so}
 use Rattle.ub_page.specs.Index.{IsIndexKind}
 use Rattle.ub_tree.proofs.HeldFacts.{header_no_kind, kind_checked}
-use Rattle.std.proofs.lemmas.Option.{slice_get_within}
-use Rattle.ub_page.specs.Header.{header_page}
-use Rattle.ub_store.specs.Facts.{page_count}
-use Rattle.ub_tree.proofs.EffectFacts.{refused_all, refused_none}
-use Rattle.ub_tree.proofs.ReadingFacts.{passing_there}
 use Rattle.ub_tree.proofs.opening.read_first.Goals as goal
-
-pub returns-in_err-bring-clause-header : goal.returns-in_err-bring-clause-header
-returns-in_err-bring-clause-header g c = refused_all _ c.from_residual.result _ c.from_residual.ensures.1
-
-pub returns-in_err-bring-clause-exact : goal.returns-in_err-bring-clause-exact
-returns-in_err-bring-clause-exact g c = λ header honest rooted.
-    let s = c.args.pager.now.store in
-    passing_there Bool _ c.from_residual.result c.in_err-bring.field-0.0 c.from_residual.ensures.1
-    (λ no_page.
-    let there : 0 < page_count s = slice_get_within s.pages 0 (header_page header) rooted.spelled in
-    let past = c.in_err-bring.ensures.missing no_page in
-    omega arith)
-    c.in_err-bring.ensures.no_size
-
-pub returns-in_err-bring-clause-checked : goal.returns-in_err-bring-clause-checked
-returns-in_err-bring-clause-checked g c = λ last. refused_none _ c.from_residual.result _ c.from_residual.ensures.1
 
 pub returns-in-Ok-clause-checked : goal.returns-in-Ok-clause-checked
 returns-in-Ok-clause-checked g c = λ last.

@@ -1,20 +1,11 @@
-use Rattle.std.proofs.Common.{◌++◌, ◌∷◌, ◌∙◌, []}
-use Rattle.ub_tree.proofs.MeetFacts.{Walks-none, still_began, takes_more, takes_none, walks_down, walks_ended, walks_on}
+use Rattle.std.proofs.Common.{◌++◌, ◌∷◌, []}
+use Rattle.ub_tree.proofs.MeetFacts.{takes_more, walks_down, walks_ended, walks_on}
 use Rattle.ub_tree.proofs.AnswerFacts.{next_later}
-use Rattle.ub_tree.proofs.ReadFacts.{memory_searches, tree_searches}
 use Rattle.ub_tree.proofs.tree.Tree.for_each_meeting.Goals as goal
-
-pub loop-region-init : goal.loop-region-init
-loop-region-init g c = ([], Walks-none c.args.boxes.now c.args.self.now, takes_none (g.T.RegionSink.Takes c.args.boxes.now) c.args.sink.now)
 
 pub push-requires-clause-meets : goal.push-requires-clause-meets
 push-requires-clause-meets g c =
     (next_later c.args.boxes.now c.loop-region.self _ c.in-Some.region (rw c.in-Some.is at c.in_ok-region.ensures.gives)).2
-
-pub push-requires-clause-began : goal.push-requires-clause-began
-push-requires-clause-began g c =
-    let (found, walks, takes) = c.loop-region.invariant in
-    still_began (g.T.RegionSink.Takes c.args.boxes.now) c.args.sink.now c.loop-region.sink found c.requires takes
 
 pub loop-region-preserved : goal.loop-region-preserved
 loop-region-preserved g c =
@@ -38,14 +29,3 @@ returns-clause-met g c =
           c.in_ok-region.field-0 _ c.in_default.not-Some c.as_ref.ensures.value c.in_ok-region.ensures.gives,
       takes,
     )
-
-pub returns-in_err-region-clause-effect : goal.returns-in_err-region-clause-effect
-returns-in_err-region-clause-effect g c =
-    let (found, walks, takes) = c.loop-region.invariant in
-    tree_searches c.from_residual.result _ c.args.self.now c.loop-region.self c.next_meeting.new.self c.from_residual.ensures.1 walks.same
-    c.in_err-region.ensures.effect.same c.in_err-region.ensures.effect.faults
-
-pub returns-in_err-push-clause-effect : goal.returns-in_err-push-clause-effect
-returns-in_err-push-clause-effect g c =
-    let (found, walks, takes) = c.loop-region.invariant in
-    memory_searches c.from_residual-in_err-push.result c.args.self.now c.next_meeting.new.self c.from_residual-in_err-push.ensures.1 (c.in_ok-region.ensures.effect.same ∙ walks.same)

@@ -1,6 +1,6 @@
 use Rattle.std.proofs.Common.{◌-◌, ◌∙◌, Err, ap}
 use Rattle.ub_store.specs.declared.fault.StoreFault.{StoreFault}
-use Rattle.ub_tree.proofs.GrownFacts.{grow_device, grow_memory, grow_no_page, grow_size}
+use Rattle.ub_tree.proofs.GrownFacts.{grow_device, grow_memory, grow_size}
 use Rattle.ub_writing.specs.Marks.{is_written}
 use Rattle.ub_tree.proofs.tree.Tree.grow.Goals as goal
 
@@ -21,9 +21,3 @@ returns-in-Err-BadSize g c =
     let t = c.self.inside in
     rw (← c.self.view_is) (grow_size t.schema t.index t.count t.next t.rows (is_written t.mark) t.is_failed t.pager c.grow.new.pager (c.args.change.now.next - c.args.change.now.start) c.grow.result
     c.grow.ensures.grows c.grow.ensures.same c.grow.ensures.trace c.grow.ensures.refused (c.in-Err-BadSize.is ∙ ap (λ (f : StoreFault). Err f) c.in-Err-BadSize.field-0-is))
-
-pub returns-in-Err-NoPage : goal.returns-in-Err-NoPage
-returns-in-Err-NoPage g c =
-    let t = c.self.inside in
-    rw (← c.self.view_is) (grow_no_page t.schema t.index t.count t.next t.rows (is_written t.mark) t.is_failed t.pager c.grow.new.pager (c.args.change.now.next - c.args.change.now.start) c.grow.result
-    c.grow.ensures.grows c.grow.ensures.same c.grow.ensures.trace c.grow.ensures.refused (c.in-Err-NoPage.is ∙ ap (λ (f : StoreFault). Err f) c.in-Err-NoPage.field-0-is))

@@ -1,10 +1,9 @@
 use Rattle.std.proofs.Common.{◌≡◌, ◌<◌, ◌+◌, ◌^◌, ◌∙◌, ℕ, Ok, Err, sym, ap, subst, length, arith, inr, refl, true, false}
 use Rattle.ub_region.specs.Rows.{has_key, insert_row}
-use Rattle.ub_store.specs.Facts.{page_count}
 use Rattle.ub_table.specs.Region.{IsRow, key_of, measures_of}
 use Rattle.ub_table.specs.declared.fault.PageFault.TheVariants.{BadOrder}
 use Rattle.ub_table.specs.declared.row.Key.{Key}
-use Rattle.ub_tree.proofs.EffectFacts.{counted_anew, left_by, marked_sound, refused_all, refused_none, searched_by, then_changed, unchanged}
+use Rattle.ub_tree.proofs.EffectFacts.{counted_anew, left_by, marked_sound, then_changed, unchanged}
 use Rattle.ub_tree.proofs.GrowFacts.{added_answers, grown, grows_by, key_there, passing_answers_key, answers_err_at, answers_ok_at}
 use Rattle.ub_tree.proofs.HoldingFacts.{has_told, key_is_there, next_key}
 use Rattle.ub_tree.proofs.NewFacts.{numbered_row}
@@ -12,11 +11,10 @@ use Rattle.ub_tree.proofs.RemovalFacts.{holder}
 use Rattle.ub_tree.proofs.RoomFacts.{can_stand, rows_on}
 use Rattle.ub_tree.specs.Effects.{Changes}
 use Rattle.ub_tree.specs.Holding.{FallsInto}
-use Rattle.ub_tree.specs.Told.{IsRegionOf}
 use Rattle.ub_tree.specs.Tree.{tree_view}
 use Rattle.ub_tree.specs.View.{TreeView}
 use Rattle.ub_tree.specs.declared.fault.TreeFault.TheVariants.{Page}
-use Rattle.ub_tree.specs.inner.Change.{CanStand, HasReadAt, IsReadAt}
+use Rattle.ub_tree.specs.inner.Change.{CanStand, HasReadAt}
 use Rattle.ub_writing.specs.Marks.{is_written}
 use Rattle.ub_zaddr.specs.Address.{last_address}
 use Rattle.ub_tree.proofs.tree.Tree.insert_within.Goals as goal
@@ -26,19 +24,6 @@ returns-in_err-region-clause-refused g c =
     let is = next_key _ c.args.self.now c.shape.result c.args.row.now c.key-key.result c.self.view_is c.shape.ensures c.key-key.ensures in
     λ honest number region into. passing_answers_key c.args.self.now _ c.from_residual.result c.in_err-region.field-0.0 c.from_residual.ensures.1
     (c.in_err-region.ensures.led number region honest (subst (λ (k : Key). FallsInto c.args.self.now k number region) (sym is) into)) number region into
-
-pub returns-in_err-region-clause-effect : goal.returns-in_err-region-clause-effect
-returns-in_err-region-clause-effect g c =
-    searched_by c.from_residual.result c.in_err-region.field-0.0 c.args.self.now c.read_holding.new.self c.from_residual.ensures.1 c.in_err-region.ensures.effect
-
-pub returns-in_err-region-clause-inserted : goal.returns-in_err-region-clause-inserted
-returns-in_err-region-clause-inserted g c = λ sound. refused_none _ c.from_residual.result c.in_err-region.field-0.0 c.from_residual.ensures.1
-
-pub returns-in_err-region-clause-number : goal.returns-in_err-region-clause-number
-returns-in_err-region-clause-number g c = refused_all _ c.from_residual.result c.in_err-region.field-0.0 c.from_residual.ensures.1
-
-pub returns-in_err-region-clause-counted : goal.returns-in_err-region-clause-counted
-returns-in_err-region-clause-counted g c = refused_none _ c.from_residual.result c.in_err-region.field-0.0 c.from_residual.ensures.1
 
 pub returns-then-has-clause-refused : goal.returns-then-has-clause-refused
 returns-then-has-clause-refused g c =
@@ -65,31 +50,6 @@ returns-then-has-clause-effect g c =
     let taken = key_there a (key_of a.schema.dims row) span page.region read.falls read.read.on c.requires.row.1 has (holder a (key_of a.schema.dims row) span page read) in
     subst (λ (v : TreeView). Changes {A = ℕ} a v (Err (Page span.page BadOrder))) (sym c.in_ok-region.ensures.effect.same)
     (unchanged (Page span.page BadOrder) a (taken.0, inr (inr (inr (refl, taken.1))), refl))
-
-pub returns-then-has-clause-inserted : goal.returns-then-has-clause-inserted
-returns-then-has-clause-inserted g c = λ sound. tt
-
-pub returns-then-has-clause-number : goal.returns-then-has-clause-number
-returns-then-has-clause-number g c = tt
-
-pub returns-then-has-clause-counted : goal.returns-then-has-clause-counted
-returns-then-has-clause-counted g c = tt
-
-pub store_with-requires-clause-there : goal.store_with-requires-clause-there
-store_with-requires-clause-there g c =
-    let read = c.in_ok-region.ensures.read in
-    subst (λ (v : TreeView). IsRegionOf v c.in_ok-region.region × (c.in_ok-region.region.page < page_count v.store)) (sym c.in_ok-region.ensures.effect.same)
-    (record { key = c.key-key.result; falls = read.falls }, read.there)
-
-pub store_with-requires-clause-key : goal.store_with-requires-clause-key
-store_with-requires-clause-key g c =
-    let row = c.args.row.now in
-    next_key _ c.args.self.now c.shape.result row c.key-key.result c.self.view_is c.shape.ensures c.key-key.ensures
-    ∙ ap (λ (v : TreeView). key_of v.schema.dims row) (sym c.in_ok-region.ensures.effect.same)
-
-pub store_with-requires-clause-read : goal.store_with-requires-clause-read
-store_with-requires-clause-read g c =
-    subst (λ (v : TreeView). IsReadAt v c.in_ok-region.region c.read_holding.new.page) (sym c.in_ok-region.ensures.effect.same) c.in_ok-region.ensures.read.read
 
 pub store_with-requires-clause-rows : goal.store_with-requires-clause-rows
 store_with-requires-clause-rows g c =
@@ -131,15 +91,6 @@ returns-in_err-store_with-clause-effect g c =
     left_by c.from_residual-in_err-store_with.result c.in_err-store_with.field-0.0 c.args.self.now c.store_with.new.self c.from_residual-in_err-store_with.ensures.1
     (then_changed {T = Unit {0}} _ c.args.self.now c.read_holding.new.self c.store_with.new.self c.in_ok-region.ensures.effect.same c.in_err-store_with.ensures.effect)
 
-pub returns-in_err-store_with-clause-inserted : goal.returns-in_err-store_with-clause-inserted
-returns-in_err-store_with-clause-inserted g c = λ sound. refused_none _ c.from_residual-in_err-store_with.result c.in_err-store_with.field-0.0 c.from_residual-in_err-store_with.ensures.1
-
-pub returns-in_err-store_with-clause-number : goal.returns-in_err-store_with-clause-number
-returns-in_err-store_with-clause-number g c = refused_all _ c.from_residual-in_err-store_with.result c.in_err-store_with.field-0.0 c.from_residual-in_err-store_with.ensures.1
-
-pub returns-in_err-store_with-clause-counted : goal.returns-in_err-store_with-clause-counted
-returns-in_err-store_with-clause-counted g c = refused_none _ c.from_residual-in_err-store_with.result c.in_err-store_with.field-0.0 c.from_residual-in_err-store_with.ensures.1
-
 pub returns-clause-inserted : goal.returns-clause-inserted
 returns-clause-inserted g c =
     let a = c.args.self.now in
@@ -162,9 +113,6 @@ returns-clause-inserted g c =
     let last : after.inner.index.last ≡ last_address after.schema.dims = subst (λ (v : TreeView). v.inner.index.last ≡ last_address v.schema.dims) c.self-2.view_is c.self-2.invariant.last_is in
     grown a c.read_holding.new.self after d row span page.region.rows (holder a (key_of a.schema.dims row) span page read) c.in_ok-region.ensures.effect.same good number not_last
     c.in_ok-store_with.ensures.same.same (marked_sound c.in_ok-store_with.ensures.effect.marked) last few d_is (λ i stored at all. c.in_ok-store_with.ensures.written i stored at all)
-
-pub returns-clause-number : goal.returns-clause-number
-returns-clause-number g c = c.requires.row.1
 
 pub returns-clause-counted : goal.returns-clause-counted
 returns-clause-counted g c =

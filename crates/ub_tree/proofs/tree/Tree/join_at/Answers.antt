@@ -7,10 +7,8 @@ use Rattle.ub_tree.specs.View.{TreeView, region_count, regions}
 use Rattle.ub_tree.specs.declared.fault.TreeFault.TheVariants.{Page}
 use Rattle.ub_tree.specs.inner.Change.{IsDropReady, IsRegionIn, IsRegionThere, IsStored, JoinsAt}
 use Rattle.ub_tree.specs.Told.{IsRegionOf}
-use Rattle.ub_tree.proofs.EffectFacts.{changes_by, ready_by, refused_none, then_changed, unchanged}
-use Rattle.ub_tree.proofs.HoldingFacts.{removal_fault}
-use Rattle.ub_tree.proofs.RefusedFacts.{device_removal, index_removal}
-use Rattle.ub_tree.proofs.JoinFacts.{alone_not_sound, behind_first, index_failed, joined_at, joined_effect, joined_written}
+use Rattle.ub_tree.proofs.EffectFacts.{changes_by, ready_by, then_changed, unchanged}
+use Rattle.ub_tree.proofs.JoinFacts.{alone_not_sound, index_failed, joined_at, joined_effect, joined_written}
 use Rattle.ub_writing.specs.Marks.{is_written}
 use Rattle.ub_tree.proofs.tree.Tree.join_at.Goals as goal
 
@@ -20,12 +18,6 @@ returns-then-self-eq1-clause-effect g c =
     let one : region_count a ≡ 1 = sym (ap (λ (v : TreeView). region_count v) c.self.view_is) ∙ c.if-self-eq1.true in
     rw c.uncounted.ensures.fault
     (unchanged (Page 0 BadCount) a (alone_not_sound a c.args.region.now c.args.next.now one c.requires.there.told c.requires.next.1, inr (inr (inl (refl, refl, inr (inr one)))), refl))
-
-pub prepare_drop-requires-clause-behind : goal.prepare_drop-requires-clause-behind
-prepare_drop-requires-clause-behind g c = behind_first c.args.self.now c.args.region.now c.args.next.now c.requires.there.told c.requires.next.1
-
-pub prepare_drop-requires-clause-more : goal.prepare_drop-requires-clause-more
-prepare_drop-requires-clause-more g c = λ one. c.if-self-eq1.false (ap (λ (v : TreeView). region_count v) c.self.view_is ∙ one)
 
 pub returns-in_err-change-clause-effect : goal.returns-in_err-change-clause-effect
 returns-in_err-change-clause-effect g c =
@@ -107,75 +99,3 @@ returns-clause-effect g c =
     then_changed (Ok tt) c.args.self.now b d same
     (joined_effect b c.rewrite.new.self c.put_index.new.self span next change there c.requires.next.1 ready c.in_ok-rewrite.ensures.same c.in_ok-rewrite.ensures.effect c.put_index.ensures.kept
     d c.in_ok-put_index.ensures.now is tt c.in_ok-put_index.ensures.works)
-
-pub returns-then-self-eq1-clause-same : goal.returns-then-self-eq1-clause-same
-returns-then-self-eq1-clause-same g c = tt
-
-pub returns-then-self-eq1-clause-written : goal.returns-then-self-eq1-clause-written
-returns-then-self-eq1-clause-written g c = λ i stored at at_next each. tt
-
-pub returns-then-self-eq1-clause-faults : goal.returns-then-self-eq1-clause-faults
-returns-then-self-eq1-clause-faults g c =
-    let one : region_count c.args.self.now ≡ 1 = sym (ap (λ (v : TreeView). region_count v) c.self.view_is) ∙ c.if-self-eq1.true in
-    rw c.uncounted.ensures.fault (inr (inr (refl, refl, inr one)))
-
-pub returns-then-self-eq1-clause-stays : goal.returns-then-self-eq1-clause-stays
-returns-then-self-eq1-clause-stays g c = λ was. was
-
-pub prepare_drop-requires-clause-told : goal.prepare_drop-requires-clause-told
-prepare_drop-requires-clause-told g c = c.requires.next.0
-
-pub returns-in_err-change-clause-same : goal.returns-in_err-change-clause-same
-returns-in_err-change-clause-same g c = refused_none _ c.from_residual.result c.in_err-change.field-0.0 c.from_residual.ensures.1
-
-pub returns-in_err-change-clause-written : goal.returns-in_err-change-clause-written
-returns-in_err-change-clause-written g c = λ i stored at at_next each. refused_none _ c.from_residual.result c.in_err-change.field-0.0 c.from_residual.ensures.1
-
-pub returns-in_err-change-clause-faults : goal.returns-in_err-change-clause-faults
-returns-in_err-change-clause-faults g c = removal_fault c.from_residual.result c.in_err-change.field-0.0 c.args.self.now c.args.self.now c.from_residual.ensures.1 refl c.in_err-change.ensures.faults
-
-pub returns-in_err-change-clause-stays : goal.returns-in_err-change-clause-stays
-returns-in_err-change-clause-stays g c = λ was. subst (λ (v : TreeView). v.is_changed ≡ true) (sym c.in_err-change.ensures.effect.same) was
-
-pub rewrite-requires-clause-there : goal.rewrite-requires-clause-there
-rewrite-requires-clause-there g c = subst (λ (v : TreeView). IsRegionThere v c.args.region.now) (sym c.in_ok-change.ensures.effect.same) c.requires.there
-
-pub rewrite-requires-clause-region : goal.rewrite-requires-clause-region
-rewrite-requires-clause-region g c = subst (λ (v : TreeView). IsRegion v.schema (record { first = c.args.region.now.first; rows = c.args.page.now.region.rows })) (sym c.in_ok-change.ensures.effect.same) c.requires.region
-
-pub rewrite-requires-clause-first : goal.rewrite-requires-clause-first
-rewrite-requires-clause-first g c = c.requires.first
-
-pub returns-in_err-rewrite-clause-same : goal.returns-in_err-rewrite-clause-same
-returns-in_err-rewrite-clause-same g c = refused_none _ c.from_residual-in_err-rewrite.result c.in_err-rewrite.field-0.0 c.from_residual-in_err-rewrite.ensures.1
-
-pub returns-in_err-rewrite-clause-written : goal.returns-in_err-rewrite-clause-written
-returns-in_err-rewrite-clause-written g c = λ i stored at at_next each. refused_none _ c.from_residual-in_err-rewrite.result c.in_err-rewrite.field-0.0 c.from_residual-in_err-rewrite.ensures.1
-
-pub returns-in_err-rewrite-clause-faults : goal.returns-in_err-rewrite-clause-faults
-returns-in_err-rewrite-clause-faults g c =
-    removal_fault c.from_residual-in_err-rewrite.result c.in_err-rewrite.field-0.0 c.args.self.now c.args.self.now c.from_residual-in_err-rewrite.ensures.1 refl
-    (device_removal c.args.self.now c.in_err-rewrite.field-0.0 c.in_err-rewrite.ensures.faults)
-
-pub returns-in_err-rewrite-clause-stays : goal.returns-in_err-rewrite-clause-stays
-returns-in_err-rewrite-clause-stays g c = λ was. c.rewrite.ensures.stays (subst (λ (v : TreeView). v.is_changed ≡ true) (sym c.in_ok-change.ensures.effect.same) was)
-
-pub returns-in_err-put_index-clause-same : goal.returns-in_err-put_index-clause-same
-returns-in_err-put_index-clause-same g c = refused_none _ c.from_residual-in_err-put_index.result c.in_err-put_index.field-0.0 c.from_residual-in_err-put_index.ensures.1
-
-pub returns-in_err-put_index-clause-written : goal.returns-in_err-put_index-clause-written
-returns-in_err-put_index-clause-written g c = λ i stored at at_next each. refused_none _ c.from_residual-in_err-put_index.result c.in_err-put_index.field-0.0 c.from_residual-in_err-put_index.ensures.1
-
-pub returns-in_err-put_index-clause-faults : goal.returns-in_err-put_index-clause-faults
-returns-in_err-put_index-clause-faults g c =
-    removal_fault c.from_residual-in_err-put_index.result c.in_err-put_index.field-0.0 c.args.self.now c.args.self.now c.from_residual-in_err-put_index.ensures.1 refl
-    (index_removal c.args.self.now c.in_ok-change.change c.rewrite.new.self.store c.in_err-put_index.field-0.0 c.in_err-put_index.ensures.stopped.1)
-
-pub returns-in_err-put_index-clause-stays : goal.returns-in_err-put_index-clause-stays
-returns-in_err-put_index-clause-stays g c = λ was. c.put_index.ensures.marked ∙ c.rewrite.ensures.stays (subst (λ (v : TreeView). v.is_changed ≡ true) (sym c.in_ok-change.ensures.effect.same) was)
-
-pub returns-clause-faults : goal.returns-clause-faults
-returns-clause-faults g c = tt
-
-pub returns-clause-stays : goal.returns-clause-stays
-returns-clause-stays g c = λ was. ap (λ (v : TreeView). v.is_changed) c.self-2.view_is ∙ (c.put_index.ensures.marked ∙ c.rewrite.ensures.stays (subst (λ (v : TreeView). v.is_changed ≡ true) (sym c.in_ok-change.ensures.effect.same) was))

@@ -1,15 +1,12 @@
-use Rattle.std.proofs.Common.{◌≡◌, ◌+◌, ◌∙◌, suc, ap, arith, length, refl, subst, sym}
+use Rattle.std.proofs.Common.{◌≡◌, ◌+◌, ◌∙◌, suc, ap, arith, length, subst, sym}
 use Rattle.std.proofs.lemmas.Bool.{leb-true}
 use Rattle.std.proofs.lemmas.List.{length-map}
 use Rattle.ub_tree.proofs.RoomFacts.{next_region, rows_on}
 use Rattle.ub_tree.proofs.RemovalFacts.{joins_next}
-use Rattle.ub_tree.proofs.HoldingFacts.{no_answer}
-use Rattle.ub_tree.proofs.RefusedFacts.{refused_search, searched, then_refused_search}
 use Rattle.ub_tree.proofs.ShrinkFacts.{join_last, length-regions}
 use Rattle.ub_region.specs.RegionPage.{RegionView}
 use Rattle.ub_tree.specs.Placed.{entry_of}
 use Rattle.ub_tree.specs.View.{TreeView, regions}
-use Rattle.ub_tree.specs.Told.{IsRegionOf}
 use Rattle.ub_tree.specs.Effects.{IsTakenIn}
 use Rattle.ub_tree.proofs.tree.Tree.join_next.Goals.{then-join, else-join}
 use Rattle.ub_tree.proofs.tree.Tree.join_next.Goals as goal
@@ -58,84 +55,3 @@ returns-clause-rows g c =
           rw w.result-is (rw joined (c.requires.rows.first, good))
       | else-join w ↦ rw w.result-is (rw w.if-join.false at c.join.ensures.rows)
     ]
-
-pub region_after-requires : goal.region_after-requires
-region_after-requires g c = c.requires.told
-
-pub returns-in_err-next-clause-rows : goal.returns-in_err-next-clause-rows
-returns-in_err-next-clause-rows g c = no_answer c.from_residual.result c.in_err-next.field-0.0 _ c.from_residual.ensures.1
-
-pub returns-in_err-next-clause-found : goal.returns-in_err-next-clause-found
-returns-in_err-next-clause-found g c = no_answer c.from_residual.result c.in_err-next.field-0.0 _ c.from_residual.ensures.1
-
-pub returns-in_err-next-clause-next : goal.returns-in_err-next-clause-next
-returns-in_err-next-clause-next g c = λ i stored at. no_answer c.from_residual.result c.in_err-next.field-0.0 _ c.from_residual.ensures.1
-
-pub returns-in_err-next-clause-joined : goal.returns-in_err-next-clause-joined
-returns-in_err-next-clause-joined g c = λ i stored at. no_answer c.from_residual.result c.in_err-next.field-0.0 _ c.from_residual.ensures.1
-
-pub returns-in_err-next-clause-effect : goal.returns-in_err-next-clause-effect
-returns-in_err-next-clause-effect g c = refused_search c.from_residual.result c.in_err-next.field-0.0 c.args.self.now c.region_after.new.self c.from_residual.ensures.1 c.in_err-next.ensures.effect
-
-pub returns-in-None-clause-rows : goal.returns-in-None-clause-rows
-returns-in-None-clause-rows g c = refl
-
-pub returns-in-None-clause-found : goal.returns-in-None-clause-found
-returns-in-None-clause-found g c = tt
-
-pub returns-in-None-clause-next : goal.returns-in-None-clause-next
-returns-in-None-clause-next g c = λ i stored at. tt
-
-pub returns-in-None-clause-effect : goal.returns-in-None-clause-effect
-returns-in-None-clause-effect g c = searched _ c.args.self.now c.region_after.new.self c.in_ok-next.ensures.effect.same
-
-pub read_at-requires : goal.read_at-requires
-read_at-requires g c =
-    let of = rw c.in-Some.is at c.in_ok-next.ensures.falls in
-    subst (λ (v : TreeView). IsRegionOf v c.in-Some.next) (sym c.in_ok-next.ensures.effect.same) of
-
-pub returns-in_err-read_at-clause-rows : goal.returns-in_err-read_at-clause-rows
-returns-in_err-read_at-clause-rows g c = no_answer c.from_residual-in_err-read_at.result c.in_err-read_at.field-0.0 _ c.from_residual-in_err-read_at.ensures.1
-
-pub returns-in_err-read_at-clause-found : goal.returns-in_err-read_at-clause-found
-returns-in_err-read_at-clause-found g c = no_answer c.from_residual-in_err-read_at.result c.in_err-read_at.field-0.0 _ c.from_residual-in_err-read_at.ensures.1
-
-pub returns-in_err-read_at-clause-next : goal.returns-in_err-read_at-clause-next
-returns-in_err-read_at-clause-next g c = λ i stored at. no_answer c.from_residual-in_err-read_at.result c.in_err-read_at.field-0.0 _ c.from_residual-in_err-read_at.ensures.1
-
-pub returns-in_err-read_at-clause-joined : goal.returns-in_err-read_at-clause-joined
-returns-in_err-read_at-clause-joined g c = λ i stored at. no_answer c.from_residual-in_err-read_at.result c.in_err-read_at.field-0.0 _ c.from_residual-in_err-read_at.ensures.1
-
-pub returns-in_err-read_at-clause-effect : goal.returns-in_err-read_at-clause-effect
-returns-in_err-read_at-clause-effect g c =
-    then_refused_search c.from_residual-in_err-read_at.result c.in_err-read_at.field-0.0 c.args.self.now c.region_after.new.self c.read_at.new.self c.in_ok-next.ensures.effect.same
-    c.from_residual-in_err-read_at.ensures.1 c.in_err-read_at.ensures.effect
-
-pub returns-clause-found : goal.returns-clause-found
-returns-clause-found g c =
-    let of = rw c.in-Some.is at c.in_ok-next.ensures.falls in
-    let begins = rw c.in-Some.is at c.in_ok-next.ensures.begins in
-    elim c.if-join.branch [
-      | then-join w ↦ rw w.result-is (of, begins)
-      | else-join w ↦ rw w.result-is tt
-    ]
-
-pub returns-clause-next : goal.returns-clause-next
-returns-clause-next g c = λ i stored at.
-    let next = rw c.in-Some.is at (c.in_ok-next.ensures.after i stored at) in
-    elim c.if-join.branch [
-      | then-join w ↦ rw w.result-is next
-      | else-join w ↦ rw w.result-is tt
-    ]
-
-pub returns-clause-effect : goal.returns-clause-effect
-returns-clause-effect g c =
-    let same = c.in_ok-read_at.ensures.effect.same ∙ c.in_ok-next.ensures.effect.same in
-    elim c.if-join.branch [
-      | then-join w ↦ rw w.result-is (searched _ c.args.self.now c.read_at.new.self same)
-      | else-join w ↦ rw w.result-is (searched _ c.args.self.now c.read_at.new.self same)
-    ]
-
-pub join-requires-clause-space : goal.join-requires-clause-space
-join-requires-clause-space g c =
-    c.in_ok-read_at.ensures.read.dims ∙ ap (λ (v : TreeView). v.schema.dims) c.in_ok-next.ensures.effect.same ∙ sym c.requires.rows.dims

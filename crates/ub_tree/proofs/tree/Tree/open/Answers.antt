@@ -1,6 +1,4 @@
-use Rattle.std.proofs.Common.{◌≡◌, ◌∙◌, None, ap, refl, rules, subst, sym}
-use Rattle.ub_store.specs.Cache.{page_at}
-use Rattle.ub_tree.proofs.HeldFacts.{none_checked}
+use Rattle.std.proofs.Common.{◌≡◌, ◌∙◌, ap, subst, sym}
 use Rattle.ub_store.specs.Facts.{StoreFacts, IsHonest}
 use Rattle.ub_store.specs.View.{PagerView}
 use Rattle.ub_tree.proofs.OpenedFacts.{mark_refused, never_clean, opened, opened_sound}
@@ -43,17 +41,3 @@ returns-in-Err-read_table-clause-unclean g c = λ schema honest mark.
     let first = g.S.PageStore.facts c.args.store in
     let fault = c.in-Err-read_table.fault in
     mark_refused first honest schema mark fault (subst (λ (x : StoreFacts). IsOpenFault x fault) (ap (λ (p : PagerView). p.store) c.in-Ok.ensures.made) c.in-Err-read_table.ensures.effect.faults)
-
-pub over-requires : goal.over-requires
-over-requires g c =
-    let made = c.in-Ok.ensures.made in
-    let t = c.in-Ok-read_table in
-    record {
-      last_is = search rules;
-      some = search rules;
-      few = search rules;
-      fewer = search rules;
-      last_next = search rules;
-      mark_is = search rules;
-      checked = t.ensures.checked (none_checked t.index.last c.in-Ok.pager (λ n. subst (λ (p : PagerView). page_at p.cached n ≡ None) (sym made) refl));
-    }

@@ -40,9 +40,6 @@ returns-in_err-change-clause-short g c =
     if_err (IsRoomFault (Unit {0}) old c.args.region.now.first) c.from_residual.result (index_fault c.in_err-change.field-0.0) c.from_residual.ensures.1
     (room_fault old c.args.region.now.first (added_at c.args.first.now t.pager.store) c.in_err-change.field-0.0 honest c.in_err-change.ensures.effect.faults))
 
-pub returns-clause-short : goal.returns-clause-short
-returns-clause-short g c = λ honest. tt
-
 pub returns-clause-ready : goal.returns-clause-ready
 returns-clause-ready g c =
     let t = c.self.inside in

@@ -14,9 +14,6 @@ use Rattle.ub_tree.proofs.HeldFacts.{tree_written, written_checked}
 use Rattle.ub_writing.specs.Marks.{is_written}
 use Rattle.ub_tree.proofs.tree.Tree.put_halves.Goals as goal
 
-pub returns-in-Ok-clause-put : goal.returns-in-Ok-clause-put
-returns-in-Ok-clause-put g c = rw (← c.self.view_is) c.in-Ok.ensures.put
-
 pub returns-in-Ok-clause-effect : goal.returns-in-Ok-clause-effect
 returns-in-Ok-clause-effect g c =
     let t = c.self.inside in

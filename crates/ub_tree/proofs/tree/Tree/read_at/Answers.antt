@@ -1,21 +1,18 @@
-use Rattle.std.proofs.Common.{◌≡◌, ◌<◌, ℕ, Bool, List, Ok, Some, ap, subst, sym, arith, slice_get, ◌∙◌}
+use Rattle.std.proofs.Common.{◌≡◌, ◌<◌, Bool, Some, ap, subst, sym, arith, slice_get, ◌∙◌}
 use Rattle.std.proofs.lemmas.Option.{slice_get_within}
 use Rattle.ub_check.proofs.StandingFacts.{page_still}
 use Rattle.ub_check.specs.Standing.{IsRegionRefused}
 use Rattle.ub_index.specs.Held.{KeepsChecked}
-use Rattle.ub_region.specs.RegionPage.{RegionView, region_page}
-use Rattle.ub_store.specs.Facts.{IsHonest, IsPage, page_count}
-use Rattle.ub_tree.proofs.EffectFacts.{refused_none}
-use Rattle.ub_tree.proofs.ReadingFacts.{missing_there, page_refused_by, passing_there, read_page_by, read_there, refused_there, searched_tree, sound_span, store_refused, told_above}
+use Rattle.ub_region.specs.RegionPage.{region_page}
+use Rattle.ub_store.specs.Facts.{page_count}
+use Rattle.ub_tree.proofs.ReadingFacts.{missing_there, page_refused_by, read_page_by, read_there, refused_there, searched_tree, sound_span, store_refused, told_above}
 use Rattle.ub_tree.proofs.ThereFacts.{rows_there}
 use Rattle.ub_tree.specs.Faults.{index_fault}
 use Rattle.ub_store.specs.View.{PagerView}
 use Rattle.ub_tree.specs.Tree.{tree_view}
 use Rattle.ub_tree.specs.View.{TreeView}
-use Rattle.ub_tree.specs.inner.Change.{IsReadAt}
 use Rattle.ub_tree.specs.Told.{IsRegionOf}
-use Rattle.ub_tree.specs.Effects.{IsTakenIn}
-use Rattle.ub_tree.proofs.HeldFacts.{region_checked, region_gone, tree_kept}
+use Rattle.ub_tree.proofs.HeldFacts.{region_checked, tree_kept}
 use Rattle.ub_writing.specs.Marks.{is_written}
 use Rattle.ub_tree.proofs.tree.Tree.read_at.Goals as goal
 
@@ -66,81 +63,6 @@ returns-clause-rows g c =
     rw (← c.self.view_is) (λ i p honest at there.
     rows_there t.schema t.index t.count t.next t.rows (is_written t.mark) t.is_failed t.pager i c.args.region.now c.in_ok-take_region.ensures.bytes c.take_region.new.page.region p honest at there ((page_still _ _ _ _ _ c.in_ok-bring.ensures.effect c.in_ok-take_region.ensures.page_is) honest) c.in_ok-take_region.ensures.on)
 
-pub returns-in_err-bring-clause-read : goal.returns-in_err-bring-clause-read
-returns-in_err-bring-clause-read g c = refused_none _ c.from_residual.result _ c.from_residual.ensures.1
-
-pub returns-in_err-bring-clause-there : goal.returns-in_err-bring-clause-there
-returns-in_err-bring-clause-there g c = refused_none _ c.from_residual.result _ c.from_residual.ensures.1
-
-pub returns-in_err-bring-clause-rows : goal.returns-in_err-bring-clause-rows
-returns-in_err-bring-clause-rows g c = λ i p honest at there. refused_none _ c.from_residual.result _ c.from_residual.ensures.1
-
-pub returns-in_err-take_region-clause-read : goal.returns-in_err-take_region-clause-read
-returns-in_err-take_region-clause-read g c = refused_none _ c.from_residual-in_err-take_region.result _ c.from_residual-in_err-take_region.ensures.1
-
-pub returns-in_err-take_region-clause-there : goal.returns-in_err-take_region-clause-there
-returns-in_err-take_region-clause-there g c = refused_none _ c.from_residual-in_err-take_region.result _ c.from_residual-in_err-take_region.ensures.1
-
-pub returns-in_err-take_region-clause-rows : goal.returns-in_err-take_region-clause-rows
-returns-in_err-take_region-clause-rows g c = λ i p honest at there. refused_none _ c.from_residual-in_err-take_region.result _ c.from_residual-in_err-take_region.ensures.1
-
-pub returns-in_err-bring-clause-taken : goal.returns-in_err-bring-clause-taken
-returns-in_err-bring-clause-taken g c = λ honest r on.
-    let a = c.args.self.now in
-    passing_there Bool _ c.from_residual.result c.in_err-bring.field-0.0 c.from_residual.ensures.1
-    (λ no_page.
-    let there : c.args.region.now.page < page_count a.store = slice_get_within a.store.pages c.args.region.now.page (region_page a.schema r) (on.2 honest) in
-    let past = c.in_err-bring.ensures.missing no_page in
-    let same = ap (λ (v : TreeView). page_count v.store) c.self.view_is in
-    omega arith)
-    c.in_err-bring.ensures.no_size
-
-pub returns-in_err-take_region-clause-taken : goal.returns-in_err-take_region-clause-taken
-returns-in_err-take_region-clause-taken g c = λ honest r on.
-    let t = c.self.inside in
-    let honest_t = subst (λ (v : TreeView). IsHonest v.store) (sym c.self.view_is) honest in
-    let on_t = subst (λ (v : TreeView). IsTakenIn v c.args.region.now r) (sym c.self.view_is) on in
-    let at : slice_get t.pager.store.pages c.args.region.now.page ≡ Some c.in_err-take_region.ensures.bytes = (page_still _ _ _ _ _ c.in_ok-bring.ensures.effect c.in_err-take_region.ensures.page_is) honest_t in
-    let spelled : slice_get t.pager.store.pages c.args.region.now.page ≡ Some (region_page t.schema r) = on_t.2 honest_t in
-    let page : c.in_err-take_region.ensures.bytes ≡ region_page t.schema r = cc in
-    (let bad = (c.in_err-take_region.ensures.exact r on_t.0 page on_t.1).0 in cc)
-
-pub returns-clause-read : goal.returns-clause-read
-returns-clause-read g c =
-    let t = c.self.inside in
-    let old : TreeView = tree_view t.schema t.index t.count t.next t.rows (is_written t.mark) t.is_failed t.pager in
-    let read : IsReadAt old c.args.region.now c.take_region.new.page = record {
-      dims = c.in_ok-take_region.ensures.dims;
-      on = (
-        c.in_ok-take_region.ensures.is,
-        c.in_ok-take_region.ensures.stands,
-        subst (λ (page : List ℕ). IsPage t.pager.store c.args.region.now.page page) c.in_ok-take_region.ensures.spelled (page_still _ _ _ _ _ c.in_ok-bring.ensures.effect c.in_ok-take_region.ensures.page_is),
-      );
-    } in
-    subst (λ (v : TreeView). IsReadAt v c.args.region.now c.take_region.new.page) c.self.view_is read
-
-pub returns-clause-there : goal.returns-clause-there
-returns-clause-there g c = subst (λ (v : TreeView). c.args.region.now.page < page_count v.store) c.self.view_is c.in_ok-bring.ensures.there
-
-pub returns-clause-taken : goal.returns-clause-taken
-returns-clause-taken g c = λ honest r on.
-    let t = c.self.inside in
-    let honest_t = subst (λ (v : TreeView). IsHonest v.store) (sym c.self.view_is) honest in
-    let on_t = subst (λ (v : TreeView). IsTakenIn v c.args.region.now r) (sym c.self.view_is) on in
-    let at : slice_get t.pager.store.pages c.args.region.now.page ≡ Some c.in_ok-take_region.ensures.bytes = (page_still _ _ _ _ _ c.in_ok-bring.ensures.effect c.in_ok-take_region.ensures.page_is) honest_t in
-    let spelled : slice_get t.pager.store.pages c.args.region.now.page ≡ Some (region_page t.schema r) = on_t.2 honest_t in
-    let page : c.in_ok-take_region.ensures.bytes ≡ region_page t.schema r = cc in
-    ap (λ (v : RegionView). v.region) (c.in_ok-take_region.ensures.exact r on_t.0 page on_t.1).1
-
-pub returns-clause-effect : goal.returns-clause-effect
-returns-clause-effect g c =
-    let t = c.self.inside in
-    rw (← c.self.view_is) (record {
-      same = searched_tree {T = Unit {0}} (Ok tt) t.schema t.index t.count t.next t.rows (is_written t.mark) t.is_failed t.pager c.take_region.new.pager
-          (ap (λ (p : PagerView). p.store) c.in_ok-take_region.ensures.kept ∙ c.in_ok-bring.ensures.effect.same) (ap (λ (p : PagerView). p.trace) c.in_ok-take_region.ensures.kept ∙ c.in_ok-bring.ensures.trace);
-      faults = tt;
-    })
-
 pub invariant_of-self-2 : goal.invariant_of-self-2
 invariant_of-self-2 g c =
     let t = c.self.inside in
@@ -149,11 +71,3 @@ invariant_of-self-2 g c =
     (subst (λ (p : PagerView). KeepsChecked t.index.last t.pager p) (sym taken.kept)
     (region_checked t.schema t.index.last c.args.region.now.page t.pager c.bring.new.self _ c.in_ok-bring.ensures.effect.same c.in_ok-bring.ensures.others c.take_region.new.page.region taken.bytes
     taken.held taken.is taken.spelled))
-
-pub invariant_of-self-in_err-take_region : goal.invariant_of-self-in_err-take_region
-invariant_of-self-in_err-take_region g c =
-    let t = c.self.inside in
-    let refused = c.in_err-take_region.ensures in
-    tree_kept t.schema t.index t.count t.next t.rows t.mark t.pager c.take_region.new.pager c.self.invariant
-    (region_gone t.index.last c.args.region.now.page t.pager c.bring.new.self _ c.in_ok-bring.ensures.effect.same c.in_ok-bring.ensures.others c.take_region.new.pager refused.same refused.gone
-    refused.others)

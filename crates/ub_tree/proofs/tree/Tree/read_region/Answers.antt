@@ -1,4 +1,4 @@
-use Rattle.std.proofs.Common.{◌≡◌, ◌<◌, Ok, Some, inr, refl, rules, arith, slice_get, ◌∙◌, ap, subst, sym}
+use Rattle.std.proofs.Common.{◌≡◌, ◌<◌, Some, inr, refl, rules, arith, slice_get, ◌∙◌, ap, subst, sym}
 use Rattle.std.proofs.lemmas.Option.{slice_get_within}
 use Rattle.ub_check.proofs.StandingFacts.{page_still}
 use Rattle.ub_check.specs.Standing.{IsRegionRefused}
@@ -11,7 +11,7 @@ use Rattle.ub_tree.proofs.ThereFacts.{tree_known}
 use Rattle.ub_store.specs.View.{PagerView}
 use Rattle.ub_tree.specs.Tree.{tree_view}
 use Rattle.ub_tree.specs.View.{TreeView}
-use Rattle.ub_tree.proofs.HeldFacts.{region_checked, region_gone, tree_kept}
+use Rattle.ub_tree.proofs.HeldFacts.{region_checked, tree_kept}
 use Rattle.ub_writing.specs.Marks.{is_written}
 use Rattle.ub_tree.proofs.tree.Tree.read_region.Goals as goal
 
@@ -76,18 +76,6 @@ returns-clause-stands g c =
     let taken = c.in_ok-take_region.ensures.exact k.0.region k.1.region page k.1.held in
     rw taken.1 (k.0, k.1.there, k.1.page, refl))
 
-pub returns-clause-effect : goal.returns-clause-effect
-returns-clause-effect g c =
-    let t = c.self.inside in
-    rw (← c.self.view_is) (record {
-      same = read_tree {T = Unit {0}} (Ok tt) t.schema t.index t.count t.next t.rows (is_written t.mark) t.is_failed t.pager c.take_region.new.pager (ap (λ (p : PagerView). p.store) c.in_ok-take_region.ensures.kept ∙ c.in_ok-bring_region.ensures.effect.same);
-      noted = search rules;
-      listed = search rules;
-      failed = λ bad. cc;
-      faults = λ told. tt;
-      refused = tt;
-    })
-
 pub invariant_of-self-2 : goal.invariant_of-self-2
 invariant_of-self-2 g c =
     let t = c.self.inside in
@@ -96,11 +84,3 @@ invariant_of-self-2 g c =
     (subst (λ (p : PagerView). KeepsChecked t.index.last t.pager p) (sym taken.kept)
     (region_checked t.schema t.index.last c.args.region.now.page t.pager c.bring_region.new.self _ c.in_ok-bring_region.ensures.effect.same c.in_ok-bring_region.ensures.others c.take_region.new.page.region taken.bytes
     taken.held taken.is taken.spelled))
-
-pub invariant_of-self-in_err-take_region : goal.invariant_of-self-in_err-take_region
-invariant_of-self-in_err-take_region g c =
-    let t = c.self.inside in
-    let refused = c.in_err-take_region.ensures in
-    tree_kept t.schema t.index t.count t.next t.rows t.mark t.pager c.take_region.new.pager c.self.invariant
-    (region_gone t.index.last c.args.region.now.page t.pager c.bring_region.new.self _ c.in_ok-bring_region.ensures.effect.same c.in_ok-bring_region.ensures.others c.take_region.new.pager refused.same refused.gone
-    refused.others)

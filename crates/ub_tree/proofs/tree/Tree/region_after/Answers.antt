@@ -1,7 +1,6 @@
 use Rattle.std.proofs.Common.{◌<◌, ◌^◌, inl, inr, Option, subst, sym}
 use Rattle.ub_region.specs.declared.region.Region.{Region}
 use Rattle.ub_tree.proofs.CallFacts.{last_small}
-use Rattle.ub_tree.proofs.EffectFacts.{refused_all}
 use Rattle.ub_tree.proofs.NeighbourFacts.{given_next, next_begins, search_apart}
 use Rattle.ub_tree.proofs.SearchFacts.{search_refused}
 use Rattle.ub_store.specs.Facts.{IsHonest}
@@ -31,40 +30,3 @@ returns-else-begins_at-clause-effect g c =
     ] in
     rw (← c.self.view_is) (search_apart t.schema t.index t.count t.next t.rows (is_written t.mark) t.is_failed t.pager c.after.new.pager _ (Option Region) c.in_ok-next.field-0 c.apart.result
     c.in_ok-next.ensures.effect c.apart.ensures over)
-
-pub returns-in_err-next-clause-begins : goal.returns-in_err-next-clause-begins
-returns-in_err-next-clause-begins g c = refused_all _ c.from_residual.result _ c.from_residual.ensures.1
-
-pub returns-in_err-next-clause-falls : goal.returns-in_err-next-clause-falls
-returns-in_err-next-clause-falls g c = refused_all _ c.from_residual.result _ c.from_residual.ensures.1
-
-pub returns-in_err-next-clause-last : goal.returns-in_err-next-clause-last
-returns-in_err-next-clause-last g c = refused_all _ c.from_residual.result _ c.from_residual.ensures.1
-
-pub returns-in_err-next-clause-after : goal.returns-in_err-next-clause-after
-returns-in_err-next-clause-after g c = λ i stored at. refused_all _ c.from_residual.result _ c.from_residual.ensures.1
-
-pub returns-in_default-clause-begins : goal.returns-in_default-clause-begins
-returns-in_default-clause-begins g c = tt
-
-pub returns-in_default-clause-falls : goal.returns-in_default-clause-falls
-returns-in_default-clause-falls g c = tt
-
-pub returns-else-begins_at-clause-begins : goal.returns-else-begins_at-clause-begins
-returns-else-begins_at-clause-begins g c = tt
-
-pub returns-else-begins_at-clause-falls : goal.returns-else-begins_at-clause-falls
-returns-else-begins_at-clause-falls g c = tt
-
-pub returns-else-begins_at-clause-last : goal.returns-else-begins_at-clause-last
-returns-else-begins_at-clause-last g c = tt
-
-pub returns-else-begins_at-clause-after : goal.returns-else-begins_at-clause-after
-returns-else-begins_at-clause-after g c = λ i stored at. tt
-
-pub returns-then-begins_at-clause-falls : goal.returns-then-begins_at-clause-falls
-returns-then-begins_at-clause-falls g c =
-    let t = c.self.inside in
-    let v : TreeView = tree_view t.schema t.index t.count t.next t.rows (is_written t.mark) t.is_failed t.pager in
-    let given = given_next v c.args.region.now.next c.in-Some.next (rw c.in-Some.is at (c.in_ok-next.ensures.given c.self.invariant.checked)) in
-    subst (λ (x : TreeView). IsRegionOf x c.in-Some.next) c.self.view_is (record { key = given.0; falls = given.2 })

@@ -1,15 +1,11 @@
-use Rattle.std.proofs.Common.{◌≡◌, ◌<◌, ◌^◌, inl, inr, ℕ, List, Option, Some, subst, sym}
+use Rattle.std.proofs.Common.{◌<◌, ◌^◌, inl, inr, Option, subst, sym}
 use Rattle.ub_index.specs.Searching.{key_before}
 use Rattle.ub_region.specs.declared.region.Region.{Region}
 use Rattle.ub_table.specs.declared.row.Key.{Key}
-use Rattle.ub_index.specs.View.{IsIndexOn, IsPreviousRegion, IsRegionAt, entries_in}
-use Rattle.ub_region.specs.declared.entry.Entry.{Entry}
-use Rattle.ub_tree.proofs.CallFacts.{last_small, stored_on}
-use Rattle.ub_tree.proofs.HoldingFacts.{no_answer}
+use Rattle.ub_tree.proofs.CallFacts.{last_small}
 use Rattle.ub_tree.proofs.NeighbourFacts.{before_ends, few_of, given_next, search_apart}
-use Rattle.ub_tree.proofs.SearchFacts.{search_refused, searched_there}
-use Rattle.ub_tree.specs.Faults.{index_fault}
-use Rattle.ub_tree.specs.Told.{FallsTo, IsRegionOf}
+use Rattle.ub_tree.proofs.SearchFacts.{search_refused}
+use Rattle.ub_tree.specs.Told.{IsRegionOf}
 use Rattle.ub_store.specs.Facts.{IsHonest}
 use Rattle.ub_tree.specs.Tree.{tree_view}
 use Rattle.ub_tree.specs.View.{TreeView}
@@ -39,66 +35,3 @@ returns-else-begins_at-clause-effect g c =
     ] in
     rw (← c.self.view_is) (search_apart t.schema t.index t.count t.next t.rows (is_written t.mark) t.is_failed t.pager c.before-2.new.pager _ (Option Region) c.in_ok-before.field-0 c.apart.result
     c.in_ok-before.ensures.effect c.apart.ensures over)
-
-pub returns-in_err-before-clause-ends : goal.returns-in_err-before-clause-ends
-returns-in_err-before-clause-ends g c = no_answer c.from_residual.result (index_fault c.in_err-before.field-0.0) _ c.from_residual.ensures.1
-
-pub returns-in_err-before-clause-falls : goal.returns-in_err-before-clause-falls
-returns-in_err-before-clause-falls g c = no_answer c.from_residual.result (index_fault c.in_err-before.field-0.0) _ c.from_residual.ensures.1
-
-pub returns-in_err-before-clause-before : goal.returns-in_err-before-clause-before
-returns-in_err-before-clause-before g c = λ i stored at. no_answer c.from_residual.result (index_fault c.in_err-before.field-0.0) _ c.from_residual.ensures.1
-
-pub returns-in_default-clause-ends : goal.returns-in_default-clause-ends
-returns-in_default-clause-ends g c = tt
-
-pub returns-in_default-clause-falls : goal.returns-in_default-clause-falls
-returns-in_default-clause-falls g c = tt
-
-pub returns-in_default-clause-before : goal.returns-in_default-clause-before
-returns-in_default-clause-before g c = λ i stored at.
-    let a = c.args.self.now in
-    let span = c.args.region.now in
-    let found = c.in_ok-before.field-0 in
-    let told = subst (λ (v : TreeView). (j : ℕ) → IsIndexOn v.inner.index v.store → IsRegionAt (entries_in v.inner.index v.store) j span → IsPreviousRegion (entries_in v.inner.index v.store) j found)
-    c.self.view_is (c.in_ok-before.ensures.before c.self.invariant.checked) in
-    let previous = subst (λ (es : List Entry). IsRegionAt es i span → IsPreviousRegion es i found) stored.indexed.entries_are (told i (stored_on a stored)) at in
-    rw c.in_default.is at previous
-
-pub returns-in_default-clause-effect : goal.returns-in_default-clause-effect
-returns-in_default-clause-effect g c =
-    let t = c.self.inside in
-    rw (← c.self.view_is) (searched_there t.schema t.index t.count t.next t.rows (is_written t.mark) t.is_failed t.pager c.before-2.new.pager _ (Option Region) _ c.in_ok-before.field-0 c.in_ok-before.ensures.effect)
-
-pub returns-then-begins_at-clause-falls : goal.returns-then-begins_at-clause-falls
-returns-then-begins_at-clause-falls g c =
-    let t = c.self.inside in
-    let span = c.args.region.now in
-    let before = c.in-Some.before in
-    let v : TreeView = tree_view t.schema t.index t.count t.next t.rows (is_written t.mark) t.is_failed t.pager in
-    let given = given_next v (key_before span.first.z span.first.number) before (rw c.in-Some.is at (c.in_ok-before.ensures.given c.self.invariant.checked)) in
-    subst (λ (x : TreeView). (k : Key) × (key_before span.first.z span.first.number ≡ Some k) × FallsTo x k before) c.self.view_is given
-
-pub returns-then-begins_at-clause-before : goal.returns-then-begins_at-clause-before
-returns-then-begins_at-clause-before g c = λ i stored at.
-    let a = c.args.self.now in
-    let span = c.args.region.now in
-    let found = c.in_ok-before.field-0 in
-    let told = subst (λ (v : TreeView). (j : ℕ) → IsIndexOn v.inner.index v.store → IsRegionAt (entries_in v.inner.index v.store) j span → IsPreviousRegion (entries_in v.inner.index v.store) j found)
-    c.self.view_is (c.in_ok-before.ensures.before c.self.invariant.checked) in
-    let previous = subst (λ (es : List Entry). IsRegionAt es i span → IsPreviousRegion es i found) stored.indexed.entries_are (told i (stored_on a stored)) at in
-    rw c.in-Some.is at previous
-
-pub returns-then-begins_at-clause-effect : goal.returns-then-begins_at-clause-effect
-returns-then-begins_at-clause-effect g c =
-    let t = c.self.inside in
-    rw (← c.self.view_is) (searched_there t.schema t.index t.count t.next t.rows (is_written t.mark) t.is_failed t.pager c.before-2.new.pager _ (Option Region) _ c.in_ok-before.field-0 c.in_ok-before.ensures.effect)
-
-pub returns-else-begins_at-clause-ends : goal.returns-else-begins_at-clause-ends
-returns-else-begins_at-clause-ends g c = tt
-
-pub returns-else-begins_at-clause-falls : goal.returns-else-begins_at-clause-falls
-returns-else-begins_at-clause-falls g c = tt
-
-pub returns-else-begins_at-clause-before : goal.returns-else-begins_at-clause-before
-returns-else-begins_at-clause-before g c = λ i stored at. tt

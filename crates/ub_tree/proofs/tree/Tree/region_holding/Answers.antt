@@ -1,27 +1,11 @@
-use Rattle.std.proofs.Common.{◌≡◌, ◌<◌, ◌^◌, List, subst, sym}
+use Rattle.std.proofs.Common.{◌≡◌, ◌<◌, ◌^◌, subst, sym}
 use Rattle.ub_index.specs.Searching.{Gives, IsWayFault}
-use Rattle.ub_index.specs.View.{IsIndexOn, IsRegionAt, entries_in}
 use Rattle.ub_region.specs.declared.region.Region.{Region}
-use Rattle.ub_region.specs.declared.entry.Entry.{Entry}
-use Rattle.ub_region.specs.Regions.{index_holding}
-use Rattle.ub_tree.proofs.CallFacts.{holding_refused, last_small, one_falls, stored_on}
-use Rattle.ub_tree.proofs.SearchFacts.{search_refused, searched_there}
-use Rattle.ub_tree.specs.Spans.{first_keys}
-use Rattle.ub_tree.specs.Told.{FallsTo}
+use Rattle.ub_tree.proofs.CallFacts.{holding_refused, last_small, one_falls}
+use Rattle.ub_tree.proofs.SearchFacts.{search_refused}
 use Rattle.ub_tree.specs.View.{TreeView}
 use Rattle.ub_writing.specs.Marks.{is_written}
 use Rattle.ub_tree.proofs.tree.Tree.region_holding.Goals as goal
-
-pub returns-clause-falls : goal.returns-clause-falls
-returns-clause-falls g c = subst (λ (v : TreeView). FallsTo v c.args.key.now c.in_ok-region.region) c.self.view_is (c.in_ok-region.ensures.given c.self.invariant.checked)
-
-pub returns-clause-region : goal.returns-clause-region
-returns-clause-region g c = λ stored.
-    let t = c.args.self.now in
-    let key = c.args.key.now in
-    let told = subst (λ (v : TreeView). IsIndexOn v.inner.index v.store → IsRegionAt (entries_in v.inner.index v.store) (index_holding key (first_keys (entries_in v.inner.index v.store))) c.in_ok-region.region)
-    c.self.view_is (c.in_ok-region.ensures.region c.self.invariant.checked) in
-    subst (λ (es : List Entry). IsRegionAt es (index_holding key (first_keys es)) c.in_ok-region.region) stored.indexed.entries_are (told (stored_on t stored))
 
 pub returns-clause-led : goal.returns-clause-led
 returns-clause-led g c = λ span honest falls.
@@ -44,8 +28,3 @@ returns-in_err-region-clause-effect g c =
     let small = subst (λ n. n < 2 ^ 128) (sym c.self.invariant.last_is) (last_small t.schema.dims t.schema.counts.few_dims) in
     rw (← c.self.view_is) (search_refused t.schema t.index t.count t.next t.rows (is_written t.mark) t.is_failed t.pager c.region_holding.new.pager _ Region c.from_residual.result c.in_err-region.field-0.0 small c.self.invariant.checked
     c.from_residual.ensures.1 c.in_err-region.ensures.effect)
-
-pub returns-clause-effect : goal.returns-clause-effect
-returns-clause-effect g c =
-    let t = c.self.inside in
-    rw (← c.self.view_is) (searched_there t.schema t.index t.count t.next t.rows (is_written t.mark) t.is_failed t.pager c.region_holding.new.pager _ Region _ c.in_ok-region.region c.in_ok-region.ensures.effect)

@@ -2,44 +2,22 @@ use Rattle.std.proofs.Common.{◌≡◌, ◌<◌, ◌-◌, ◌^◌, ◌∙◌, a
 use Rattle.ub_region.specs.RegionPage.{RegionView}
 use Rattle.ub_region.specs.Rows.{has_key, remove_row}
 use Rattle.ub_table.specs.declared.fault.PageFault.TheVariants.{BadCount}
-use Rattle.ub_tree.proofs.EffectFacts.{counted_anew, left_by, marked_sound, nothing_changed, searched_by, then_changed, unchanged}
-use Rattle.ub_tree.proofs.HoldingFacts.{has_told, no_answer, passing_fault, passing_removal, removal_answers, removal_fault}
-use Rattle.ub_tree.proofs.RemovalFacts.{holder, none_removed, read_there, searched_removal, shrinks_by, shrunk, some_counted}
+use Rattle.ub_tree.proofs.EffectFacts.{counted_anew, left_by, marked_sound, then_changed, unchanged}
+use Rattle.ub_tree.proofs.HoldingFacts.{has_told, no_answer, passing_fault, passing_removal, removal_answers}
+use Rattle.ub_tree.proofs.RemovalFacts.{holder, none_removed, shrinks_by, shrunk, some_counted}
 use Rattle.ub_tree.proofs.RoomFacts.{rows_on, rows_without}
 use Rattle.ub_tree.proofs.tree.Tree.remove_within.Goals as goal
 use Rattle.ub_tree.specs.Effects.{Changes}
 use Rattle.ub_tree.specs.Tree.{tree_view}
 use Rattle.ub_tree.specs.View.{TreeView, region_count}
 use Rattle.ub_tree.specs.declared.fault.TreeFault.TheVariants.{Page}
-use Rattle.ub_tree.specs.inner.Change.{IsMadeOf, IsRegionThere}
+use Rattle.ub_tree.specs.inner.Change.{IsMadeOf}
 use Rattle.ub_writing.specs.Marks.{is_written}
 use Rattle.ub_zaddr.specs.Address.{last_address}
-
-pub returns-in_err-region-clause-removed : goal.returns-in_err-region-clause-removed
-returns-in_err-region-clause-removed g c = λ sound. no_answer c.from_residual.result c.in_err-region.field-0.0 _ c.from_residual.ensures.1
-
-pub returns-in_err-region-clause-untouched : goal.returns-in_err-region-clause-untouched
-returns-in_err-region-clause-untouched g c = no_answer c.from_residual.result c.in_err-region.field-0.0 _ c.from_residual.ensures.1
-
-pub returns-in_err-region-clause-counted : goal.returns-in_err-region-clause-counted
-returns-in_err-region-clause-counted g c = no_answer c.from_residual.result c.in_err-region.field-0.0 _ c.from_residual.ensures.1
-
-pub returns-in_err-region-clause-marks : goal.returns-in_err-region-clause-marks
-returns-in_err-region-clause-marks g c = no_answer c.from_residual.result c.in_err-region.field-0.0 _ c.from_residual.ensures.1
 
 pub returns-in_err-region-clause-refused : goal.returns-in_err-region-clause-refused
 returns-in_err-region-clause-refused g c =
     passing_removal c.args.self.now c.args.key.now c.from_residual.result c.in_err-region.field-0.0 c.from_residual.ensures.1 (λ number region honest into. c.in_err-region.ensures.led number region honest into)
-
-pub returns-in_err-region-clause-effect : goal.returns-in_err-region-clause-effect
-returns-in_err-region-clause-effect g c =
-    searched_by c.from_residual.result c.in_err-region.field-0.0 c.args.self.now c.read_holding.new.self c.from_residual.ensures.1 c.in_err-region.ensures.effect
-
-pub returns-in_err-region-clause-faults : goal.returns-in_err-region-clause-faults
-returns-in_err-region-clause-faults g c = searched_removal c.from_residual.result c.in_err-region.field-0.0 c.args.self.now c.args.self.now c.from_residual.ensures.1 refl c.in_err-region.ensures.effect.faults
-
-pub returns-in_err-region-clause-stays : goal.returns-in_err-region-clause-stays
-returns-in_err-region-clause-stays g c = λ was. ap (λ (v : TreeView). v.is_changed) c.in_err-region.ensures.effect.same ∙ was
 
 pub returns-then-not-remove-clause-removed : goal.returns-then-not-remove-clause-removed
 returns-then-not-remove-clause-removed g c =
@@ -52,12 +30,6 @@ returns-then-not-remove-clause-removed g c =
     let has : has_key a.schema.dims key page.region.rows ≡ false = has_told page.region.rows read.read.dims refl c.remove.ensures.found c.if-not-remove.true in
     none_removed a c.read_holding.new.self key span page.region.rows (holder a key span page read) same has
 
-pub returns-then-not-remove-clause-untouched : goal.returns-then-not-remove-clause-untouched
-returns-then-not-remove-clause-untouched g c = λ _. c.in_ok-region.ensures.effect.same
-
-pub returns-then-not-remove-clause-counted : goal.returns-then-not-remove-clause-counted
-returns-then-not-remove-clause-counted g c = λ is. absurd (let bad : false ≡ true = is in cc)
-
 pub returns-then-not-remove-clause-refused : goal.returns-then-not-remove-clause-refused
 returns-then-not-remove-clause-refused g c =
     let a = c.args.self.now in
@@ -68,30 +40,6 @@ returns-then-not-remove-clause-refused g c =
     let same = c.in_ok-region.ensures.effect.same in
     let has : has_key a.schema.dims key page.region.rows ≡ false = has_told page.region.rows read.read.dims refl c.remove.ensures.found c.if-not-remove.true in
     removal_answers a key span page read (Ok false) (λ some zero. absurd (let bad : true ≡ false = sym some ∙ has in cc)) (λ free. tt) (sym has) (λ some many. tt)
-
-pub returns-then-not-remove-clause-effect : goal.returns-then-not-remove-clause-effect
-returns-then-not-remove-clause-effect g c = nothing_changed _ c.args.self.now c.read_holding.new.self c.in_ok-region.ensures.effect.same
-
-pub returns-then-not-remove-clause-faults : goal.returns-then-not-remove-clause-faults
-returns-then-not-remove-clause-faults g c = tt
-
-pub returns-then-not-remove-clause-stays : goal.returns-then-not-remove-clause-stays
-returns-then-not-remove-clause-stays g c = λ was. ap (λ (v : TreeView). v.is_changed) c.in_ok-region.ensures.effect.same ∙ was
-
-pub returns-then-not-remove-clause-marks : goal.returns-then-not-remove-clause-marks
-returns-then-not-remove-clause-marks g c = λ is. absurd (let bad : false ≡ true = is in cc)
-
-pub returns-then-self-eq0-clause-removed : goal.returns-then-self-eq0-clause-removed
-returns-then-self-eq0-clause-removed g c = λ sound. tt
-
-pub returns-then-self-eq0-clause-untouched : goal.returns-then-self-eq0-clause-untouched
-returns-then-self-eq0-clause-untouched g c = tt
-
-pub returns-then-self-eq0-clause-counted : goal.returns-then-self-eq0-clause-counted
-returns-then-self-eq0-clause-counted g c = tt
-
-pub returns-then-self-eq0-clause-marks : goal.returns-then-self-eq0-clause-marks
-returns-then-self-eq0-clause-marks g c = tt
 
 pub returns-then-self-eq0-clause-refused : goal.returns-then-self-eq0-clause-refused
 returns-then-self-eq0-clause-refused g c =
@@ -121,22 +69,6 @@ returns-then-self-eq0-clause-effect g c =
     (subst (λ (v : TreeView). Changes {A = Bool} a v _) (sym same)
     (unchanged (Page 0 BadCount) a (some_counted a key span page.region.rows (holder a key span page read) has none, inr (inr (inl (refl, refl, inl none))), refl)))
 
-pub returns-then-self-eq0-clause-faults : goal.returns-then-self-eq0-clause-faults
-returns-then-self-eq0-clause-faults g c =
-    let a = c.args.self.now in
-    let same = c.in_ok-region.ensures.effect.same in
-    let none : a.rows ≡ 0 = sym (ap (λ (v : TreeView). v.rows) (c.self.view_is ∙ same)) ∙ c.if-self-eq0.true in
-    rw c.bad_count.ensures (inr (inr (refl, refl, inl none)))
-
-pub returns-then-self-eq0-clause-stays : goal.returns-then-self-eq0-clause-stays
-returns-then-self-eq0-clause-stays g c = λ was. ap (λ (v : TreeView). v.is_changed) c.in_ok-region.ensures.effect.same ∙ was
-
-pub settle-requires-clause-there : goal.settle-requires-clause-there
-settle-requires-clause-there g c =
-    let read = c.in_ok-region.ensures.read in
-    subst (λ (v : TreeView). IsRegionThere v c.in_ok-region.region) (sym c.in_ok-region.ensures.effect.same)
-    (read_there c.args.self.now c.args.self.now c.args.key.now c.in_ok-region.region c.read_holding.new.page.region refl read.falls read.there read.read.on)
-
 pub settle-requires-clause-rows : goal.settle-requires-clause-rows
 settle-requires-clause-rows g c =
     let a = c.args.self.now in
@@ -149,18 +81,6 @@ settle-requires-clause-rows g c =
     rw c.remove.ensures.rows
     (subst (λ (v : TreeView). IsMadeOf v.schema span (record { dims = page.dims; region = record { first = page.region.first; rows = remove_row page.dims key page.region.rows } })) (sym same)
     (record { dims = read.read.dims; first = read.read.on.1.0; rows = rw read.read.dims are }))
-
-pub returns-in_err-settle-clause-removed : goal.returns-in_err-settle-clause-removed
-returns-in_err-settle-clause-removed g c = λ sound. no_answer c.from_residual-in_err-settle.result c.in_err-settle.field-0.0 _ c.from_residual-in_err-settle.ensures.1
-
-pub returns-in_err-settle-clause-untouched : goal.returns-in_err-settle-clause-untouched
-returns-in_err-settle-clause-untouched g c = no_answer c.from_residual-in_err-settle.result c.in_err-settle.field-0.0 _ c.from_residual-in_err-settle.ensures.1
-
-pub returns-in_err-settle-clause-counted : goal.returns-in_err-settle-clause-counted
-returns-in_err-settle-clause-counted g c = no_answer c.from_residual-in_err-settle.result c.in_err-settle.field-0.0 _ c.from_residual-in_err-settle.ensures.1
-
-pub returns-in_err-settle-clause-marks : goal.returns-in_err-settle-clause-marks
-returns-in_err-settle-clause-marks g c = no_answer c.from_residual-in_err-settle.result c.in_err-settle.field-0.0 _ c.from_residual-in_err-settle.ensures.1
 
 pub returns-in_err-settle-clause-refused : goal.returns-in_err-settle-clause-refused
 returns-in_err-settle-clause-refused g c =
@@ -186,13 +106,6 @@ returns-in_err-settle-clause-effect g c =
     left_by c.from_residual-in_err-settle.result c.in_err-settle.field-0.0 c.args.self.now c.settle.new.self c.from_residual-in_err-settle.ensures.1
     (then_changed {T = Unit {0}} _ c.args.self.now c.read_holding.new.self c.settle.new.self c.in_ok-region.ensures.effect.same c.in_err-settle.ensures.effect)
 
-pub returns-in_err-settle-clause-faults : goal.returns-in_err-settle-clause-faults
-returns-in_err-settle-clause-faults g c =
-    removal_fault c.from_residual-in_err-settle.result c.in_err-settle.field-0.0 c.args.self.now c.read_holding.new.self c.from_residual-in_err-settle.ensures.1 c.in_ok-region.ensures.effect.same c.in_err-settle.ensures.faults
-
-pub returns-in_err-settle-clause-stays : goal.returns-in_err-settle-clause-stays
-returns-in_err-settle-clause-stays g c = λ was. c.settle.ensures.stays (ap (λ (v : TreeView). v.is_changed) c.in_ok-region.ensures.effect.same ∙ was)
-
 pub returns-clause-removed : goal.returns-clause-removed
 returns-clause-removed g c =
     let a = c.args.self.now in
@@ -213,9 +126,6 @@ returns-clause-removed g c =
     let few = subst (λ (v : TreeView). region_count v < 2 ^ 32) c.self-2.view_is c.self-2.invariant.few in
     shrunk a c.read_holding.new.self after d key span page.region.rows (holder a key span page read) same has c.in_ok-settle.ensures.same.same (marked_sound c.in_ok-settle.ensures.effect.marked) last few
     d_is (rw left at c.in_ok-settle.ensures.written)
-
-pub returns-clause-untouched : goal.returns-clause-untouched
-returns-clause-untouched g c = λ is. absurd (let bad : true ≡ false = is in cc)
 
 pub returns-clause-counted : goal.returns-clause-counted
 returns-clause-counted g c = λ _.
@@ -260,12 +170,3 @@ returns-clause-effect g c =
     let d_is : d ≡ record after { rows = after.rows - 1 } = ap (λ (v : TreeView). record v { rows = v.rows - 1 }) c.self-2.view_is in
     counted_anew {T = Unit {0}} {U = Bool} tt _ c.args.self.now after d (after.rows - 1) after.next d_is
     (then_changed {T = Unit {0}} _ c.args.self.now c.read_holding.new.self after c.in_ok-region.ensures.effect.same c.in_ok-settle.ensures.effect)
-
-pub returns-clause-faults : goal.returns-clause-faults
-returns-clause-faults g c = tt
-
-pub returns-clause-stays : goal.returns-clause-stays
-returns-clause-stays g c = λ was. ap (λ (v : TreeView). v.is_changed) c.self-2.view_is ∙ c.settle.ensures.stays (ap (λ (v : TreeView). v.is_changed) c.in_ok-region.ensures.effect.same ∙ was)
-
-pub returns-clause-marks : goal.returns-clause-marks
-returns-clause-marks g c = λ _. ap (λ (v : TreeView). v.is_changed) c.self-2.view_is ∙ ap (λ (v : TreeView). v.is_changed) c.in_ok-settle.ensures.same.same

@@ -5,7 +5,6 @@ use Rattle.ub_store.specs.declared.fault.StoreFault.{StoreFault}
 use Rattle.ub_table.specs.Region.{IsRegion}
 use Rattle.ub_table.specs.declared.row.Key.{Key}
 use Rattle.ub_tree.proofs.CallFacts.{last_small}
-use Rattle.ub_tree.proofs.EffectFacts.{mark_stays}
 use Rattle.ub_tree.proofs.PutFacts.{own_page, put_rows, told_there}
 use Rattle.ub_tree.proofs.ReadingFacts.{only_device, past_page}
 use Rattle.ub_tree.proofs.WriteFacts.{ended_by, marks_first, others_written, put_is, write_refused, wrote_tree}
@@ -71,12 +70,6 @@ returns-in-Err-clause-effect g c =
       kept = others_written (0 ∷ c.args.region.now.page ∷ []) t.pager.store c.put_region.new.pager.store c.put_region.ensures.marks.others;
       count = c.put_region.ensures.marks.others.count;
     })
-
-pub returns-in-Ok-clause-stays : goal.returns-in-Ok-clause-stays
-returns-in-Ok-clause-stays g c = λ was. mark_stays c.self.inside.mark c.put_region.new.mark c.put_region.ensures.marks.stays (ap (λ (v : TreeView). v.is_changed) c.self.view_is ∙ was)
-
-pub returns-in-Err-clause-stays : goal.returns-in-Err-clause-stays
-returns-in-Err-clause-stays g c = λ was. mark_stays c.self.inside.mark c.put_region.new.mark c.put_region.ensures.marks.stays (ap (λ (v : TreeView). v.is_changed) c.self.view_is ∙ was)
 
 pub invariant_of-self : goal.invariant_of-self
 invariant_of-self g c =

@@ -1,21 +1,11 @@
-use Rattle.std.proofs.Common.{◌≡◌, ◌<◌, ◌≤◌, ◌^◌, ◌∙◌, List, Option, Some, option_copied, ap, subst, sym}
-use Rattle.ub_index.specs.Spans.{regions_of}
+use Rattle.std.proofs.Common.{◌≡◌, ◌<◌, ◌^◌, Option, Some, option_copied, subst, sym}
 use Rattle.ub_index.specs.Searching.{GivesAfter}
-use Rattle.ub_index.specs.View.{IsIndexOn, entries_in}
 use Rattle.ub_tree.proofs.CallFacts.{last_small, seek_told}
-use Rattle.ub_tree.proofs.IndexedFacts.{sound_index, spans_told}
-use Rattle.ub_tree.proofs.SearchFacts.{search_refused, searched_there}
-use Rattle.ub_tree.specs.Spans.{First, IsLater, Region}
+use Rattle.ub_tree.proofs.SearchFacts.{search_refused}
+use Rattle.ub_tree.specs.Spans.{Region}
 use Rattle.ub_tree.specs.View.{TreeView}
 use Rattle.ub_writing.specs.Marks.{is_written}
 use Rattle.ub_tree.proofs.tree.Tree.seek.Goals as goal
-
-pub returns-clause-found : goal.returns-clause-found
-returns-clause-found g c = λ sound.
-    let t = c.args.self.now in
-    let on = subst (λ (v : TreeView). IsIndexOn v.inner.index v.store) (sym c.self.view_is) (sound_index t sound) in
-    let spans = ap (λ (v : TreeView). regions_of v.inner.index.last (entries_in v.inner.index v.store)) c.self.view_is ∙ spans_told t sound in
-    subst (λ (rs : List Region). First (λ r. IsLater (option_copied c.args.after) r × (c.args.z ≤ r.to)) rs c.in_ok-found.found) spans (c.in_ok-found.ensures.found c.self.invariant.checked on)
 
 pub returns-clause-later : goal.returns-clause-later
 returns-clause-later g c =
@@ -32,8 +22,3 @@ returns-in_err-found-clause-effect g c =
     let small = subst (λ n. n < 2 ^ 128) (sym c.self.invariant.last_is) (last_small t.schema.dims t.schema.counts.few_dims) in
     rw (← c.self.view_is) (search_refused t.schema t.index t.count t.next t.rows (is_written t.mark) t.is_failed t.pager c.seek.new.pager _ (Option Region) c.from_residual.result c.in_err-found.field-0.0 small c.self.invariant.checked
     c.from_residual.ensures.1 c.in_err-found.ensures.effect)
-
-pub returns-clause-effect : goal.returns-clause-effect
-returns-clause-effect g c =
-    let t = c.self.inside in
-    rw (← c.self.view_is) (searched_there t.schema t.index t.count t.next t.rows (is_written t.mark) t.is_failed t.pager c.seek.new.pager _ (Option Region) _ c.in_ok-found.found c.in_ok-found.ensures.effect)

@@ -1,4 +1,4 @@
-use Rattle.std.proofs.Common.{◌≡◌, ◌≤◌, ◌+◌, ◌-◌, ◌∙◌, ℕ, Err, Ok, ap, arith, inl, inr, subst, sym, refl}
+use Rattle.std.proofs.Common.{◌≡◌, ◌≤◌, ◌+◌, ◌-◌, ◌∙◌, ℕ, Ok, ap, subst, sym, refl}
 use Rattle.ub_store.specs.Facts.{StoreFacts, IsHonest, page_count}
 use Rattle.ub_index_change.specs.Making.{changed}
 use Rattle.ub_index.specs.View.{IndexView}
@@ -8,17 +8,13 @@ use Rattle.ub_table.specs.declared.row.Key.{Key}
 use Rattle.ub_table.specs.declared.schema.Schema.{Schema}
 use Rattle.ub_tree.proofs.AddFacts.{parts_stored}
 use Rattle.ub_tree.proofs.RoomFacts.{ready_for}
-use Rattle.ub_tree.proofs.EffectFacts.{ready_by, refused_none, unchanged}
-use Rattle.ub_tree.proofs.PartFacts.{growth_refused, growth_short, halves_refused, index_refused, indexed_short, parted_answers, parts_at, parts_effect, unparted_answers, unready_answers, written_short}
+use Rattle.ub_tree.proofs.EffectFacts.{ready_by}
+use Rattle.ub_tree.proofs.PartFacts.{halves_refused, index_refused, parts_at, parts_effect, unready_answers}
 use Rattle.ub_tree.specs.Tree.{placed_in, tree_view}
-use Rattle.ub_table.specs.declared.fault.PageFault.TheVariants.{BadCount}
-use Rattle.ub_tree.specs.View.{TreeView, region_count}
-use Rattle.ub_tree.specs.declared.fault.TreeFault.{TreeFault}
-use Rattle.ub_tree.specs.declared.fault.TreeFault.TheVariants.{Page}
-use Rattle.ub_tree.specs.inner.Change.{GrowsTo, IsGrowthLeft, IsIndexFault, IsWriteFault}
+use Rattle.ub_tree.specs.View.{TreeView}
+use Rattle.ub_tree.specs.inner.Change.{GrowsTo}
 use Rattle.ub_index.proofs.LeadFacts.{ways_hold}
 use Rattle.ub_index_change.specs.Changing.{AreIndexPages}
-use Rattle.ub_table.specs.Region.{IsRegion}
 use Rattle.ub_writing.specs.Marks.{is_written}
 use Rattle.ub_tree.proofs.tree.Tree.split.Goals as goal
 
@@ -112,122 +108,6 @@ returns-clause-effect g c =
     (ap (λ (v : TreeView). v.inner.count) c.in_ok-put_halves.ensures.same ∙ (ap (λ (v : TreeView). v.inner.count) grew.frame))
     c.in_ok-put_index.ensures.works (ap (λ (v : TreeView). record v { inner = record v.inner { count = v.inner.count + 1 } }) c.self-2.view_is)
     (subst (λ (v : TreeView). v.inner.index.levels ≤ MAX_LEVEL) c.self.view_is c.root-root.ensures.high)
-
-pub returns-then-self-clause-counted : goal.returns-then-self-clause-counted
-returns-then-self-clause-counted g c =
-    let many : region_count c.args.self.now ≡ 4294967295 = sym (ap (λ (v : TreeView). v.inner.count) c.self.view_is) ∙ c.if-self.true in (
-      λ full all. ap (λ (x : TreeFault). Err x) c.uncounted.ensures.fault,
-      λ honest falls page fault told. (tt, many),
-      λ honest falls full fewer levels way. absurd (fewer many),
-      λ honest falls. rw c.uncounted.ensures.fault tt,
-    )
-
-pub returns-then-self-clause-effect : goal.returns-then-self-clause-effect
-returns-then-self-clause-effect g c =
-    let many : region_count c.args.self.now ≡ 4294967295 = sym (ap (λ (v : TreeView). v.inner.count) c.self.view_is) ∙ c.if-self.true in
-    rw c.uncounted.ensures.fault (unchanged (Page 0 BadCount) c.args.self.now (c.uncounted.ensures.many many, inr (inr (inl (refl, refl, inr (inl many)))), refl))
-
-pub returns-in_err-change-clause-same : goal.returns-in_err-change-clause-same
-returns-in_err-change-clause-same g c = refused_none _ c.from_residual.result c.in_err-change.field-0.0 c.from_residual.ensures.1
-
-pub returns-in_err-change-clause-written : goal.returns-in_err-change-clause-written
-returns-in_err-change-clause-written g c = λ i stored at. refused_none _ c.from_residual.result c.in_err-change.field-0.0 c.from_residual.ensures.1
-
-pub returns-in_err-grow-clause-same : goal.returns-in_err-grow-clause-same
-returns-in_err-grow-clause-same g c = refused_none _ c.from_residual-in_err-grow.result c.in_err-grow.field-0.0 c.from_residual-in_err-grow.ensures.1
-
-pub returns-in_err-grow-clause-written : goal.returns-in_err-grow-clause-written
-returns-in_err-grow-clause-written g c = λ i stored at. refused_none _ c.from_residual-in_err-grow.result c.in_err-grow.field-0.0 c.from_residual-in_err-grow.ensures.1
-
-pub returns-in_err-grow-clause-counted : goal.returns-in_err-grow-clause-counted
-returns-in_err-grow-clause-counted g c =
-    let few = c.if-self.false in
-    let count = ap (λ (v : TreeView). v.inner.count) c.self.view_is in
-    let change = c.in_ok-change.change in
-    let left = c.in_err-grow.ensures.left in
-    unparted_answers c.args.self.now c.args.region.now c.from_residual-in_err-grow.result c.in_err-grow.field-0.0 c.from_residual-in_err-grow.ensures.1 (λ many. few (count ∙ many))
-    (λ page fault same. subst (λ (x : TreeFault). IsGrowthLeft (page_count c.prepare_add.new.self.store + (change.next - change.start)) c.prepare_add.new.self c.grow.new.self x) same left)
-    (λ honest levels way. c.in_ok-change.ensures.full honest levels way refl)
-    (growth_short c.args.self.now c.grow.new.self c.args.region.now c.args.right.now.region.first change c.requires.there.there (ready_for c.first.ensures c.in_ok-change.ensures.ready)
-    (subst (λ (v : TreeView). v.inner.index.levels ≤ MAX_LEVEL) c.self.view_is c.root-root.ensures.high) c.in_err-grow.field-0.0
-    (subst (λ (v : TreeView). IsGrowthLeft (page_count v.store + (change.next - change.start)) v c.grow.new.self c.in_err-grow.field-0.0) c.in_ok-change.ensures.effect.same left))
-
-pub returns-in_err-grow-clause-effect : goal.returns-in_err-grow-clause-effect
-returns-in_err-grow-clause-effect g c =
-    let change = c.in_ok-change.change in
-    let e = c.in_err-grow.field-0.0 in
-    let grew = subst (λ (v : TreeView). GrowsTo {A = Unit {0}} (page_count v.store + (change.next - change.start)) v c.grow.new.self (Err e)) c.in_ok-change.ensures.effect.same c.in_err-grow.ensures in
-    growth_refused c.args.self.now c.grow.new.self c.args.region.now c.args.right.now.region.first change c.requires.there.there (ready_for c.first.ensures c.in_ok-change.ensures.ready)
-    (subst (λ (v : TreeView). v.inner.index.levels ≤ MAX_LEVEL) c.self.view_is c.root-root.ensures.high) c.from_residual-in_err-grow.result e c.from_residual-in_err-grow.ensures.1 grew
-
-pub put_halves-requires-clause-own : goal.put_halves-requires-clause-own
-put_halves-requires-clause-own g c =
-    let change = c.in_ok-change.change in
-    let grew = subst (λ (v : TreeView). GrowsTo {A = Unit {0}} (page_count v.store + (change.next - change.start)) v c.grow.new.self (Ok tt)) c.in_ok-change.ensures.effect.same c.in_ok-grow.ensures in
-    let there = c.requires.there.there in
-    let more = grew.grows.more in
-    omega arith
-
-pub put_halves-requires-clause-there : goal.put_halves-requires-clause-there
-put_halves-requires-clause-there g c =
-    let change = c.in_ok-change.change in
-    let grew = subst (λ (v : TreeView). GrowsTo {A = Unit {0}} (page_count v.store + (change.next - change.start)) v c.grow.new.self (Ok tt)) c.in_ok-change.ensures.effect.same c.in_ok-grow.ensures in
-    let number : c.page.result ≡ change.start = c.page.ensures in
-    let start = c.in_ok-change.ensures.ready.start in
-    let some = c.in_ok-change.ensures.ready.some in
-    let grown = grew.done.1 in
-    omega arith
-
-pub returns-in_err-put_halves-clause-same : goal.returns-in_err-put_halves-clause-same
-returns-in_err-put_halves-clause-same g c = refused_none _ c.from_residual-in_err-put_halves.result c.in_err-put_halves.field-0.0 c.from_residual-in_err-put_halves.ensures.1
-
-pub returns-in_err-put_halves-clause-written : goal.returns-in_err-put_halves-clause-written
-returns-in_err-put_halves-clause-written g c = λ i stored at. refused_none _ c.from_residual-in_err-put_halves.result c.in_err-put_halves.field-0.0 c.from_residual-in_err-put_halves.ensures.1
-
-pub returns-in_err-put_halves-clause-counted : goal.returns-in_err-put_halves-clause-counted
-returns-in_err-put_halves-clause-counted g c =
-    let few = c.if-self.false in
-    let count = ap (λ (v : TreeView). v.inner.count) c.self.view_is in
-    let fault_is = c.in_err-put_halves.ensures.effect.faults in
-    unparted_answers c.args.self.now c.args.region.now c.from_residual-in_err-put_halves.result c.in_err-put_halves.field-0.0 c.from_residual-in_err-put_halves.ensures.1 (λ many. few (count ∙ many))
-    (λ page fault same. subst (λ (x : TreeFault). IsWriteFault c.grow.new.self c.put_halves.new.self x) same fault_is)
-    (λ honest levels way. c.in_ok-change.ensures.full honest levels way refl)
-    (λ honest. written_short c.args.self.now c.grow.new.self c.put_halves.new.self c.args.region.now.first c.in_err-put_halves.field-0.0 fault_is)
-
-pub returns-in_err-put_index-clause-same : goal.returns-in_err-put_index-clause-same
-returns-in_err-put_index-clause-same g c = refused_none _ c.from_residual-in_err-put_index.result c.in_err-put_index.field-0.0 c.from_residual-in_err-put_index.ensures.1
-
-pub returns-in_err-put_index-clause-written : goal.returns-in_err-put_index-clause-written
-returns-in_err-put_index-clause-written g c = λ i stored at. refused_none _ c.from_residual-in_err-put_index.result c.in_err-put_index.field-0.0 c.from_residual-in_err-put_index.ensures.1
-
-pub returns-in_err-put_index-clause-counted : goal.returns-in_err-put_index-clause-counted
-returns-in_err-put_index-clause-counted g c =
-    let few = c.if-self.false in
-    let count = ap (λ (v : TreeView). v.inner.count) c.self.view_is in
-    let fault_is = c.in_err-put_index.ensures.stopped.1 in
-    unparted_answers c.args.self.now c.args.region.now c.from_residual-in_err-put_index.result c.in_err-put_index.field-0.0 c.from_residual-in_err-put_index.ensures.1 (λ many. few (count ∙ many))
-    (λ page fault same. subst (λ (x : TreeFault). IsIndexFault c.in_ok-change.change c.put_halves.new.self.store x) same fault_is)
-    (λ honest levels way. c.in_ok-change.ensures.full honest levels way refl)
-    (λ honest. indexed_short c.args.self.now c.in_ok-change.change c.put_halves.new.self.store c.args.region.now.first c.in_err-put_index.field-0.0 fault_is)
-
-pub returns-clause-counted : goal.returns-clause-counted
-returns-clause-counted g c =
-    let few = c.if-self.false in
-    let count = ap (λ (v : TreeView). v.inner.count) c.self.view_is in
-    parted_answers c.args.self.now c.args.region.now tt (λ many. few (count ∙ many)) (λ honest levels way. c.in_ok-change.ensures.full honest levels way refl)
-
-pub put_halves-requires-clause-left : goal.put_halves-requires-clause-left
-put_halves-requires-clause-left g c =
-    let grew = subst (λ (v : TreeView). GrowsTo {A = Unit {0}} (page_count v.store + (c.in_ok-change.change.next - c.in_ok-change.change.start)) v c.grow.new.self (Ok tt)) c.in_ok-change.ensures.effect.same
-    c.in_ok-grow.ensures in
-    let is = subst (λ (k : Key). IsRegion c.args.self.now.schema (record { first = k; rows = c.args.left.now.region.rows })) (sym c.requires.first) c.requires.left in
-    subst (λ (s : Schema). IsRegion s c.args.left.now.region) (sym (ap (λ (v : TreeView). v.schema) grew.frame)) is
-
-pub put_halves-requires-clause-right : goal.put_halves-requires-clause-right
-put_halves-requires-clause-right g c =
-    let grew = subst (λ (v : TreeView). GrowsTo {A = Unit {0}} (page_count v.store + (c.in_ok-change.change.next - c.in_ok-change.change.start)) v c.grow.new.self (Ok tt)) c.in_ok-change.ensures.effect.same
-    c.in_ok-grow.ensures in
-    subst (λ (s : Schema). IsRegion s c.args.right.now.region) (sym (ap (λ (v : TreeView). v.schema) grew.frame)) c.requires.right
 
 pub put_index-requires : goal.put_index-requires
 put_index-requires g c = λ honest.

@@ -1,23 +1,21 @@
 use Rattle.std.proofs.Common.{◌≡◌, ◌<◌, ◌≤◌, ◌∙◌, [], ◌∷◌, ℕ, List, OnOk, true, nat_le, ap, subst, sym, length, arith, false, refl, ◌+◌}
 use Rattle.std.proofs.lemmas.Bool.{le-leb, lt-leb}
 use Rattle.std.proofs.lemmas.List.Edits.{length-insert}
-use Rattle.ub_index_change.specs.Preparing.{IsWithinRegion}
 use Rattle.ub_region.specs.Rows.{Halves}
 use Rattle.std.proofs.lemmas.List.{length-map}
 use Rattle.std.specs.List.{insert}
 use Rattle.ub_region.specs.RegionPage.{RegionView}
 use Rattle.ub_region.proofs.Laws.{length-insert_row}
 use Rattle.ub_region.specs.Rows.{insert_row}
-use Rattle.ub_table.specs.Keys.{AreKeysAscending}
 use Rattle.ub_table.specs.Region.{IsRegion, RegionRows, key_of, keys_of}
 use Rattle.ub_table.specs.declared.row.Key.{Key}
 use Rattle.ub_table.specs.declared.row.Row.{Row}
 use Rattle.ub_tree.proofs.EffectFacts.{changed_by}
 use Rattle.ub_tree.proofs.FilledFacts.{writes_grown}
-use Rattle.ub_tree.proofs.GrowFacts.{filled_answers, one_stored, put_at, same_split, spared_answers, two_stored}
+use Rattle.ub_tree.proofs.GrowFacts.{one_stored, same_split, two_stored}
 use Rattle.ub_tree.proofs.RoomFacts.{one_stands, two_stand}
 use Rattle.ub_tree.specs.View.{TreeView}
-use Rattle.ub_tree.specs.inner.Change.{CanStand, IsStored, StoresAt, StoresRows, placed_with}
+use Rattle.ub_tree.specs.inner.Change.{CanStand, IsStored, StoresRows, placed_with}
 use Rattle.ub_tree.proofs.tree.Tree.store_with.Goals as goal
 
 pub returns-clause-effect : goal.returns-clause-effect
@@ -42,69 +40,6 @@ returns-clause-written g c = λ i stored at all.
     one_stored b c.rewrite.new.self i c.args.region.now new c.rewrite.result fits written
     (writes_grown b c.rewrite.new.self i c.args.region.now c.rewrite.result stored at c.rewrite.ensures.effect)
 
-pub index_in-index-requires : goal.index_in-index-requires
-index_in-index-requires g c =
-    let rows = c.args.room.now.region.region.rows in
-    let keys = c.keys.ensures.keys ∙ ap (λ (d : ℕ). keys_of d rows) c.requires.read.dims in
-    subst AreKeysAscending (sym keys) c.requires.read.on.0.ascending
-
-pub split_with-requires-clause-some : goal.split_with-requires-clause-some
-split_with-requires-clause-some g c =
-    let some = c.args.self.now.schema.counts.some_rows in
-    let full = sym c.len.ensures.len ∙ c.if-len-page_rows.true ∙ c.page_rows.ensures.page_rows ∙ ap (λ (v : TreeView). v.schema.page_rows) c.self.view_is in
-    omega arith
-
-pub split_with-requires-clause-within : goal.split_with-requires-clause-within
-split_with-requires-clause-within g c =
-    let region = c.args.room.now.region in
-    let long = ap (λ (ks : List Key). length ks) c.keys.ensures.keys ∙ length-map region.region.rows (key_of region.dims) in
-    subst (λ (n : ℕ). c.index_in-index.result ≤ n) long c.index_in-index.ensures.within
-
-pub split-requires-clause-there : goal.split-requires-clause-there
-split-requires-clause-there g c = record {
-  told = c.requires.there.0;
-  there = c.requires.there.1;
-  region = c.args.room.now.region.region;
-  on = c.requires.read.on;
-}
-
-pub split-requires-clause-first : goal.split-requires-clause-first
-split-requires-clause-first g c = ap (λ (v : RegionView). v.region.first) c.split_with.ensures.left ∙ c.requires.read.on.1.0
-
-pub split-requires-clause-within : goal.split-requires-clause-within
-split-requires-clause-within g c =
-    let b = c.args.self.now in
-    let row = c.args.row.now in
-    let before = c.args.room.now.region.region.rows in
-    let keys = c.keys.ensures.keys ∙ ap (λ (d : ℕ). keys_of d before) c.requires.read.dims in
-    let made = c.index_in-index.ensures.index b.schema.dims row before keys c.requires.key in
-    let rows = insert before c.index_in-index.result row in
-    let full = sym c.len.ensures.len ∙ c.if-len-page_rows.true ∙ c.page_rows.ensures.page_rows ∙ ap (λ (v : TreeView). v.schema.page_rows) c.self.view_is in
-    let stand : CanStand b c.args.region.now rows = subst (λ (rs : List Row). CanStand b c.args.region.now rs) made c.requires.rows in
-    let region = c.args.room.now.region in
-    let long = ap (λ (ks : List Key). length ks) c.keys.ensures.keys ∙ length-map region.region.rows (key_of region.dims) in
-    let within : c.index_in-index.result ≤ length before = subst (λ (n : ℕ). c.index_in-index.result ≤ n) long c.index_in-index.ensures.within in
-    let more : length rows ≡ length before + 1 = length-insert before c.index_in-index.result row within in
-    let first = ap (λ (v : RegionView). v.region.first) c.split_with.ensures.right ∙ ap (λ (h : Halves). h.first) (same_split c.requires.read.dims full refl) in
-    subst (λ (k : Key). IsWithinRegion b.inner.index.last c.args.region.now.first c.args.region.now.next k) (sym first) (stand.within (omega arith))
-
-pub split-requires-clause-left : goal.split-requires-clause-left
-split-requires-clause-left g c =
-    let b = c.args.self.now in
-    let row = c.args.row.now in
-    let before = c.args.room.now.region.region.rows in
-    let keys = c.keys.ensures.keys ∙ ap (λ (d : ℕ). keys_of d before) c.requires.read.dims in
-    let made = c.index_in-index.ensures.index b.schema.dims row before keys c.requires.key in
-    let rows = insert before c.index_in-index.result row in
-    let full = sym c.len.ensures.len ∙ c.if-len-page_rows.true ∙ c.page_rows.ensures.page_rows ∙ ap (λ (v : TreeView). v.schema.page_rows) c.self.view_is in
-    let stand : CanStand b c.args.region.now rows = subst (λ (rs : List Row). CanStand b c.args.region.now rs) made c.requires.rows in
-    let region = c.args.room.now.region in
-    let long = ap (λ (ks : List Key). length ks) c.keys.ensures.keys ∙ length-map region.region.rows (key_of region.dims) in
-    let within : c.index_in-index.result ≤ length before = subst (λ (n : ℕ). c.index_in-index.result ≤ n) long c.index_in-index.ensures.within in
-    let more : length rows ≡ length before + 1 = length-insert before c.index_in-index.result row within in
-    let left = ap (λ (v : RegionView). v.region.rows) c.split_with.ensures.left ∙ ap (λ (h : Halves). h.left) (same_split c.requires.read.dims full refl) in
-    subst (λ (rs : List Row). IsRegion b.schema (record { first = c.args.region.now.first; rows = rs })) (sym left) (two_stand b c.args.region.now rows stand (omega arith)).0
-
 pub split-requires-clause-right : goal.split-requires-clause-right
 split-requires-clause-right g c =
     let b = c.args.self.now in
@@ -122,11 +57,6 @@ split-requires-clause-right g c =
     let right = ap (λ (v : RegionView). v.region) c.split_with.ensures.right
     ∙ ap (λ (h : Halves). record { first = h.first; rows = h.right }) (same_split c.requires.read.dims full refl) in
     subst (λ (r : RegionRows). IsRegion b.schema r) (sym right) (two_stand b c.args.region.now rows stand (omega arith)).1
-
-pub returns-then-len-page_rows-clause-same : goal.returns-then-len-page_rows-clause-same
-returns-then-len-page_rows-clause-same g c =
-    let full = sym c.len.ensures.len ∙ c.if-len-page_rows.true ∙ c.page_rows.ensures.page_rows ∙ ap (λ (v : TreeView). v.schema.page_rows) c.self.view_is in
-    subst (λ (n : ℕ). OnOk c.split.result (StoresAt c.args.region.now n c.args.self.now c.split.new.self)) (sym full) c.split.ensures.same
 
 pub returns-then-len-page_rows-clause-written : goal.returns-then-len-page_rows-clause-written
 returns-then-len-page_rows-clause-written g c =
@@ -147,40 +77,6 @@ returns-then-len-page_rows-clause-written g c =
     subst (λ (rs : List Row). StoresRows c.args.region.now rs b c.split.new.self c.split.result) (sym made)
     (λ i stored at all. two_stored b c.split.new.self i c.args.region.now rows c.split.result over (written i stored at))
 
-pub returns-then-len-page_rows-clause-counted : goal.returns-then-len-page_rows-clause-counted
-returns-then-len-page_rows-clause-counted g c =
-    let full = sym c.len.ensures.len ∙ c.if-len-page_rows.true ∙ c.page_rows.ensures.page_rows ∙ ap (λ (v : TreeView). v.schema.page_rows) c.self.view_is in
-    filled_answers _ c.args.self.now c.args.region.now c.split.result full c.split.ensures.counted
-
-pub returns-then-len-page_rows-clause-effect : goal.returns-then-len-page_rows-clause-effect
-returns-then-len-page_rows-clause-effect g c = c.split.ensures.effect
-
-pub insert_at-requires-clause-room : goal.insert_at-requires-clause-room
-insert_at-requires-clause-room g c =
-    let few = c.requires.read.on.0.few in
-    let bound = c.page_rows.ensures.few in
-    let same = c.page_rows.ensures.page_rows ∙ ap (λ (v : TreeView). v.schema.page_rows) c.self.view_is in
-    let long = c.len.ensures.len in
-    let other = c.if-len-page_rows.false in
-    omega arith
-
-pub insert_at-requires-clause-within : goal.insert_at-requires-clause-within
-insert_at-requires-clause-within g c =
-    let region = c.args.room.now.region in
-    let long = ap (λ (ks : List Key). length ks) c.keys.ensures.keys ∙ length-map region.region.rows (key_of region.dims) in
-    subst (λ (n : ℕ). c.index_in-index.result ≤ n) long c.index_in-index.ensures.within
-
-pub rewrite-requires-clause-there : goal.rewrite-requires-clause-there
-rewrite-requires-clause-there g c = record {
-  told = c.requires.there.0;
-  there = c.requires.there.1;
-  region = c.args.room.now.region.region;
-  on = c.requires.read.on;
-}
-
-pub rewrite-requires-clause-first : goal.rewrite-requires-clause-first
-rewrite-requires-clause-first g c = ap (λ (v : RegionView). v.region.first) c.insert_at.ensures ∙ c.requires.read.on.1.0
-
 pub rewrite-requires-clause-region : goal.rewrite-requires-clause-region
 rewrite-requires-clause-region g c =
     let b = c.args.self.now in
@@ -196,14 +92,3 @@ rewrite-requires-clause-region g c =
     let more = length-insert_row b.schema.dims row rows in
     let rows_are : c.insert_at.new.self.region.rows ≡ new = ap (λ (v : RegionView). v.region.rows) c.insert_at.ensures ∙ sym made in
     subst (λ (rs : List Row). IsRegion b.schema (record { first = c.args.region.now.first; rows = rs })) (sym rows_are) (one_stands b c.args.region.now new c.requires.rows (omega arith))
-
-pub returns-clause-same : goal.returns-clause-same
-returns-clause-same g c =
-    let same = c.page_rows.ensures.page_rows ∙ ap (λ (v : TreeView). v.schema.page_rows) c.self.view_is in
-    put_at c.rewrite.result c.args.self.now c.rewrite.new.self c.args.region.now _ (λ full. c.if-len-page_rows.false (c.len.ensures.len ∙ full ∙ sym same))
-    c.rewrite.ensures.same c.rewrite.ensures.told c.rewrite.ensures.effect
-
-pub returns-clause-counted : goal.returns-clause-counted
-returns-clause-counted g c =
-    let same = c.page_rows.ensures.page_rows ∙ ap (λ (v : TreeView). v.schema.page_rows) c.self.view_is in
-    spared_answers _ c.args.self.now c.args.region.now c.rewrite.result (λ full. c.if-len-page_rows.false (c.len.ensures.len ∙ full ∙ sym same)) c.rewrite.ensures.faults

@@ -1,5 +1,4 @@
-use Rattle.std.proofs.Common.{◌∙◌, inr, ap, map, subst, sym, ◌≡◌, None, refl, rules}
-use Rattle.ub_store.specs.Cache.{page_at}
+use Rattle.std.proofs.Common.{◌∙◌, inr, ap, map, subst, sym, refl}
 use Rattle.ub_store.specs.Facts.{StoreFacts, IsHonest}
 use Rattle.ub_store.specs.View.{PagerView}
 use Rattle.ub_tree.proofs.BroughtFacts.{pages_pass, table_fault, table_refused}
@@ -67,20 +66,6 @@ returns-in-Ok-bring_table-clause-refused g c =
     (ap (λ (q : PagerView). q.store.can_fail) b.ensures.effect.same ∙ ap (λ (q : PagerView). q.store.can_fail) c.in-Ok.ensures.made)
     m.count (λ honest new_honest. stands_made from c.in-Ok.pager p b.head b.index m honest (begun new_honest) (still new_honest)) f
     (subst (λ (v : TreeView). IsCheckFault v f) c.over.ensures h))
-
-pub over-requires : goal.over-requires
-over-requires g c =
-    let made = c.in-Ok.ensures.made in
-    let m = c.in-Ok-bring_table.ensures.made in
-    record {
-      last_is = search rules;
-      some = search rules;
-      few = search rules;
-      fewer = search rules;
-      last_next = search rules;
-      mark_is = search rules;
-      checked = m.checked (λ n. subst (λ (p : PagerView). page_at p.cached n ≡ None) (sym made) refl);
-    }
 
 pub returns-in-Err-bring_table-clause-made : goal.returns-in-Err-bring_table-clause-made
 returns-in-Err-bring_table-clause-made g c = λ version next schema placed honest new_honest s.
