@@ -24,7 +24,7 @@ broken=$(
     for crate in ${names//|/ }; do
         lines "$crate" 'Rattle\.' | grep -E "Rattle\.($names)\.(proofs|specs\.inner)\b" |
             grep -vE "Rattle\.$crate\.|\.proofs\.(Box|Page)?Laws\b"
-        if [[ $crate != acceptance* ]] && grep -Eq "^$crate:.* ub_(tree|directory)( |\$)" ../crates.txt &&
+        if [[ $crate != acceptance* ]] && grep -Eq "^$crate:.* ub_tree( |\$)" ../crates.txt &&
             ! lines "$crate" '^ *\(pub \|abbrev \)*inner *:' | grep -q .; then
             lines "$crate" '\.inner\b' | grep -v 'specs\.inner'
         fi

@@ -6,7 +6,7 @@
 // pages a call puts), `Creation` (the first pages), `Closing` (what stands once a table is closed).
 //
 // What belongs here is which page goes out before which. What a region's rows become is `ub_tree`'s, where each region's page
-// is, `ub_index`'s, and how a page is spelled, `ub_page`'s.
+// is, `ub_index`'s, and how a page is spelled, `ub_region`'s and `ub_page`'s.
 
 #![tactic(auto)]
 
