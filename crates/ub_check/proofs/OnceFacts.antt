@@ -1,5 +1,5 @@
 -- A check stops at one page alone, for one fault.
-use Rattle.std.proofs.Common.{◌≡◌, ◌≢◌, ◌≤◌, ◌<◌, ◌^◌, ◌⊎◌, inl, inr, ℕ, zero, suc, List, [], ◌∷◌, Option, Some, None, length, slice_get, ap, refl, sym, ◌∙◌, arith, subst}
+use Rattle.std.proofs.Common.{◌≡◌, ◌≢◌, ◌≤◌, ◌<◌, ◌^◌, ◌⊎◌, inl, inr, ℕ, zero, suc, List, [], ◌∷◌, Option, Some, None, length, slice_get, ap, refl, sym, ◌∙◌, arith, rules, subst}
 use Rattle.std.proofs.lemmas.List.{length-append}
 use Rattle.std.proofs.lemmas.Option.{slice_get_within}
 use Rattle.ub_index.proofs.WayFacts.{named_not_refused}
@@ -14,7 +14,7 @@ use Rattle.ub_region.specs.Regions.{rows_of}
 use Rattle.ub_store.specs.declared.fault.StoreFault.TheVariants as store
 use Rattle.ub_table.specs.Keys.{origin}
 use Rattle.ub_table.specs.declared.fault.PageFault.{PageFault}
-use Rattle.ub_table.specs.declared.fault.PageFault.TheVariants.{WrongKind, OldFormat, Unclean, BadCount, BadName, BadRow, BadOrder, OutOfRegion, BadPadding}
+use Rattle.ub_table.specs.declared.fault.PageFault.TheVariants.{BadCount, OutOfRegion}
 use Rattle.ub_table.specs.declared.row.Key.{Key}
 use Rattle.ub_table.specs.declared.schema.Schema.{Schema}
 use Rattle.ub_check.proofs.TakenFacts.{region_good, walk_never, walk_taken}
@@ -23,67 +23,11 @@ use Rattle.ub_check.specs.Placed.{Placed, regions_in}
 use Rattle.ub_check.specs.Standing.{IsRegionRefused}
 use Rattle.ub_check.specs.declared.checking.Told.{Told}
 use Rattle.ub_index.specs.declared.fault.IndexFault.{IndexFault}
-use Rattle.ub_index.specs.declared.fault.IndexFault.TheVariants.{Full, Page, Store}
+use Rattle.ub_index.specs.declared.fault.IndexFault.TheVariants.{Page, Store}
 
 -- a page is refused for one fault alone, as one of a region
 region_once : (schema : Schema) (page : List ℕ) (f g : PageFault) → IsRegionFault schema page f → IsRegionFault schema page g → f ≡ g
-region_once schema page WrongKind WrongKind h k = refl
-region_once schema page WrongKind OldFormat h k = absurd k
-region_once schema page WrongKind Unclean h k = absurd k
-region_once schema page WrongKind BadCount h k = absurd (h k.0)
-region_once schema page WrongKind BadName h k = absurd k
-region_once schema page WrongKind BadRow h k = absurd (h k.0)
-region_once schema page WrongKind BadOrder h k = absurd (h k.0)
-region_once schema page WrongKind OutOfRegion h k = absurd (h k.0)
-region_once schema page WrongKind BadPadding h k = absurd (h k.0)
-region_once schema page OldFormat g h k = absurd h
-region_once schema page Unclean g h k = absurd h
-region_once schema page BadCount WrongKind h k = absurd (k h.0)
-region_once schema page BadCount OldFormat h k = absurd k
-region_once schema page BadCount Unclean h k = absurd k
-region_once schema page BadCount BadCount h k = refl
-region_once schema page BadCount BadName h k = absurd k
-region_once schema page BadCount BadRow h k = absurd (h.1 k.1)
-region_once schema page BadCount BadOrder h k = absurd (h.1 k.1)
-region_once schema page BadCount OutOfRegion h k = absurd (h.1 k.1)
-region_once schema page BadCount BadPadding h k = absurd (h.1 k.1)
-region_once schema page BadName g h k = absurd h
-region_once schema page BadRow WrongKind h k = absurd (k h.0)
-region_once schema page BadRow OldFormat h k = absurd k
-region_once schema page BadRow Unclean h k = absurd k
-region_once schema page BadRow BadCount h k = absurd (k.1 h.1)
-region_once schema page BadRow BadName h k = absurd k
-region_once schema page BadRow BadRow h k = refl
-region_once schema page BadRow BadOrder h k = absurd (h.2 k.2)
-region_once schema page BadRow OutOfRegion h k = absurd (h.2 k.2)
-region_once schema page BadRow BadPadding h k = absurd (h.2 k.2)
-region_once schema page BadOrder WrongKind h k = absurd (k h.0)
-region_once schema page BadOrder OldFormat h k = absurd k
-region_once schema page BadOrder Unclean h k = absurd k
-region_once schema page BadOrder BadCount h k = absurd (k.1 h.1)
-region_once schema page BadOrder BadName h k = absurd k
-region_once schema page BadOrder BadRow h k = absurd (k.2 h.2)
-region_once schema page BadOrder BadOrder h k = refl
-region_once schema page BadOrder OutOfRegion h k = absurd (h.3 k.3)
-region_once schema page BadOrder BadPadding h k = absurd (h.3 k.3)
-region_once schema page OutOfRegion WrongKind h k = absurd (k h.0)
-region_once schema page OutOfRegion OldFormat h k = absurd k
-region_once schema page OutOfRegion Unclean h k = absurd k
-region_once schema page OutOfRegion BadCount h k = absurd (k.1 h.1)
-region_once schema page OutOfRegion BadName h k = absurd k
-region_once schema page OutOfRegion BadRow h k = absurd (k.2 h.2)
-region_once schema page OutOfRegion BadOrder h k = absurd (k.3 h.3)
-region_once schema page OutOfRegion OutOfRegion h k = refl
-region_once schema page OutOfRegion BadPadding h k = absurd (h.4 k.4)
-region_once schema page BadPadding WrongKind h k = absurd (k h.0)
-region_once schema page BadPadding OldFormat h k = absurd k
-region_once schema page BadPadding Unclean h k = absurd k
-region_once schema page BadPadding BadCount h k = absurd (k.1 h.1)
-region_once schema page BadPadding BadName h k = absurd k
-region_once schema page BadPadding BadRow h k = absurd (k.2 h.2)
-region_once schema page BadPadding BadOrder h k = absurd (k.3 h.3)
-region_once schema page BadPadding OutOfRegion h k = absurd (k.4 h.4)
-region_once schema page BadPadding BadPadding h k = refl
+region_once schema page f g h k = search rules
 
 refused_once : (schema : Schema) (first : Key) (end : Option Key) (page : List ℕ) (f g : PageFault) → IsRegionRefused schema first end page f → IsRegionRefused schema first end page g → f ≡ g
 refused_once schema first end page f g (inl h) (inl k) = region_once schema page f g h k
@@ -93,55 +37,7 @@ refused_once schema first end page f g (inr h) (inr k) = h.0 ∙ sym k.0
 
 -- and as one of an index
 index_once : (last : ℕ) (page : List ℕ) (f g : PageFault) → IsIndexFault last page f → IsIndexFault last page g → f ≡ g
-index_once last page WrongKind WrongKind h k = refl
-index_once last page WrongKind OldFormat h k = absurd k
-index_once last page WrongKind Unclean h k = absurd k
-index_once last page WrongKind BadCount h k = absurd (h k.0)
-index_once last page WrongKind BadName h k = absurd k
-index_once last page WrongKind BadRow h k = absurd (h k.0)
-index_once last page WrongKind BadOrder h k = absurd (h k.0)
-index_once last page WrongKind OutOfRegion h k = absurd k
-index_once last page WrongKind BadPadding h k = absurd (h k.0)
-index_once last page OldFormat g h k = absurd h
-index_once last page Unclean g h k = absurd h
-index_once last page BadCount WrongKind h k = absurd (k h.0)
-index_once last page BadCount OldFormat h k = absurd k
-index_once last page BadCount Unclean h k = absurd k
-index_once last page BadCount BadCount h k = refl
-index_once last page BadCount BadName h k = absurd k
-index_once last page BadCount BadRow h k = absurd (h.1 k.1)
-index_once last page BadCount BadOrder h k = absurd (h.1 k.1)
-index_once last page BadCount OutOfRegion h k = absurd k
-index_once last page BadCount BadPadding h k = absurd (h.1 k.1)
-index_once last page BadName g h k = absurd h
-index_once last page BadRow WrongKind h k = absurd (k h.0)
-index_once last page BadRow OldFormat h k = absurd k
-index_once last page BadRow Unclean h k = absurd k
-index_once last page BadRow BadCount h k = absurd (k.1 h.1)
-index_once last page BadRow BadName h k = absurd k
-index_once last page BadRow BadRow h k = refl
-index_once last page BadRow BadOrder h k = absurd (h.2 k.2)
-index_once last page BadRow OutOfRegion h k = absurd k
-index_once last page BadRow BadPadding h k = absurd (h.2 k.2)
-index_once last page BadOrder WrongKind h k = absurd (k h.0)
-index_once last page BadOrder OldFormat h k = absurd k
-index_once last page BadOrder Unclean h k = absurd k
-index_once last page BadOrder BadCount h k = absurd (k.1 h.1)
-index_once last page BadOrder BadName h k = absurd k
-index_once last page BadOrder BadRow h k = absurd (k.2 h.2)
-index_once last page BadOrder BadOrder h k = refl
-index_once last page BadOrder OutOfRegion h k = absurd k
-index_once last page BadOrder BadPadding h k = absurd (h.3 k.3)
-index_once last page OutOfRegion g h k = absurd h
-index_once last page BadPadding WrongKind h k = absurd (k h.0)
-index_once last page BadPadding OldFormat h k = absurd k
-index_once last page BadPadding Unclean h k = absurd k
-index_once last page BadPadding BadCount h k = absurd (k.1 h.1)
-index_once last page BadPadding BadName h k = absurd k
-index_once last page BadPadding BadRow h k = absurd (k.2 h.2)
-index_once last page BadPadding BadOrder h k = absurd (k.3 h.3)
-index_once last page BadPadding OutOfRegion h k = absurd k
-index_once last page BadPadding BadPadding h k = refl
+index_once last page f g h k = grind arith
 
 -- why a page doesn't fit
 abbrev IsMisfit : ℕ → List ℕ → ℕ → PageFault → Type 0
@@ -269,18 +165,7 @@ module _ (asked : Asked) (told : Told) (small : asked.last < 2 ^ 128) where
   first_once (Store store.NoPage) (Page m b) h (inl k) = (let same = (stops_once h.0 m None (Some b) h.1 k).1 in cc)
   first_once (Store store.NoPage) (Page m b) h (inr k) = absurd (counts_apart m h.0 b None k h.1)
   first_once (Store store.NoPage) (Store store.NoPage) h k = refl
-  first_once Full g h k = absurd h
-  first_once (Store store.Device) g h k = absurd h
-  first_once (Store store.Memory) g h k = absurd h
-  first_once (Store store.BadSize) g h k = absurd h
-  first_once (Page n a) Full h k = absurd k
-  first_once (Page n a) (Store store.Device) h k = absurd k
-  first_once (Page n a) (Store store.Memory) h k = absurd k
-  first_once (Page n a) (Store store.BadSize) h k = absurd k
-  first_once (Store store.NoPage) Full h k = absurd k
-  first_once (Store store.NoPage) (Store store.Device) h k = absurd k
-  first_once (Store store.NoPage) (Store store.Memory) h k = absurd k
-  first_once (Store store.NoPage) (Store store.BadSize) h k = absurd k
+  first_once f g h k = absurd (search rules)
 
   -- where the pages are well there is none
   module _ (placed : List Placed) (well : AreWell asked told placed) where
@@ -302,7 +187,4 @@ module _ (asked : Asked) (told : Told) (small : asked.last < 2 ^ 128) where
     well_first (Page n a) (inl h) = well_stops n (Some a) h
     well_first (Page n a) (inr h) = well_counts n a h
     well_first (Store store.NoPage) h = well_stops h.0 None h.1
-    well_first (Store store.Device) h = h
-    well_first (Store store.Memory) h = h
-    well_first (Store store.BadSize) h = h
-    well_first Full h = h
+    well_first f h = search rules
