@@ -4,14 +4,12 @@ use Rattle.std.proofs.lemmas.List.{length-append}
 use Rattle.std.proofs.lemmas.Option.{slice_get_within}
 use Rattle.ub_index.proofs.WayFacts.{named_not_refused}
 use Rattle.ub_index.specs.Fitting.{IsNotTaken, IsUnfit}
-use Rattle.ub_index.specs.Index.{entries_of, first_or, page_in, top, IsIndexPage}
+use Rattle.ub_index.specs.Index.{entries_of, first_or, top, IsIndexPage}
 use Rattle.ub_page.proofs.IndexLaws.{node_not_refused}
 use Rattle.ub_page.specs.Index.{IsIndexFault, node_on}
 use Rattle.ub_region.proofs.RegionFacts.{not_refused}
 use Rattle.ub_region.specs.RegionPage.{IsRegionFault, region_page}
 use Rattle.ub_region.specs.declared.entry.Entry.{Entry}
-use Rattle.ub_region.specs.Regions.{rows_of}
-use Rattle.ub_store.specs.declared.fault.StoreFault.TheVariants as store
 use Rattle.ub_table.specs.Keys.{origin}
 use Rattle.ub_table.specs.declared.fault.PageFault.{PageFault}
 use Rattle.ub_table.specs.declared.fault.PageFault.TheVariants.{BadCount, OutOfRegion}
@@ -19,21 +17,17 @@ use Rattle.ub_table.specs.declared.row.Key.{Key}
 use Rattle.ub_table.specs.declared.schema.Schema.{Schema}
 use Rattle.ub_check.proofs.TakenFacts.{region_good, walk_never, walk_taken}
 use Rattle.ub_check.specs.Checking.{Asked, AreWell, EndsMiscounted, IsFirst, StopsAtRegion, StopsEach, StopsIn, StopsTable, TakesAll, TakesEach}
-use Rattle.ub_check.specs.Placed.{Placed, regions_in}
+use Rattle.ub_check.specs.Placed.{Placed}
 use Rattle.ub_check.specs.Standing.{IsRegionRefused}
 use Rattle.ub_check.specs.declared.checking.Told.{Told}
 use Rattle.ub_index.specs.declared.fault.IndexFault.{IndexFault}
-use Rattle.ub_index.specs.declared.fault.IndexFault.TheVariants.{Page, Store}
 
 -- a page is refused for one fault alone, as one of a region
 region_once : (schema : Schema) (page : List ℕ) (f g : PageFault) → IsRegionFault schema page f → IsRegionFault schema page g → f ≡ g
 region_once schema page f g h k = search rules
 
 refused_once : (schema : Schema) (first : Key) (end : Option Key) (page : List ℕ) (f g : PageFault) → IsRegionRefused schema first end page f → IsRegionRefused schema first end page g → f ≡ g
-refused_once schema first end page f g (inl h) (inl k) = region_once schema page f g h k
-refused_once schema first end page f g (inl h) (inr (is, region, of_schema, spelled, held)) = absurd (not_refused schema region page of_schema spelled f h)
-refused_once schema first end page f g (inr (is, region, of_schema, spelled, held)) (inl k) = absurd (not_refused schema region page of_schema spelled g k)
-refused_once schema first end page f g (inr h) (inr k) = h.0 ∙ sym k.0
+refused_once schema first end page f g h k = search (rules, not_refused, region_once)
 
 -- and as one of an index
 index_once : (last : ℕ) (page : List ℕ) (f g : PageFault) → IsIndexFault last page f → IsIndexFault last page g → f ≡ g
@@ -46,10 +40,7 @@ IsMisfit last page level fault =
     ⊎ (IsIndexPage last page × (((fault ≡ BadCount) × ((node_on page).level ≢ level)) ⊎ ((fault ≡ OutOfRegion) × ((node_on page).level ≡ level))))
 
 misfit : (last : ℕ) (page : List ℕ) (level : ℕ) (entry : Entry) (end : Option Key) (fault : PageFault) → IsUnfit last page level entry end fault → IsMisfit last page level fault
-misfit last page level entry end BadCount (inl h) = inl h
-misfit last page level entry end BadCount (inr h) = inr (h.0, inl (refl, h.1))
-misfit last page level entry end OutOfRegion h = inr (h.0, inr (refl, h.1))
-misfit last page level entry end fault h = inl h
+misfit last page level entry end fault h = search rules
 
 module _ (last : ℕ) (small : last < 2 ^ 128) (page : List ℕ) (level : ℕ) where
   misfit_once : (f g : PageFault) → IsMisfit last page level f → IsMisfit last page level g → f ≡ g
@@ -64,12 +55,9 @@ module _ (last : ℕ) (small : last < 2 ^ 128) (page : List ℕ) (level : ℕ) w
 taken_once : (last : ℕ) → last < 2 ^ 128 → (pages : List (List ℕ)) (level : ℕ) (entry : Entry) (end : Option Key) (a b : Option PageFault)
     → IsNotTaken last pages level entry end a → IsNotTaken last pages level entry end b → a ≡ b
 taken_once last small pages level entry end None None h k = refl
-taken_once last small pages level entry end None (Some g) h k = let near = slice_get_within pages entry.page (page_in pages entry.page) k.0 in absurd (omega arith)
-taken_once last small pages level entry end (Some f) None h k = let near = slice_get_within pages entry.page (page_in pages entry.page) h.0 in absurd (omega arith)
-taken_once last small pages level entry end (Some f) (Some g) h k =
-    ap (λ (x : PageFault). Some x)
-    (misfit_once last small (page_in pages entry.page) level f g (misfit last (page_in pages entry.page) level entry end f h.1)
-    (misfit last (page_in pages entry.page) level entry end g k.1))
+taken_once last small pages level entry end None (Some g) h k = search (rules, misfit, misfit_once, slice_get_within)
+taken_once last small pages level entry end (Some f) None h k = search (rules, misfit, misfit_once, slice_get_within)
+taken_once last small pages level entry end (Some f) (Some g) h k = search (rules, misfit, misfit_once, slice_get_within)
 
 same_some : {X : Type 0} (o : Option X) (x y : X) → o ≡ Some x → o ≡ Some y → x ≡ y
 same_some o x y a b = cc
@@ -116,9 +104,7 @@ module _ (asked : Asked) where
     -- where all is taken it doesn't stop
     takes_never : (level : ℕ) (e : Entry) (end : Option Key) (before after : List Placed) (n : ℕ) (fault : Option PageFault) → length before ≤ asked.count
         → TakesAll asked level e end before after → ¬ (StopsIn asked level e end before n fault)
-    takes_never level e end before after n fault few takes stops =
-        let taken = walk_taken asked level e end before after takes in
-        walk_never asked small level e end before after n fault taken.0 taken.1 (takes_few level e end before after takes few) stops
+    takes_never level e end before after n fault h k = search (rules, takes_few, walk_never, walk_taken)
 
     each_once : (level : ℕ) → ((e : Entry) (end : Option Key) (before : List Placed) (n m : ℕ) (a b : Option PageFault) → length before ≤ asked.count
         → StopsIn asked level e end before n a → StopsIn asked level e end before m b → (n ≡ m) × (a ≡ b))
@@ -153,38 +139,15 @@ module _ (asked : Asked) (told : Told) (small : asked.last < 2 ^ 128) where
   counts_apart n m fault a h stops = takes_never asked small told.levels (top told.root) None [] h.after m a none_more h.takes stops
 
   pub first_once : (f g : IndexFault) → IsFirst asked told f → IsFirst asked told g → f ≡ g
-  first_once (Page n a) (Page m b) (inl h) (inl k) =
-      let same = stops_once n m (Some a) (Some b) h k in
-      let fault : a ≡ b = (let both = same.1 in cc) in
-      ap (λ (i : ℕ). Page i a) same.0 ∙ ap (λ (x : PageFault). Page m x) fault
-  first_once (Page n a) (Page m b) (inl h) (inr k) = absurd (counts_apart m n b (Some a) k h)
-  first_once (Page n a) (Page m b) (inr h) (inl k) = absurd (counts_apart n m a (Some b) h k)
-  first_once (Page n a) (Page m b) (inr h) (inr k) = ap (λ (i : ℕ). Page i a) (h.page_is ∙ sym k.page_is) ∙ ap (λ (x : PageFault). Page m x) (h.fault_is ∙ sym k.fault_is)
-  first_once (Page n a) (Store store.NoPage) (inl h) k = (let same = (stops_once n k.0 (Some a) None h k.1).1 in cc)
-  first_once (Page n a) (Store store.NoPage) (inr h) k = absurd (counts_apart n k.0 a None h k.1)
-  first_once (Store store.NoPage) (Page m b) h (inl k) = (let same = (stops_once h.0 m None (Some b) h.1 k).1 in cc)
-  first_once (Store store.NoPage) (Page m b) h (inr k) = absurd (counts_apart m h.0 b None k h.1)
-  first_once (Store store.NoPage) (Store store.NoPage) h k = refl
-  first_once f g h k = absurd (search rules)
+  first_once f g h k = search (rules, counts_apart, stops_once)
 
   -- where the pages are well there is none
   module _ (placed : List Placed) (well : AreWell asked told placed) where
     well_counts : (n : ℕ) (fault : PageFault) → ¬ (EndsMiscounted asked told n fault)
-    well_counts n fault h =
-        let same : h.after ≡ placed =
-        (walk_taken asked told.levels (top told.root) None [] h.after h.takes).1.after_is
-        ∙ sym (walk_taken asked told.levels (top told.root) None [] placed well.takes).1.after_is in
-        by_counts (subst (λ (ps : List Placed). (length ps < asked.count) ⊎ ((length ps ≡ asked.count) × (¬ (told.rows ≡ length (rows_of (regions_in ps)))))) same h.counts)
-      where
-        by_counts : (length placed < asked.count) ⊎ ((length placed ≡ asked.count) × (¬ (told.rows ≡ length (rows_of (regions_in placed))))) → ⊥
-        by_counts (inl less) = let count = well.count_is in omega arith
-        by_counts (inr other) = other.1 well.rows_are
+    well_counts n fault = search (rules, walk_taken)
 
     well_stops : (n : ℕ) (fault : Option PageFault) → ¬ (StopsTable asked told n fault)
     well_stops n fault h = takes_never asked small told.levels (top told.root) None [] placed n fault none_more well.takes h
 
     pub well_first : (fault : IndexFault) → ¬ (IsFirst asked told fault)
-    well_first (Page n a) (inl h) = well_stops n (Some a) h
-    well_first (Page n a) (inr h) = well_counts n a h
-    well_first (Store store.NoPage) h = well_stops h.0 None h.1
-    well_first f h = search rules
+    well_first fault = search (rules, well_counts, well_stops)
