@@ -1,7 +1,7 @@
 -- Regions in order, each before the next.
 use Rattle.std.proofs.lemmas.Grind.{common_steps}
 use Rattle.std.proofs.Common.{rules}
-use Rattle.std.proofs.Common.{◌≡◌, ◌<◌, ◌≤◌, ℕ, zero, suc, List, [], ◌∷◌, ◌++◌, Some, length, take, drop, get_or, ◌∙◌, sym, ap, refl, arith, slice_get, append_assoc}
+use Rattle.std.proofs.Common.{◌≡◌, ◌<◌, ◌≤◌, ℕ, zero, suc, List, [], ◌∷◌, ◌++◌, Some, length, take, drop, get_or, ap, refl, arith, slice_get, append_assoc}
 use Rattle.std.proofs.lemmas.List.{length-take-le}
 use Rattle.std.specs.List.{AllByRecursion}
 use Rattle.ub_table.specs.Keys.{IsBefore, AreKeysAscending}
@@ -53,7 +53,7 @@ below_same dims region first (x ∷ xs) (y ∷ ys) bx by h =
 
 -- the first key of rows in range is in range
 pub row_first : (dims measures : ℕ) (row : Row) → dims ≤ 4 → IsRow dims measures row → IsFirst dims (key_of dims row)
-row_first dims measures row hh1 hh2 = search (rules, address-le, length-take-le)
+row_first dims measures row h k = search (rules, address-le, length-take-le)
 
 pub key_in_range : (dims measures : ℕ) (rows : List Row) (o : Key) (n : ℕ) → dims ≤ 4 → AllByRecursion (IsRow dims measures) rows → n < length rows → IsFirst dims (get_or (keys_of dims rows) n o)
 key_in_range dims measures [] o n few h lt = absurd (omega arith)

@@ -43,13 +43,13 @@ module _ {A : Type 0} (part : Row → A) where
       → Stands part n f xs → Stands part m g ys
       → ((j : ℕ) → j < at → h j ≡ f j) → ((j : ℕ) → j < count → h (at + j) ≡ g (from + j))
       → Stands part (at + count) h (take at xs ++ take count (drop from ys))
-  stands_copied n m at from count f g h xs ys hh1 hh2 hh3 hh4 hh5 hh6 hh7 hh8 = search (rules, blank_row, cases_lt, get_or-append_right, get_or-drop, get_or-take, get_or_append_left, length-take-le)
+  stands_copied n m at from count f g h xs ys k j l o p q r s = search (rules, blank_row, cases_lt, get_or-append_right, get_or-drop, get_or-take, get_or_append_left, length-take-le)
 
   -- one row taken out
   stands_out : (n index : ℕ) (f h : ℕ → A) (rows : List Row) → length rows ≡ n → index < n → Stands part n f rows
       → ((j : ℕ) → j < index → h j ≡ f j) → ((j : ℕ) → index ≤ j → j + 1 < n → h j ≡ f (j + 1))
       → Stands part (n - 1) h (take index rows ++ drop (index + 1) rows)
-  stands_out n index f h rows hh1 hh2 hh3 hh4 hh5 = search (rules, blank_row, cases_lt, get_or-append_right, get_or-drop, get_or-take, get_or_append_left, length-take-le)
+  stands_out n index f h rows k j l m o = search (rules, blank_row, cases_lt, get_or-append_right, get_or-drop, get_or-take, get_or_append_left, length-take-le)
 
   -- the first of them
   stands_first : (n count : ℕ) (f : ℕ → A) (rows : List Row) → count ≤ n → Stands part n f rows → Stands part count f (take count rows)
@@ -87,7 +87,7 @@ keys_held dims n keys points values rows h le =
 
 -- those of a region in memory
 pub held_at : (p : Inside) → AreColumns p → AreHeld p.shape p.len p.keys p.dims p.measures (held_rows p)
-held_at p hh1 = search (rules, blank_row, get_or-map, get_or-map-range_with_len, get_or-take, length-map-range_with_len)
+held_at p h = search (rules, blank_row, get_or-map, get_or-map-range_with_len, get_or-take, length-map-range_with_len)
 
 -- and its rows are those of its view
 pub held_now : (p : Inside) (v : RegionView) → AreColumns p → held p ≡ v → AreHeld p.shape p.len p.keys p.dims p.measures v.region.rows
@@ -103,7 +103,7 @@ pub held_put : (dims n index : ℕ) (row : Row) (keys new_keys : List Key) (poin
     → ((j : ℕ) → j < index → values_in new_values j ≡ values_in values j) → values_in new_values index ≡ row.measures
     → ((j : ℕ) → index ≤ j → j < n → values_in new_values (j + 1) ≡ values_in values j)
     → AreHeld dims (n + 1) new_keys new_points new_values (insert rows index row)
-held_put dims n index row keys new_keys points new_points values new_values rows hh1 hh2 hh3 hh4 hh5 hh6 hh7 hh8 hh9 hh10 hh11 = search (rules, length-insert, stands_put)
+held_put dims n index row keys new_keys points new_points values new_values rows h k j l m o p q r s t = search (rules, length-insert, stands_put)
 
 -- where one was taken out
 pub held_out : (dims n index : ℕ) (keys new_keys : List Key) (points new_points : List (List ℕ)) (values new_values : List (List ℤ)) (rows : List Row)
@@ -152,7 +152,7 @@ held_over dims n m at from count keys other_keys new_keys points other_points ne
 -- where the first ones are kept
 pub held_first : (dims n count : ℕ) (keys : List Key) (points : List (List ℕ)) (values : List (List ℤ)) (rows : List Row) → AreHeld dims n keys points values rows → count ≤ n
     → AreHeld dims count keys points values (take count rows)
-held_first dims n count keys points values rows hh1 hh2 = grind (arith, common_steps, length-take-le, stands_first)
+held_first dims n count keys points values rows h k = grind (arith, common_steps, length-take-le, stands_first)
 
 -- what holds rows is a region in memory, and its rows are these
 pub columns_held : (p : Inside) (rows : List Row) → AreHeld p.shape p.len p.keys p.dims p.measures rows → p.len ≤ 64 → length p.keys ≡ 64

@@ -61,4 +61,4 @@ module _ (dims : ℕ) (row : Row) where
       → ((i : ℕ) (k : Key) → i < low → slice_get (keys_of dims rows) i ≡ Some k → precedes (key_of dims row) k ≡ false)
       → ((i : ℕ) (k : Key) → high ≤ i → slice_get (keys_of dims rows) i ≡ Some k → precedes (key_of dims row) k ≡ true)
       → insert_row dims row rows ≡ insert rows low row
-  found_index rows low high hh1 hh2 hh3 hh4 hh5 = search (rules, placed)
+  found_index rows low high h k j l m = search (rules, placed)

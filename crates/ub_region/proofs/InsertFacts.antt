@@ -1,14 +1,14 @@
 -- Insertion keeps the regions of a table, and adds its row to theirs.
 use Rattle.std.proofs.Common.{rules}
 use Rattle.std.proofs.Common.{◌≡◌, ◌<◌, ◌≤◌, ◌+◌, ◌-◌, inl, inr, ℕ, zero, suc, List, [], ◌∷◌, ◌++◌, false, Some, length, map, take, drop, get_or, nat_eq, nat_le, ◌∙◌, sym, ap, refl, arith, subst}
-use Rattle.std.proofs.lemmas.Bool.{cases_Bool, cases_eq, cases_lt, leb-true, leb-false, ne_eqb, lt-ltb, le-ltb}
+use Rattle.std.proofs.lemmas.Bool.{cases_Bool, leb-true, leb-false, ne_eqb}
 use Rattle.std.proofs.lemmas.List.{length-take, length-drop, take-append-drop, append-nil}
 use Rattle.std.proofs.lemmas.List.Elements.{All-from_recursion, recursion_from_All}
 use Rattle.std.proofs.lemmas.List.Sorted.{IsPermutation-sym, IsPermutation-trans, IsPermutation-middle, IsPermutation-append_left, IsPermutation-append_right, IsPermutation-map, All-permutation}
 use Rattle.std.proofs.lemmas.Map.Keys.{IsDistinct-IsPermutation, IsDistinct-cons}
 use Rattle.std.specs.List.{AllByRecursion}
 use Rattle.std.specs.List.Sorted.{IsPermutation}
-use Rattle.ub_table.proofs.Laws.{before_from, before_parts, before_of, precedes_of, not_before_self, not_before_origin}
+use Rattle.ub_table.proofs.Laws.{before_of, precedes_of, not_before_origin}
 use Rattle.ub_table.specs.Keys.{IsBefore, AreKeysAscending, origin, precedes}
 use Rattle.ub_table.specs.Region.{RegionRows, IsRegion, IsRow, IsFirst, AreFrom, key_of, keys_of, measures_of}
 use Rattle.ub_table.specs.declared.row.Key.{Key}
@@ -22,7 +22,7 @@ use Rattle.ub_region.proofs.ChainFacts.{IsBelow, IsChain, BeginsWith, chain_of, 
 
 -- the separator is after the left key, not after the right one, and in range
 separator_is : (dims : ℕ) (left right : Key) → IsBefore left right → IsFirst dims right → IsBefore left (separator left right) × (¬ (IsBefore right (separator left right))) × IsFirst dims (separator left right)
-separator_is dims left right hh1 hh2 = search rules
+separator_is dims left right h k = search rules
 
 -- a region with a row too many, perhaps
 pub record IsFilled (schema : Schema) (region : RegionRows) : Type 0 where
@@ -57,7 +57,7 @@ module _ (schema : Schema) (region : RegionRows) (filled : IsFilled schema regio
   parted = separator_is dims left_key right_key the_cut.before (key_in_range dims (measures_of schema) region.rows origin (suc n) schema.counts.few_dims filled.rows within)
 
   first_before : IsBefore region.first first
-  first_before  = search (rules, All-from_recursion, length-keys_of, parted, upto_before)
+  first_before = search (rules, All-from_recursion, length-keys_of, parted, upto_before)
 
   left_region : IsRegion schema (record { first = region.first; rows = take (suc n) region.rows })
   left_region = record {
@@ -69,13 +69,13 @@ module _ (schema : Schema) (region : RegionRows) (filled : IsFilled schema regio
   }
 
   right_region : IsRegion schema (record { first = first; rows = drop (suc n) region.rows })
-  right_region  = grind (arith, all_drop, all_more, keys_drop, length-drop, parted, the_cut, up_drop, upto_upto)
+  right_region = grind (arith, all_drop, all_more, keys_drop, length-drop, parted, the_cut, up_drop, upto_upto)
 
   left_below : AllByRecursion (λ key. IsBefore key first) (keys_of dims (take (suc n) region.rows))
-  left_below  = grind (arith, all_more, keys_take, parted, the_cut, upto_before)
+  left_below = grind (arith, all_more, keys_take, parted, the_cut, upto_before)
 
   right_below : (regions : List RegionRows) → IsBelow dims region regions → IsBelow dims (record { first = first; rows = drop (suc n) region.rows }) regions
-  right_below regions hh1 = search (rules, All-from_recursion, all_drop, keys_drop, length-keys_of, parted, upto_before)
+  right_below regions h = search (rules, All-from_recursion, all_drop, keys_drop, length-keys_of, parted, upto_before)
 
   pub two_chain : (regions : List RegionRows) → IsBelow dims region regions → IsChain schema regions
       → IsChain schema (record { first = region.first; rows = take (suc n) region.rows } ∷ record { first = first; rows = drop (suc n) region.rows } ∷ regions)
@@ -114,11 +114,11 @@ module _ (schema : Schema) (row : Row) (good : IsRow schema.dims (measures_of sc
 
   filled_insert : (region : RegionRows) → IsRegion schema region → ¬ (IsBefore key region.first) → AllByRecursion (λ other. other.number < row.number) region.rows
       → IsFilled schema (record { first = region.first; rows = insert_row schema.dims row region.rows })
-  filled_insert region hh1 hh2 hh3 = search (rules, all_insert, all_keys, all_of_keys, length-insert_row, up_insert)
+  filled_insert region h k j = search (rules, all_insert, all_keys, all_of_keys, length-insert_row, up_insert)
 
   below_insert : (region : RegionRows) (regions : List RegionRows) → IsBelow schema.dims region regions → IsBeforeNext key (firsts_of regions)
       → IsBelow schema.dims (record { first = region.first; rows = insert_row schema.dims row region.rows }) regions
-  below_insert region regions hh1 hh2 = search (rules, all_insert, all_keys, all_of_keys)
+  below_insert region regions h k = search (rules, all_insert, all_keys, all_of_keys)
 
   -- what insertion does to regions of which the first begins with a key
   pub record IsInserted (first : Key) (old new : List RegionRows) : Type 0 where

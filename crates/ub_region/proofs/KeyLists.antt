@@ -1,11 +1,11 @@
 -- Ascending keys, in parts.
 use Rattle.std.proofs.lemmas.Grind.{common_steps}
 use Rattle.std.proofs.Common.{rules}
-use Rattle.std.proofs.Common.{◌≡◌, ◌≢◌, ◌<◌, ◌⊎◌, inl, inr, ℕ, zero, suc, List, [], ◌∷◌, ◌++◌, true, length, take, drop, get_or, sym, refl, arith, subst}
-use Rattle.std.proofs.lemmas.Bool.{cases_lt, cases_Bool, and_parts, and_from}
+use Rattle.std.proofs.Common.{◌≡◌, ◌≢◌, ◌<◌, ◌⊎◌, ℕ, zero, suc, List, [], ◌∷◌, ◌++◌, true, length, take, drop, get_or, refl, arith}
+use Rattle.std.proofs.lemmas.Bool.{and_parts, and_from}
 use Rattle.std.proofs.lemmas.List.Elements.{All-from_recursion}
 use Rattle.std.specs.List.{AllByRecursion}
-use Rattle.ub_table.proofs.Laws.{before_from, before_of, precedes_of, before_trans, not_both_before, not_before_self}
+use Rattle.ub_table.proofs.Laws.{before_of, precedes_of, before_trans, not_both_before, not_before_self}
 use Rattle.ub_table.specs.Keys.{IsBefore, AreKeysAscending, precedes, are_ascending}
 use Rattle.ub_table.specs.declared.row.Key.{Key}
 
@@ -19,7 +19,7 @@ module _ {X : Type 0} where
   all_both P Q R f (x ∷ xs) h k = (f x h.0 k.0, all_both P Q R f xs h.1 k.1)
 
   pub all_append : (P : X → Type 0) (xs ys : List X) → AllByRecursion P xs → AllByRecursion P ys → AllByRecursion P (xs ++ ys)
-  all_append P xs ys hh1 hh2 = grind (arith, common_steps)
+  all_append P xs ys h k = grind (arith, common_steps)
 
   pub all_left : (P : X → Type 0) (xs ys : List X) → AllByRecursion P (xs ++ ys) → AllByRecursion P xs
   all_left P [] ys h = tt
@@ -30,14 +30,14 @@ module _ {X : Type 0} where
   all_right P (x ∷ xs) ys h = all_right P xs ys h.1
 
   pub all_take : (P : X → Type 0) (n : ℕ) (xs : List X) → AllByRecursion P xs → AllByRecursion P (take n xs)
-  all_take P n xs hh1 = grind (arith, common_steps)
+  all_take P n xs h = grind (arith, common_steps)
 
   pub all_drop : (P : X → Type 0) (n : ℕ) (xs : List X) → AllByRecursion P xs → AllByRecursion P (drop n xs)
-  all_drop P n xs hh1 = grind (arith, common_steps)
+  all_drop P n xs h = grind (arith, common_steps)
 
 -- of two keys of other numbers one is before the other
 pub other_before : (a b : Key) → ¬ (IsBefore a b) → a.number ≢ b.number → IsBefore b a
-other_before a b hh1 hh2 = search rules
+other_before a b h k = search rules
 
 pub before_cases : (a b : Key) → IsBefore a b ⊎ (¬ (IsBefore a b))
 before_cases a b = search rules
@@ -46,17 +46,17 @@ key_of_parts : (a b : Key) → a.z ≡ b.z → a.number ≡ b.number → a ≡ b
 key_of_parts a b e f = rw (e, f) refl
 
 pub before_or_same : (a b : Key) → ¬ (IsBefore b a) → IsBefore a b ⊎ (a ≡ b)
-before_or_same a b hh1 = search rules
+before_or_same a b h = search rules
 
 -- a is at most b, and b is before c
 pub upto_before : (a b c : Key) → ¬ (IsBefore b a) → IsBefore b c → IsBefore a c
-upto_before a b c hh1 hh2 = search rules
+upto_before a b c h k = search rules
 
 pub before_upto : (a b c : Key) → IsBefore a b → ¬ (IsBefore c b) → IsBefore a c
-before_upto a b c hh1 hh2 = search rules
+before_upto a b c h k = search rules
 
 pub upto_upto : (a b c : Key) → ¬ (IsBefore b a) → ¬ (IsBefore c b) → ¬ (IsBefore c a)
-upto_upto a b c hh1 hh2 = search rules
+upto_upto a b c h k = search rules
 
 -- a key is before the first of those that follow, if there are any
 abbrev pub IsBeforeNext : Key → List Key → Type 0
@@ -64,13 +64,13 @@ IsBeforeNext key [] = Unit {0}
 IsBeforeNext key (next ∷ keys) = IsBefore key next
 
 pub up_head : (key : Key) (keys : List Key) → AreKeysAscending (key ∷ keys) → IsBeforeNext key keys
-up_head key keys hh1 = search rules
+up_head key keys h = search rules
 
 pub up_tail : (key : Key) (keys : List Key) → AreKeysAscending (key ∷ keys) → AreKeysAscending keys
-up_tail key keys hh1 = search rules
+up_tail key keys h = search rules
 
 pub up_cons : (key : Key) (keys : List Key) → IsBeforeNext key keys → AreKeysAscending keys → AreKeysAscending (key ∷ keys)
-up_cons key keys hh1 hh2 = search rules
+up_cons key keys h k = search rules
 
 -- the first of ascending keys is before all others
 pub all_after : (key : Key) (keys : List Key) → AreKeysAscending (key ∷ keys) → AllByRecursion (IsBefore key) keys

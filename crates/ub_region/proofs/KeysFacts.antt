@@ -1,6 +1,6 @@
 -- The keys of a page's rows.
 use Rattle.std.proofs.Common.{rules}
-use Rattle.std.proofs.Common.{◌≡◌, ◌<◌, ◌↔◌, Bool, true, false, not, IsTrue, ℕ, List, [], ◌∷◌, length, get_or, refl, arith}
+use Rattle.std.proofs.Common.{◌≡◌, ◌<◌, ◌↔◌, Bool, not, IsTrue, ℕ, List, [], ◌∷◌, length, get_or}
 use Rattle.std.specs.List.{AllByRecursion}
 use Rattle.ub_region.specs.Columns.{IsKeyNumbered}
 use Rattle.ub_table.proofs.Laws.{before_trans}
@@ -25,4 +25,4 @@ not_true b = search rules
 -- what the test of the least key tells
 pub keys_are_from : (first : Key) (keys : List Key) (blank : Key) (b : Bool) → 0 < length keys → AreKeysAscending keys
     → b ≡ precedes (get_or keys 0 blank) first → IsTrue (not b) ↔ AreFrom first keys
-keys_are_from first keys blank b hh1 hh2 hh3 = search (rules, from_least, not_true)
+keys_are_from first keys blank b h k j = search (rules, from_least, not_true)

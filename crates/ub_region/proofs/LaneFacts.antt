@@ -1,6 +1,6 @@
 -- Masks of comparisons, of eight lanes and of a whole column.
 use Rattle.std.proofs.lemmas.Grind.{common_steps}
-use Rattle.std.proofs.Common.{◌≡◌, ◌≢◌, ◌≤◌, ◌<◌, ◌+◌, ◌-◌, ◌*◌, ◌^◌, ◌%◌, ◌↔◌, ◌⊎◌, inl, inr, ℕ, zero, suc, Bool, true, false, cond, List, [], ◌∷◌, length, map, take, drop, replicate, get_or, slice_index, refl, sym, ap, ◌∙◌, arith, rules, nat_le, leb-true, le-leb, min, max, bit_and, bit_or}
+use Rattle.std.proofs.Common.{◌≡◌, ◌≢◌, ◌≤◌, ◌<◌, ◌+◌, ◌-◌, ◌*◌, ◌^◌, ◌%◌, ◌↔◌, ◌⊎◌, inl, inr, ℕ, Bool, true, false, cond, List, length, map, take, drop, replicate, get_or, slice_index, sym, ap, ◌∙◌, arith, rules, nat_le, min, max, bit_and, bit_or}
 use Rattle.std.proofs.lemmas.Bool.{cases_order}
 use Rattle.std.proofs.lemmas.List.{length-map, length-take-le, get_or-take, get_or-drop, length-drop}
 use Rattle.std.proofs.lemmas.Nat.{shl_whole, pow_pos}
@@ -44,21 +44,11 @@ Lies lo hi column i = (i < length column) × (lo ≤ get_or column i 0) × (get_
 abbrev pub IsMaskTo : ℕ → ℕ → List ℕ → ℕ → ℕ → Type 0
 IsMaskTo lo hi column n mask = (i : ℕ) → (bit_at mask i ≡ 1) ↔ Both (i < n) (Lies lo hi column i)
 
-pub IsMaskTo-none : (lo hi : ℕ) (column : List ℕ) → IsMaskTo lo hi column 0 0
-IsMaskTo-none lo hi column i = (λ set. absurd (omega (arith, bit_at-zero i)), λ inside. absurd (let less = inside.first in omega arith))
-
--- the mask of the first n values, and of all
-pub IsMaskTo-take : (lo hi n mask : ℕ) (column : List ℕ) → n ≤ length column → IsMaskTo lo hi column n mask → IsMaskOf lo hi (take n column) mask
-IsMaskTo-take lo hi n mask column hh1 hh2 = search (rules, get_or-take, length-take-le)
-
 pub IsMaskTo-from : (lo hi n mask : ℕ) (column : List ℕ) → n ≤ length column → IsMaskOf lo hi (take n column) mask → IsMaskTo lo hi column n mask
-IsMaskTo-from lo hi n mask column hh1 hh2 = search (rules, get_or-take, length-take-le)
-
-pub IsMaskTo-all : (lo hi n mask : ℕ) (column : List ℕ) → length column ≤ n → IsMaskTo lo hi column n mask → IsMaskOf lo hi column mask
-IsMaskTo-all lo hi n mask column all so i = (λ bit. ((so i).0 bit).second, λ h. (let less = h.0 in (so i).1 (record { first = omega arith; second = h })))
+IsMaskTo-from lo hi n mask column h k = search (rules, get_or-take, length-take-le)
 
 apart : (i n : ℕ) → (i < n) ⊎ (n < i) → i ≢ n
-apart i n hh1 = search rules
+apart i n h = search rules
 
 -- one value more, which lies between the bounds
 pub IsMaskTo-set : (lo hi n mask : ℕ) (column : List ℕ) → n < 64 → n < length column → lo ≤ get_or column n 0 → get_or column n 0 ≤ hi → IsMaskTo lo hi column n mask
@@ -75,13 +65,13 @@ IsMaskTo-set lo hi n mask column small there low high so i = elim (cases_order i
 
 -- one that doesn't
 pub IsMaskTo-kept : (lo hi n mask : ℕ) (column : List ℕ) → ((lo ≤ get_or column n 0) → (get_or column n 0 ≤ hi) → ⊥) → IsMaskTo lo hi column n mask → IsMaskTo lo hi column (n + 1) mask
-IsMaskTo-kept lo hi n mask column hh1 hh2 = search rules
+IsMaskTo-kept lo hi n mask column h k = search rules
 
 pub sorted : (i n : ℕ) → (i ≡ n) ⊎ ((i < n) ⊎ (n < i)) → (i < n) ⊎ (n ≤ i)
-sorted i n hh1 = search rules
+sorted i n h = search rules
 
 either : (a b : ℕ) → a < 2 → b < 2 → (max a b ≡ 1) ↔ ((a ≡ 1) ⊎ (b ≡ 1))
-either a b hh1 hh2 = search rules
+either a b h k = search rules
 
 -- eight values more
 pub IsMaskTo-chunk : (lo hi n mask lanes : ℕ) (column : List ℕ) → n + 8 ≤ length column → length column ≤ 64 → lanes < 256 → IsMaskOf lo hi (take 8 (drop n column)) lanes

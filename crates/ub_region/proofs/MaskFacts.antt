@@ -12,7 +12,7 @@ use Rattle.ub_bigmin.specs.Box.{Corners, IsInside}
 use Rattle.ub_region.proofs.LaneFacts.{sorted}
 use Rattle.ub_region.proofs.BlankRow.{blank_row}
 use Rattle.ub_region.specs.Columns.{point_in, row_in}
-use Rattle.ub_region.specs.Lanes.{IsMaskOf, IsMaskBelow, IsBetween, used}
+use Rattle.ub_region.specs.Lanes.{IsMaskOf, IsMaskBelow, used}
 use Rattle.ub_region.specs.RegionPage.{IsRowInside}
 use Rattle.ub_table.specs.declared.row.Key.{Key}
 use Rattle.ub_table.specs.declared.row.Row.{Row}
@@ -24,10 +24,10 @@ IsMaskBelow-none len columns lo hi i = elim (sorted i 64 (cases_order i 64)) [
 ]
 
 both : (a b : ℕ) → a < 2 → b < 2 → (min a b ≡ 1) ↔ ((a ≡ 1) × (b ≡ 1))
-both a b hh1 hh2 = search rules
+both a b h k = search rules
 
 at_last : (n d : ℕ) (P : ℕ → Type 0) → d < n + 1 → ((d : ℕ) → d < n → P d) → P n → P d
-at_last n d P hh1 hh2 hh3 = search rules
+at_last n d P h k j = search rules
 
 some_same : (a b : Row) → Some a ≡ Some b → a ≡ b
 some_same a b e = cc
@@ -36,7 +36,7 @@ some_same a b e = cc
 pub IsMaskBelow-more : (len : ℕ) (columns : List (List ℕ)) (lo hi : List ℕ) (mask n column_mask : ℕ) → len ≤ 64
     → IsMaskOf (slice_index lo n) (slice_index hi n) (used len columns n) column_mask
     → IsMaskBelow len columns lo hi n mask → IsMaskBelow len columns lo hi (n + 1) (bit_and mask column_mask)
-IsMaskBelow-more len columns lo hi mask n column_mask hh1 hh2 hh3 = search (rules, at_last, bit_at-lt, bit_at_and, both)
+IsMaskBelow-more len columns lo hi mask n column_mask h k j = search (rules, at_last, bit_at-lt, bit_at_and, both)
 
 -- a coordinate of a row stands in the column of its dimension
 at_dim : (columns : List (List ℕ)) (i d : ℕ) → d < 4 → get_or (point_in columns i) d 0 ≡ get_or (get_or columns d []) i 0

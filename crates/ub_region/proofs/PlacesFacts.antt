@@ -9,7 +9,7 @@ use Rattle.std.proofs.lemmas.List.FromFn.{length-map-range_with_len, map-range_w
 -- one value more, whatever stands in the places after it
 pub first_more : {A : Type 0} (f : ℕ → A) (xs : List A) (n : ℕ) (x : A) → n < length xs → take n xs ≡ map f (range_with_len 0 n) → x ≡ f n
     → take (n + 1) (set xs n x) ≡ map f (range_with_len 0 (n + 1))
-first_more f xs n x hh1 hh2 hh3 = search (rules, map-range_with_len_more, take_more_set)
+first_more f xs n x h k j = search (rules, map-range_with_len_more, take_more_set)
 
 -- one value more
 pub block_more : {A : Type 0} (total : ℕ) (rest : A) (f : ℕ → A) (n : ℕ) → n < total

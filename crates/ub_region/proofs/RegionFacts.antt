@@ -8,16 +8,14 @@ use Rattle.std.proofs.Math.Facts.{Fits-lt-pow, Fits-of_lt, Fits-of_z, sfits_lit,
 use Rattle.std.proofs.Math.Seq.{drop-append_seam}
 use Rattle.std.proofs.lemmas.List.Elements.{All-append, All-replicate}
 use Rattle.std.proofs.lemmas.List.FromFn.{length-map-range_with_len, get_or-map-range_with_len}
-use Rattle.std.proofs.Common.{◌≡◌, ◌≤◌, ◌<◌, ◌+◌, ◌-◌, ◌*◌, ◌^◌, ℕ, zero, suc, List, [], ◌∷◌, ◌++◌, length, map, take, drop, replicate, get_or, subst, refl, sym, ap, arith, ◌∙◌, append_assoc, Some}
+use Rattle.std.proofs.Common.{◌≡◌, ◌≤◌, ◌<◌, ◌+◌, ◌-◌, ◌*◌, ◌^◌, ℕ, zero, suc, List, [], ◌∷◌, ◌++◌, length, map, take, drop, replicate, get_or, refl, sym, ap, arith, ◌∙◌, append_assoc, Some}
 use Rattle.std.specs.List.{All, AllByRecursion, flat_map, range_with_len, slice_get}
-use Rattle.std.proofs.lemmas.List.{length-append, take-append-drop, get_or-drop, length-replicate}
+use Rattle.std.proofs.lemmas.List.{length-append, get_or-drop, length-replicate}
 use Rattle.ub_bytes.specs.Bytes.{number_bytes, number_at, layout}
 use Rattle.ub_region.specs.RegionPage.{RegionView, column, columns, dim_of, measure_of, head_fields, region_page, places, row_on, region_on, IsRegionKind, HasCounts, HasRows, HasOrder, HasFirst, IsRegionFault}
 use Rattle.ub_region.proofs.AddressFacts.{small_address}
 use Rattle.ub_bytes.proofs.BytesFacts.{length-number_bytes, read_at, layout_read, length-layout, AllFit}
-use Rattle.ub_table.specs.Keys.{AreKeysAscending}
-use Rattle.ub_table.specs.Region.{RegionRows, measures_of, HasRest, IsRow, IsRegion, IsNumbered, IsFirst, AreFrom, keys_of}
-use Rattle.ub_table.specs.declared.fault.PageFault.TheVariants.{WrongKind, OldFormat, Unclean, BadCount, BadName, BadRow, BadOrder, OutOfRegion, BadPadding}
+use Rattle.ub_table.specs.Region.{RegionRows, measures_of, HasRest, IsRow, IsRegion, IsNumbered}
 use Rattle.ub_table.specs.declared.fault.PageFault.{PageFault}
 use Rattle.ub_table.specs.declared.row.Row.{Row}
 use Rattle.ub_table.specs.declared.schema.Schema.{Schema}
@@ -70,7 +68,7 @@ columns_read width number rows page front rest offset a (suc n) is fit e (suc j)
 columns_at : (width : ℕ) (number : ℕ → Row → ℕ) (rows : List Row) (page front rest : List ℕ) (offset n : ℕ) → offset ≡ length front → ((j : ℕ) → FitIn width (number j) rows)
     → page ≡ front ++ (columns width number n rows ++ rest)
     → (j : ℕ) → j < n → (i : ℕ) (row : Row) → slice_get rows i ≡ Some row → number_at width (offset + width * (length rows * j + i)) page ≡ number j row
-columns_at width number rows page front rest offset n hh1 hh2 hh3 j hh4 i row hh5 = grind (arith, columns_read)
+columns_at width number rows page front rest offset n h k l j m i row o = grind (arith, columns_read)
 
 pub length-columns : (width : ℕ) (number : ℕ → Row → ℕ) (a n : ℕ) (rows : List Row)
     → length (flat_map (λ i. column width (number i) rows) (range_with_len a n)) ≡ width * (length rows * n)
@@ -101,11 +99,11 @@ front_read f rest (x ∷ xs) a (suc n) long h =
 
 -- four places are read from those that are used
 places_read : {A : Type 0} (rest : A) (f : ℕ → A) (used : ℕ) (xs : List A) → used ≤ 4 → HasRest rest used xs → ((i : ℕ) → i < used → f i ≡ get_or xs i rest) → places rest f used ≡ xs
-places_read rest f used xs hh1 hh2 hh3 = search rules
+places_read rest f used xs h k j = search rules
 
 -- what holds of each, and of what stands past the end, holds at any index
 at_any : {A : Type 0} (P : A → Type 0) (rest : A) (xs : List A) → All P xs → P rest → (i : ℕ) → P (get_or xs i rest)
-at_any P rest xs hh1 hh2 i = grind (arith, common_steps)
+at_any P rest xs h k i = grind (arith, common_steps)
 
 -- what follows of each row follows of all
 all_weaker : (P Q : Row → Type 0) → ((row : Row) → P row → Q row) → (rows : List Row) → AllByRecursion P rows → AllByRecursion Q rows
@@ -201,7 +199,7 @@ unfolding number_at
 number_lt n offset page bytes = big_from-lt 0 n (drop offset page) (λ k. rw (get_or-drop offset page k 0) (bytes (offset + k)))
 
 all_map : {A : Type 0} (P : A → Type 0) (f : ℕ → A) → ((i : ℕ) → P (f i)) → (a n : ℕ) → All P (map f (range_with_len a n))
-all_map P f hh1 a n = search (rules, get_or-map-range_with_len, length-map-range_with_len)
+all_map P f h a n = search (rules, get_or-map-range_with_len, length-map-range_with_len)
 
 -- four places, of which those that are not used hold a value of the same kind
 places_hold : {A : Type 0} (P : A → Type 0) (rest : A) (f : ℕ → A) (used : ℕ) → used ≤ 4 → P rest → ((i : ℕ) → P (f i)) → HasRest rest used (places rest f used) × All P (places rest f used)
@@ -231,11 +229,11 @@ rows_are dims measures count page a (suc n) few_dims few_measures bytes all = se
 -- what stands on a page is a region, where that is in range and in order
 pub is_region : (schema : Schema) (page : List ℕ) → ((k : ℕ) → get_or page k 0 < 256) → HasCounts schema page → HasRows schema page → HasOrder schema page → HasFirst schema page
     → IsRegion schema (region_on schema page)
-is_region schema page hh1 hh2 hh3 hh4 hh5 = search (rules, length-map-range_with_len, rows_are)
+is_region schema page h k j l m = search (rules, length-map-range_with_len, rows_are)
 
 -- the page of a region is not refused
 pub not_refused : (schema : Schema) (region : RegionRows) (page : List ℕ) → IsRegion schema region → page ≡ region_page schema region → (e : PageFault) → IsRegionFault schema page e → ⊥
-not_refused schema region page hh1 hh2 e hh3 = search (rules, all_weaker, parts)
+not_refused schema region page h k e j = search (rules, all_weaker, parts)
 
 pub same_view : (view : RegionView) (dims : ℕ) (region : RegionRows) → view.dims ≡ dims → view.region ≡ region → view ≡ record { dims = dims; region = region }
 same_view view dims region a b = rw (← a, ← b) refl

@@ -1,10 +1,9 @@
 -- A row that is put in among those of columns.
 use Rattle.std.proofs.lemmas.Grind.{common_steps}
-use Rattle.std.proofs.Common.{rules}
-use Rattle.std.proofs.Common.{◌≡◌, ◌<◌, ◌≤◌, ◌+◌, ◌-◌, ℕ, zero, suc, List, [], ◌∷◌, ◌++◌, length, take, drop, set, get_or, refl, sym, ap, ◌∙◌, arith}
+use Rattle.std.proofs.Common.{◌≡◌, ◌<◌, ◌≤◌, ◌+◌, ◌-◌, ℕ, zero, suc, List, [], ◌∷◌, ◌++◌, length, take, drop, set, get_or, refl, arith}
 use Rattle.std.proofs.Math.Seq.{take-append_seam}
-use Rattle.std.proofs.lemmas.List.{get_or-take, length-take-le, take_more_set}
-use Rattle.std.proofs.lemmas.List.Edits.{get_or-insert_above, get_or-insert_at, get_or-insert_below, insert_end}
+use Rattle.std.proofs.lemmas.List.{length-take-le, take_more_set}
+use Rattle.std.proofs.lemmas.List.Edits.{insert_end}
 use Rattle.std.specs.List.{insert}
 use Rattle.ub_region.specs.Columns.{across}
 
@@ -27,20 +26,7 @@ module _ {A : Type 0} where
 
   -- one put behind the last of them
   pub put_last : (xs : List A) (index len : ℕ) (x : A) → index ≡ len → len < length xs → take (len + 1) (set xs index x) ≡ insert (take len xs) index x
-  put_last xs index len x hh1 hh2 = grind (arith, common_steps, insert_end, length-take-le, take_more_set)
-
-  -- what stands at each place after a value was put in
-  pub put_below : (xs zs : List A) (index len : ℕ) (x : A) → take (len + 1) zs ≡ insert (take len xs) index x → index ≤ len → len < length xs
-      → (j : ℕ) (d : A) → j < index → get_or zs j d ≡ get_or xs j d
-  put_below xs zs index len x hh1 hh2 hh3 j d hh4 = search (rules, get_or-insert_below, get_or-take, length-take-le)
-
-  pub put_here : (xs zs : List A) (index len : ℕ) (x : A) → take (len + 1) zs ≡ insert (take len xs) index x → index ≤ len → len < length xs
-      → (d : A) → get_or zs index d ≡ x
-  put_here xs zs index len x hh1 hh2 hh3 d = search (rules, get_or-insert_at, get_or-take, length-take-le)
-
-  pub put_above : (xs zs : List A) (index len : ℕ) (x : A) → take (len + 1) zs ≡ insert (take len xs) index x → index ≤ len → len < length xs
-      → (j : ℕ) (d : A) → index ≤ j → j < len → get_or zs (j + 1) d ≡ get_or xs j d
-  put_above xs zs index len x hh1 hh2 hh3 j d hh4 hh5 = search (rules, get_or-insert_above, get_or-take, length-take-le)
+  put_last xs index len x h k = grind (arith, common_steps, insert_end, length-take-le, take_more_set)
 
   -- four columns, in each of which a value was put
   pub across_four : (rest : A) (columns : List (List A)) (a b c d values : List A) (i : ℕ) → length columns ≡ 4 → length values ≡ 4
@@ -57,11 +43,3 @@ module _ {A : Type 0} where
   across_four rest (k ∷ l ∷ m ∷ n ∷ []) a b c d (w ∷ x ∷ []) i long same p q r s = absurd (omega arith)
   across_four rest (k ∷ l ∷ m ∷ n ∷ []) a b c d (w ∷ x ∷ y ∷ []) i long same p q r s = absurd (omega arith)
   across_four rest (k ∷ l ∷ m ∷ n ∷ []) a b c d (w ∷ x ∷ y ∷ z ∷ v ∷ values) i long same p q r s = absurd (omega arith)
-
-  -- four columns hold at a place what each of them held at another
-  pub across_kept : (rest : A) (columns : List (List A)) (a b c d : List A) (i j : ℕ) → length columns ≡ 4
-      → get_or a i rest ≡ get_or (get_or columns 0 []) j rest → get_or b i rest ≡ get_or (get_or (set columns 0 a) 1 []) j rest
-      → get_or c i rest ≡ get_or (get_or (set (set columns 0 a) 1 b) 2 []) j rest
-      → get_or d i rest ≡ get_or (get_or (set (set (set columns 0 a) 1 b) 2 c) 3 []) j rest
-      → across rest (set (set (set (set columns 0 a) 1 b) 2 c) 3 d) i ≡ across rest columns j
-  across_kept rest columns a b c d i j hh1 hh2 hh3 hh4 hh5 = search rules

@@ -1,22 +1,22 @@
 -- A page whose other bytes are zero is spelled by what stands on it.
 use Rattle.std.proofs.lemmas.Grind.{common_steps}
 use Rattle.std.proofs.Common.{rules}
-use Rattle.std.proofs.Common.{◌≡◌, ◌<◌, ◌≤◌, ◌+◌, ◌-◌, ◌*◌, ◌/◌, ◌%◌, ◌^◌, ◌++◌, ℕ, pos, zero, suc, List, [], ◌∷◌, length, map, take, drop, replicate, get_or, slice_index, refl, sym, ap, arith, ◌∙◌, append_assoc}
+use Rattle.std.proofs.Common.{◌≡◌, ◌<◌, ◌≤◌, ◌+◌, ◌-◌, ◌*◌, ◌/◌, ◌%◌, ◌^◌, ◌++◌, ℕ, zero, suc, List, [], ◌∷◌, length, map, take, drop, replicate, get_or, slice_index, refl, sym, ap, arith, ◌∙◌, append_assoc}
 use Rattle.byteorder.specs.Endian.{big_number, big_from}
 use Rattle.byteorder.specs.Numbers.{big_from-cons, big_from-lt}
-use Rattle.std.proofs.Math.Nat.{mul-le-mul_left, div-one, mul_assoc, mul_comm, pow-suc, mod-eq_of_lt, mul-add-mod_self_right, mul-add-div_right}
+use Rattle.std.proofs.Math.Nat.{mul-le-mul_left, mul_assoc, mul_comm, pow-suc, mod-eq_of_lt, mul-add-mod_self_right, mul-add-div_right}
 use Rattle.std.proofs.Math.Seq.{take-add}
 use Rattle.std.proofs.lemmas.Int.{of_z-to_z}
 use Rattle.std.proofs.lemmas.List.{length-append, length-drop, length-take-le, get_or-drop, drop-drop, take-append-drop}
 use Rattle.std.proofs.lemmas.List.FromFn.{length-map-range_with_len}
 use Rattle.std.proofs.lemmas.Nat.{div-mul-add}
-use Rattle.std.specs.Int.{byte_at, bytes_high_first, w64, cast_signed, cast_unsigned}
+use Rattle.std.specs.Int.{byte_at, bytes_high_first}
 use Rattle.std.specs.List.{flat_map, range_with_len}
 use Rattle.ub_bytes.proofs.BytesFacts.{AreAt, layout_len, length-layout}
 use Rattle.ub_region.proofs.ColumnFacts.{block_at}
 use Rattle.ub_bytes.proofs.DraftFacts.{of_front, same_count}
 use Rattle.ub_region.proofs.RegionFacts.{parts, number_lt, length-column, length-columns}
-use Rattle.ub_bytes.specs.Bytes.{number_bytes, number_at, layout, padded}
+use Rattle.ub_bytes.specs.Bytes.{number_bytes, number_at, layout}
 use Rattle.ub_region.specs.Columns.{end_with}
 use Rattle.ub_region.specs.RegionPage.{column, columns, dim_of, measure_of, head_fields, region_page, row_on, region_on, IsRegionKind, HasCounts, HasRows, HasOrder, HasFirst, IsRegionFault}
 use Rattle.ub_table.specs.Region.{RegionRows, measures_of, IsRegion}
@@ -85,14 +85,14 @@ number_on dims measures count i page = refl
 measure_on : (dims measures count i m : ℕ) (page : List ℕ) → ((k : ℕ) → get_or page k 0 < 256) → m < measures
     → measure_of m (row_on dims measures count page i) ≡ number_at 8 (24 + 4 * count + 4 * (count * dims) + 8 * (count * m + i)) page
 unfolding row_on
-measure_on dims measures count i m page hh1 hh2 = search (rules, block_at, number_lt, of_z-to_z)
+measure_on dims measures count i m page h k = search (rules, block_at, number_lt, of_z-to_z)
 
 four_parts : (a b c d : List ℕ) → a ++ (b ++ (c ++ d)) ≡ ((a ++ b) ++ c) ++ d
 four_parts a b c d = simp append_assoc
 
 -- the fields of a region have room on a page
 room_for : (dims measures count : ℕ) → dims ≤ 4 → measures ≤ 4 → count ≤ 64 → 24 + 4 * count + 4 * (count * dims) + 8 * (count * measures) ≤ 4096
-room_for dims measures count hh1 hh2 hh3 = search rules
+room_for dims measures count h k j = search rules
 
 room_for_one : (used count d : ℕ) → d < used → count * d + count ≤ count * used
 room_for_one used count d less = let a : count * (d + 1) ≤ count * used = mul-le-mul_left count (omega arith) in omega arith
@@ -138,7 +138,7 @@ fields_back schema page long small kind counts =
 pub spelled : (schema : Schema) (page : List ℕ) → length page ≡ 4096 → ((k : ℕ) → get_or page k 0 < 256) → IsRegionKind page → HasCounts schema page
     → drop (end_with schema (number_at 1 3 page)) page ≡ replicate (4096 - end_with schema (number_at 1 3 page)) 0 → page ≡ region_page schema (region_on schema page)
 unfolding region_page
-spelled schema page hh1 hh2 hh3 hh4 hh5 = grind (arith, fields_back, length-take-le, room_for, take-append-drop)
+spelled schema page h k j l m = grind (arith, fields_back, length-take-le, room_for, take-append-drop)
 
 -- a page of a region is blank behind its last field
 pub blank_behind : (schema : Schema) (region : RegionRows) (page : List ℕ) → IsRegion schema region → page ≡ region_page schema region
@@ -176,4 +176,4 @@ padding_fault schema page kind counts rows order first other = (kind, counts, ro
 -- the end of the fields is told by the page
 pub end_is : (schema : Schema) (page : List ℕ) (region : RegionRows) (len end : ℕ) → region ≡ region_on schema page → len ≡ length region.rows → end ≡ end_with schema len
     → end ≡ end_with schema (number_at 1 3 page)
-end_is schema page region len end hh1 hh2 hh3 = search (rules, length-map-range_with_len)
+end_is schema page region len end h k j = search (rules, length-map-range_with_len)

@@ -7,7 +7,7 @@ use Rattle.std.specs.List.{insert}
 use Rattle.ub_region.proofs.BlankRow.{blank_row}
 use Rattle.ub_region.proofs.ChainFacts.{keys_drop, keys_take}
 use Rattle.ub_region.specs.Rows.{cut, has_key, remove_row, separator}
-use Rattle.ub_table.specs.Keys.{is_same, origin}
+use Rattle.ub_table.specs.Keys.{is_same}
 use Rattle.ub_table.specs.Region.{key_of, keys_of}
 use Rattle.ub_table.specs.declared.row.Key.{Key}
 use Rattle.ub_table.specs.declared.row.Row.{Row}
@@ -34,7 +34,7 @@ module _ {A : Type 0} (x : A) where
 
   -- put in behind the first n, these are as they were, and it is one of the others
   pub left_kept : (xs : List A) (i n : ℕ) → n ≤ i → i ≤ length xs → take n xs ≡ take n (insert xs i x)
-  left_kept xs i n hh1 hh2 = grind (arith, common_steps)
+  left_kept xs i n h k = grind (arith, common_steps)
 
   pub put_right : (xs : List A) (i n k : ℕ) → i ≡ n + k → i ≤ length xs → insert (drop n xs) k x ≡ drop n (insert xs i x)
   put_right [] i zero k is few = let same : i ≡ k = omega arith in rw same refl
@@ -47,7 +47,7 @@ module _ {A : Type 0} (x : A) where
 -- the last key on the left and the first one on the right part the rows that are cut there
 pub separator_at : (dims n : ℕ) (rows left right : List Row) (a b : Key) → 1 ≤ n → left ≡ take n rows → right ≡ drop n rows
     → slice_get (keys_of dims left) (n - 1) ≡ Some a → slice_get (keys_of dims right) 0 ≡ Some b → separator a b ≡ (cut dims n rows).first
-separator_at dims n rows left right a b hh1 hh2 hh3 hh4 hh5 = grind (arith, common_steps, get_or-drop, get_or-take, get_or_from_slice_get, keys_drop, keys_take)
+separator_at dims n rows left right a b h k j l m = grind (arith, common_steps, get_or-drop, get_or-take, get_or_from_slice_get, keys_drop, keys_take)
 
 module _ (dims : ℕ) (key : Key) (keys : List Key) (rows : List Row) (is : keys ≡ keys_of dims rows) (i : ℕ) (lt : i < length rows) (e : Key) where
   abbrev row : Row
@@ -62,7 +62,7 @@ module _ (dims : ℕ) (key : Key) (keys : List Key) (rows : List Row) (is : keys
 
   pub passed_rest : is_same key (get_or keys i e) ≡ false
       → take i rows ++ remove_row dims key (drop i rows) ≡ take (i + 1) rows ++ remove_row dims key (drop (i + 1) rows)
-  passed_rest hh1 = grind (arith, common_steps, append_assoc, blank_row, drop_more, same_key, take_more)
+  passed_rest h = grind (arith, common_steps, append_assoc, blank_row, drop_more, same_key, take_more)
 
   -- the one of the key is found
   pub found_any : is_same key (get_or keys i e) ≡ true → has_key dims key (drop i rows) ≡ true

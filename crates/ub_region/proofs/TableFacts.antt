@@ -1,6 +1,6 @@
 -- What an insertion and a removal make of a table's rows.
 use Rattle.std.proofs.Common.{rules}
-use Rattle.std.proofs.Common.{◌≡◌, ◌<◌, ◌+◌, inl, inr, ℕ, zero, suc, List, [], ◌∷◌, ◌++◌, Bool, true, false, not, length, map, get_or, nat_eq, ◌∙◌, sym, ap, refl, arith, subst, filter}
+use Rattle.std.proofs.Common.{◌≡◌, ◌<◌, inl, inr, ℕ, zero, suc, List, [], ◌∷◌, ◌++◌, Bool, true, false, not, length, map, get_or, nat_eq, ◌∙◌, sym, ap, refl, arith, subst, filter}
 use Rattle.std.proofs.lemmas.Bool.{cases_Bool, cases_lt, eq-eqb, not-true, not_from_false}
 use Rattle.std.proofs.lemmas.List.{map-append, length-append, get_or_append_left}
 use Rattle.std.proofs.lemmas.List.Elements.{All-contains, All-from_recursion, recursion_from_All, Contains-append_cases, Contains-append_left, Contains-append_right, Contains-push_cases, Contains-push}
@@ -21,7 +21,7 @@ use Rattle.ub_region.proofs.InsertFacts.{insert_keeps, nat_eq_flips}
 use Rattle.ub_region.proofs.RemoveFacts.{remove_rows}
 
 increasing_push : (xs : List ℕ) (n : ℕ) → IsStrictlyIncreasing xs → All (λ x. x < n) xs → IsStrictlyIncreasing (xs ++ n ∷ [])
-increasing_push xs n hh1 hh2 = search (rules, cases_lt, get_or-append_seam, get_or_append_left, length-append)
+increasing_push xs n h k = search (rules, cases_lt, get_or-append_seam, get_or_append_left, length-append)
 
 all_map : (P : ℕ → Type 0) (rows : List Row) → AllByRecursion (λ row. P row.number) rows → AllByRecursion P (map (λ row. row.number) rows)
 all_map P [] h = tt
