@@ -1,37 +1,30 @@
 -- The check of a table: what its walk from the root comes to.
-use Rattle.std.proofs.Common.{◌≡◌, ◌<◌, ◌+◌, ◌^◌, ◌⊎◌, ◌↔◌, inl, inr, ℕ, zero, suc, Bool, IsTrue, List, [], Some, None, Result, Ok, Err, length, min, ap, refl, sym, ◌∙◌, arith, subst}
+use Rattle.std.proofs.Common.{rules}
+use Rattle.std.proofs.Common.{◌≡◌, ◌<◌, ◌+◌, ◌⊎◌, ◌↔◌, inl, ℕ, Bool, IsTrue, List, [], Some, None, Result, Ok, Err, min, subst}
 use Rattle.std.specs.Result.{IsErrAnd}
 use Rattle.ub_check.specs.Calls.{Checks, IsCheckFault, asked_in}
-use Rattle.ub_check.specs.Checking.{Asked, StopsIn, TakesAll, TakesTable, asked_for}
-use Rattle.ub_check.specs.Placed.{Placed, regions_in}
+use Rattle.ub_check.specs.Checking.{Asked, StopsIn, TakesAll, TakesTable}
+use Rattle.ub_check.specs.Placed.{Placed}
 use Rattle.ub_check.specs.declared.checking.Told.{Told}
 use Rattle.ub_check.specs.declared.walk.Walk.{Walk}
 use Rattle.ub_check.specs.inner.Checking.{HasTaken, IsWalkFault, TakesOn, Walks, asked_by}
 use Rattle.ub_index.proofs.SearchFacts.{same_store}
 use Rattle.ub_index.specs.Held.{KeepsChecked}
 use Rattle.ub_index.specs.Index.{top}
-use Rattle.ub_index.specs.Searching.{store_after}
 use Rattle.ub_index.specs.declared.fault.IndexFault.{IndexFault}
 use Rattle.ub_index.specs.declared.fault.IndexFault.TheVariants.{Full, Page, Store}
 use Rattle.ub_region.specs.declared.entry.Entry.{Entry}
-use Rattle.ub_region.specs.Regions.{rows_of}
-use Rattle.ub_store.specs.Facts.{StoreFacts, IsHonest}
+use Rattle.ub_store.specs.Facts.{IsHonest}
 use Rattle.ub_store.specs.View.{PagerView}
 use Rattle.ub_store.specs.declared.fault.StoreFault.TheVariants as store
 use Rattle.ub_table.specs.declared.fault.PageFault.TheVariants.{BadCount}
 use Rattle.ub_table.specs.declared.schema.Schema.{Schema}
 use Rattle.ub_zaddr.specs.Address.{last_address}
 
--- a count that isn't at its end is exact
-pub is_met : (met met_so rows : ℕ) → met_so ≡ min met 18446744073709551615 → rows < 2 ^ 32 → (met_so ≡ rows) ↔ (rows ≡ met)
-is_met met met_so rows is few = ((λ same. omega arith), λ same. omega arith)
-
 module _ (schema : Schema) (told : Told) (old : PagerView) (last : ℕ) (walk : Walk) (last_is : last ≡ last_address schema.dims)
     (bound : walk.numbers.bound ≡ told.next) (has : HasTaken told.regions walk []) (entry : Entry) (entry_is : entry ≡ top told.root) where
   asked_is : asked_by schema last told.regions walk old.store ≡ asked_in schema told old.store
-  asked_is =
-      ap (λ (n : ℕ). asked_for schema n told.regions walk.numbers.bound old.store.pages) last_is
-      ∙ ap (λ (n : ℕ). asked_for schema (last_address schema.dims) told.regions n old.store.pages) bound
+  asked_is = search rules
 
   walk_fault : (f : IndexFault) → IsWalkFault schema last told.levels (top told.root) None old.store walk f → IsCheckFault schema told old.store f
   walk_fault Full h = absurd h
@@ -46,16 +39,7 @@ module _ (schema : Schema) (told : Told) (old : PagerView) (last : ℕ) (walk : 
   -- it isn't walked through
   pub run_refused : {T U : Type 0} (r : Result T IndexFault) (f : IndexFault) (new : PagerView) → IsErrAnd r (λ x. x ≡ f)
       → Walks {A = U} schema last told.levels entry None walk old new (Err f) → Checks schema told old new r
-  run_refused (Ok x) f new is h = absurd is
-  run_refused {T = T} {U = U} (Err g) f new is h = record {
-    same = h.same
-        ∙ ap (λ (s : StoreFacts). record old { store = s; cached = new.cached })
-        (same_store T U f old.store ∙ ap (λ (x : IndexFault). store_after {A = T} (Err x) old.store) (sym is));
-    checked = subst (λ (n : ℕ). KeepsChecked n old new) last_is h.checked;
-    well = λ honest. tt;
-    faults = subst (λ (x : IndexFault). IsCheckFault schema told old.store x) (sym is)
-        (walk_fault f (subst (λ (e : Entry). IsWalkFault schema last told.levels e None old.store walk f) entry_is h.faults));
-  }
+  run_refused r f new h k = search (rules, same_store, walk_fault)
 
   -- it is
   module _ (to : Walk) (takes : TakesOn schema last told.levels entry None old.store walk to) (new : PagerView) (same : new ≡ record old { cached = new.cached })
@@ -66,41 +50,11 @@ module _ (schema : Schema) (told : Told) (old : PagerView) (last : ℕ) (walk : 
         (h.0, subst (λ (a : Asked). TakesAll a told.levels (top told.root) None [] h.0) asked_is h.1, h.2)
 
     counts_differ : (left taken met : ℕ) → left + taken ≡ told.regions → ¬ ((left ≡ 0) × (told.rows ≡ met)) → (taken < told.regions) ⊎ ((taken ≡ told.regions) × (¬ (told.rows ≡ met)))
-    counts_differ zero taken met is other = (let all : taken ≡ told.regions = omega arith in inr (all, λ rows. other (refl, rows)))
-    counts_differ (suc left) taken met is other = inl (omega arith)
+    counts_differ left taken met h k = search rules
 
     -- other regions are taken, or other rows, than are told
     pub run_ends : {T : Type 0} (f : IndexFault) → f ≡ Page 0 BadCount → ¬ (IsTrue all) → Checks {A = T} schema told old new (Err f)
-    run_ends {T = T} f is other = subst (λ (x : IndexFault). Checks {A = T} schema told old new (Err x)) (sym is) (record {
-      same = same;
-      checked = subst (λ (n : ℕ). KeepsChecked n old new) last_is checked;
-      well = λ honest. tt;
-      faults = λ honest.
-          let h = run_taken honest in
-          inr (record {
-            after = h.0;
-            takes = h.1;
-            counts = counts_differ to.left (length h.0) (length (rows_of (regions_in h.0))) h.2.left
-                (λ both. other ((met_all (length (rows_of (regions_in h.0))) h.2.rows).1 both));
-            page_is = refl;
-            fault_is = refl;
-          });
-    })
+    run_ends f h k = search (rules, counts_differ, run_taken)
 
     pub run_well : {T : Type 0} (x : T) → IsTrue all → Checks schema told old new (Ok x)
-    run_well x met = record {
-      same = same;
-      checked = subst (λ (n : ℕ). KeepsChecked n old new) last_is checked;
-      well = λ honest.
-          let h = run_taken honest in
-          let counts = (met_all (length (rows_of (regions_in h.0))) h.2.rows).0 met in
-          let none = counts.0 in
-          let left = h.2.left in
-          (h.0, record { takes = h.1; count_is = omega arith; rows_are = counts.1 });
-      faults = tt;
-    }
-
--- nothing is read by a check that hasn't begun
-pub not_begun : {T : Type 0} (schema : Schema) (told : Told) (r : Result T IndexFault) (old : PagerView) → IsErrAnd r (λ x. x ≡ Store store.Memory) → Checks schema told old old r
-not_begun schema told (Ok x) old is = absurd is
-not_begun schema told (Err f) old is = rw is (record { same = refl; checked = λ was. was; well = λ honest. tt; faults = tt })
+    run_well x h = search (rules, run_taken)

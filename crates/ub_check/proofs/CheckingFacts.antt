@@ -1,4 +1,6 @@
 -- The steps of a check: numbers that are put into a set, and entries of a page that are walked through.
+use Rattle.std.proofs.lemmas.Grind.{common_steps}
+use Rattle.std.proofs.Common.{rules}
 use Rattle.std.proofs.Common.{◌≡◌, ◌≤◌, ◌<◌, ◌+◌, ◌-◌, ◌++◌, inl, inr, ℕ, zero, suc, IsTrue, List, [], ◌∷◌, Option, Some, None, Result, Ok, Err, OnOk, length, take, drop, map, min, slice_get, ◌^◌, ap, refl, sym, ◌∙◌, arith, subst}
 use Rattle.std.proofs.lemmas.List.{append-nil, append_assoc, length-append, map-append}
 use Rattle.std.specs.Result.{IsErrAnd, IsErrOf}
@@ -9,7 +11,7 @@ use Rattle.ub_index.specs.declared.fault.IndexFault.TheVariants.{Full, Page, Sto
 use Rattle.ub_region.specs.declared.entry.Entry.{Entry}
 use Rattle.ub_page.proofs.PageLaws.{region_parts}
 use Rattle.ub_region.specs.RegionPage.{region_page}
-use Rattle.ub_index.proofs.HeldFacts.{keeps_but, keeps_gone, keeps_less, keeps_on}
+use Rattle.ub_index.proofs.HeldFacts.{keeps_but, keeps_less, keeps_on}
 use Rattle.ub_index.proofs.SearchFacts.{same_store as same_read}
 use Rattle.ub_index.proofs.StepFacts.{held_once, honest_back}
 use Rattle.ub_index.specs.Held.{KeepsChecked}
@@ -17,7 +19,7 @@ use Rattle.ub_page.specs.Index.{IsIndexKind}
 use Rattle.ub_region.specs.Regions.{rows_of}
 use Rattle.ub_store.specs.Cache.{NoneMore, NoneMoreBut, SameBut, page_at}
 use Rattle.ub_store.specs.Facts.{StoreFacts, IsHonest, IsPage, page_count, counted as counted_there}
-use Rattle.ub_store.specs.View.{PagerView, SameTrace, Trace}
+use Rattle.ub_store.specs.View.{PagerView, SameTrace}
 use Rattle.ub_store.specs.declared.fault.StoreFault.{StoreFault}
 use Rattle.ub_store.specs.declared.fault.StoreFault.TheVariants as store
 use Rattle.ub_table.specs.Region.{RegionRows, IsRegion, keys_of}
@@ -26,7 +28,7 @@ use Rattle.ub_table.specs.declared.fault.PageFault.{PageFault}
 use Rattle.ub_table.specs.declared.row.Key.{Key}
 use Rattle.ub_table.specs.declared.row.Row.{Row}
 use Rattle.ub_table.specs.declared.schema.Schema.{Schema}
-use Rattle.ub_check.specs.Checking.{Asked, StandsHere, StopsEach, StopsIn, TakesAll, TakesEach, asked_for, numbers_in, numbers_of}
+use Rattle.ub_check.specs.Checking.{Asked, StandsHere, StopsEach, StopsIn, TakesAll, TakesEach, numbers_in, numbers_of}
 use Rattle.ub_index.specs.Searching.{count_with, store_after}
 use Rattle.ub_check.specs.Numbers.{AreNew, HasJust, IsNone, NumbersView}
 use Rattle.ub_check.specs.Placed.{Placed, regions_in}
@@ -36,8 +38,7 @@ use Rattle.ub_check.specs.inner.Checking.{HasTaken, IsPutTo, IsWalkFault, IsWalk
 
 -- a call that was refused gives nothing
 pub refused_none : {T E : Type 0} (P : Type 0) (r : Result T E) (e : E) → IsErrAnd r (λ x. x ≡ e) → OnOk r P
-refused_none P (Ok x) e is = absurd is
-refused_none P (Err f) e is = tt
+refused_none P r e h = search rules
 
 module _ {X : Type 0} where
   pub drop_at : (xs : List X) (i : ℕ) (x : X) → slice_get xs i ≡ Some x → drop i xs ≡ x ∷ drop (suc i) xs
@@ -51,27 +52,10 @@ module _ {X : Type 0} where
   take_at (y ∷ xs) (suc i) x at = ap (λ (zs : List X). y ∷ zs) (take_at xs i x at)
 
   pub drop_end : (xs : List X) (i : ℕ) → length xs ≤ i → drop i xs ≡ []
-  drop_end [] zero le = refl
-  drop_end [] (suc i) le = refl
-  drop_end (x ∷ xs) zero le = absurd (omega arith)
-  drop_end (x ∷ xs) (suc i) le = drop_end xs i (omega arith)
+  drop_end xs i h = grind (arith, common_steps)
 
   pub take_end : (xs : List X) (i : ℕ) → length xs ≤ i → take i xs ≡ xs
-  take_end [] zero le = refl
-  take_end [] (suc i) le = refl
-  take_end (x ∷ xs) zero le = absurd (omega arith)
-  take_end (x ∷ xs) (suc i) le = ap (λ (zs : List X). x ∷ zs) (take_end xs i (omega arith))
-
--- no number was put yet
-pub put_none : (ns : List ℕ) (set : NumbersView) → IsPutTo ns set set 0
-put_none ns set = record {
-  bound = refl;
-  goes = λ met has.
-      let same : met ≡ met ++ [] = sym (append-nil met) in (
-        subst (λ (zs : List ℕ). HasJust set zs) same has,
-        (λ new. subst (λ (zs : List ℕ). AreNew set.bound zs ns) same new, λ new. subst (λ (zs : List ℕ). AreNew set.bound zs ns) (sym same) new),
-      );
-}
+  take_end xs i h = grind (arith, common_steps)
 
 module _ (ns : List ℕ) (from now : NumbersView) (i n : ℕ) (h : IsPutTo ns from now i) (at : slice_get ns i ≡ Some n) where
   -- one more was put
@@ -97,37 +81,16 @@ module _ (ns : List ℕ) (from now : NumbersView) (i n : ℕ) (h : IsPutTo ns fr
 
   -- one wasn't new
   pub put_not : ((met : List ℕ) → HasJust now met → n < now.bound → ¬ (IsNone n met)) → (met : List ℕ) → HasJust from met → ¬ (AreNew from.bound met ns)
-  put_not old met has all =
-      let so_far = h.goes met has in
-      let rest = subst (λ (zs : List ℕ). AreNew from.bound (met ++ take i ns) zs) (drop_at ns i n at) (so_far.1.0 all) in
-      old (met ++ take i ns) so_far.0 (subst (λ (b : ℕ). n < b) (sym h.bound) rest.0) rest.1
+  put_not j met k = search (rules, drop_at)
 
 -- all were put
 pub put_all : (ns : List ℕ) (from to : NumbersView) (i : ℕ) → length ns ≤ i → IsPutTo ns from to i → (met : List ℕ) → HasJust from met → AreNew from.bound met ns × HasJust to (met ++ ns)
-put_all ns from to i le h met has =
-    let so_far = h.goes met has in (
-      so_far.1.1 (subst (λ (zs : List ℕ). AreNew from.bound (met ++ take i ns) zs) (sym (drop_end ns i le)) tt),
-      subst (λ (zs : List ℕ). HasJust to (met ++ zs)) (take_end ns i le) so_far.0,
-    )
+put_all ns from to i h k met j = grind (arith, drop_end, take_end)
 
 pub numbers_at : (keys : List Key) (i : ℕ) (key : Key) → slice_get keys i ≡ Some key → slice_get (map (λ k. k.number) keys) i ≡ Some key.number
 numbers_at [] i key at = cc
 numbers_at (k ∷ keys) zero key at = let same : k ≡ key = cc in ap (λ (x : Key). Some x.number) same
 numbers_at (k ∷ keys) (suc i) key at = numbers_at keys i key at
-
--- no entry was walked through yet
-pub walked_none : (schema : Schema) (last level : ℕ) (entries : List Entry) (end : Option Key) (old : PagerView) (from : Walk) → IsWalkedTo schema last level entries end old old from from 0
-walked_none schema last level entries end old from = record {
-  same = refl;
-  checked = λ was. was;
-  bound = refl;
-  goes = λ count before honest has. (
-    before,
-    has,
-    (λ after takes. takes),
-    λ n fault stops. stops,
-  );
-}
 
 module _ (schema : Schema) (last level : ℕ) (entries : List Entry) (end : Option Key) (old now : PagerView) (from to : Walk) (i : ℕ) (e : Entry) (next : Option Key)
     (h : IsWalkedTo schema last level entries end old now from to i) (at : slice_get entries i ≡ Some e) (next_is : next ≡ first_or (drop (suc i) entries) end) where
@@ -135,8 +98,7 @@ module _ (schema : Schema) (last level : ℕ) (entries : List Entry) (end : Opti
   still_honest honest = subst (λ (p : PagerView). IsHonest p.store) (sym h.same) honest
 
   same_asked : (count : ℕ) → asked_by schema last count to now.store ≡ asked_by schema last count from old.store
-  same_asked count =
-      ap (λ (p : PagerView). asked_by schema last count to p.store) h.same ∙ ap (λ (b : ℕ). asked_for schema last count b old.store.pages) h.bound
+  same_asked count = search rules
 
   -- one more is taken
   pub walked_more : (later : PagerView) (more : Walk) → later ≡ record now { cached = later.cached } → KeepsChecked last now later → more.numbers.bound ≡ to.numbers.bound
@@ -173,51 +135,31 @@ module _ (schema : Schema) (last level : ℕ) (entries : List Entry) (end : Opti
 
 -- the page of a region doesn't begin as one of an index does
 region_no_kind : (schema : Schema) (region : RegionRows) → IsRegion schema region → ¬ (IsIndexKind (region_page schema region))
-region_no_kind schema region is other =
-    let kind = (region_parts schema region (region_page schema region) is refl).kind in
-    let e = sym kind ∙ other in
-    absurd (omega arith)
+region_no_kind schema region h = search (rules, region_parts)
 
 -- a pager whose store was read
 pub pager_read : (old new : PagerView) (s : StoreFacts) → new.store ≡ s → SameTrace old new → new ≡ record old { store = s; cached = new.cached }
-pager_read old new s stores trace =
-    ap (λ (x : StoreFacts). record new { store = x }) stores ∙ ap (λ (t : Trace). record { store = s; trace = t; cached = new.cached }) trace
+pager_read old new s h k = search rules
 
 keys_numbers : (dims : ℕ) (rows : List Row) → map (λ k. k.number) (keys_of dims rows) ≡ numbers_of rows
 keys_numbers dims [] = refl
 keys_numbers dims (row ∷ rows) = ap (λ (ns : List ℕ). row.number ∷ ns) (keys_numbers dims rows)
 
 pub numbers_append : (before : List Placed) (p : Placed) → numbers_in (before ++ p ∷ []) ≡ numbers_in before ++ numbers_of p.region.rows
-numbers_append [] p = ap (λ (rows : List Row). numbers_of rows) (append-nil p.region.rows)
-numbers_append (q ∷ before) p =
-    map-append (λ row. row.number) q.region.rows (rows_of (regions_in (before ++ p ∷ [])))
-    ∙ (ap (λ (ns : List ℕ). numbers_of q.region.rows ++ ns) (numbers_append before p)
-    ∙ (sym (append_assoc (numbers_of q.region.rows) (numbers_in before) (numbers_of p.region.rows))
-    ∙ ap (λ (ns : List ℕ). ns ++ numbers_of p.region.rows) (sym (map-append (λ row. row.number) q.region.rows (rows_of (regions_in before))))))
+numbers_append before p = grind (arith, common_steps, append-nil, append_assoc, map-append)
 
 count_append : (before : List Placed) (p : Placed) → length (rows_of (regions_in (before ++ p ∷ []))) ≡ length (rows_of (regions_in before)) + length p.region.rows
-count_append [] p =
-    let one : length (p.region.rows ++ []) ≡ length p.region.rows = ap (λ (rows : List Row). length rows) (append-nil p.region.rows) in
-    omega arith
-count_append (q ∷ before) p =
-    let one = length-append q.region.rows (rows_of (regions_in (before ++ p ∷ []))) in
-    let two = length-append q.region.rows (rows_of (regions_in before)) in
-    let rest = count_append before p in
-    omega arith
+count_append before p = grind (arith, common_steps, append-nil, length-append)
 
 saturated : (a b c d : ℕ) → c ≡ min a 18446744073709551615 → d ≡ min (c + b) (2 ^ 64 - 1) → d ≡ min (a + b) 18446744073709551615
 saturated a b c d first second = omega arith
 
 -- a failed read, as the store counts it and as a check does
 count_read : (T U : Type 0) (e : StoreFault) (n : ℕ) → counted_there {A = U} (Err e) n ≡ count_with {A = T} (Err (Store e)) n
-count_read T U store.Device n = refl
-count_read T U store.NoPage n = refl
-count_read T U store.Memory n = refl
-count_read T U store.BadSize n = refl
+count_read T U e n = search rules
 
 not_zero : (n : ℕ) → (n ≡ 0 → ⊥) → 1 ≤ n
-not_zero zero h = absurd (h refl)
-not_zero (suc n) h = omega arith
+not_zero n h = search rules
 
 -- the region of an entry
 module _ (schema : Schema) (last : ℕ) (entry : Entry) (end : Option Key) (from : Walk) (old : PagerView) (some : from.left ≡ 0 → ⊥) where
@@ -237,35 +179,19 @@ module _ (schema : Schema) (last : ℕ) (entry : Entry) (end : Option Key) (from
         → new.store ≡ record old.store { failed_reads = counted_there {A = U} (Err e) old.store.failed_reads } → SameTrace old new
         → (IsErrOf {T = U} (Err e) store.Device → IsTrue old.store.can_fail) → (IsErrOf {T = U} (Err e) store.NoPage → page_count old.store ≤ entry.page)
         → (¬ (IsErrOf {T = U} (Err e) store.BadSize)) → NoneMore old.cached new.cached → Walks schema last 0 entry end from old new r
-    region_unread (Ok x) e new is same trace device missing size less = absurd is
-    region_unread {T = T} (Err f) e new is same trace device missing size less = record {
-      same = pager_read old new (store_after {A = T} (Err f) old.store) (same
-          ∙ ap (λ (n : ℕ). record old.store { failed_reads = n }) (count_read T U e old.store.failed_reads)
-          ∙ ap (λ (x : IndexFault). store_after {A = T} (Err x) old.store) (sym is)) trace;
-      checked = keeps_less last old new (honest_back old.store new.store _ same) less;
-      faults = subst (λ (x : IndexFault). IsWalkFault schema last 0 entry end old.store from x) (sym is) (unread_fault e device missing size);
-    }
+    region_unread r e new h k j l m o p = search (rules, count_read, honest_back, keeps_less, pager_read, unread_fault)
 
   -- its page is refused, and then forgotten
   pub region_refused : {T : Type 0} (f : IndexFault) (page : List ℕ) (of_page : PageFault) (read new : PagerView) → f ≡ Page entry.page of_page
       → IsRegionRefused schema entry.first end page of_page → IsPage old.store entry.page page → read.store ≡ old.store → SameTrace old read → NoneMoreBut entry.page old.cached read.cached
       → new ≡ record read { cached = new.cached } → page_at new.cached entry.page ≡ None → SameBut entry.page read.cached new.cached
       → Walks {A = T} schema last 0 entry end from old new (Err f)
-  region_refused {T} f page of_page read new is refused at stores trace less same gone others =
-      let stores_on : new.store ≡ old.store = ap (λ (v : PagerView). v.store) same ∙ stores in
-      subst (λ (x : IndexFault). Walks {A = T} schema last 0 entry end from old new (Err x)) (sym is) (record {
-        same = pager_read old new old.store stores_on (ap (λ (v : PagerView). v.trace) same ∙ trace);
-        checked = keeps_gone last old new entry.page (λ honest. subst (λ (s : StoreFacts). IsHonest s) stores_on honest)
-            (λ m other_page other there. less m other_page other (sym (others m other) ∙ there)) gone;
-        faults = λ count before honest has. inr (few count before has, refl, inr (inl (page, at honest, of_page, refl, refused)));
-      })
+  region_refused f page of_page read new h k j l m o p q r = search rules
 
   -- its page is taken, and held
   pub region_checked : (region : RegionRows) (page : List ℕ) (new : PagerView) → IsRegion schema region → page ≡ region_page schema region → new.store ≡ old.store
       → NoneMoreBut entry.page old.cached new.cached → page_at new.cached entry.page ≡ Some page → KeepsChecked last old new
-  region_checked region page new is page_is stores less held =
-      keeps_but last old new entry.page (λ honest. subst (λ (s : StoreFacts). IsHonest s) stores honest) less
-      (λ honest other there. inr (subst (λ (p : List ℕ). ¬ (IsIndexKind p)) (sym page_is ∙ held_once new.cached entry.page page other held there) (region_no_kind schema region is)))
+  region_checked region page new h k j l m = search (rules, held_once, keeps_but, region_no_kind)
 
   module _ (region : RegionRows) (stands : (count : ℕ) → IsHonest old.store → StandsHere (asked_by schema last count from old.store) entry end region) where
     -- one of its rows has a number that isn't new
@@ -317,12 +243,7 @@ module _ (schema : Schema) (last level : ℕ) (entry : Entry) (end : Option Key)
   -- it is refused
   pub page_stops : {T : Type 0} (U : Type 0) (r : Result T IndexFault) (e : IndexFault) (new : PagerView) → IsErrAnd r (λ x. x ≡ e)
       → Steps {A = U} last (suc level) entry end old new (Err e) → Walks schema last (suc level) entry end from old new r
-  page_stops U (Ok x) e new is h = absurd is
-  page_stops {T = T} U (Err f) e new is h = record {
-    same = h.same ∙ ap (λ (s : StoreFacts). record old { store = s; cached = new.cached }) (same_read T U e old.store ∙ ap (λ (x : IndexFault). store_after {A = T} (Err x) old.store) (sym is));
-    checked = h.checked;
-    faults = subst (λ (x : IndexFault). IsWalkFault schema last (suc level) entry end old.store from x) (sym is) (step_fault e h.faults);
-  }
+  page_stops U r e new h k = search (rules, same_read, step_fault)
 
   module _ (entries : List Entry) (mid : PagerView) (read : mid ≡ record old { cached = mid.cached }) (checked : KeepsChecked last old mid) (named : IsHonest old.store → NamesFitting last old.store.pages (suc level) entry end)
       (entries_are : IsHonest old.store → entries ≡ entries_of old.store.pages entry.page) where
@@ -394,9 +315,4 @@ module _ (schema : Schema) (last level : ℕ) (entry : Entry) (end : Option Key)
 -- the same answer of another call
 pub walks_by : {T U : Type 0} (schema : Schema) (last : ℕ) (entry : Entry) (end : Option Key) (from : Walk) (old new : PagerView) (r : Result T IndexFault) (e : IndexFault)
     → IsErrAnd r (λ x. x ≡ e) → Walks {A = U} schema last 0 entry end from old new (Err e) → Walks schema last 0 entry end from old new r
-walks_by schema last entry end from old new (Ok x) e is h = absurd is
-walks_by {T} {U} schema last entry end from old new (Err f) e is h = subst (λ (x : IndexFault). Walks {A = T} schema last 0 entry end from old new (Err x)) (sym is) (record {
-  same = h.same ∙ ap (λ (s : StoreFacts). record old { store = s; cached = new.cached }) (same_read T U e old.store);
-  checked = h.checked;
-  faults = h.faults;
-})
+walks_by schema last entry end from old new r e h k = search rules

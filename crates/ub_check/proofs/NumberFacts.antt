@@ -1,18 +1,12 @@
 -- A bit for each number: what one number more changes.
-use Rattle.std.proofs.Common.{◌≡◌, ◌≢◌, ◌<◌, ◌/◌, ◌%◌, ◌*◌, ◌^◌, ◌++◌, inl, inr, ℕ, List, [], ◌∷◌, length, slice_index_or, slice_set, bit_or, ap, sym, ◌∙◌, arith, subst}
+use Rattle.std.proofs.Common.{rules}
+use Rattle.std.proofs.Common.{◌≡◌, ◌≢◌, ◌<◌, ◌/◌, ◌%◌, ◌*◌, ◌^◌, ◌++◌, inl, inr, ℕ, List, [], ◌∷◌, length, slice_index_or, slice_set, bit_or, ap, sym, ◌∙◌, arith}
 use Rattle.std.proofs.lemmas.Bool.{cases_eq}
 use Rattle.std.proofs.lemmas.List.{get_or-set_same, get_or-set_other}
-use Rattle.std.proofs.lemmas.Nat.Bits.{bit_at-lt, bit_at_set_same, bit_at_set_other}
+use Rattle.std.proofs.lemmas.Nat.Bits.{bit_at_set_same, bit_at_set_other}
 use Rattle.std.specs.Int.{bit_at, w64}
 use Rattle.ub_region.proofs.Laws.{all_append, all_left, all_right}
 use Rattle.ub_check.specs.Numbers.{HasJust, IsNone, bit_of, numbers_view}
-
--- a number that isn't 1, of a bit, is 0
-not_one : (b : ℕ) → b < 2 → b ≢ 1 → b ≡ 0
-not_one b lt ne = elim (cases_eq b 1) [
-  | inl one ↦ absurd (ne one)
-  | inr other ↦ omega arith
-]
 
 module _ (words : List ℕ) (number word : ℕ) (within : number / 64 < length words) (here : word ≡ slice_index_or words (number / 64) 0) where
   small : number % 64 < 64
@@ -38,19 +32,9 @@ module _ (words : List ℕ) (number word : ℕ) (within : number / 64 < length w
   ]
 
   pub put_has : (bound : ℕ) (met : List ℕ) → HasJust (numbers_view bound words) met → HasJust (numbers_view bound after) (met ++ number ∷ [])
-  put_has bound met has m = elim (cases_eq m number) [
-    | inl same ↦ (
-      (λ none. let set = is_set in absurd (let bit : bit_of after number ≡ 0 = subst (λ (k : ℕ). bit_of after k ≡ 0) same none in omega arith)),
-      λ out. absurd ((all_right (λ k. m ≢ k) met (number ∷ []) out).0 same),
-    )
-    | inr ne ↦ (
-      (λ none. all_append (λ k. m ≢ k) met (number ∷ []) ((has m).0 (sym (others m ne) ∙ none)) (ne, tt)),
-      λ out. others m ne ∙ (has m).1 (all_left (λ k. m ≢ k) met (number ∷ []) out),
-    )
-  ]
+  put_has bound met h = grind (arith, all_append, all_left, all_right, cases_eq, is_set, others)
 
 -- a number whose bit isn't set is none of those
 pub is_new : (bound number word : ℕ) (words met : List ℕ) → word ≡ slice_index_or words (number / 64) 0 → HasJust (numbers_view bound words) met
     → (word / 2 ^ (number % 64) % 2 ≡ 1 → ⊥) → IsNone number met
-is_new bound number word words met here has other =
-    (has number).0 (not_one (bit_of words number) (bit_at-lt _ _) (λ one. other (ap (λ (w : ℕ). w / 2 ^ (number % 64) % 2) here ∙ one)))
+is_new bound number word words met h k j = search rules

@@ -1,147 +1,37 @@
 -- A check stops at one page alone, for one fault.
-use Rattle.std.proofs.Common.{◌≡◌, ◌≢◌, ◌≤◌, ◌<◌, ◌^◌, ◌⊎◌, inl, inr, ℕ, zero, suc, List, [], ◌∷◌, Option, Some, None, length, slice_get, ap, refl, sym, ◌∙◌, arith, subst}
+use Rattle.std.proofs.Common.{◌≡◌, ◌≢◌, ◌≤◌, ◌<◌, ◌^◌, ◌⊎◌, inl, inr, ℕ, zero, suc, List, [], ◌∷◌, Option, Some, None, length, slice_get, ap, refl, sym, ◌∙◌, arith, rules, subst}
 use Rattle.std.proofs.lemmas.List.{length-append}
 use Rattle.std.proofs.lemmas.Option.{slice_get_within}
 use Rattle.ub_index.proofs.WayFacts.{named_not_refused}
 use Rattle.ub_index.specs.Fitting.{IsNotTaken, IsUnfit}
-use Rattle.ub_index.specs.Index.{entries_of, first_or, page_in, top, IsIndexPage}
+use Rattle.ub_index.specs.Index.{entries_of, first_or, top, IsIndexPage}
 use Rattle.ub_page.proofs.IndexLaws.{node_not_refused}
 use Rattle.ub_page.specs.Index.{IsIndexFault, node_on}
 use Rattle.ub_region.proofs.RegionFacts.{not_refused}
 use Rattle.ub_region.specs.RegionPage.{IsRegionFault, region_page}
 use Rattle.ub_region.specs.declared.entry.Entry.{Entry}
-use Rattle.ub_region.specs.Regions.{rows_of}
-use Rattle.ub_store.specs.declared.fault.StoreFault.TheVariants as store
 use Rattle.ub_table.specs.Keys.{origin}
 use Rattle.ub_table.specs.declared.fault.PageFault.{PageFault}
-use Rattle.ub_table.specs.declared.fault.PageFault.TheVariants.{WrongKind, OldFormat, Unclean, BadCount, BadName, BadRow, BadOrder, OutOfRegion, BadPadding}
+use Rattle.ub_table.specs.declared.fault.PageFault.TheVariants.{BadCount, OutOfRegion}
 use Rattle.ub_table.specs.declared.row.Key.{Key}
 use Rattle.ub_table.specs.declared.schema.Schema.{Schema}
 use Rattle.ub_check.proofs.TakenFacts.{region_good, walk_never, walk_taken}
 use Rattle.ub_check.specs.Checking.{Asked, AreWell, EndsMiscounted, IsFirst, StopsAtRegion, StopsEach, StopsIn, StopsTable, TakesAll, TakesEach}
-use Rattle.ub_check.specs.Placed.{Placed, regions_in}
+use Rattle.ub_check.specs.Placed.{Placed}
 use Rattle.ub_check.specs.Standing.{IsRegionRefused}
 use Rattle.ub_check.specs.declared.checking.Told.{Told}
 use Rattle.ub_index.specs.declared.fault.IndexFault.{IndexFault}
-use Rattle.ub_index.specs.declared.fault.IndexFault.TheVariants.{Full, Page, Store}
 
 -- a page is refused for one fault alone, as one of a region
 region_once : (schema : Schema) (page : List ℕ) (f g : PageFault) → IsRegionFault schema page f → IsRegionFault schema page g → f ≡ g
-region_once schema page WrongKind WrongKind h k = refl
-region_once schema page WrongKind OldFormat h k = absurd k
-region_once schema page WrongKind Unclean h k = absurd k
-region_once schema page WrongKind BadCount h k = absurd (h k.0)
-region_once schema page WrongKind BadName h k = absurd k
-region_once schema page WrongKind BadRow h k = absurd (h k.0)
-region_once schema page WrongKind BadOrder h k = absurd (h k.0)
-region_once schema page WrongKind OutOfRegion h k = absurd (h k.0)
-region_once schema page WrongKind BadPadding h k = absurd (h k.0)
-region_once schema page OldFormat g h k = absurd h
-region_once schema page Unclean g h k = absurd h
-region_once schema page BadCount WrongKind h k = absurd (k h.0)
-region_once schema page BadCount OldFormat h k = absurd k
-region_once schema page BadCount Unclean h k = absurd k
-region_once schema page BadCount BadCount h k = refl
-region_once schema page BadCount BadName h k = absurd k
-region_once schema page BadCount BadRow h k = absurd (h.1 k.1)
-region_once schema page BadCount BadOrder h k = absurd (h.1 k.1)
-region_once schema page BadCount OutOfRegion h k = absurd (h.1 k.1)
-region_once schema page BadCount BadPadding h k = absurd (h.1 k.1)
-region_once schema page BadName g h k = absurd h
-region_once schema page BadRow WrongKind h k = absurd (k h.0)
-region_once schema page BadRow OldFormat h k = absurd k
-region_once schema page BadRow Unclean h k = absurd k
-region_once schema page BadRow BadCount h k = absurd (k.1 h.1)
-region_once schema page BadRow BadName h k = absurd k
-region_once schema page BadRow BadRow h k = refl
-region_once schema page BadRow BadOrder h k = absurd (h.2 k.2)
-region_once schema page BadRow OutOfRegion h k = absurd (h.2 k.2)
-region_once schema page BadRow BadPadding h k = absurd (h.2 k.2)
-region_once schema page BadOrder WrongKind h k = absurd (k h.0)
-region_once schema page BadOrder OldFormat h k = absurd k
-region_once schema page BadOrder Unclean h k = absurd k
-region_once schema page BadOrder BadCount h k = absurd (k.1 h.1)
-region_once schema page BadOrder BadName h k = absurd k
-region_once schema page BadOrder BadRow h k = absurd (k.2 h.2)
-region_once schema page BadOrder BadOrder h k = refl
-region_once schema page BadOrder OutOfRegion h k = absurd (h.3 k.3)
-region_once schema page BadOrder BadPadding h k = absurd (h.3 k.3)
-region_once schema page OutOfRegion WrongKind h k = absurd (k h.0)
-region_once schema page OutOfRegion OldFormat h k = absurd k
-region_once schema page OutOfRegion Unclean h k = absurd k
-region_once schema page OutOfRegion BadCount h k = absurd (k.1 h.1)
-region_once schema page OutOfRegion BadName h k = absurd k
-region_once schema page OutOfRegion BadRow h k = absurd (k.2 h.2)
-region_once schema page OutOfRegion BadOrder h k = absurd (k.3 h.3)
-region_once schema page OutOfRegion OutOfRegion h k = refl
-region_once schema page OutOfRegion BadPadding h k = absurd (h.4 k.4)
-region_once schema page BadPadding WrongKind h k = absurd (k h.0)
-region_once schema page BadPadding OldFormat h k = absurd k
-region_once schema page BadPadding Unclean h k = absurd k
-region_once schema page BadPadding BadCount h k = absurd (k.1 h.1)
-region_once schema page BadPadding BadName h k = absurd k
-region_once schema page BadPadding BadRow h k = absurd (k.2 h.2)
-region_once schema page BadPadding BadOrder h k = absurd (k.3 h.3)
-region_once schema page BadPadding OutOfRegion h k = absurd (k.4 h.4)
-region_once schema page BadPadding BadPadding h k = refl
+region_once schema page f g h k = search rules
 
 refused_once : (schema : Schema) (first : Key) (end : Option Key) (page : List ℕ) (f g : PageFault) → IsRegionRefused schema first end page f → IsRegionRefused schema first end page g → f ≡ g
-refused_once schema first end page f g (inl h) (inl k) = region_once schema page f g h k
-refused_once schema first end page f g (inl h) (inr (is, region, of_schema, spelled, held)) = absurd (not_refused schema region page of_schema spelled f h)
-refused_once schema first end page f g (inr (is, region, of_schema, spelled, held)) (inl k) = absurd (not_refused schema region page of_schema spelled g k)
-refused_once schema first end page f g (inr h) (inr k) = h.0 ∙ sym k.0
+refused_once schema first end page f g h k = search (rules, not_refused, region_once)
 
 -- and as one of an index
 index_once : (last : ℕ) (page : List ℕ) (f g : PageFault) → IsIndexFault last page f → IsIndexFault last page g → f ≡ g
-index_once last page WrongKind WrongKind h k = refl
-index_once last page WrongKind OldFormat h k = absurd k
-index_once last page WrongKind Unclean h k = absurd k
-index_once last page WrongKind BadCount h k = absurd (h k.0)
-index_once last page WrongKind BadName h k = absurd k
-index_once last page WrongKind BadRow h k = absurd (h k.0)
-index_once last page WrongKind BadOrder h k = absurd (h k.0)
-index_once last page WrongKind OutOfRegion h k = absurd k
-index_once last page WrongKind BadPadding h k = absurd (h k.0)
-index_once last page OldFormat g h k = absurd h
-index_once last page Unclean g h k = absurd h
-index_once last page BadCount WrongKind h k = absurd (k h.0)
-index_once last page BadCount OldFormat h k = absurd k
-index_once last page BadCount Unclean h k = absurd k
-index_once last page BadCount BadCount h k = refl
-index_once last page BadCount BadName h k = absurd k
-index_once last page BadCount BadRow h k = absurd (h.1 k.1)
-index_once last page BadCount BadOrder h k = absurd (h.1 k.1)
-index_once last page BadCount OutOfRegion h k = absurd k
-index_once last page BadCount BadPadding h k = absurd (h.1 k.1)
-index_once last page BadName g h k = absurd h
-index_once last page BadRow WrongKind h k = absurd (k h.0)
-index_once last page BadRow OldFormat h k = absurd k
-index_once last page BadRow Unclean h k = absurd k
-index_once last page BadRow BadCount h k = absurd (k.1 h.1)
-index_once last page BadRow BadName h k = absurd k
-index_once last page BadRow BadRow h k = refl
-index_once last page BadRow BadOrder h k = absurd (h.2 k.2)
-index_once last page BadRow OutOfRegion h k = absurd k
-index_once last page BadRow BadPadding h k = absurd (h.2 k.2)
-index_once last page BadOrder WrongKind h k = absurd (k h.0)
-index_once last page BadOrder OldFormat h k = absurd k
-index_once last page BadOrder Unclean h k = absurd k
-index_once last page BadOrder BadCount h k = absurd (k.1 h.1)
-index_once last page BadOrder BadName h k = absurd k
-index_once last page BadOrder BadRow h k = absurd (k.2 h.2)
-index_once last page BadOrder BadOrder h k = refl
-index_once last page BadOrder OutOfRegion h k = absurd k
-index_once last page BadOrder BadPadding h k = absurd (h.3 k.3)
-index_once last page OutOfRegion g h k = absurd h
-index_once last page BadPadding WrongKind h k = absurd (k h.0)
-index_once last page BadPadding OldFormat h k = absurd k
-index_once last page BadPadding Unclean h k = absurd k
-index_once last page BadPadding BadCount h k = absurd (k.1 h.1)
-index_once last page BadPadding BadName h k = absurd k
-index_once last page BadPadding BadRow h k = absurd (k.2 h.2)
-index_once last page BadPadding BadOrder h k = absurd (k.3 h.3)
-index_once last page BadPadding OutOfRegion h k = absurd k
-index_once last page BadPadding BadPadding h k = refl
+index_once last page f g h k = grind arith
 
 -- why a page doesn't fit
 abbrev IsMisfit : ℕ → List ℕ → ℕ → PageFault → Type 0
@@ -150,10 +40,7 @@ IsMisfit last page level fault =
     ⊎ (IsIndexPage last page × (((fault ≡ BadCount) × ((node_on page).level ≢ level)) ⊎ ((fault ≡ OutOfRegion) × ((node_on page).level ≡ level))))
 
 misfit : (last : ℕ) (page : List ℕ) (level : ℕ) (entry : Entry) (end : Option Key) (fault : PageFault) → IsUnfit last page level entry end fault → IsMisfit last page level fault
-misfit last page level entry end BadCount (inl h) = inl h
-misfit last page level entry end BadCount (inr h) = inr (h.0, inl (refl, h.1))
-misfit last page level entry end OutOfRegion h = inr (h.0, inr (refl, h.1))
-misfit last page level entry end fault h = inl h
+misfit last page level entry end fault h = search rules
 
 module _ (last : ℕ) (small : last < 2 ^ 128) (page : List ℕ) (level : ℕ) where
   misfit_once : (f g : PageFault) → IsMisfit last page level f → IsMisfit last page level g → f ≡ g
@@ -168,12 +55,9 @@ module _ (last : ℕ) (small : last < 2 ^ 128) (page : List ℕ) (level : ℕ) w
 taken_once : (last : ℕ) → last < 2 ^ 128 → (pages : List (List ℕ)) (level : ℕ) (entry : Entry) (end : Option Key) (a b : Option PageFault)
     → IsNotTaken last pages level entry end a → IsNotTaken last pages level entry end b → a ≡ b
 taken_once last small pages level entry end None None h k = refl
-taken_once last small pages level entry end None (Some g) h k = let near = slice_get_within pages entry.page (page_in pages entry.page) k.0 in absurd (omega arith)
-taken_once last small pages level entry end (Some f) None h k = let near = slice_get_within pages entry.page (page_in pages entry.page) h.0 in absurd (omega arith)
-taken_once last small pages level entry end (Some f) (Some g) h k =
-    ap (λ (x : PageFault). Some x)
-    (misfit_once last small (page_in pages entry.page) level f g (misfit last (page_in pages entry.page) level entry end f h.1)
-    (misfit last (page_in pages entry.page) level entry end g k.1))
+taken_once last small pages level entry end None (Some g) h k = search (rules, misfit, misfit_once, slice_get_within)
+taken_once last small pages level entry end (Some f) None h k = search (rules, misfit, misfit_once, slice_get_within)
+taken_once last small pages level entry end (Some f) (Some g) h k = search (rules, misfit, misfit_once, slice_get_within)
 
 same_some : {X : Type 0} (o : Option X) (x y : X) → o ≡ Some x → o ≡ Some y → x ≡ y
 same_some o x y a b = cc
@@ -220,9 +104,7 @@ module _ (asked : Asked) where
     -- where all is taken it doesn't stop
     takes_never : (level : ℕ) (e : Entry) (end : Option Key) (before after : List Placed) (n : ℕ) (fault : Option PageFault) → length before ≤ asked.count
         → TakesAll asked level e end before after → ¬ (StopsIn asked level e end before n fault)
-    takes_never level e end before after n fault few takes stops =
-        let taken = walk_taken asked level e end before after takes in
-        walk_never asked small level e end before after n fault taken.0 taken.1 (takes_few level e end before after takes few) stops
+    takes_never level e end before after n fault h k = search (rules, takes_few, walk_never, walk_taken)
 
     each_once : (level : ℕ) → ((e : Entry) (end : Option Key) (before : List Placed) (n m : ℕ) (a b : Option PageFault) → length before ≤ asked.count
         → StopsIn asked level e end before n a → StopsIn asked level e end before m b → (n ≡ m) × (a ≡ b))
@@ -257,52 +139,15 @@ module _ (asked : Asked) (told : Told) (small : asked.last < 2 ^ 128) where
   counts_apart n m fault a h stops = takes_never asked small told.levels (top told.root) None [] h.after m a none_more h.takes stops
 
   pub first_once : (f g : IndexFault) → IsFirst asked told f → IsFirst asked told g → f ≡ g
-  first_once (Page n a) (Page m b) (inl h) (inl k) =
-      let same = stops_once n m (Some a) (Some b) h k in
-      let fault : a ≡ b = (let both = same.1 in cc) in
-      ap (λ (i : ℕ). Page i a) same.0 ∙ ap (λ (x : PageFault). Page m x) fault
-  first_once (Page n a) (Page m b) (inl h) (inr k) = absurd (counts_apart m n b (Some a) k h)
-  first_once (Page n a) (Page m b) (inr h) (inl k) = absurd (counts_apart n m a (Some b) h k)
-  first_once (Page n a) (Page m b) (inr h) (inr k) = ap (λ (i : ℕ). Page i a) (h.page_is ∙ sym k.page_is) ∙ ap (λ (x : PageFault). Page m x) (h.fault_is ∙ sym k.fault_is)
-  first_once (Page n a) (Store store.NoPage) (inl h) k = (let same = (stops_once n k.0 (Some a) None h k.1).1 in cc)
-  first_once (Page n a) (Store store.NoPage) (inr h) k = absurd (counts_apart n k.0 a None h k.1)
-  first_once (Store store.NoPage) (Page m b) h (inl k) = (let same = (stops_once h.0 m None (Some b) h.1 k).1 in cc)
-  first_once (Store store.NoPage) (Page m b) h (inr k) = absurd (counts_apart m h.0 b None k h.1)
-  first_once (Store store.NoPage) (Store store.NoPage) h k = refl
-  first_once Full g h k = absurd h
-  first_once (Store store.Device) g h k = absurd h
-  first_once (Store store.Memory) g h k = absurd h
-  first_once (Store store.BadSize) g h k = absurd h
-  first_once (Page n a) Full h k = absurd k
-  first_once (Page n a) (Store store.Device) h k = absurd k
-  first_once (Page n a) (Store store.Memory) h k = absurd k
-  first_once (Page n a) (Store store.BadSize) h k = absurd k
-  first_once (Store store.NoPage) Full h k = absurd k
-  first_once (Store store.NoPage) (Store store.Device) h k = absurd k
-  first_once (Store store.NoPage) (Store store.Memory) h k = absurd k
-  first_once (Store store.NoPage) (Store store.BadSize) h k = absurd k
+  first_once f g h k = search (rules, counts_apart, stops_once)
 
   -- where the pages are well there is none
   module _ (placed : List Placed) (well : AreWell asked told placed) where
     well_counts : (n : ℕ) (fault : PageFault) → ¬ (EndsMiscounted asked told n fault)
-    well_counts n fault h =
-        let same : h.after ≡ placed =
-        (walk_taken asked told.levels (top told.root) None [] h.after h.takes).1.after_is
-        ∙ sym (walk_taken asked told.levels (top told.root) None [] placed well.takes).1.after_is in
-        by_counts (subst (λ (ps : List Placed). (length ps < asked.count) ⊎ ((length ps ≡ asked.count) × (¬ (told.rows ≡ length (rows_of (regions_in ps)))))) same h.counts)
-      where
-        by_counts : (length placed < asked.count) ⊎ ((length placed ≡ asked.count) × (¬ (told.rows ≡ length (rows_of (regions_in placed))))) → ⊥
-        by_counts (inl less) = let count = well.count_is in omega arith
-        by_counts (inr other) = other.1 well.rows_are
+    well_counts n fault = search (rules, walk_taken)
 
     well_stops : (n : ℕ) (fault : Option PageFault) → ¬ (StopsTable asked told n fault)
     well_stops n fault h = takes_never asked small told.levels (top told.root) None [] placed n fault none_more well.takes h
 
     pub well_first : (fault : IndexFault) → ¬ (IsFirst asked told fault)
-    well_first (Page n a) (inl h) = well_stops n (Some a) h
-    well_first (Page n a) (inr h) = well_counts n a h
-    well_first (Store store.NoPage) h = well_stops h.0 None h.1
-    well_first (Store store.Device) h = h
-    well_first (Store store.Memory) h = h
-    well_first (Store store.BadSize) h = h
-    well_first Full h = h
+    well_first fault = search (rules, well_counts, well_stops)

@@ -1,13 +1,13 @@
 -- Whether a region stands where one is due.
-use Rattle.std.proofs.Common.{◌≡◌, ◌≢◌, ◌-◌, ◌↔◌, ℕ, zero, suc, Bool, true, List, [], ◌∷◌, Some, Result, length, ◌∙◌, sym, subst, arith, slice_get}
+use Rattle.std.proofs.Common.{rules}
+use Rattle.std.proofs.Common.{◌≡◌, ◌≢◌, ◌-◌, ◌↔◌, ℕ, zero, suc, Bool, true, List, [], ◌∷◌, Some, Result, length, subst, arith, slice_get}
 use Rattle.std.proofs.lemmas.List.{length-map}
 use Rattle.std.specs.List.{AllByRecursion}
-use Rattle.ub_check.specs.Standing.{IsHeldBy}
 use Rattle.ub_store.specs.Facts.{StoreFacts, IsPage, Reads}
 use Rattle.ub_store.specs.declared.fault.StoreFault.{StoreFault}
 use Rattle.ub_table.proofs.Laws.{before_of, precedes_of, before_trans}
 use Rattle.ub_table.specs.Keys.{IsBefore, AreKeysAscending, precedes}
-use Rattle.ub_table.specs.Region.{RegionRows, key_of, keys_of}
+use Rattle.ub_table.specs.Region.{keys_of}
 use Rattle.ub_table.specs.declared.row.Key.{Key}
 use Rattle.ub_table.specs.declared.row.Row.{Row}
 
@@ -25,12 +25,10 @@ module _ {X : Type 0} (P : X → Type 0) where
 pub before_last : (key : Key) (keys : List Key) (i : ℕ) (end : Key) → AreKeysAscending keys → length keys ≡ suc i → slice_get keys i ≡ Some end → IsBefore end key
     → AllByRecursion (λ k. IsBefore k key) keys
 before_last key [] i end up long at before = tt
-before_last key (k ∷ []) zero end up long at before = let same : k ≡ end = cc in (subst (λ (j : Key). IsBefore j key) (sym same) before, tt)
+before_last key (k ∷ []) zero end up long at before = search (rules, before_trans)
 before_last key (k ∷ []) (suc i) end up long at before = cc
-before_last key (k ∷ j ∷ keys) zero end up long at before = absurd (omega arith)
-before_last key (k ∷ j ∷ keys) (suc i) end up long at before =
-    let rest = before_last key (j ∷ keys) i end up.1 (omega arith) at before in
-    (before_trans k j key up.0 rest.0, rest)
+before_last key (k ∷ j ∷ keys) zero end up long at before = search (rules, before_trans)
+before_last key (k ∷ j ∷ keys) (suc i) end up long at before = search (rules, (before_last key (j ∷ keys) i end up.1 (omega arith) at before), before_trans)
 
 pub all_before : (key : Key) (keys : List Key) (i : ℕ) (end : Key) → AreKeysAscending keys → length keys ≡ suc i → slice_get keys i ≡ Some end
     → IsBefore end key ↔ AllByRecursion (λ k. IsBefore k key) keys
@@ -38,12 +36,4 @@ all_before key keys i end up long at = (before_last key keys i end up long at, �
 
 pub last_tells : (key end : Key) (dims len : ℕ) (rows : List Row) (b : Bool) → AreKeysAscending (keys_of dims rows) → len ≡ length rows → len ≢ 0
     → slice_get (keys_of dims rows) (len - 1) ≡ Some end → b ≡ precedes end key → (b ≡ true) ↔ AllByRecursion (λ k. IsBefore k key) (keys_of dims rows)
-last_tells key end dims len rows b up is some at tells =
-    let long = length-map rows (key_of dims) in
-    let all = all_before key (keys_of dims rows) (len - 1) end up (omega arith) at in
-    (λ t. all.0 (before_of end key (sym tells ∙ t)), λ h. tells ∙ precedes_of end key (all.1 h))
-
--- a region whose rows are before the next one's first key
-pub held_before : (dims : ℕ) (first next : Key) (region : RegionRows) (b : Bool) → region.first ≡ first
-    → (b ≡ true) ↔ AllByRecursion (λ k. IsBefore k next) (keys_of dims region.rows) → (b ≡ true) ↔ IsHeldBy dims first (Some next) region
-held_before dims first next region b same tells = (λ t. (same, tells.0 t), λ h. tells.1 h.1)
+last_tells key end dims len rows b h k j l m = search (rules, all_before, before_of, length-map, precedes_of)

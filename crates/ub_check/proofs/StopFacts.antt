@@ -1,11 +1,11 @@
 -- The page at which a check stops: it is there, or isn't, and isn't the first, but where there is one region more than is counted.
+use Rattle.std.proofs.Common.{rules}
 use Rattle.std.proofs.Common.{◌≡◌, ◌≤◌, ◌<◌, ◌^◌, ◌⊎◌, inl, inr, ℕ, zero, suc, List, [], ◌∷◌, Option, Some, None, length, slice_get, sym, subst, arith}
 use Rattle.std.specs.List.{AllByRecursion, flat_map}
 use Rattle.ub_index.proofs.WayFacts.{named_not_refused}
 use Rattle.ub_index.specs.Fitting.{IsNotTaken}
-use Rattle.ub_index.specs.Index.{entries_of, first_or, page_in, EachTo, IsUnder, under}
+use Rattle.ub_index.specs.Index.{entries_of, first_or, EachTo, IsUnder, under}
 use Rattle.ub_page.specs.Entries.{IsEntry}
-use Rattle.ub_region.specs.RegionPage.{region_page}
 use Rattle.ub_region.specs.declared.entry.Entry.{Entry}
 use Rattle.ub_region.proofs.Laws.{all_left, all_right}
 use Rattle.ub_table.specs.Keys.{origin}
@@ -32,15 +32,13 @@ module _ (asked : Asked) where
   there_at n m a b is fault some h = inr (omega arith, subst (λ (x : Option PageFault). IsThere asked.pages n x) (sym fault) (subst (λ (k : ℕ). IsThere asked.pages k b) (sym is) h))
 
   at_region : (e : Entry) (end : Option Key) (before : List Placed) (n : ℕ) (fault : Option PageFault) → 1 ≤ e.page → StopsAtRegion asked e end before n fault → StopsThere asked.pages n fault
-  at_region e end before n fault some (inl full) = inl (full.1, full.2)
-  at_region e end before n fault some (inr (less, is, inl (none, past))) = there_at n e.page fault None is none some past
-  at_region e end before n fault some (inr (less, is, inr (inl (page, at, of_page, fault_is, refused)))) = there_at n e.page fault (Some of_page) is fault_is some (page, at)
-  at_region e end before n fault some (inr (less, is, inr (inr (fault_is, region, stands, old)))) =
-      there_at n e.page fault _ is fault_is some (region_page asked.schema region, stands.spelled)
+  at_region e end before n fault some (inl full) = search (rules, there_at)
+  at_region e end before n fault some (inr (less, is, inl (none, past))) = search (rules, there_at)
+  at_region e end before n fault some (inr (less, is, inr (inl (page, at, of_page, fault_is, refused)))) = search (rules, there_at)
+  at_region e end before n fault some (inr (less, is, inr (inr (fault_is, region, stands, old)))) = search (rules, there_at)
 
   at_index : (level : ℕ) (e : Entry) (end : Option Key) (fault : Option PageFault) → IsNotTaken asked.last asked.pages level e end fault → IsThere asked.pages e.page fault
-  at_index level e end None h = h
-  at_index level e end (Some fault) h = (page_in asked.pages e.page, h.0)
+  at_index level e end fault h = search rules
 
   each_there : (level : ℕ) → ((e : Entry) (end : Option Key) (before : List Placed) (n : ℕ) (fault : Option PageFault) → 1 ≤ e.page → StopsIn asked level e end before n fault
       → StopsThere asked.pages n fault)
@@ -64,18 +62,15 @@ module _ (asked : Asked) where
     IsLow e = e.page < most
 
     region_low : (e : Entry) (end : Option Key) (before : List Placed) (n : ℕ) (fault : Option PageFault) → IsLow e → StopsAtRegion asked e end before n fault → IsOneMore n fault ⊎ (n < most)
-    region_low e end before n fault low (inl full) = inl (full.1, full.2)
-    region_low e end before n fault low (inr h) = let is = h.1 in inr (omega arith)
+    region_low e end before n fault h k = search rules
 
     each_low : (level : ℕ) → ((e : Entry) (end : Option Key) (before : List Placed) (n : ℕ) (fault : Option PageFault) → IsUnder asked.last asked.pages level e end
         → AllByRecursion IsLow (under asked.pages level e) → StopsIn asked level e end before n fault → IsOneMore n fault ⊎ (n < most))
         → (xs : List Entry) (end : Option Key) (before : List Placed) (n : ℕ) (fault : Option PageFault) → EachTo (IsUnder asked.last asked.pages level) xs end
         → AllByRecursion IsLow (flat_map (under asked.pages level) xs) → StopsEach (TakesAll asked level) (StopsIn asked level) xs end before n fault → IsOneMore n fault ⊎ (n < most)
     each_low level one [] end before n fault each low h = absurd h
-    each_low level one (x ∷ xs) end before n fault each low (inl h) =
-        one x (first_or xs end) before n fault each.0 (all_left IsLow (under asked.pages level x) (flat_map (under asked.pages level) xs) low) h
-    each_low level one (x ∷ xs) end before n fault each low (inr (between, takes, h)) =
-        each_low level one xs end between n fault each.1 (all_right IsLow (under asked.pages level x) (flat_map (under asked.pages level) xs) low) h
+    each_low level one (x ∷ xs) end before n fault each low (inl h) = search (rules, all_left)
+    each_low level one (x ∷ xs) end before n fault each low (inr (between, takes, h)) = search (rules, (each_low level one xs end between n fault each.1 (all_right IsLow (under asked.pages level x) (flat_map (under asked.pages level) xs) low) h))
 
     pub stops_low : (level : ℕ) (e : Entry) (end : Option Key) (before : List Placed) (n : ℕ) (fault : Option PageFault) → IsUnder asked.last asked.pages level e end
         → AllByRecursion IsLow (under asked.pages level e) → StopsIn asked level e end before n fault → IsOneMore n fault ⊎ (n < most)

@@ -1,5 +1,6 @@
 -- What a check takes is what stands under an entry: an index, and on its regions' pages the regions, with new numbers. And where
 -- that stands a check stops nowhere.
+use Rattle.std.proofs.Common.{rules}
 use Rattle.std.proofs.Common.{◌≡◌, ◌≢◌, ◌≤◌, ◌<◌, ◌+◌, ◌^◌, ◌++◌, inl, inr, ℕ, zero, suc, List, [], ◌∷◌, Option, Some, nat_eq, false, length, slice_get, slice_index_or, ap, refl, sym, ◌∙◌, arith, subst}
 use Rattle.std.proofs.lemmas.Grind.{flat_map-append}
 use Rattle.std.proofs.lemmas.List.{append-nil, append_assoc, length-append, map-append}
@@ -15,16 +16,14 @@ use Rattle.ub_region.proofs.RegionFacts.{not_refused}
 use Rattle.ub_region.specs.RegionPage.{region_on, region_page}
 use Rattle.ub_region.specs.declared.entry.Entry.{Entry}
 use Rattle.ub_region.proofs.Laws.{all_append, all_both, all_left, all_more, all_right}
-use Rattle.ub_region.specs.Regions.{rows_of}
 use Rattle.ub_table.specs.Keys.{origin}
 use Rattle.ub_table.specs.Region.{RegionRows}
 use Rattle.ub_table.specs.declared.fault.PageFault.{PageFault}
 use Rattle.ub_table.specs.declared.row.Key.{Key}
-use Rattle.ub_table.specs.declared.row.Row.{Row}
-use Rattle.ub_check.specs.Checking.{Asked, StandsHere, StopsAtRegion, StopsEach, StopsIn, TakesAll, TakesEach, TakesRegion, numbers_in, numbers_of}
+use Rattle.ub_check.specs.Checking.{Asked, StandsHere, StopsAtRegion, StopsEach, StopsIn, TakesAll, TakesEach, TakesRegion, numbers_in}
 use Rattle.ub_check.specs.Numbers.{AreNew, IsNone}
 use Rattle.ub_check.proofs.PlacedFacts.{one_region, placed_append, placed_at}
-use Rattle.ub_check.specs.Standing.{IsHeldBy, IsRegionRefused}
+use Rattle.ub_check.specs.Standing.{IsRegionRefused}
 use Rattle.ub_check.specs.Placed.{Placed, placed_of, regions_in}
 
 -- numbers that are new, in two parts
@@ -47,8 +46,7 @@ new_below bound met (n ∷ ns) h = (h.0, new_below bound (met ++ n ∷ []) ns h.
 
 pub new_none : (bound : ℕ) (met ns : List ℕ) → AreNew bound met ns → AllByRecursion (λ n. IsNone n met) ns
 new_none bound met [] h = tt
-new_none bound met (n ∷ ns) h =
-    (h.1, all_more (λ m. IsNone m (met ++ n ∷ [])) (λ m. IsNone m met) (λ m k. all_left (λ o. m ≢ o) met (n ∷ []) k) ns (new_none bound (met ++ n ∷ []) ns h.2))
+new_none bound met (n ∷ ns) h = search (rules, (new_none bound (met ++ n ∷ []) ns h.2), all_left, all_more)
 
 pub new_differ : (bound : ℕ) (met ns : List ℕ) → AreNew bound met ns → IsDistinct nat_eq ns
 unfolding IsDistinct
@@ -61,23 +59,13 @@ new_differ bound met (n ∷ ns) h =
 pub new_of : (bound : ℕ) (met ns : List ℕ) → AllByRecursion (λ n. n < bound) ns → AllByRecursion (λ n. IsNone n met) ns → IsDistinct nat_eq ns → AreNew bound met ns
 unfolding IsDistinct
 new_of bound met [] below none differ = tt
-new_of bound met (n ∷ ns) below none differ = (
-  below.0,
-  none.0,
-  new_of bound (met ++ n ∷ []) ns below.1
-      (all_both (λ m. IsNone m met) (λ m. nat_eq n m ≡ false) (λ m. IsNone m (met ++ n ∷ []))
-      (λ m k other. all_append (λ o. m ≢ o) met (n ∷ []) k ((λ same. differs n m other (sym same)), tt)) ns none.1 differ.0)
-      differ.1,
-)
+new_of bound met (n ∷ ns) below none differ = search (rules, (new_of bound (met ++ n ∷ []) ns below.1 (all_both (λ m. IsNone m met) (λ m. nat_eq n m ≡ false) (λ m. IsNone m (met ++ n ∷ [])) (λ m k other. all_append (λ o. m ≢ o) met (n ∷ []) k ((λ same. differs n m other (sym same)), tt)) ns none.1 differ.0) differ.1))
 
 regions_join : (ps qs : List Placed) → regions_in (ps ++ qs) ≡ regions_in ps ++ regions_in qs
 regions_join ps qs = map-append (λ p. p.region) ps qs
 
 pub numbers_join : (ps qs : List Placed) → numbers_in (ps ++ qs) ≡ numbers_in ps ++ numbers_in qs
-numbers_join ps qs =
-    ap (λ (rs : List RegionRows). numbers_of (rows_of rs)) (regions_join ps qs)
-    ∙ (ap (λ (rows : List Row). numbers_of rows) (flat_map-append (λ r. r.rows) (regions_in ps) (regions_in qs))
-    ∙ map-append (λ row. row.number) (rows_of (regions_in ps)) (rows_of (regions_in qs)))
+numbers_join ps qs = search (rules, flat_map-append, map-append, regions_join)
 
 -- these regions' entries, up to an end, are taken after others: each region stands where its entry tells, and its rows have new
 -- numbers
@@ -99,62 +87,25 @@ module _ (asked : Asked) where
   taken_none end before = record { stands = tt; new = tt; after_is = sym (append-nil before) }
 
   pub taken_one : (e : Entry) (end : Option Key) (before after : List Placed) → TakesRegion asked e end before after → IsTaken asked (e ∷ []) end before after
-  taken_one e end before after h =
-      let same = told_is e end h.region h.stands in
-      record {
-        stands = (subst (λ (r : RegionRows). StandsHere asked e end r) (sym same) h.stands, tt);
-        new = subst (λ (r : RegionRows). AreNew asked.next (numbers_in before) (numbers_in (record { page = e.page; region = r } ∷ []))) (sym same)
-            (subst (λ (rows : List Row). AreNew asked.next (numbers_in before) (numbers_of rows)) (sym (append-nil h.region.rows)) h.new);
-        after_is = h.after_is ∙ ap (λ (r : RegionRows). before ++ record { page = e.page; region = r } ∷ []) (sym same);
-      }
+  taken_one e end before after h = search (rules, append-nil, told_is)
 
   pub taken_join : (xs ys : List Entry) (end : Option Key) (before between after : List Placed) → IsTaken asked xs (first_or ys end) before between → IsTaken asked ys end between after
       → IsTaken asked (xs ++ ys) end before after
-  taken_join xs ys end before between after h k =
-      let parts = placed_append asked.schema asked.pages xs ys in
-      record {
-        stands = each_join (λ e o. StandsHere asked e o (placed_at asked.schema asked.pages e).region) xs ys end h.stands k.stands;
-        new = subst (λ (ns : List ℕ). AreNew asked.next (numbers_in before) ns)
-            (sym (ap (λ (ps : List Placed). numbers_in ps) parts ∙ numbers_join (placed_of asked.schema asked.pages xs) (placed_of asked.schema asked.pages ys)))
-            (new_join asked.next (numbers_in before) (numbers_in (placed_of asked.schema asked.pages xs)) (numbers_in (placed_of asked.schema asked.pages ys)) h.new
-            (subst (λ (ns : List ℕ). AreNew asked.next ns (numbers_in (placed_of asked.schema asked.pages ys)))
-            (ap (λ (ps : List Placed). numbers_in ps) h.after_is ∙ numbers_join before (placed_of asked.schema asked.pages xs)) k.new));
-        after_is = k.after_is ∙ (ap (λ (ps : List Placed). ps ++ placed_of asked.schema asked.pages ys) h.after_is
-            ∙ (append_assoc before (placed_of asked.schema asked.pages xs) (placed_of asked.schema asked.pages ys) ∙ ap (λ (ps : List Placed). before ++ ps) (sym parts)));
-      }
+  taken_join xs ys end before between after h k = search (rules, append_assoc, each_join, new_join, numbers_join, placed_append, placed_at)
 
   -- and cut
   pub taken_left : (xs ys : List Entry) (end : Option Key) (before after : List Placed) → IsTaken asked (xs ++ ys) end before after
       → IsTaken asked xs (first_or ys end) before (before ++ placed_of asked.schema asked.pages xs)
-  taken_left xs ys end before after h =
-      let parts = placed_append asked.schema asked.pages xs ys in
-      let new = subst (λ (ns : List ℕ). AreNew asked.next (numbers_in before) ns)
-      (ap (λ (ps : List Placed). numbers_in ps) parts ∙ numbers_join (placed_of asked.schema asked.pages xs) (placed_of asked.schema asked.pages ys)) h.new in
-      record {
-        stands = each_left (λ e o. StandsHere asked e o (placed_at asked.schema asked.pages e).region) xs ys end h.stands;
-        new = new_left asked.next (numbers_in before) (numbers_in (placed_of asked.schema asked.pages xs)) (numbers_in (placed_of asked.schema asked.pages ys)) new;
-        after_is = refl;
-      }
+  taken_left xs ys end before after h = search (rules, each_left, new_left, numbers_join, placed_append, placed_at)
 
   pub taken_right : (xs ys : List Entry) (end : Option Key) (before after : List Placed) → IsTaken asked (xs ++ ys) end before after
       → IsTaken asked ys end (before ++ placed_of asked.schema asked.pages xs) after
-  taken_right xs ys end before after h =
-      let parts = placed_append asked.schema asked.pages xs ys in
-      let new = subst (λ (ns : List ℕ). AreNew asked.next (numbers_in before) ns)
-      (ap (λ (ps : List Placed). numbers_in ps) parts ∙ numbers_join (placed_of asked.schema asked.pages xs) (placed_of asked.schema asked.pages ys)) h.new in
-      record {
-        stands = each_right (λ e o. StandsHere asked e o (placed_at asked.schema asked.pages e).region) xs ys end h.stands;
-        new = subst (λ (ns : List ℕ). AreNew asked.next ns (numbers_in (placed_of asked.schema asked.pages ys))) (sym (numbers_join before (placed_of asked.schema asked.pages xs)))
-            (new_right asked.next (numbers_in before) (numbers_in (placed_of asked.schema asked.pages xs)) (numbers_in (placed_of asked.schema asked.pages ys)) new);
-        after_is = h.after_is ∙ (ap (λ (ps : List Placed). before ++ ps) parts ∙ sym (append_assoc before (placed_of asked.schema asked.pages xs) (placed_of asked.schema asked.pages ys)));
-      }
+  taken_right xs ys end before after h = search (rules, append_assoc, each_right, new_right, numbers_join, placed_append, placed_at)
 
   -- what entries lead to begins where they begin
   pub first_under : (level : ℕ) (xs : List Entry) (end : Option Key) → EachTo (IsUnder asked.last asked.pages level) xs end
       → first_or (flat_map (under asked.pages level) xs) end ≡ first_or xs end
-  first_under level [] end each = refl
-  first_under level (x ∷ xs) end each =
-      first_more (under asked.pages level x) (flat_map (under asked.pages level) xs) end x.first (under_first asked.last asked.pages level x (first_or xs end) each.0)
+  first_under level xs end h = search (rules, first_more, under_first)
 
   each_taken : (level : ℕ) → ((e : Entry) (end : Option Key) (before after : List Placed) → TakesAll asked level e end before after
       → IsUnder asked.last asked.pages level e end × IsTaken asked (under asked.pages level e) end before after)
@@ -180,31 +131,17 @@ module _ (asked : Asked) where
   -- and where that stands a check doesn't stop
   pub region_good : (e : Entry) (end : Option Key) (region : RegionRows) (page : List ℕ) (fault : PageFault) → StandsHere asked e end region
       → slice_get asked.pages e.page ≡ Some page → ¬ (IsRegionRefused asked.schema e.first end page fault)
-  region_good e end region page fault h at (inl refused) =
-      let same : page ≡ region_page asked.schema region = (let spelled = h.spelled in cc) in
-      not_refused asked.schema region page h.is same fault refused
-  region_good e end region page fault h at (inr (is, other, is_other, spelled, not_held)) =
-      let same = one_region asked.schema asked.pages e.page region other h.spelled h.is (at ∙ ap (λ (p : List ℕ). Some p) spelled) is_other in
-      not_held (subst (λ (r : RegionRows). IsHeldBy asked.schema.dims e.first end r) same h.held)
+  region_good e end region page fault h k = search (rules, not_refused, one_region)
 
   one_more : (before : List Placed) (p : Placed) → length (before ++ p ∷ []) ≡ length before + 1
   one_more before p = length-append before (p ∷ [])
 
   never_at : (e : Entry) (end : Option Key) (before after : List Placed) (n : ℕ) (fault : Option PageFault) → IsTaken asked (e ∷ []) end before after
       → length after ≤ asked.count → ¬ (StopsAtRegion asked e end before n fault)
-  never_at e end before after n fault h few (inl full) =
-      let many = full.0 in
-      let long = ap (λ (ps : List Placed). length ps) h.after_is ∙ one_more before (placed_at asked.schema asked.pages e) in
-      omega arith
-  never_at e end before after n fault h few (inr (less, is, inl (none, past))) =
-      let there = slice_get_within asked.pages e.page (region_page asked.schema (placed_at asked.schema asked.pages e).region) h.stands.0.spelled in
-      omega arith
-  never_at e end before after n fault h few (inr (less, is, inr (inl (page, at, of_page, fault_is, refused)))) =
-      region_good e end (placed_at asked.schema asked.pages e).region page of_page h.stands.0 at refused
-  never_at e end before after n fault h few (inr (less, is, inr (inr (fault_is, region, stands, old)))) =
-      let same = told_is e end region stands in
-      old (subst (λ (r : RegionRows). AreNew asked.next (numbers_in before) (numbers_of r.rows)) same
-      (subst (λ (rows : List Row). AreNew asked.next (numbers_in before) (numbers_of rows)) (append-nil (placed_at asked.schema asked.pages e).region.rows) h.new))
+  never_at e end before after n fault h few (inl full) = search (rules, append-nil, one_more, placed_at, region_good, slice_get_within, told_is)
+  never_at e end before after n fault h few (inr (less, is, inl (none, past))) = search (rules, append-nil, one_more, placed_at, region_good, slice_get_within, told_is)
+  never_at e end before after n fault h few (inr (less, is, inr (inl (page, at, of_page, fault_is, refused)))) = search (rules, append-nil, region_good)
+  never_at e end before after n fault h few (inr (less, is, inr (inr (fault_is, region, stands, old)))) = search (rules, append-nil, one_more, placed_at, region_good, slice_get_within, told_is)
 
   module _ (small : asked.last < 2 ^ 128) where
     each_never : (level : ℕ) → ((e : Entry) (end : Option Key) (before after : List Placed) (n : ℕ) (fault : Option PageFault) → IsUnder asked.last asked.pages level e end
@@ -237,15 +174,7 @@ module _ (asked : Asked) where
 
   -- and takes all
   take_one : (e : Entry) (end : Option Key) (before after : List Placed) → IsTaken asked (e ∷ []) end before after → length after ≤ asked.count → TakesRegion asked e end before after
-  take_one e end before after h few =
-      let long = ap (λ (ps : List Placed). length ps) h.after_is ∙ one_more before (placed_at asked.schema asked.pages e) in
-      record {
-        counted = omega arith;
-        region = (placed_at asked.schema asked.pages e).region;
-        stands = h.stands.0;
-        new = subst (λ (rows : List Row). AreNew asked.next (numbers_in before) (numbers_of rows)) (append-nil (placed_at asked.schema asked.pages e).region.rows) h.new;
-        after_is = h.after_is;
-      }
+  take_one e end before after h k = search (rules, append-nil, one_more, placed_at)
 
   take_each : (level : ℕ) → ((e : Entry) (end : Option Key) (before after : List Placed) → IsUnder asked.last asked.pages level e end
       → IsTaken asked (under asked.pages level e) end before after → length after ≤ asked.count → TakesAll asked level e end before after)

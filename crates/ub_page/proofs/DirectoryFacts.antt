@@ -1,4 +1,5 @@
 -- What a page of the directory reads as.
+use Rattle.std.proofs.Common.{rules}
 use Rattle.std.proofs.Common.{◌≡◌, ◌≢◌, ◌≤◌, ◌<◌, ◌^◌, ℕ, List, length, refl, sym, ap, arith, ◌∙◌}
 use Rattle.ub_zaddr.specs.Address.{last_address}
 use Rattle.ub_bytes.specs.Bytes.{number_at}
@@ -51,16 +52,7 @@ padding_fault listing page d few on kind count entries ascending other =
 -- what stands on a page in range and in order can be spelled
 pub is_listing : (listing : Listing) (page : List ℕ) (d : ℕ) → listing ≡ listing_on page → HasCount page → HasEntries d page → AreAscending (listing_on page).entries → listing.next < 2 ^ 32
     → IsListing d listing
-is_listing listing page d on count entries ascending small =
-    let long = length-entries_on 16 (number_at 2 2 page) page in
-    let same : length listing.entries ≡ number_at 2 2 page = ap (λ (l : Listing). length l.entries) on ∙ long in
-    record {
-      some = (let some = count.0 in omega arith);
-      few = (let most = count.1 in omega arith);
-      entries = rw on entries;
-      ascending = rw on ascending;
-      next = small;
-    }
+is_listing listing page d hh1 hh2 hh3 hh4 hh5 = search (rules, length-entries_on)
 
 -- a page of a directory's entries is the spelling of its listing
 pub spelled : (entries : List Entry) (next : ℕ) → entries_page 0x44 0 next entries ≡ directory_page (record { entries = entries; next = next })

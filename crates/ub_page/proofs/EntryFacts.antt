@@ -1,4 +1,5 @@
 -- What the entries of a page read as.
+use Rattle.std.proofs.Common.{rules}
 use Rattle.std.proofs.Common.{◌≡◌, ◌≤◌, ◌<◌, ◌+◌, ◌-◌, ◌*◌, ◌^◌, ℕ, zero, suc, List, [], ◌∷◌, ◌++◌, length, drop, get_or, replicate, ◌↔◌, refl, sym, ap, arith, ◌∙◌, append_assoc}
 use Rattle.std.proofs.lemmas.List.{length-append}
 use Rattle.std.specs.List.{flat_map, AllByRecursion}
@@ -41,8 +42,7 @@ length-entries_on offset (suc n) page = omega (arith, length-entries_on (offset 
 
 pub entries_next : (offset n after less : ℕ) (page : List ℕ) → 0 < n → after ≡ offset + 24 → less ≡ n - 1
     → entries_on offset n page ≡ entry_on offset page ∷ entries_on after less page
-entries_next offset zero after less page some a b = absurd (omega arith)
-entries_next offset (suc n) after less page some a b = let m : less ≡ n = omega arith in rw (a, m) refl
+entries_next offset n after less page hh1 hh2 hh3 = search rules
 
 -- what stands on a page that was written of entries
 pub record HasFields (kind level next : ℕ) (entries : List Entry) (page : List ℕ) : Type 0 where
@@ -86,9 +86,7 @@ fields_read kind level next entries page last kind_small level_small next_small 
 pub entries_step : (entries all : List Entry) (page : List ℕ) (i count : ℕ) → i < count
     → entries ++ entries_on (16 + 24 * i) (count - i) page ≡ all
     → (entries ++ entry_on (16 + 24 * i) page ∷ []) ++ entries_on (16 + 24 * (i + 1)) (count - (i + 1)) page ≡ all
-entries_step entries all page i count more is =
-    let next = entries_next (16 + 24 * i) (count - i) (16 + 24 * (i + 1)) (count - (i + 1)) page (omega arith) (omega arith) (omega arith) in
-    append_assoc entries (entry_on (16 + 24 * i) page ∷ []) _ ∙ ap (λ (rest : List Entry). entries ++ rest) (sym next) ∙ is
+entries_step entries all page i count hh1 hh2 = search (rules, append_assoc, entries_next)
 
 pub short_ascending : (entries : List Entry) → length entries ≤ 1 → AreAscending entries
 short_ascending [] h = tt
@@ -121,5 +119,4 @@ regrouped a b c d e f =
 pub written : (kind level next : ℕ) (entries : List Entry)
     → padded (((((number_bytes 1 kind ++ number_bytes 1 level) ++ number_bytes 2 (length entries)) ++ number_bytes 4 next) ++ number_bytes 8 0) ++ flat_map entry_bytes entries)
     ≡ entries_page kind level next entries
-written kind level next entries =
-    regrouped (number_bytes 1 kind) (number_bytes 1 level) (number_bytes 2 (length entries)) (number_bytes 4 next) (number_bytes 8 0) (flat_map entry_bytes entries)
+written kind level next entries = search (rules, regrouped)

@@ -1,4 +1,6 @@
 -- What the page of a header reads as.
+use Rattle.std.proofs.lemmas.Grind.{common_steps}
+use Rattle.std.proofs.Common.{rules}
 use Rattle.std.proofs.Common.{inl, inr, ◌≡◌, ◌≢◌, ◌≤◌, ◌<◌, ◌+◌, ◌-◌, ◌*◌, ◌^◌, ◌↔◌, ℕ, zero, suc, List, [], ◌∷◌, ◌++◌, true, false, Result, Ok, Err, IsOk, IfErr, subst, length, take, drop, replicate, if◌then◌else◌, refl, sym, ap, arith, ◌∙◌, append_assoc, length-take-le}
 use Rattle.std.specs.Prelude.{IsErrOf, nat_lt}
 use Rattle.std.proofs.Math.Nat.{mul-div-le}
@@ -58,10 +60,7 @@ names_read (name ∷ names) page front rest offset is good e =
     ((first.0, others.0), rw (first.1, others.1) refl)
 
 take_short : (n m : ℕ) (xs : List ℕ) → n ≤ m → take n (take m xs) ≡ take n xs
-take_short zero m xs h = refl
-take_short (suc n) zero xs h = absurd (omega arith)
-take_short (suc n) (suc m) [] h = refl
-take_short (suc n) (suc m) (x ∷ xs) h = ap (λ (ys : List ℕ). x ∷ ys) (take_short n m xs (omega arith))
+take_short n m xs hh1 = grind (arith, common_steps)
 
 -- a name that stands on a page is a name
 name_valid : (offset : ℕ) (page : List ℕ) → IsNameOn offset page → IsName (name_on offset page)
@@ -77,21 +76,11 @@ pub named : (page name : List ℕ) (offset len m : ℕ) → m ≡ 32 → length 
     → name ≡ take len (take m (drop (offset + 1) page)) → IsName (take len (take m (drop (offset + 1) page)))
     → name ++ replicate (32 - length name) 0 ≡ take m (drop (offset + 1) page)
     → (name ≡ name_on offset page) × IsNameOn offset page
-named page name offset len m width long room is short text good block =
-    let block32 : take m (drop (offset + 1) page) ≡ take 32 (drop (offset + 1) page) = ap (λ (k : ℕ). take k (drop (offset + 1) page)) width in
-    let whole : length (take 32 (drop (offset + 1) page)) ≡ 32 = length-take-le 32 (drop (offset + 1) page) (omega (arith, length-drop (offset + 1) page)) in
-    let text32 : name ≡ take len (take 32 (drop (offset + 1) page)) = text ∙ ap (take len) block32 in
-    let count : length name ≡ len = ap length text32 ∙ length-take-le len (take 32 (drop (offset + 1) page)) (omega arith) in
-    let good32 : IsName (take len (take 32 (drop (offset + 1) page))) = rw block32 at good in
-    let filled : take 32 (drop (offset + 1) page) ≡ take len (take 32 (drop (offset + 1) page)) ++ replicate (32 - len) 0
-    = sym block32 ∙ sym block ∙ ap (λ (n : ℕ). name ++ replicate (32 - n) 0) count ∙ ap (λ (xs : List ℕ). xs ++ replicate (32 - len) 0) text32 in
-    let here : IsNameBlock len (take 32 (drop (offset + 1) page)) = record { name = good32; short = short; whole = whole; padded = filled } in
-    (text32 ∙ take_short len 32 (drop (offset + 1) page) short ∙ ap (λ (n : ℕ). take n (drop (offset + 1) page)) is, rw is at here)
+named page name offset len m hh1 hh2 hh3 hh4 hh5 hh6 hh7 hh8 = search (rules, length-drop, length-take-le, take_short)
 
 pub names_next : (offset n after less : ℕ) (page : List ℕ) → 0 < n → after ≡ offset + 33 → less ≡ n - 1
     → names_on offset n page ≡ name_on offset page ∷ names_on after less page
-names_next offset zero after less page some a b = absurd (omega arith)
-names_next offset (suc n) after less page some a b = let m : less ≡ n = omega arith in rw (a, m) refl
+names_next offset n after less page hh1 hh2 hh3 = search rules
 
 pub valid_next : (offset n after less : ℕ) (page : List ℕ) → 0 < n → after ≡ offset + 33 → less ≡ n - 1
     → AreNamesOn offset n page ↔ (IsNameOn offset page × AreNamesOn after less page)
@@ -101,9 +90,7 @@ valid_next offset (suc n) after less page some a b = let m : less ≡ n = omega 
 pub names_step : (columns all : List (List ℕ)) (page : List ℕ) (i count : ℕ) → i < count
     → columns ++ names_on (65 + 33 * i) (count - i) page ≡ all
     → (columns ++ name_on (65 + 33 * i) page ∷ []) ++ names_on (65 + 33 * (i + 1)) (count - (i + 1)) page ≡ all
-names_step columns all page i count more is =
-    let next = names_next (65 + 33 * i) (count - i) (65 + 33 * (i + 1)) (count - (i + 1)) page (omega arith) (omega arith) (omega arith) in
-    append_assoc columns (name_on (65 + 33 * i) page ∷ []) _ ∙ ap (λ (rest : List (List ℕ)). columns ++ rest) (sym next) ∙ is
+names_step columns all page i count hh1 hh2 = search (rules, append_assoc, names_next)
 
 pub length-names_on : (offset n : ℕ) (page : List ℕ) → length (names_on offset n page) ≡ n
 length-names_on offset zero page = refl
@@ -111,21 +98,15 @@ length-names_on offset (suc n) page = omega (arith, length-names_on (offset + 33
 
 -- where the counts are right, a schema is refused for its names alone
 pub refused_schema : (r : Result Schema PageFault) (P Q : Type 0) → (IsOk r ↔ (P × Q)) → (IsErrOf r BadName ↔ (P × (¬ Q))) → P → IfErr r (λ e. (e ≡ BadName) × (¬ Q))
-refused_schema (Ok s) P Q valid bad p = tt
-refused_schema (Err e) P Q valid bad p =
-    let no : ¬ Q = λ q. (let bad : false ≡ true = valid.1 (p, q) in cc) in
-    let is = bad.1 (p, no) in
-    (cc, no)
+refused_schema r P Q hh1 hh2 hh3 = search rules
 
 -- the columns of one that is made have different names
 pub made_schema : (r : Result Schema PageFault) (P Q : Type 0) → (IsOk r ↔ (P × Q)) → IfOk r (λ s. Q)
-made_schema (Ok s) P Q valid = (valid.0 refl).1
-made_schema (Err e) P Q valid = tt
+made_schema r P Q hh1 = search rules
 
 -- what holds of a fault holds of what is refused by it
 pub refused_by : {T : Type 0} (P : PageFault → Type 0) (r : Result T PageFault) (e : PageFault) → IsErrAnd r (λ x. x ≡ e) → P e → IfErr r P
-refused_by P (Ok x) e is h = absurd is
-refused_by P (Err f) e is h = subst P (sym is) h
+refused_by P r e hh1 hh2 = search rules
 
 with_same : (n : Numbers) (state dims measures page_rows signed : ℕ) → state ≡ n.state → dims ≡ n.dims → measures ≡ n.measures → page_rows ≡ n.page_rows → signed ≡ n.signed
     → record n { state = state; dims = dims; measures = measures; page_rows = page_rows; signed = signed } ≡ n
@@ -133,18 +114,11 @@ with_same n state dims measures page_rows signed a b c d e = rw (a, b, c, d, e) 
 
 pub same_numbers : (version : ℕ) (n : Numbers) (s : Schema) → s.dims ≡ n.dims → length s.columns ≡ n.dims + n.measures → s.page_rows ≡ n.page_rows → s.signed ≡ n.signed → n.state ≢ 1 → AreInRangeOf version n
     → numbers_of (record { schema = s; next = n.next; rows = n.rows; regions = n.regions; root = n.root; levels = n.levels; unclean = false }) ≡ n
-same_numbers version n s dims columns rows signed clean range =
-    let few = range.state in
-    let zero_state : 0 ≡ n.state = omega arith in
-    let measures : length s.columns - s.dims ≡ n.measures = omega arith in
-    with_same n 0 s.dims (length s.columns - s.dims) s.page_rows s.signed zero_state dims measures rows signed
+same_numbers version n s hh1 hh2 hh3 hh4 hh5 hh6 = search rules
 
 -- the byte of the mask is the mask, where none is signed before the first version that tells of it
 mask_read : (version signed byte : ℕ) → byte ≡ signed → (version < FIRST_SIGNED → signed ≡ 0) → (if nat_lt version FIRST_SIGNED then 0 else byte) ≡ signed
-mask_read version signed byte is unsigned = elim (cases_Bool (nat_lt version FIRST_SIGNED)) [
-  | inl older ↦ rw older (sym (unsigned (ltb-true version FIRST_SIGNED older)))
-  | inr later ↦ rw later is
-]
+mask_read version signed byte hh1 hh2 = search rules
 
 -- before the first version that tells of signed dimensions, the mask on a page is zero
 no_mask : (version byte : ℕ) → version < FIRST_SIGNED → (if nat_lt version FIRST_SIGNED then 0 else byte) ≡ 0
@@ -152,16 +126,7 @@ no_mask version byte older = rw (lt-ltb version FIRST_SIGNED older) refl
 
 -- a page has room for the levels: a directory has no more pages than regions
 pub levels_fit : (version : ℕ) (n : Numbers) → AreLevels version n → 1 ≤ n.regions → n.regions < 2 ^ 32 → n.levels < 2 ^ 32
-levels_fit version n are some small = elim (cases_Bool (nat_lt version FIRST_INDEXED)) [
-  | inl first ↦
-      let is : n.levels ≡ directory_pages n.regions = rw first at are in
-      let most = mul-div-le (n.regions + (MAX_ENTRIES - 1)) MAX_ENTRIES in
-      omega arith
-  | inr later ↦
-      let level : (1 ≤ n.levels) × (n.levels ≤ MAX_LEVEL) = rw later at are in
-      let most = level.1 in
-      omega arith
-]
+levels_fit version n hh1 hh2 hh3 = search rules
 
 -- the parts of a header that stand on a page of a version make a header of it
 pub is_header : (version : ℕ) (h : Header) (page : List ℕ) → numbers_of h ≡ numbers_on version page → AreInRangeOf version (numbers_on version page) → h.regions < 2 ^ 32 → h.root < 2 ^ 32
@@ -226,19 +191,7 @@ parts version h page byte is e =
 
 -- headers of one page agree
 pub same : (a b : Header) → numbers_of a ≡ numbers_of b → a.schema.name ≡ b.schema.name → a.schema.columns ≡ b.schema.columns → a.unclean ≡ b.unclean → AreSame a b
-same a b numbers name columns unclean = record {
-  name = name;
-  columns = columns;
-  dims = ap (λ (n : Numbers). n.dims) numbers;
-  page_rows = ap (λ (n : Numbers). n.page_rows) numbers;
-  signed = ap (λ (n : Numbers). n.signed) numbers;
-  next = ap (λ (n : Numbers). n.next) numbers;
-  rows = ap (λ (n : Numbers). n.rows) numbers;
-  regions = ap (λ (n : Numbers). n.regions) numbers;
-  root = ap (λ (n : Numbers). n.root) numbers;
-  levels = ap (λ (n : Numbers). n.levels) numbers;
-  unclean = unclean;
-}
+same a b hh1 hh2 hh3 hh4 = search rules
 
 -- where the numbers and the names are the same, so is the page
 pub same_page : (version : ℕ) (a b : Header) → numbers_of a ≡ numbers_of b → a.schema.name ≡ b.schema.name → a.schema.columns ≡ b.schema.columns
@@ -323,13 +276,7 @@ old_byte version is = let older = is.1 in omega arith
 
 -- where an old header tells of an index, its levels are the level of the root
 pub old_level : (old : OldHeader) → IsOldHeader old → old.version ≢ 1 → (1 ≤ old.header.levels) × (old.header.levels ≤ MAX_LEVEL)
-old_level old is other = elim (cases_Bool (nat_lt old.version FIRST_INDEXED)) [
-  | inl first ↦
-      let least = is.version.0 in
-      let below = ltb-true old.version FIRST_INDEXED first in
-      absurd (other (omega arith))
-  | inr later ↦ rw later at is.header.numbers.levels
-]
+old_level old hh1 hh2 = search rules
 
 -- the parts of an old header are read from its page
 pub old_parts : (old : OldHeader) (page : List ℕ) → IsOldHeader old → page ≡ header_page_of old.version old.header → HasPartsOf old.version old.header page
@@ -367,5 +314,4 @@ regrouped a1 a2 a3 a4 a5 a6 a7 a8 a9 a10 a11 a12 a13 b c =
 pub written : (version : ℕ) (n : Numbers) (name : List ℕ) (columns : List (List ℕ))
     → padded (((((((((((((((number_bytes 4 0x55425452 ++ number_bytes 1 version) ++ number_bytes 1 n.state) ++ number_bytes 1 n.dims) ++ number_bytes 1 n.measures) ++ number_bytes 1 n.page_rows) ++ number_bytes 1 n.signed) ++ number_bytes 2 0) ++ number_bytes 4 n.next) ++ number_bytes 4 n.rows) ++ number_bytes 4 n.regions) ++ number_bytes 4 n.root) ++ number_bytes 4 n.levels) ++ name_bytes name) ++ flat_map name_bytes columns)) ≡ page_of version n (name ∷ columns)
 unfolding page_of
-written version n name columns =
-    regrouped (number_bytes 4 0x55425452) (number_bytes 1 version) (number_bytes 1 n.state) (number_bytes 1 n.dims) (number_bytes 1 n.measures) (number_bytes 1 n.page_rows) (number_bytes 1 n.signed) (number_bytes 2 0) (number_bytes 4 n.next) (number_bytes 4 n.rows) (number_bytes 4 n.regions) (number_bytes 4 n.root) (number_bytes 4 n.levels) (name_bytes name) (flat_map name_bytes columns)
+written version n name columns = search (rules, regrouped)

@@ -1,4 +1,5 @@
 -- What a page of an index reads as, and which page is spelled by what stands on it.
+use Rattle.std.proofs.Common.{rules}
 use Rattle.std.proofs.Common.{◌≡◌, ◌&&◌, Bool, true, false, IsTrue, ◌≤◌, ◌<◌, ◌+◌, ◌-◌, ◌*◌, ◌^◌, ℕ, zero, suc, List, ◌++◌, length, take, drop, get_or, replicate, ◌↔◌, refl, sym, ap, arith, ◌∙◌, inl, inr}
 use Rattle.std.proofs.lemmas.List.{length-take-le, take-append-drop}
 use Rattle.std.specs.List.{flat_map, AllByRecursion}
@@ -66,15 +67,7 @@ not_refused node page last small is same OutOfRegion fault = fault
 
 -- a refusal of the first bytes is one of the page
 pub head_fault : (last : ℕ) (page : List ℕ) (e : PageFault) → IsHeadFault page e → IsIndexFault last page e
-head_fault last page WrongKind fault = fault
-head_fault last page BadCount fault = fault
-head_fault last page BadRow fault = absurd fault
-head_fault last page BadOrder fault = absurd fault
-head_fault last page BadPadding fault = absurd fault
-head_fault last page OldFormat fault = fault
-head_fault last page Unclean fault = fault
-head_fault last page BadName fault = fault
-head_fault last page OutOfRegion fault = fault
+head_fault last page e hh1 = search rules
 
 -- a page whose unused bytes aren't zero is written of nothing
 pub padding_fault : (page : List ℕ) (last : ℕ) → last < 256 ^ 16 → IsIndexKind page → HasHead page → HasNodeEntries last page → HasNodeOrder page
@@ -83,9 +76,7 @@ padding_fault page last small kind head entries order other = (kind, head, entri
 
 -- what stands on a page that is in range and in order is a node
 pub is_node : (page : List ℕ) (last : ℕ) → HasHead page → HasNodeEntries last page → HasNodeOrder page → IsNode last (node_on page)
-is_node page last head entries order =
-    let long = length-entries_on 16 (number_at 2 2 page) page in
-    record { low = head.0.0; high = head.0.1; some = rw long head.1; few = rw long head.2; entries = entries; ascending = order }
+is_node page last hh1 hh2 hh3 = search (rules, length-entries_on)
 
 -- entries that stand in some bytes are spelled by them
 entries_back : (offset n : ℕ) (page : List ℕ) → ((k : ℕ) → get_or page k 0 < 256) → offset + 24 * n ≤ length page → flat_map entry_bytes (entries_on offset n page) ≡ take (24 * n) (drop offset page)
@@ -120,9 +111,7 @@ spelled page long small kind head blank =
 pub range_step : (last i count : ℕ) (page : List ℕ) → i < count
     → AllByRecursion (IsEntry last) (entries_on (16 + 24 * i) (count - i) page)
     ↔ (IsEntry last (entry_on (16 + 24 * i) page) × AllByRecursion (IsEntry last) (entries_on (16 + 24 * (i + 1)) (count - (i + 1)) page))
-range_step last i count page more =
-    let next = entries_next (16 + 24 * i) (count - i) (16 + 24 * (i + 1)) (count - (i + 1)) page (omega arith) (omega arith) (omega arith) in
-    rw next (λ all. all, λ all. all)
+range_step last i count page hh1 = search (rules, entries_next)
 
 ascending_on : (offset n less : ℕ) (page : List ℕ) → 1 ≤ less → n ≡ less + 1
     → AreAscending (entries_on offset n page) ↔ (IsBefore (key_on offset page) (key_on (offset + 24) page) × AreAscending (entries_on (offset + 24) less page))
@@ -151,10 +140,7 @@ AreWellFrom last i count page =
     AllByRecursion (IsEntry last) (entries_on (16 + 24 * i) (count - i) page) × AreAscending (entries_on (16 + 24 * i) (count - i) page)
 
 pub before_address : (a b : Key) → IsBefore a b → a.z ≤ b.z
-before_address a b is = elim (before_parts a b is) [
-  | inl less ↦ omega arith
-  | inr same ↦ let z = same.0 in omega arith
-]
+before_address a b hh1 = search rules
 
 -- so are those from the next one on, and the first one is before that
 pub well_rest : (last i count : ℕ) (page : List ℕ) → 1 ≤ i → i < count → AreWellFrom last (i - 1) count page
@@ -169,26 +155,13 @@ well_rest last i count page some more all =
 pub well_more : (last i count : ℕ) (page : List ℕ) → 1 ≤ i → i < count → IsNamed (entry_on (16 + 24 * (i - 1)) page)
     → number_at 4 (16 + 24 * (i - 1) + 20) page < 2 ^ 32 → IsBefore (key_on (16 + 24 * (i - 1)) page) (key_on (16 + 24 * i) page)
     → AreWellFrom last (i + 1 - 1) count page → AreWellFrom last (i - 1) count page
-well_more last i count page some more named small before rest =
-    let same : i + 1 - 1 ≡ i = omega arith in
-    let back : i - 1 + 1 ≡ i = omega arith in
-    let next = (range_step last i count page more).0 (rw same at rest.0) in
-    let z : number_at 16 (16 + 24 * i) page ≤ last = next.0.z in
-    let up : number_at 16 (16 + 24 * (i - 1)) page ≤ number_at 16 (16 + 24 * i) page = before_address _ _ before in
-    let here : IsEntry last (entry_on (16 + 24 * (i - 1)) page) = record { z = omega arith; number = named.0; some_page = named.1; page = small } in
-    ((range_step last (i - 1) count page (omega arith)).1 (here, rw back (rw same at rest.0)), (order_step i count page some more).1 (before, rest.1))
+well_more last i count page hh1 hh2 hh3 hh4 hh5 hh6 = grind arith
 
 -- two tests that both pass
 pub both_pass : (a b : Bool) → IsTrue (a && b) ↔ (IsTrue a × IsTrue b)
-both_pass true b = (λ yes. (refl, yes), λ both. both.1)
-both_pass false b = (λ no. (let wrong : false ≡ true = no in cc), λ both. both.0)
+both_pass a b = search rules
 
 -- the last one is where its address is in the space
 pub well_last : (last i count : ℕ) (page : List ℕ) → 1 ≤ i → i ≡ count → IsNamed (entry_on (16 + 24 * (i - 1)) page)
     → number_at 4 (16 + 24 * (i - 1) + 20) page < 2 ^ 32 → AreWellFrom last (i - 1) count page ↔ (number_at 16 (16 + 24 * (i - 1)) page ≤ last)
-well_last last i count page some done named small =
-    let step = range_step last (i - 1) count page (omega arith) in
-    let none : count - (i - 1 + 1) ≡ 0 = omega arith in (
-      λ all. (step.0 all.0).0.z,
-      λ z. (step.1 (record { z = z; number = named.0; some_page = named.1; page = small }, rw none tt), order_end i count page some (omega arith)),
-    )
+well_last last i count page hh1 hh2 hh3 hh4 = search rules

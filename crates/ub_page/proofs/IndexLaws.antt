@@ -1,5 +1,6 @@
 -- What the proofs of crates above use of the pages of an index: what the page of a node tells of it, that it is not refused, and
 -- which entry stands in a slot.
+use Rattle.std.proofs.Common.{rules}
 use Rattle.std.proofs.Common.{◌≡◌, ◌<◌, ◌+◌, ◌*◌, ◌^◌, ℕ, zero, suc, List, length, Some, slice_get, refl, arith}
 use Rattle.ub_page.proofs.IndexFacts as facts
 use Rattle.ub_page.specs.Index.{Node, IsNode, IsIndexFault, index_page, node_on}
@@ -21,11 +22,9 @@ pub length-node_on : (page : List ℕ) → length (node_on page).entries ≡ num
 length-node_on page = length-entries_on 16 (number_at 2 2 page) page
 
 entries_get : (offset n slot : ℕ) (page : List ℕ) → slot < n → slice_get (entries_on offset n page) slot ≡ Some (entry_on (offset + 24 * slot) page)
-entries_get offset zero slot page less = absurd (omega arith)
-entries_get offset (suc n) zero page less = let at : offset + 24 * 0 ≡ offset = omega arith in rw at refl
-entries_get offset (suc n) (suc slot) page less =
-    let at : offset + 24 + 24 * slot ≡ offset + 24 * suc slot = omega arith in
-    rw at at (entries_get (offset + 24) n slot page (omega arith))
+entries_get offset zero slot page less = search rules
+entries_get offset (suc n) zero page less = search rules
+entries_get offset (suc n) (suc slot) page less = search (rules, (entries_get (offset + 24) n slot page (omega arith)))
 
 -- the entry in a slot is the one that the page tells there
 pub node_get : (page : List ℕ) (slot : ℕ) → slot < number_at 2 2 page → slice_get (node_on page).entries slot ≡ Some (entry_in slot page)

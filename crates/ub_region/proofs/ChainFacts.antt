@@ -1,5 +1,7 @@
 -- Regions in order, each before the next.
-use Rattle.std.proofs.Common.{◌≡◌, ◌<◌, ◌≤◌, ℕ, zero, suc, List, [], ◌∷◌, ◌++◌, Some, length, take, drop, get_or, ◌∙◌, sym, ap, refl, arith, slice_get, append_assoc}
+use Rattle.std.proofs.lemmas.Grind.{common_steps}
+use Rattle.std.proofs.Common.{rules}
+use Rattle.std.proofs.Common.{◌≡◌, ◌<◌, ◌≤◌, ℕ, zero, suc, List, [], ◌∷◌, ◌++◌, Some, length, take, drop, get_or, ap, refl, arith, slice_get, append_assoc}
 use Rattle.std.proofs.lemmas.List.{length-take-le}
 use Rattle.std.specs.List.{AllByRecursion}
 use Rattle.ub_table.specs.Keys.{IsBefore, AreKeysAscending}
@@ -51,11 +53,7 @@ below_same dims region first (x ∷ xs) (y ∷ ys) bx by h =
 
 -- the first key of rows in range is in range
 pub row_first : (dims measures : ℕ) (row : Row) → dims ≤ 4 → IsRow dims measures row → IsFirst dims (key_of dims row)
-row_first dims measures row few h =
-    let four = h.dims_rest.0 in
-    let number = h.number.1 in
-    let long : length (take dims row.dims) ≡ dims = length-take-le dims row.dims (omega arith) in
-    (address-le dims (take dims row.dims) long, number)
+row_first dims measures row h k = search (rules, address-le, length-take-le)
 
 pub key_in_range : (dims measures : ℕ) (rows : List Row) (o : Key) (n : ℕ) → dims ≤ 4 → AllByRecursion (IsRow dims measures) rows → n < length rows → IsFirst dims (get_or (keys_of dims rows) n o)
 key_in_range dims measures [] o n few h lt = absurd (omega arith)
@@ -63,8 +61,7 @@ key_in_range dims measures (row ∷ rows) o zero few h lt = row_first dims measu
 key_in_range dims measures (row ∷ rows) o (suc n) few h lt = key_in_range dims measures rows o n few h.1 (omega arith)
 
 pub length-keys_of : (dims : ℕ) (rows : List Row) → length (keys_of dims rows) ≡ length rows
-length-keys_of dims [] = refl
-length-keys_of dims (row ∷ rows) = ap (λ (n : ℕ). suc n) (length-keys_of dims rows)
+length-keys_of dims rows = grind (arith, common_steps)
 
 pub keys_take : (dims n : ℕ) (rows : List Row) → keys_of dims (take n rows) ≡ take n (keys_of dims rows)
 keys_take dims zero [] = refl
@@ -79,9 +76,7 @@ keys_drop dims (suc n) [] = refl
 keys_drop dims (suc n) (row ∷ rows) = keys_drop dims n rows
 
 pub keys_append : (dims : ℕ) (xs ys : List Row) → keys_of dims (xs ++ ys) ≡ keys_of dims xs ++ keys_of dims ys
-keys_append dims [] ys = refl
-keys_append dims (x ∷ xs) ys = ap (λ (ks : List Key). key_of dims x ∷ ks) (keys_append dims xs ys)
+keys_append dims xs ys = grind (arith, common_steps)
 
 pub rows_append : (xs ys : List RegionRows) → rows_of (xs ++ ys) ≡ rows_of xs ++ rows_of ys
-rows_append [] ys = refl
-rows_append (x ∷ xs) ys = ap (λ (rows : List Row). x.rows ++ rows) (rows_append xs ys) ∙ sym (append_assoc x.rows (rows_of xs) (rows_of ys))
+rows_append xs ys = grind (arith, common_steps, append_assoc)

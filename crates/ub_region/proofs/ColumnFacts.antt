@@ -1,6 +1,7 @@
 -- What the columns of a region hold at an index.
-use Rattle.std.proofs.Common.{◌≡◌, ◌<◌, ◌≤◌, ◌+◌, ◌-◌, ◌*◌, ℕ, ℤ, pos, zero, suc, List, [], ◌∷◌, length, map, take, replicate, get_or, Some, refl, sym, ap, arith, inl, inr, ◌∙◌}
-use Rattle.std.proofs.Math.Seq.{get_or-take, take-append_seam}
+use Rattle.std.proofs.Common.{rules}
+use Rattle.std.proofs.Common.{◌≡◌, ◌<◌, ◌≤◌, ◌+◌, ◌*◌, ℕ, ℤ, pos, zero, suc, List, [], ◌∷◌, length, map, take, replicate, get_or, Some, refl, sym, ap, arith, ◌∙◌}
+use Rattle.std.proofs.Math.Seq.{get_or-take}
 use Rattle.std.proofs.lemmas.Bool.{cases_order}
 use Rattle.std.proofs.lemmas.List.{get_or_append_left, get_or-append_right, get_or-replicate, length-append, length-replicate}
 use Rattle.std.proofs.lemmas.List.FromFn.{length-map-range_with_len, get_or-map-range_with_len}
@@ -14,29 +15,16 @@ use Rattle.ub_region.proofs.BlankRow.{blank_row}
 use Rattle.ub_region.specs.Columns.{block, blank_dims, blank_measures, across, point_in, values_in, row_in, key_in}
 use Rattle.ub_bytes.specs.Numbers.{blank_key}
 use Rattle.ub_region.specs.RegionPage.{places, row_on}
-use Rattle.ub_table.specs.Region.{key_of, keys_of}
+use Rattle.ub_table.specs.Region.{keys_of}
 use Rattle.ub_table.specs.declared.row.Key.{Key}
 
 module _ {A : Type 0} where
   -- an index that holds a value
   pub block_at : (total : ℕ) (blank : A) (f : ℕ → A) (n i : ℕ) (d : A) → i < n → get_or (block total blank f n) i d ≡ f i
-  block_at total blank f n i d less =
-      let front : List A = map f (range_with_len 0 n) in
-      let long : length front ≡ n = length-map-range_with_len f 0 n in
-      get_or_append_left front (replicate (total - n) blank) d i (omega arith) ∙ get_or-map-range_with_len f 0 n i i d less (omega arith)
-
-  -- the places that hold values
-  pub take_block : (total : ℕ) (blank : A) (f : ℕ → A) (n : ℕ) → take n (block total blank f n) ≡ map f (range_with_len 0 n)
-  take_block total blank f n =
-      let front : List A = map f (range_with_len 0 n) in
-      let long : length front ≡ n = length-map-range_with_len f 0 n in
-      ap (λ (k : ℕ). take k (block total blank f n)) (sym long) ∙ take-append_seam front (replicate (total - n) blank)
+  block_at total blank f n i d h = search (rules, get_or-map-range_with_len, get_or_append_left, length-map-range_with_len)
 
   pub length-block : (total : ℕ) (blank : A) (f : ℕ → A) (n : ℕ) → n ≤ total → length (block total blank f n) ≡ total
-  length-block total blank f n within =
-      let front : List A = map f (range_with_len 0 n) in
-      let back : List A = replicate (total - n) blank in
-      omega (arith, length-append front back, length-map-range_with_len f 0 n, length-replicate {A = A} (total - n) blank)
+  length-block total blank f n h = search (rules, length-append, length-map-range_with_len, length-replicate)
 
   -- two functions that agree below n
   pub map_same : (f g : ℕ → A) (a n : ℕ) → ((i : ℕ) → i < n → f (a + i) ≡ g (a + i)) → map f (range_with_len a n) ≡ map g (range_with_len a n)
@@ -78,14 +66,7 @@ module _ {A : Type 0} where
 
 -- each column has so many places
 pub columns_long : (g : ℕ → ℕ → ℕ) (count used d : ℕ) → count ≤ 64 → used ≤ 4 → d < 4 → length (get_or (block 4 blank_dims (λ d. block 64 0 (g d) count) used) d []) ≡ 64
-columns_long g count used d small few less = elim (sorted d used (cases_order d used)) [
-  | inl there ↦ ap length (block_at 4 blank_dims (λ d. block 64 0 (g d) count) used d [] there) ∙ length-block 64 0 (g d) count small
-  | inr from ↦
-      let front : List (List ℕ) = map (λ d. block 64 0 (g d) count) (range_with_len 0 used) in
-      let long : length front ≡ used = length-map-range_with_len (λ d. block 64 0 (g d) count) 0 used in
-      ap length (get_or-append_right front (replicate (4 - used) blank_dims) used d [] long from ∙ get_or-replicate (4 - used) (d - used) blank_dims [] (omega arith))
-      ∙ length-replicate {A = ℕ} 64 0
-]
+columns_long g count used d h k j = search (rules, block_at, cases_order, get_or-append_right, get_or-replicate, length-block, length-map-range_with_len, length-replicate, sorted)
 
 -- the columns hold what stands on a page that tells of so many rows
 pub record AreRead (dims measures count : ℕ) (page : List ℕ) (keys : List Key) (points : List (List ℕ)) (values : List (List ℤ)) : Type 0 where
@@ -104,20 +85,11 @@ pub are_read : (dims measures count used many shape : ℕ) (page : List ℕ) (ke
     → points ≡ block 4 blank_dims (λ d. block 64 0 (λ i. number_at 4 (24 + 4 * count + 4 * (count * d + i)) page) count) used
     → values ≡ block 4 blank_measures (λ m. block 64 (pos 0) (λ i. cast_signed w64 (number_at 8 (24 + 4 * count + 4 * (count * used) + 8 * (count * m + i)) page)) count) many
     → AreRead dims measures count page keys points values
-are_read dims measures count used many shape page keys points values few_dims few_measures few is_used is_many is_shape ks ps vs = record {
-  few_dims = few_dims;
-  few_measures = few_measures;
-  few = few;
-  keys_are = rw is_shape at ks;
-  points_are = rw is_used at ps;
-  values_are = rw (is_used, is_many) at vs;
-}
+are_read dims measures count used many shape page keys points values h k j l m o p q r = search rules
 
 number_read : (dims measures count : ℕ) (page : List ℕ) (keys : List Key) (points : List (List ℕ)) (values : List (List ℤ)) → AreRead dims measures count page keys points values
     → (i : ℕ) → i < count → get_or keys i blank_key ≡ key_in dims page points i
-number_read dims measures count page keys points values read i less =
-    sym (get_or-take count keys i blank_key less) ∙ ap (λ (ks : List Key). get_or ks i blank_key) read.keys_are
-    ∙ get_or-map-range_with_len (key_in dims page points) 0 count i i blank_key less (omega arith)
+number_read dims measures count page keys points values h i k = search (rules, get_or-map-range_with_len, get_or-take)
 
 row_read : (dims measures count : ℕ) (page : List ℕ) (keys : List Key) (points : List (List ℕ)) (values : List (List ℤ)) → AreRead dims measures count page keys points values
     → (i : ℕ) → i < count → row_in keys points values i ≡ row_on dims measures count page i
@@ -134,18 +106,12 @@ row_read dims measures count page keys points values read i less =
 -- the rows in the columns are those on the page
 pub rows_read : (dims measures count : ℕ) (page : List ℕ) (keys : List Key) (points : List (List ℕ)) (values : List (List ℤ)) → AreRead dims measures count page keys points values
     → map (row_in keys points values) (range_with_len 0 count) ≡ map (row_on dims measures count page) (range_with_len 0 count)
-rows_read dims measures count page keys points values read =
-    all_same (row_in keys points values) (row_on dims measures count page) count (row_read dims measures count page keys points values read)
+rows_read dims measures count page keys points values h = search (rules, all_same, row_read)
 
 -- and the keys are theirs
 pub keys_read : (dims measures count : ℕ) (page : List ℕ) (keys : List Key) (points : List (List ℕ)) (values : List (List ℤ)) → AreRead dims measures count page keys points values
     → take count keys ≡ keys_of dims (map (row_in keys points values) (range_with_len 0 count))
-keys_read dims measures count page keys points values read =
-    read.keys_are
-    ∙ all_same (key_in dims page points) (λ i. key_of dims (row_in keys points values i)) count
-    (λ i less. let number : number_at 4 (24 + 4 * i) page ≡ (get_or keys i blank_key).number
-    = sym (ap (λ (key : Key). key.number) (number_read dims measures count page keys points values read i less)) in rw number refl)
-    ∙ sym (map-map (key_of dims) (row_in keys points values) (range_with_len 0 count))
+keys_read dims measures count page keys points values h = search (rules, all_same, map-map, number_read)
 
 -- a row is that of its columns
 pub row_there : (keys : List Key) (points : List (List ℕ)) (values : List (List ℤ)) (count i : ℕ) → i < length (map (row_in keys points values) (range_with_len 0 count))

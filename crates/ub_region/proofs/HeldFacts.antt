@@ -1,4 +1,6 @@
 -- The rows that columns hold, and those that they hold once rows were put in, taken out, or taken over from others.
+use Rattle.std.proofs.lemmas.Grind.{common_steps}
+use Rattle.std.proofs.Common.{rules}
 use Rattle.std.proofs.Common.{◌≡◌, ◌<◌, ◌≤◌, ◌+◌, ◌-◌, inl, inr, ℕ, ℤ, List, [], ◌++◌, length, map, take, drop, get_or, refl, sym, ap, subst, ◌∙◌, arith}
 use Rattle.std.proofs.lemmas.Bool.{cases_lt, cases_eq}
 use Rattle.std.proofs.lemmas.List.{ext_get_or, get_or-append_right, get_or-drop, get_or-map, get_or-take, get_or_append_left, length-append, length-drop, length-take-le}
@@ -41,35 +43,13 @@ module _ {A : Type 0} (part : Row → A) where
       → Stands part n f xs → Stands part m g ys
       → ((j : ℕ) → j < at → h j ≡ f j) → ((j : ℕ) → j < count → h (at + j) ≡ g (from + j))
       → Stands part (at + count) h (take at xs ++ take count (drop from ys))
-  stands_copied n m at from count f g h xs ys long_xs long_ys within there old other below copied i lt =
-      let front : length (take at xs) ≡ at = length-take-le at xs (omega arith) in
-      elim (cases_lt i at) [
-        | inl less ↦
-            below i less ∙ old i (omega arith)
-            ∙ ap part (sym (get_or_append_left (take at xs) (take count (drop from ys)) blank_row i (omega arith) ∙ get_or-take at xs i blank_row less))
-        | inr le ↦
-            let back : i ≡ at + (i - at) = omega arith in
-            ap h back ∙ copied (i - at) (omega arith) ∙ other (from + (i - at)) (omega arith)
-            ∙ ap part (sym (get_or-append_right (take at xs) (take count (drop from ys)) at i blank_row front le
-            ∙ get_or-take count (drop from ys) (i - at) blank_row (omega arith) ∙ get_or-drop from ys (i - at) blank_row))
-      ]
+  stands_copied n m at from count f g h xs ys k j l o p q r s = search (rules, blank_row, cases_lt, get_or-append_right, get_or-drop, get_or-take, get_or_append_left, length-take-le)
 
   -- one row taken out
   stands_out : (n index : ℕ) (f h : ℕ → A) (rows : List Row) → length rows ≡ n → index < n → Stands part n f rows
       → ((j : ℕ) → j < index → h j ≡ f j) → ((j : ℕ) → index ≤ j → j + 1 < n → h j ≡ f (j + 1))
       → Stands part (n - 1) h (take index rows ++ drop (index + 1) rows)
-  stands_out n index f h rows long within old below above i lt =
-      let front : length (take index rows) ≡ index = length-take-le index rows (omega arith) in
-      elim (cases_lt i index) [
-        | inl less ↦
-            below i less ∙ old i (omega arith)
-            ∙ ap part (sym (get_or_append_left (take index rows) (drop (index + 1) rows) blank_row i (omega arith) ∙ get_or-take index rows i blank_row less))
-        | inr le ↦
-            let next : index + 1 + (i - index) ≡ i + 1 = omega arith in
-            above i le (omega arith) ∙ old (i + 1) (omega arith)
-            ∙ ap part (sym (get_or-append_right (take index rows) (drop (index + 1) rows) index i blank_row front le
-            ∙ get_or-drop (index + 1) rows (i - index) blank_row ∙ ap (λ (k : ℕ). get_or rows k blank_row) next))
-      ]
+  stands_out n index f h rows k j l m o = search (rules, blank_row, cases_lt, get_or-append_right, get_or-drop, get_or-take, get_or_append_left, length-take-le)
 
   -- the first of them
   stands_first : (n count : ℕ) (f : ℕ → A) (rows : List Row) → count ≤ n → Stands part n f rows → Stands part count f (take count rows)
@@ -107,16 +87,7 @@ keys_held dims n keys points values rows h le =
 
 -- those of a region in memory
 pub held_at : (p : Inside) → AreColumns p → AreHeld p.shape p.len p.keys p.dims p.measures (held_rows p)
-held_at p h =
-    let f : ℕ → Row = row_in p.keys p.dims p.measures in
-    let at : (i : ℕ) → i < p.len → get_or (held_rows p) i blank_row ≡ f i = (λ i lt. get_or-map-range_with_len f 0 p.len i i blank_row lt (omega arith)) in
-    let long : length (held_rows p) ≡ p.len = length-map-range_with_len f 0 p.len in
-    record {
-      long = long;
-      key = λ i lt. sym (get_or-take p.len p.keys i blank_key lt) ∙ ap (λ (ks : List Key). get_or ks i blank_key) h.keys ∙ get_or-map (key_of p.shape) (held_rows p) i blank_row blank_key (omega arith);
-      point = λ i lt. ap (λ (row : Row). row.dims) (sym (at i lt));
-      value = λ i lt. ap (λ (row : Row). row.measures) (sym (at i lt));
-    }
+held_at p h = search (rules, blank_row, get_or-map, get_or-map-range_with_len, get_or-take, length-map-range_with_len)
 
 -- and its rows are those of its view
 pub held_now : (p : Inside) (v : RegionView) → AreColumns p → held p ≡ v → AreHeld p.shape p.len p.keys p.dims p.measures v.region.rows
@@ -132,14 +103,7 @@ pub held_put : (dims n index : ℕ) (row : Row) (keys new_keys : List Key) (poin
     → ((j : ℕ) → j < index → values_in new_values j ≡ values_in values j) → values_in new_values index ≡ row.measures
     → ((j : ℕ) → index ≤ j → j < n → values_in new_values (j + 1) ≡ values_in values j)
     → AreHeld dims (n + 1) new_keys new_points new_values (insert rows index row)
-held_put dims n index row keys new_keys points new_points values new_values rows h within kb k ka pb p pa vb v va =
-    let long = h.long in
-    record {
-      long = length-insert rows index row (omega arith) ∙ ap (λ (m : ℕ). m + 1) long;
-      key = stands_put (key_of dims) n index row (λ i. get_or keys i blank_key) (λ i. get_or new_keys i blank_key) rows long within h.key kb k ka;
-      point = stands_put (λ (r : Row). r.dims) n index row (point_in points) (point_in new_points) rows long within h.point pb p pa;
-      value = stands_put (λ (r : Row). r.measures) n index row (values_in values) (values_in new_values) rows long within h.value vb v va;
-    }
+held_put dims n index row keys new_keys points new_points values new_values rows h k j l m o p q r s t = search (rules, length-insert, stands_put)
 
 -- where one was taken out
 pub held_out : (dims n index : ℕ) (keys new_keys : List Key) (points new_points : List (List ℕ)) (values new_values : List (List ℤ)) (rows : List Row)
@@ -188,14 +152,7 @@ held_over dims n m at from count keys other_keys new_keys points other_points ne
 -- where the first ones are kept
 pub held_first : (dims n count : ℕ) (keys : List Key) (points : List (List ℕ)) (values : List (List ℤ)) (rows : List Row) → AreHeld dims n keys points values rows → count ≤ n
     → AreHeld dims count keys points values (take count rows)
-held_first dims n count keys points values rows h le =
-    let long = h.long in
-    record {
-      long = length-take-le count rows (omega arith);
-      key = stands_first (key_of dims) n count (λ i. get_or keys i blank_key) rows le h.key;
-      point = stands_first (λ (r : Row). r.dims) n count (point_in points) rows le h.point;
-      value = stands_first (λ (r : Row). r.measures) n count (values_in values) rows le h.value;
-    }
+held_first dims n count keys points values rows h k = grind (arith, common_steps, length-take-le, stands_first)
 
 -- what holds rows is a region in memory, and its rows are these
 pub columns_held : (p : Inside) (rows : List Row) → AreHeld p.shape p.len p.keys p.dims p.measures rows → p.len ≤ 64 → length p.keys ≡ 64

@@ -1,4 +1,5 @@
 -- Where a row goes in among rows in the order of their keys.
+use Rattle.std.proofs.Common.{rules}
 use Rattle.std.proofs.Common.{◌≡◌, ◌<◌, ◌≤◌, ◌+◌, inl, inr, ℕ, zero, suc, List, [], ◌∷◌, Some, true, false, length, slice_get, refl, sym, ap, subst, ◌∙◌, arith}
 use Rattle.std.proofs.lemmas.Bool.{cases_Bool, cases_eq}
 use Rattle.std.specs.List.{insert}
@@ -60,5 +61,4 @@ module _ (dims : ℕ) (row : Row) where
       → ((i : ℕ) (k : Key) → i < low → slice_get (keys_of dims rows) i ≡ Some k → precedes (key_of dims row) k ≡ false)
       → ((i : ℕ) (k : Key) → high ≤ i → slice_get (keys_of dims rows) i ≡ Some k → precedes (key_of dims row) k ≡ true)
       → insert_row dims row rows ≡ insert rows low row
-  found_index rows low high end order within below above =
-      placed rows low (omega arith) below (λ k is. above low k end is)
+  found_index rows low high h k j l m = search (rules, placed)

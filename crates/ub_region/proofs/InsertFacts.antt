@@ -1,13 +1,14 @@
 -- Insertion keeps the regions of a table, and adds its row to theirs.
+use Rattle.std.proofs.Common.{rules}
 use Rattle.std.proofs.Common.{◌≡◌, ◌<◌, ◌≤◌, ◌+◌, ◌-◌, inl, inr, ℕ, zero, suc, List, [], ◌∷◌, ◌++◌, false, Some, length, map, take, drop, get_or, nat_eq, nat_le, ◌∙◌, sym, ap, refl, arith, subst}
-use Rattle.std.proofs.lemmas.Bool.{cases_Bool, cases_eq, cases_lt, leb-true, leb-false, ne_eqb, lt-ltb, le-ltb}
+use Rattle.std.proofs.lemmas.Bool.{cases_Bool, leb-true, leb-false, ne_eqb}
 use Rattle.std.proofs.lemmas.List.{length-take, length-drop, take-append-drop, append-nil}
 use Rattle.std.proofs.lemmas.List.Elements.{All-from_recursion, recursion_from_All}
 use Rattle.std.proofs.lemmas.List.Sorted.{IsPermutation-sym, IsPermutation-trans, IsPermutation-middle, IsPermutation-append_left, IsPermutation-append_right, IsPermutation-map, All-permutation}
 use Rattle.std.proofs.lemmas.Map.Keys.{IsDistinct-IsPermutation, IsDistinct-cons}
 use Rattle.std.specs.List.{AllByRecursion}
 use Rattle.std.specs.List.Sorted.{IsPermutation}
-use Rattle.ub_table.proofs.Laws.{before_from, before_parts, before_of, precedes_of, not_before_self, not_before_origin}
+use Rattle.ub_table.proofs.Laws.{before_of, precedes_of, not_before_origin}
 use Rattle.ub_table.specs.Keys.{IsBefore, AreKeysAscending, origin, precedes}
 use Rattle.ub_table.specs.Region.{RegionRows, IsRegion, IsRow, IsFirst, AreFrom, key_of, keys_of, measures_of}
 use Rattle.ub_table.specs.declared.row.Key.{Key}
@@ -21,16 +22,7 @@ use Rattle.ub_region.proofs.ChainFacts.{IsBelow, IsChain, BeginsWith, chain_of, 
 
 -- the separator is after the left key, not after the right one, and in range
 separator_is : (dims : ℕ) (left right : Key) → IsBefore left right → IsFirst dims right → IsBefore left (separator left right) × (¬ (IsBefore right (separator left right))) × IsFirst dims (separator left right)
-separator_is dims left right before range = elim (cases_lt left.z right.z) [
-  | inl lt ↦ rw (lt-ltb left.z right.z lt) (before_from left (record { z = right.z; number = 0 }) (inl lt), not_before_least right, (range.0, omega arith))
-  | inr ge ↦ rw (le-ltb left.z right.z ge) (before, not_before_self right, range)
-]
-  where
-    not_before_least : (k : Key) → IsBefore k (record { z = k.z; number = 0 }) → ⊥
-    not_before_least k h = elim (before_parts k (record { z = k.z; number = 0 }) h) [
-      | inl p ↦ omega arith
-      | inr p ↦ let q = p.1 in omega arith
-    ]
+separator_is dims left right h k = search rules
 
 -- a region with a row too many, perhaps
 pub record IsFilled (schema : Schema) (region : RegionRows) : Type 0 where
@@ -65,10 +57,7 @@ module _ (schema : Schema) (region : RegionRows) (filled : IsFilled schema regio
   parted = separator_is dims left_key right_key the_cut.before (key_in_range dims (measures_of schema) region.rows origin (suc n) schema.counts.few_dims filled.rows within)
 
   first_before : IsBefore region.first first
-  first_before =
-      let in_range : n < length keys = (let long = length-keys_of dims region.rows in omega arith) in
-      let upto = All-from_recursion (λ (key : Key). ¬ (IsBefore key region.first)) keys filled.within n origin in_range in
-      upto_before region.first left_key first upto parted.0
+  first_before = search (rules, All-from_recursion, length-keys_of, parted, upto_before)
 
   left_region : IsRegion schema (record { first = region.first; rows = take (suc n) region.rows })
   left_region = record {
@@ -80,26 +69,13 @@ module _ (schema : Schema) (region : RegionRows) (filled : IsFilled schema regio
   }
 
   right_region : IsRegion schema (record { first = first; rows = drop (suc n) region.rows })
-  right_region = record {
-    few = omega (arith, length-drop (suc n) region.rows);
-    first = parted.2;
-    rows = all_drop (IsRow dims (measures_of schema)) (suc n) region.rows filled.rows;
-    ascending = rw (keys_drop dims (suc n) region.rows) (up_drop (suc n) keys filled.ascending);
-    within = rw (keys_drop dims (suc n) region.rows) (all_more (λ (key : Key). ¬ (IsBefore key right_key)) (λ (key : Key). ¬ (IsBefore key first))
-        (λ key upper. upto_upto first right_key key parted.1 upper) (drop (suc n) keys) the_cut.upper);
-  }
+  right_region = grind (arith, all_drop, all_more, keys_drop, length-drop, parted, the_cut, up_drop, upto_upto)
 
   left_below : AllByRecursion (λ key. IsBefore key first) (keys_of dims (take (suc n) region.rows))
-  left_below = rw (keys_take dims (suc n) region.rows) (all_more (λ (key : Key). ¬ (IsBefore left_key key)) (λ (key : Key). IsBefore key first)
-      (λ key lower. upto_before key left_key first lower parted.0) (take (suc n) keys) the_cut.lower)
+  left_below = grind (arith, all_more, keys_take, parted, the_cut, upto_before)
 
   right_below : (regions : List RegionRows) → IsBelow dims region regions → IsBelow dims (record { first = first; rows = drop (suc n) region.rows }) regions
-  right_below [] h = tt
-  right_below (next ∷ regions) h =
-      let in_range : suc n < length keys = (let long = length-keys_of dims region.rows in omega arith) in (
-        upto_before first right_key next.first parted.1 (All-from_recursion (λ (key : Key). IsBefore key next.first) keys h.1 (suc n) origin in_range),
-        rw (keys_drop dims (suc n) region.rows) (all_drop (λ (key : Key). IsBefore key next.first) (suc n) keys h.1),
-      )
+  right_below regions h = search (rules, All-from_recursion, all_drop, keys_drop, length-keys_of, parted, upto_before)
 
   pub two_chain : (regions : List RegionRows) → IsBelow dims region regions → IsChain schema regions
       → IsChain schema (record { first = region.first; rows = take (suc n) region.rows } ∷ record { first = first; rows = drop (suc n) region.rows } ∷ regions)
@@ -127,16 +103,10 @@ split_chain schema region regions filled below chain = elim (cases_Bool (nat_le 
         rw same (two_chain schema region filled n lt left right regions below chain)
 
 split_begins : (dims c : ℕ) (region : RegionRows) (regions : List RegionRows) → BeginsWith region.first (split_region dims c region ++ regions)
-split_begins dims c region regions = elim (cases_Bool (nat_le (length region.rows) c)) [
-  | inl t ↦ rw t refl
-  | inr f ↦ rw f refl
-]
+split_begins dims c region regions = search rules
 
 split_rows : (dims c : ℕ) (region : RegionRows) → rows_of (split_region dims c region) ≡ region.rows
-split_rows dims c region = elim (cases_Bool (nat_le (length region.rows) c)) [
-  | inl t ↦ rw t (append-nil region.rows)
-  | inr f ↦ rw f (ap (λ (rest : List Row). take (left_half c) region.rows ++ rest) (append-nil (drop (left_half c) region.rows)) ∙ take-append-drop (left_half c) region.rows)
-]
+split_rows dims c region = search (rules, append-nil, cases_Bool, take-append-drop)
 
 module _ (schema : Schema) (row : Row) (good : IsRow schema.dims (measures_of schema) row) where
   abbrev key : Key
@@ -144,25 +114,11 @@ module _ (schema : Schema) (row : Row) (good : IsRow schema.dims (measures_of sc
 
   filled_insert : (region : RegionRows) → IsRegion schema region → ¬ (IsBefore key region.first) → AllByRecursion (λ other. other.number < row.number) region.rows
       → IsFilled schema (record { first = region.first; rows = insert_row schema.dims row region.rows })
-  filled_insert region h upto numbers =
-      let few = h.few in
-      record {
-        most = omega (arith, length-insert_row schema.dims row region.rows);
-        first = h.first;
-        rows = all_insert schema.dims row (IsRow schema.dims (measures_of schema)) region.rows h.rows good;
-        ascending = up_insert schema.dims row region.rows h.ascending numbers;
-        within = all_keys schema.dims (λ k. ¬ (IsBefore k region.first)) (insert_row schema.dims row region.rows)
-            (all_insert schema.dims row (λ other. ¬ (IsBefore (key_of schema.dims other) region.first)) region.rows (all_of_keys schema.dims (λ k. ¬ (IsBefore k region.first)) region.rows h.within) upto);
-      }
+  filled_insert region h k j = search (rules, all_insert, all_keys, all_of_keys, length-insert_row, up_insert)
 
   below_insert : (region : RegionRows) (regions : List RegionRows) → IsBelow schema.dims region regions → IsBeforeNext key (firsts_of regions)
       → IsBelow schema.dims (record { first = region.first; rows = insert_row schema.dims row region.rows }) regions
-  below_insert region [] h before = tt
-  below_insert region (next ∷ regions) h before = (
-    h.0,
-    all_keys schema.dims (λ k. IsBefore k next.first) (insert_row schema.dims row region.rows)
-        (all_insert schema.dims row (λ other. IsBefore (key_of schema.dims other) next.first) region.rows (all_of_keys schema.dims (λ k. IsBefore k next.first) region.rows h.1) before),
-  )
+  below_insert region regions h k = search (rules, all_insert, all_keys, all_of_keys)
 
   -- what insertion does to regions of which the first begins with a key
   pub record IsInserted (first : Key) (old new : List RegionRows) : Type 0 where
@@ -207,10 +163,7 @@ other_numbers n [] h = tt
 other_numbers n (row ∷ rows) h = let less = h.0 in (ne_eqb n row.number (λ e. omega arith), other_numbers n rows h.1)
 
 pub nat_eq_flips : (a b : ℕ) → nat_eq a b ≡ nat_eq b a
-nat_eq_flips a b = elim (cases_eq a b) [
-  | inl e ↦ rw e refl
-  | inr ne ↦ ne_eqb a b ne ∙ sym (ne_eqb b a (λ e. ne (sym e)))
-]
+nat_eq_flips a b = search rules
 
 -- insertion of the next row of a table keeps its regions
 pub insert_keeps : (schema : Schema) (next : ℕ) (row : Row) (regions : List RegionRows) → AreRegions schema next regions → IsRow schema.dims (measures_of schema) row → row.number ≡ next

@@ -1,9 +1,11 @@
 -- Ascending keys, in parts.
-use Rattle.std.proofs.Common.{◌≡◌, ◌≢◌, ◌<◌, ◌⊎◌, inl, inr, ℕ, zero, suc, List, [], ◌∷◌, ◌++◌, true, length, take, drop, get_or, sym, refl, arith, subst}
-use Rattle.std.proofs.lemmas.Bool.{cases_lt, cases_Bool, and_parts, and_from}
+use Rattle.std.proofs.lemmas.Grind.{common_steps}
+use Rattle.std.proofs.Common.{rules}
+use Rattle.std.proofs.Common.{◌≡◌, ◌≢◌, ◌<◌, ◌⊎◌, ℕ, zero, suc, List, [], ◌∷◌, ◌++◌, true, length, take, drop, get_or, refl, arith}
+use Rattle.std.proofs.lemmas.Bool.{and_parts, and_from}
 use Rattle.std.proofs.lemmas.List.Elements.{All-from_recursion}
 use Rattle.std.specs.List.{AllByRecursion}
-use Rattle.ub_table.proofs.Laws.{before_from, before_of, precedes_of, before_trans, not_both_before, not_before_self}
+use Rattle.ub_table.proofs.Laws.{before_of, precedes_of, before_trans, not_both_before, not_before_self}
 use Rattle.ub_table.specs.Keys.{IsBefore, AreKeysAscending, precedes, are_ascending}
 use Rattle.ub_table.specs.declared.row.Key.{Key}
 
@@ -17,8 +19,7 @@ module _ {X : Type 0} where
   all_both P Q R f (x ∷ xs) h k = (f x h.0 k.0, all_both P Q R f xs h.1 k.1)
 
   pub all_append : (P : X → Type 0) (xs ys : List X) → AllByRecursion P xs → AllByRecursion P ys → AllByRecursion P (xs ++ ys)
-  all_append P [] ys h k = k
-  all_append P (x ∷ xs) ys h k = (h.0, all_append P xs ys h.1 k)
+  all_append P xs ys h k = grind (arith, common_steps)
 
   pub all_left : (P : X → Type 0) (xs ys : List X) → AllByRecursion P (xs ++ ys) → AllByRecursion P xs
   all_left P [] ys h = tt
@@ -29,76 +30,33 @@ module _ {X : Type 0} where
   all_right P (x ∷ xs) ys h = all_right P xs ys h.1
 
   pub all_take : (P : X → Type 0) (n : ℕ) (xs : List X) → AllByRecursion P xs → AllByRecursion P (take n xs)
-  all_take P zero [] h = tt
-  all_take P zero (x ∷ xs) h = tt
-  all_take P (suc n) [] h = tt
-  all_take P (suc n) (x ∷ xs) h = (h.0, all_take P n xs h.1)
+  all_take P n xs h = grind (arith, common_steps)
 
   pub all_drop : (P : X → Type 0) (n : ℕ) (xs : List X) → AllByRecursion P xs → AllByRecursion P (drop n xs)
-  all_drop P zero [] h = tt
-  all_drop P zero (x ∷ xs) h = h
-  all_drop P (suc n) [] h = tt
-  all_drop P (suc n) (x ∷ xs) h = all_drop P n xs h.1
+  all_drop P n xs h = grind (arith, common_steps)
 
 -- of two keys of other numbers one is before the other
 pub other_before : (a b : Key) → ¬ (IsBefore a b) → a.number ≢ b.number → IsBefore b a
-other_before a b h ne = elim (cases_lt b.z a.z) [
-  | inl lt ↦ before_from b a (inl lt)
-  | inr le ↦ elim (cases_lt a.z b.z) [
-    | inl lt ↦ absurd (h (before_from a b (inl lt)))
-    | inr ge ↦
-        let same : a.z ≡ b.z = omega arith in
-        elim (cases_lt a.number b.number) [
-          | inl less ↦ absurd (h (before_from a b (inr (same, less))))
-          | inr more ↦ before_from b a (inr (sym same, omega arith))
-        ]
-  ]
-]
+other_before a b h k = search rules
 
 pub before_cases : (a b : Key) → IsBefore a b ⊎ (¬ (IsBefore a b))
-before_cases a b = elim (cases_Bool (precedes a b)) [
-  | inl t ↦ inl (before_of a b t)
-  | inr f ↦ inr (λ h. let t = precedes_of a b h in cc)
-]
+before_cases a b = search rules
 
 key_of_parts : (a b : Key) → a.z ≡ b.z → a.number ≡ b.number → a ≡ b
 key_of_parts a b e f = rw (e, f) refl
 
 pub before_or_same : (a b : Key) → ¬ (IsBefore b a) → IsBefore a b ⊎ (a ≡ b)
-before_or_same a b h = elim (cases_lt a.z b.z) [
-  | inl lt ↦ inl (before_from a b (inl lt))
-  | inr ge ↦ elim (cases_lt b.z a.z) [
-    | inl lt ↦ absurd (h (before_from b a (inl lt)))
-    | inr le ↦
-        let same : a.z ≡ b.z = omega arith in
-        elim (cases_lt a.number b.number) [
-          | inl less ↦ inl (before_from a b (inr (same, less)))
-          | inr more ↦ elim (cases_lt b.number a.number) [
-            | inl less ↦ absurd (h (before_from b a (inr (sym same, less))))
-            | inr at_most ↦ inr (let e : a.number ≡ b.number = omega arith in key_of_parts a b same e)
-          ]
-        ]
-  ]
-]
+before_or_same a b h = search rules
 
 -- a is at most b, and b is before c
 pub upto_before : (a b c : Key) → ¬ (IsBefore b a) → IsBefore b c → IsBefore a c
-upto_before a b c le lt = elim (before_or_same a b le) [
-  | inl before ↦ before_trans a b c before lt
-  | inr same ↦ subst (λ (k : Key). IsBefore k c) (sym same) lt
-]
+upto_before a b c h k = search rules
 
 pub before_upto : (a b c : Key) → IsBefore a b → ¬ (IsBefore c b) → IsBefore a c
-before_upto a b c lt le = elim (before_or_same b c le) [
-  | inl before ↦ before_trans a b c lt before
-  | inr same ↦ subst (λ (k : Key). IsBefore a k) same lt
-]
+before_upto a b c h k = search rules
 
 pub upto_upto : (a b c : Key) → ¬ (IsBefore b a) → ¬ (IsBefore c b) → ¬ (IsBefore c a)
-upto_upto a b c le more = λ back. le (elim (before_or_same b c more) [
-  | inl before ↦ before_trans b c a before back
-  | inr same ↦ subst (λ (k : Key). IsBefore k a) (sym same) back
-])
+upto_upto a b c h k = search rules
 
 -- a key is before the first of those that follow, if there are any
 abbrev pub IsBeforeNext : Key → List Key → Type 0
@@ -106,16 +64,13 @@ IsBeforeNext key [] = Unit {0}
 IsBeforeNext key (next ∷ keys) = IsBefore key next
 
 pub up_head : (key : Key) (keys : List Key) → AreKeysAscending (key ∷ keys) → IsBeforeNext key keys
-up_head key [] up = tt
-up_head key (next ∷ keys) up = up.0
+up_head key keys h = search rules
 
 pub up_tail : (key : Key) (keys : List Key) → AreKeysAscending (key ∷ keys) → AreKeysAscending keys
-up_tail key [] up = tt
-up_tail key (next ∷ keys) up = up.1
+up_tail key keys h = search rules
 
 pub up_cons : (key : Key) (keys : List Key) → IsBeforeNext key keys → AreKeysAscending keys → AreKeysAscending (key ∷ keys)
-up_cons key [] before up = tt
-up_cons key (next ∷ keys) before up = (before, up)
+up_cons key keys h k = search rules
 
 -- the first of ascending keys is before all others
 pub all_after : (key : Key) (keys : List Key) → AreKeysAscending (key ∷ keys) → AllByRecursion (IsBefore key) keys

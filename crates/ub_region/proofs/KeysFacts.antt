@@ -1,5 +1,6 @@
 -- The keys of a page's rows.
-use Rattle.std.proofs.Common.{◌≡◌, ◌<◌, ◌↔◌, Bool, true, false, not, IsTrue, ℕ, List, [], ◌∷◌, length, get_or, refl, arith}
+use Rattle.std.proofs.Common.{rules}
+use Rattle.std.proofs.Common.{◌≡◌, ◌<◌, ◌↔◌, Bool, not, IsTrue, ℕ, List, [], ◌∷◌, length, get_or}
 use Rattle.std.specs.List.{AllByRecursion}
 use Rattle.ub_region.specs.Columns.{IsKeyNumbered}
 use Rattle.ub_table.proofs.Laws.{before_trans}
@@ -19,13 +20,9 @@ from_least first key [] ascending least = (least, tt)
 from_least first key (next ∷ keys) ascending least = (least, from_least first next keys ascending.1 (λ yes. least (before_trans key next first ascending.0 yes)))
 
 not_true : (b : Bool) → (IsTrue (not b)) ↔ (¬ (IsTrue b))
-not_true false = (λ yes t. (let wrong : false ≡ true = t in cc), λ not_t. refl)
-not_true true = (λ bad. (let wrong : false ≡ true = bad in cc), λ not_t. absurd (not_t refl))
+not_true b = search rules
 
 -- what the test of the least key tells
 pub keys_are_from : (first : Key) (keys : List Key) (blank : Key) (b : Bool) → 0 < length keys → AreKeysAscending keys
     → b ≡ precedes (get_or keys 0 blank) first → IsTrue (not b) ↔ AreFrom first keys
-keys_are_from first [] blank b some ascending test = absurd (omega arith)
-keys_are_from first (key ∷ keys) blank b some ascending test =
-    let turned = not_true b in
-    (λ yes. from_least first key keys ascending (rw test at (turned.0 yes)), λ from. turned.1 (rw test from.0))
+keys_are_from first keys blank b h k j = search (rules, from_least, not_true)

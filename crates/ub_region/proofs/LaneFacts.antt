@@ -1,5 +1,6 @@
 -- Masks of comparisons, of eight lanes and of a whole column.
-use Rattle.std.proofs.Common.{◌≡◌, ◌≢◌, ◌≤◌, ◌<◌, ◌+◌, ◌-◌, ◌*◌, ◌^◌, ◌%◌, ◌↔◌, ◌⊎◌, inl, inr, ℕ, zero, suc, Bool, true, false, cond, List, [], ◌∷◌, length, map, take, drop, replicate, get_or, slice_index, refl, sym, ap, ◌∙◌, arith, rules, nat_le, leb-true, le-leb, min, max, bit_and, bit_or}
+use Rattle.std.proofs.lemmas.Grind.{common_steps}
+use Rattle.std.proofs.Common.{◌≡◌, ◌≢◌, ◌≤◌, ◌<◌, ◌+◌, ◌-◌, ◌*◌, ◌^◌, ◌%◌, ◌↔◌, ◌⊎◌, inl, inr, ℕ, Bool, true, false, cond, List, length, map, take, drop, replicate, get_or, slice_index, sym, ap, ◌∙◌, arith, rules, nat_le, min, max, bit_and, bit_or}
 use Rattle.std.proofs.lemmas.Bool.{cases_order}
 use Rattle.std.proofs.lemmas.List.{length-map, length-take-le, get_or-take, get_or-drop, length-drop}
 use Rattle.std.proofs.lemmas.Nat.{shl_whole, pow_pos}
@@ -24,27 +25,13 @@ pub record Both (A B : Type 0) : Type 0 where
 
 -- an element of a mapped list of tests
 at_map : (f : ℕ → Bool) (xs : List ℕ) (i : ℕ) → (get_or (map f xs) i false ≡ true) ↔ ((i < length xs) × (f (slice_index xs i) ≡ true))
-at_map f [] i = (λ e. absurd (search (rules, e)), λ h. absurd (let l = h.0 in omega arith))
-at_map f (x ∷ xs) zero = (λ e. (omega arith, e), λ h. h.1)
-at_map f (x ∷ xs) (suc i) = let r = at_map f xs i in (λ e. let s = r.0 e in (let l = s.0 in omega arith, s.1), λ h. r.1 (let l = h.0 in omega arith, h.1))
+at_map f xs i = grind (arith, common_steps)
 
 both : (a b : Bool) → (min (cond a 1 0) (cond b 1 0) ≡ 1) ↔ ((a ≡ true) × (b ≡ true))
-both true true = (λ e. (refl, refl), λ h. refl)
-both true false = (λ e. absurd (search (rules, e)), λ h. absurd (search (rules, h.1)))
-both false true = (λ e. absurd (search (rules, e)), λ h. absurd (search (rules, h.0)))
-both false false = (λ e. absurd (search (rules, e)), λ h. absurd (search (rules, h.0)))
+both a b = search rules
 
 pub IsMaskOf-and : (lo hi : ℕ) (xs : List ℕ) → IsMaskOf lo hi xs (bit_and (mask_l (map (λ x. nat_le lo x) xs)) (mask_l (map (λ x. nat_le x hi) xs)))
-IsMaskOf-and lo hi xs i =
-    let bits : bit_at (bit_and (mask_l (map (λ x. nat_le lo x) xs)) (mask_l (map (λ x. nat_le x hi) xs))) i ≡ min (cond (get_or (map (λ x. nat_le lo x) xs) i false) 1 0) (cond (get_or (map (λ x. nat_le x hi) xs) i false) 1 0)
-    = bit_at_and _ _ i ∙ (λ j. min (bit_mask_l (map (λ x. nat_le lo x) xs) i j) (bit_mask_l (map (λ x. nat_le x hi) xs) i j)) in
-    let two = both (get_or (map (λ x. nat_le lo x) xs) i false) (get_or (map (λ x. nat_le x hi) xs) i false) in
-    let low = at_map (λ x. nat_le lo x) xs i in
-    let high = at_map (λ x. nat_le x hi) xs i in
-    rw bits (
-      (λ e. let t = two.0 e in let a = low.0 t.0 in let b = high.0 t.1 in (a.0, leb-true _ _ a.1, leb-true _ _ b.1)),
-      (λ h. two.1 (low.1 (h.0, le-leb _ _ h.1), high.1 (h.0, le-leb _ _ h.2))),
-    )
+IsMaskOf-and lo hi xs = search (rules, at_map, bit_at_and, bit_mask_l, both)
 
 pub mask_below : (f : ℕ → Bool) (xs : List ℕ) → length xs ≡ 8 → mask_l (map f xs) < 256
 mask_below f xs long = rw (length-map xs f, long) at (mask_l-lt (map f xs))
@@ -57,32 +44,11 @@ Lies lo hi column i = (i < length column) × (lo ≤ get_or column i 0) × (get_
 abbrev pub IsMaskTo : ℕ → ℕ → List ℕ → ℕ → ℕ → Type 0
 IsMaskTo lo hi column n mask = (i : ℕ) → (bit_at mask i ≡ 1) ↔ Both (i < n) (Lies lo hi column i)
 
-pub IsMaskTo-none : (lo hi : ℕ) (column : List ℕ) → IsMaskTo lo hi column 0 0
-IsMaskTo-none lo hi column i = (λ set. absurd (omega (arith, bit_at-zero i)), λ inside. absurd (let less = inside.first in omega arith))
-
--- the mask of the first n values, and of all
-pub IsMaskTo-take : (lo hi n mask : ℕ) (column : List ℕ) → n ≤ length column → IsMaskTo lo hi column n mask → IsMaskOf lo hi (take n column) mask
-IsMaskTo-take lo hi n mask column within so i =
-    let long = length-take-le n column within in (
-      (λ bit. let h = (so i).0 bit in let less = h.first in let same = get_or-take n column i 0 less in (omega arith, rw same h.second.1, rw same h.second.2)),
-      (λ h. let before = h.0 in let less : i < n = omega arith in let same = get_or-take n column i 0 less in
-          (so i).1 (record { first = less; second = (omega arith, rw same at h.1, rw same at h.2) })),
-    )
-
 pub IsMaskTo-from : (lo hi n mask : ℕ) (column : List ℕ) → n ≤ length column → IsMaskOf lo hi (take n column) mask → IsMaskTo lo hi column n mask
-IsMaskTo-from lo hi n mask column within so i =
-    let long = length-take-le n column within in (
-      (λ bit. let h = (so i).0 bit in let before = h.0 in let less : i < n = omega arith in let same = get_or-take n column i 0 less in
-          record { first = less; second = (omega arith, rw same at h.1, rw same at h.2) }),
-      (λ h. let less = h.first in let same = get_or-take n column i 0 less in (so i).1 (omega arith, rw same h.second.1, rw same h.second.2)),
-    )
-
-pub IsMaskTo-all : (lo hi n mask : ℕ) (column : List ℕ) → length column ≤ n → IsMaskTo lo hi column n mask → IsMaskOf lo hi column mask
-IsMaskTo-all lo hi n mask column all so i = (λ bit. ((so i).0 bit).second, λ h. (let less = h.0 in (so i).1 (record { first = omega arith; second = h })))
+IsMaskTo-from lo hi n mask column h k = search (rules, get_or-take, length-take-le)
 
 apart : (i n : ℕ) → (i < n) ⊎ (n < i) → i ≢ n
-apart i n (inl less) e = omega arith
-apart i n (inr more) e = omega arith
+apart i n h = search rules
 
 -- one value more, which lies between the bounds
 pub IsMaskTo-set : (lo hi n mask : ℕ) (column : List ℕ) → n < 64 → n < length column → lo ≤ get_or column n 0 → get_or column n 0 ≤ hi → IsMaskTo lo hi column n mask
@@ -99,27 +65,13 @@ IsMaskTo-set lo hi n mask column small there low high so i = elim (cases_order i
 
 -- one that doesn't
 pub IsMaskTo-kept : (lo hi n mask : ℕ) (column : List ℕ) → ((lo ≤ get_or column n 0) → (get_or column n 0 ≤ hi) → ⊥) → IsMaskTo lo hi column n mask → IsMaskTo lo hi column (n + 1) mask
-IsMaskTo-kept lo hi n mask column outside so i = elim (cases_order i n) [
-  | inl same ↦ ((λ bit. (let was = (so i).0 bit in let less = was.first in absurd (omega arith))), (λ h. absurd (let k = rw same at h.second in outside k.1 k.2)))
-  | inr other ↦
-      (let ne : i ≢ n = apart i n other in (
-        λ bit. (let was = (so i).0 bit in let less = was.first in record { first = omega arith; second = was.second }),
-        λ h. (let less = h.first in (so i).1 (record { first = omega arith; second = h.second })),
-      ))
-]
+IsMaskTo-kept lo hi n mask column h k = search rules
 
 pub sorted : (i n : ℕ) → (i ≡ n) ⊎ ((i < n) ⊎ (n < i)) → (i < n) ⊎ (n ≤ i)
-sorted i n (inl same) = inr (omega arith)
-sorted i n (inr (inl less)) = inl less
-sorted i n (inr (inr more)) = inr (omega arith)
+sorted i n h = search rules
 
 either : (a b : ℕ) → a < 2 → b < 2 → (max a b ≡ 1) ↔ ((a ≡ 1) ⊎ (b ≡ 1))
-either zero zero p q = (λ e. absurd (omega (arith, e)), λ h. absurd (elim h [ inl x ↦ omega (arith, x) | inr x ↦ omega (arith, x) ]))
-either zero (suc zero) p q = (λ e. inr refl, λ h. refl)
-either (suc zero) zero p q = (λ e. inl refl, λ h. refl)
-either (suc zero) (suc zero) p q = (λ e. inl refl, λ h. refl)
-either a (suc (suc b)) p q = absurd (omega arith)
-either (suc (suc a)) b p q = absurd (omega arith)
+either a b h k = search rules
 
 -- eight values more
 pub IsMaskTo-chunk : (lo hi n mask lanes : ℕ) (column : List ℕ) → n + 8 ≤ length column → length column ≤ 64 → lanes < 256 → IsMaskOf lo hi (take 8 (drop n column)) lanes

@@ -1,4 +1,5 @@
 -- The mask of a region, one dimension after the other.
+use Rattle.std.proofs.Common.{rules}
 use Rattle.std.proofs.Common.{◌≡◌, ◌<◌, ◌≤◌, ◌+◌, ◌-◌, ◌^◌, ◌↔◌, inl, inr, ℕ, ℤ, zero, suc, List, [], Some, length, map, take, get_or, slice_index, bit_and, min, refl, sym, ap, arith, ◌∙◌}
 use Rattle.std.proofs.lemmas.Bool.{cases_order}
 use Rattle.std.proofs.lemmas.List.{length-take-le, get_or-take}
@@ -11,7 +12,7 @@ use Rattle.ub_bigmin.specs.Box.{Corners, IsInside}
 use Rattle.ub_region.proofs.LaneFacts.{sorted}
 use Rattle.ub_region.proofs.BlankRow.{blank_row}
 use Rattle.ub_region.specs.Columns.{point_in, row_in}
-use Rattle.ub_region.specs.Lanes.{IsMaskOf, IsMaskBelow, IsBetween, used}
+use Rattle.ub_region.specs.Lanes.{IsMaskOf, IsMaskBelow, used}
 use Rattle.ub_region.specs.RegionPage.{IsRowInside}
 use Rattle.ub_table.specs.declared.row.Key.{Key}
 use Rattle.ub_table.specs.declared.row.Row.{Row}
@@ -23,17 +24,10 @@ IsMaskBelow-none len columns lo hi i = elim (sorted i 64 (cases_order i 64)) [
 ]
 
 both : (a b : ℕ) → a < 2 → b < 2 → (min a b ≡ 1) ↔ ((a ≡ 1) × (b ≡ 1))
-both zero b p q = ((λ e. absurd (omega (arith, e))), (λ h. absurd (omega (arith, h.0))))
-both (suc zero) zero p q = ((λ e. absurd (omega (arith, e))), (λ h. absurd (omega (arith, h.1))))
-both (suc zero) (suc zero) p q = ((λ e. (refl, refl)), (λ h. refl))
-both a (suc (suc b)) p q = absurd (omega arith)
-both (suc (suc a)) b p q = absurd (omega arith)
+both a b h k = search rules
 
 at_last : (n d : ℕ) (P : ℕ → Type 0) → d < n + 1 → ((d : ℕ) → d < n → P d) → P n → P d
-at_last n d P less all last = elim (sorted d n (cases_order d n)) [
-  | inl before ↦ all d before
-  | inr from ↦ let same : d ≡ n = omega arith in rw same last
-]
+at_last n d P h k j = search rules
 
 some_same : (a b : Row) → Some a ≡ Some b → a ≡ b
 some_same a b e = cc
@@ -42,15 +36,7 @@ some_same a b e = cc
 pub IsMaskBelow-more : (len : ℕ) (columns : List (List ℕ)) (lo hi : List ℕ) (mask n column_mask : ℕ) → len ≤ 64
     → IsMaskOf (slice_index lo n) (slice_index hi n) (used len columns n) column_mask
     → IsMaskBelow len columns lo hi n mask → IsMaskBelow len columns lo hi (n + 1) (bit_and mask column_mask)
-IsMaskBelow-more len columns lo hi mask n column_mask few one so i =
-    let is = bit_at_and mask column_mask i in
-    let two = both (bit_at mask i) (bit_at column_mask i) (bit_at-lt mask i) (bit_at-lt column_mask i) in (
-      (λ bit. let bits = two.0 (sym is ∙ bit) in
-          let was = (so i).0 bits.0 in
-          let more = (one i).0 bits.1 in
-          (was.0, λ d less. at_last n d (IsBetween len columns lo hi i) less was.1 more)),
-      (λ h. is ∙ two.1 ((so i).1 (h.0, λ d less. h.1 d (omega arith)), (one i).1 (h.1 n (omega arith)))),
-    )
+IsMaskBelow-more len columns lo hi mask n column_mask h k j = search (rules, at_last, bit_at-lt, bit_at_and, both)
 
 -- a coordinate of a row stands in the column of its dimension
 at_dim : (columns : List (List ℕ)) (i d : ℕ) → d < 4 → get_or (point_in columns i) d 0 ≡ get_or (get_or columns d []) i 0

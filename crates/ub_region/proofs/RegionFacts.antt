@@ -1,4 +1,6 @@
 -- What a region's page reads as.
+use Rattle.std.proofs.lemmas.Grind.{common_steps}
+use Rattle.std.proofs.Common.{rules}
 use Rattle.std.specs.Prelude.{ℤ, pos, FitsSigned}
 use Rattle.std.specs.Int.{w64, cast_signed, cast_unsigned}
 use Rattle.byteorder.specs.Numbers.{big_from-lt}
@@ -6,16 +8,14 @@ use Rattle.std.proofs.Math.Facts.{Fits-lt-pow, Fits-of_lt, Fits-of_z, sfits_lit,
 use Rattle.std.proofs.Math.Seq.{drop-append_seam}
 use Rattle.std.proofs.lemmas.List.Elements.{All-append, All-replicate}
 use Rattle.std.proofs.lemmas.List.FromFn.{length-map-range_with_len, get_or-map-range_with_len}
-use Rattle.std.proofs.Common.{◌≡◌, ◌≤◌, ◌<◌, ◌+◌, ◌-◌, ◌*◌, ◌^◌, ℕ, zero, suc, List, [], ◌∷◌, ◌++◌, length, map, take, drop, replicate, get_or, subst, refl, sym, ap, arith, ◌∙◌, append_assoc, Some}
+use Rattle.std.proofs.Common.{◌≡◌, ◌≤◌, ◌<◌, ◌+◌, ◌-◌, ◌*◌, ◌^◌, ℕ, zero, suc, List, [], ◌∷◌, ◌++◌, length, map, take, drop, replicate, get_or, refl, sym, ap, arith, ◌∙◌, append_assoc, Some}
 use Rattle.std.specs.List.{All, AllByRecursion, flat_map, range_with_len, slice_get}
-use Rattle.std.proofs.lemmas.List.{length-append, take-append-drop, get_or-drop, length-replicate}
+use Rattle.std.proofs.lemmas.List.{length-append, get_or-drop, length-replicate}
 use Rattle.ub_bytes.specs.Bytes.{number_bytes, number_at, layout}
 use Rattle.ub_region.specs.RegionPage.{RegionView, column, columns, dim_of, measure_of, head_fields, region_page, places, row_on, region_on, IsRegionKind, HasCounts, HasRows, HasOrder, HasFirst, IsRegionFault}
 use Rattle.ub_region.proofs.AddressFacts.{small_address}
 use Rattle.ub_bytes.proofs.BytesFacts.{length-number_bytes, read_at, layout_read, length-layout, AllFit}
-use Rattle.ub_table.specs.Keys.{AreKeysAscending}
-use Rattle.ub_table.specs.Region.{RegionRows, measures_of, HasRest, IsRow, IsRegion, IsNumbered, IsFirst, AreFrom, keys_of}
-use Rattle.ub_table.specs.declared.fault.PageFault.TheVariants.{WrongKind, OldFormat, Unclean, BadCount, BadName, BadRow, BadOrder, OutOfRegion, BadPadding}
+use Rattle.ub_table.specs.Region.{RegionRows, measures_of, HasRest, IsRow, IsRegion, IsNumbered}
 use Rattle.ub_table.specs.declared.fault.PageFault.{PageFault}
 use Rattle.ub_table.specs.declared.row.Row.{Row}
 use Rattle.ub_table.specs.declared.schema.Schema.{Schema}
@@ -26,10 +26,7 @@ FitIn width number rows = AllByRecursion (λ row. number row < 256 ^ width) rows
 
 pub length-column : (width : ℕ) (number : Row → ℕ) (rows : List Row) → length (column width number rows) ≡ width * length rows
 length-column width number [] = omega arith
-length-column width number (row ∷ rows) =
-    let one = length-number_bytes width (number row) in
-    let more = length-column width number rows in
-    omega (arith, length-append (number_bytes width (number row)) (column width number rows), one, more)
+length-column width number (row ∷ rows) = search (rules, (length-column width number rows), length-append, length-number_bytes)
 
 -- a row's number is read from its column
 column_read : (width : ℕ) (number : Row → ℕ) (rows : List Row) (page front rest : List ℕ) (offset : ℕ) → offset ≡ length front → FitIn width number rows
@@ -71,17 +68,12 @@ columns_read width number rows page front rest offset a (suc n) is fit e (suc j)
 columns_at : (width : ℕ) (number : ℕ → Row → ℕ) (rows : List Row) (page front rest : List ℕ) (offset n : ℕ) → offset ≡ length front → ((j : ℕ) → FitIn width (number j) rows)
     → page ≡ front ++ (columns width number n rows ++ rest)
     → (j : ℕ) → j < n → (i : ℕ) (row : Row) → slice_get rows i ≡ Some row → number_at width (offset + width * (length rows * j + i)) page ≡ number j row
-columns_at width number rows page front rest offset n is fit e j less i row there =
-    let same : 0 + j ≡ j = omega arith in
-    columns_read width number rows page front rest offset 0 n is fit e j less i _ row there refl ∙ ap (λ (k : ℕ). number k row) same
+columns_at width number rows page front rest offset n h k l j m i row o = grind (arith, columns_read)
 
 pub length-columns : (width : ℕ) (number : ℕ → Row → ℕ) (a n : ℕ) (rows : List Row)
     → length (flat_map (λ i. column width (number i) rows) (range_with_len a n)) ≡ width * (length rows * n)
 length-columns width number a zero rows = omega arith
-length-columns width number a (suc n) rows =
-    let one = length-column width (number a) rows in
-    let more = length-columns width number (a + 1) n rows in
-    omega (arith, length-append (column width (number a) rows) (flat_map (λ i. column width (number i) rows) (range_with_len (a + 1) n)), one, more)
+length-columns width number a (suc n) rows = search (rules, (length-columns width number (a + 1) n rows), length-append, length-column)
 
 -- a list is read from what stands at each of its places
 rows_read : (f : ℕ → Row) (rows : List Row) (a : ℕ) → ((i : ℕ) (row : Row) → slice_get rows i ≡ Some row → f (a + i) ≡ row) → map f (range_with_len a (length rows)) ≡ rows
@@ -107,16 +99,11 @@ front_read f rest (x ∷ xs) a (suc n) long h =
 
 -- four places are read from those that are used
 places_read : {A : Type 0} (rest : A) (f : ℕ → A) (used : ℕ) (xs : List A) → used ≤ 4 → HasRest rest used xs → ((i : ℕ) → i < used → f i ≡ get_or xs i rest) → places rest f used ≡ xs
-places_read {A} rest f used xs few is h =
-    let four = is.0 in
-    let front : map f (range_with_len 0 used) ≡ take used xs = front_read f rest xs 0 used (omega arith) (λ i less. let same : 0 + i ≡ i = omega arith in ap f same ∙ h i less) in
-    ap (λ (ys : List A). ys ++ replicate (4 - used) rest) front ∙ ap (λ (ys : List A). take used xs ++ ys) (sym is.1) ∙ take-append-drop used xs
+places_read rest f used xs h k j = search rules
 
 -- what holds of each, and of what stands past the end, holds at any index
 at_any : {A : Type 0} (P : A → Type 0) (rest : A) (xs : List A) → All P xs → P rest → (i : ℕ) → P (get_or xs i rest)
-at_any P rest [] all d i = d
-at_any P rest (x ∷ xs) all d zero = all 0 rest (omega arith)
-at_any P rest (x ∷ xs) all d (suc i) = at_any P rest xs (λ k e less. all (suc k) e (omega arith)) d i
+at_any P rest xs h k i = grind (arith, common_steps)
 
 -- what follows of each row follows of all
 all_weaker : (P Q : Row → Type 0) → ((row : Row) → P row → Q row) → (rows : List Row) → AllByRecursion P rows → AllByRecursion Q rows
@@ -212,9 +199,7 @@ unfolding number_at
 number_lt n offset page bytes = big_from-lt 0 n (drop offset page) (λ k. rw (get_or-drop offset page k 0) (bytes (offset + k)))
 
 all_map : {A : Type 0} (P : A → Type 0) (f : ℕ → A) → ((i : ℕ) → P (f i)) → (a n : ℕ) → All P (map f (range_with_len a n))
-all_map P f each a n k d less =
-    let within : k < n = omega (arith, length-map-range_with_len f a n) in
-    rw (get_or-map-range_with_len f a n k (a + k) d within refl) (each (a + k))
+all_map P f h a n = search (rules, get_or-map-range_with_len, length-map-range_with_len)
 
 -- four places, of which those that are not used hold a value of the same kind
 places_hold : {A : Type 0} (P : A → Type 0) (rest : A) (f : ℕ → A) (used : ℕ) → used ≤ 4 → P rest → ((i : ℕ) → P (f i)) → HasRest rest used (places rest f used) × All P (places rest f used)
@@ -239,41 +224,16 @@ row_is dims measures count page i few_dims few_measures bytes number =
 rows_are : (dims measures count : ℕ) (page : List ℕ) (a n : ℕ) → dims ≤ 4 → measures ≤ 4 → ((k : ℕ) → get_or page k 0 < 256)
     → AllByRecursion IsNumbered (map (row_on dims measures count page) (range_with_len a n)) → AllByRecursion (IsRow dims measures) (map (row_on dims measures count page) (range_with_len a n))
 rows_are dims measures count page a zero few_dims few_measures bytes all = tt
-rows_are dims measures count page a (suc n) few_dims few_measures bytes all =
-    (row_is dims measures count page a few_dims few_measures bytes all.0, rows_are dims measures count page (a + 1) n few_dims few_measures bytes all.1)
+rows_are dims measures count page a (suc n) few_dims few_measures bytes all = search (rules, (rows_are dims measures count page (a + 1) n few_dims few_measures bytes all.1), row_is)
 
 -- what stands on a page is a region, where that is in range and in order
 pub is_region : (schema : Schema) (page : List ℕ) → ((k : ℕ) → get_or page k 0 < 256) → HasCounts schema page → HasRows schema page → HasOrder schema page → HasFirst schema page
     → IsRegion schema (region_on schema page)
-is_region schema page bytes counts rows order first =
-    let count : ℕ = number_at 1 3 page in
-    let row = row_on schema.dims (measures_of schema) count page in
-    let few_dims = schema.counts.few_dims in
-    let few_columns = schema.counts.few_measures in
-    let few = counts.2 in
-    record {
-      few = omega (arith, length-map-range_with_len row 0 count);
-      first = rows.0;
-      rows = rows_are schema.dims (measures_of schema) count page 0 count few_dims (omega arith) bytes rows.1;
-      ascending = order;
-      within = first;
-    }
+is_region schema page h k j l m = search (rules, length-map-range_with_len, rows_are)
 
 -- the page of a region is not refused
 pub not_refused : (schema : Schema) (region : RegionRows) (page : List ℕ) → IsRegion schema region → page ≡ region_page schema region → (e : PageFault) → IsRegionFault schema page e → ⊥
-not_refused schema region page is same WrongKind fault = fault (parts schema region page is same).kind
-not_refused schema region page is same BadCount fault = fault.1 (parts schema region page is same).counts
-not_refused schema region page is same BadRow fault =
-    fault.2 (subst (λ (r : RegionRows). IsFirst schema.dims r.first × AllByRecursion IsNumbered r.rows) (sym (parts schema region page is same).on)
-    (is.first, all_weaker _ IsNumbered (λ row good. good.number) region.rows is.rows))
-not_refused schema region page is same BadOrder fault =
-    fault.3 (subst (λ (r : RegionRows). AreKeysAscending (keys_of schema.dims r.rows)) (sym (parts schema region page is same).on) is.ascending)
-not_refused schema region page is same OutOfRegion fault =
-    fault.4 (subst (λ (r : RegionRows). AreFrom r.first (keys_of schema.dims r.rows)) (sym (parts schema region page is same).on) is.within)
-not_refused schema region page is same BadPadding fault = fault.5 region is same
-not_refused schema region page is same OldFormat fault = fault
-not_refused schema region page is same Unclean fault = fault
-not_refused schema region page is same BadName fault = fault
+not_refused schema region page h k e j = search (rules, all_weaker, parts)
 
 pub same_view : (view : RegionView) (dims : ℕ) (region : RegionRows) → view.dims ≡ dims → view.region ≡ region → view ≡ record { dims = dims; region = region }
 same_view view dims region a b = rw (← a, ← b) refl

@@ -1,6 +1,7 @@
 -- Removal keeps the regions of a table, and takes its row from theirs.
+use Rattle.std.proofs.Common.{rules}
 use Rattle.std.proofs.Common.{◌≡◌, ◌<◌, ◌+◌, inl, inr, ℕ, zero, suc, List, [], ◌∷◌, ◌++◌, Bool, true, false, ◌||◌, length, map, drop, nat_eq, ◌∙◌, sym, ap, refl, arith, slice_get, append_assoc, subst}
-use Rattle.std.proofs.lemmas.Bool.{cases_Bool, leb-true, and_parts, eqb-true}
+use Rattle.std.proofs.lemmas.Bool.{cases_Bool, leb-true}
 use Rattle.std.proofs.lemmas.List.{length-append}
 use Rattle.std.proofs.lemmas.List.Elements.{All-from_recursion, recursion_from_All}
 use Rattle.std.proofs.lemmas.List.Sorted.{IsPermutation-trans, IsPermutation-middle, IsPermutation-append_left, IsPermutation-append_right, IsPermutation-map, All-permutation}
@@ -14,7 +15,7 @@ use Rattle.ub_table.specs.declared.row.Key.{Key}
 use Rattle.ub_table.specs.declared.row.Row.{Row}
 use Rattle.ub_table.specs.declared.schema.Schema.{Schema}
 use Rattle.ub_region.specs.Rows.{has_key, remove_row}
-use Rattle.ub_region.specs.Regions.{firsts_of, rows_of, AreRegions, index_holding, change_from, remove_first, is_small, fits_next, join_first, join_before, settle, remove}
+use Rattle.ub_region.specs.Regions.{firsts_of, rows_of, AreRegions, index_holding, change_from, remove_first, fits_next, join_first, join_before, settle, remove}
 use Rattle.ub_region.proofs.KeyLists.{all_more, all_append, up_append}
 use Rattle.ub_region.proofs.RowFacts.{all_keys, all_of_keys, all_remove, up_remove, length-remove_row, moved_remove, has_append, has_none}
 use Rattle.ub_region.proofs.ChainFacts.{IsBelow, IsChain, chain_of, each_of, firsts_up, apart_of, below_same, keys_append}
@@ -26,14 +27,11 @@ pub record IsChanged (schema : Schema) (old new : List RegionRows) : Type 0 wher
   pub begins : slice_get (firsts_of new) 0 ≡ slice_get (firsts_of old) 0
 
 below_changed : (dims : ℕ) (region : RegionRows) (old new : List RegionRows) → slice_get (firsts_of new) 0 ≡ slice_get (firsts_of old) 0 → IsBelow dims region old → IsBelow dims region new
-below_changed dims region [] [] same h = tt
-below_changed dims region [] (x ∷ new) same h = cc
-below_changed dims region (next ∷ old) new same h = below_same dims region next.first (next ∷ old) new refl same h
+below_changed dims region old new h k = search (rules, below_same)
 
 -- a region put before regions that are changed
 changed_after : (schema : Schema) (region : RegionRows) (old new : List RegionRows) → IsChain schema (region ∷ old) → IsChanged schema old new → IsChanged schema (region ∷ old) (region ∷ new)
-changed_after schema region old new chain h =
-    record { chain = (chain.0, below_changed schema.dims region old new h.begins chain.1, h.chain); begins = refl }
+changed_after schema region old new h k = search (rules, below_changed)
 
 changed_twice : (schema : Schema) (a b c : List RegionRows) → IsChanged schema a b → IsChanged schema b c → IsChanged schema a c
 changed_twice schema a b c h k = record { chain = k.chain; begins = k.begins ∙ h.begins }
@@ -120,50 +118,28 @@ settled_join : (schema : Schema) (index : ℕ) (regions : List RegionRows) → I
 settled_join schema index regions chain fits = record { changed = joined schema index regions chain fits; rows = joined_rows index regions }
 
 settled_before : (schema : Schema) (index : ℕ) (regions : List RegionRows) → IsChain schema regions → IsSettled schema regions (join_before schema.page_rows index regions)
-settled_before schema zero regions chain = settled_none schema regions chain
-settled_before schema (suc index) regions chain = elim (cases_Bool (fits_next schema.page_rows (drop index regions))) [
-  | inl t ↦ rw t (settled_join schema index regions chain t)
-  | inr f ↦ rw f (settled_none schema regions chain)
-]
+settled_before schema index regions h = search (rules, cases_Bool, settled_join, settled_none)
 
 pub settled : (schema : Schema) (index : ℕ) (regions : List RegionRows) → IsChain schema regions → IsSettled schema regions (settle schema.page_rows index regions)
-settled schema index regions chain = elim (cases_Bool (is_small schema.page_rows (drop index regions))) [
-  | inl small ↦ elim (cases_Bool (fits_next schema.page_rows (drop index regions))) [
-    | inl t ↦ rw (small, t) (settled_join schema index regions chain t)
-    | inr f ↦ rw (small, f) (settled_before schema index regions chain)
-  ]
-  | inr large ↦ rw large (settled_none schema regions chain)
-]
+settled schema index regions h = grind (arith, cases_Bool, settled_before, settled_join, settled_none)
 
 -- no row of regions in order is before the first key
 pub all_from : (schema : Schema) (region : RegionRows) (regions : List RegionRows) → IsChain schema (region ∷ regions)
     → AllByRecursion (λ row. ¬ (IsBefore (key_of schema.dims row) region.first)) (rows_of (region ∷ regions))
-all_from schema region [] chain =
-    all_append (λ row. ¬ (IsBefore (key_of schema.dims row) region.first)) region.rows [] (all_of_keys schema.dims (λ k. ¬ (IsBefore k region.first)) region.rows chain.0.within) tt
-all_from schema region (next ∷ regions) chain =
-    all_append (λ row. ¬ (IsBefore (key_of schema.dims row) region.first)) region.rows (rows_of (next ∷ regions)) (all_of_keys schema.dims (λ k. ¬ (IsBefore k region.first)) region.rows chain.0.within)
-    (all_more (λ row. ¬ (IsBefore (key_of schema.dims row) next.first)) (λ row. ¬ (IsBefore (key_of schema.dims row) region.first))
-    (λ row from back. from (before_trans (key_of schema.dims row) region.first next.first back chain.1.0)) (rows_of (next ∷ regions)) (all_from schema next regions chain.2))
+all_from schema region [] chain = search (rules, all_append, all_more, all_of_keys)
+all_from schema region (next ∷ regions) chain = search (rules, (all_from schema next regions chain.2), all_append, all_more, all_of_keys, before_trans)
 
 same_keys : (a b : Key) → is_same a b ≡ true → a ≡ b
-same_keys a b t = let both = and_parts (nat_eq a.z b.z) (nat_eq a.number b.number) t in parts a b (eqb-true a.z b.z both.0) (eqb-true a.number b.number both.1)
-  where
-    parts : (a b : Key) → a.z ≡ b.z → a.number ≡ b.number → a ≡ b
-    parts a b e f = rw (e, f) refl
+same_keys a b h = search rules
 
 pub other_key : (P : Key → Type 0) (a b : Key) → P a → ¬ (P b) → is_same a b ≡ false
-other_key P a b holds never = elim (cases_Bool (is_same a b)) [
-  | inl t ↦ absurd (never (subst P (same_keys a b t) holds))
-  | inr f ↦ f
-]
+other_key P a b h k = search rules
 
 left_true : (a b : Bool) → (a || b) ≡ true → b ≡ false → a ≡ true
-left_true true b h f = refl
-left_true false b h f = cc
+left_true a b h k = search rules
 
 right_true : (a b : Bool) → (a || b) ≡ true → a ≡ false → b ≡ true
-right_true true b h f = cc
-right_true false b h f = h
+right_true a b h k = search rules
 
 -- a row with the key stands in the region that holds the key
 module _ (schema : Schema) (key : Key) where
@@ -213,22 +189,7 @@ remove_none dims c key regions f = rw f refl
 
 pub remove_rows : (schema : Schema) (next : ℕ) (key : Key) (regions : List RegionRows) → AreRegions schema next regions → has_key schema.dims key (rows_of regions) ≡ true
     → IsChanged schema regions (remove schema.dims schema.page_rows key regions) × IsTaken schema key (rows_of regions) (rows_of (remove schema.dims schema.page_rows key regions))
-remove_rows schema next key [] h t = cc
-remove_rows schema next key (region ∷ regions) h t =
-    let chain = chain_of schema (region ∷ regions) h.each h.ascending h.apart in
-    let index = index_holding key (firsts_of (region ∷ regions)) in
-    let after = change_from index (remove_first schema.dims key) (region ∷ regions) in
-    let less = without_row schema key index (region ∷ regions) chain in
-    let end = settled schema index after less.chain in
-    let found = taken schema key region regions chain t in
-    rw t (
-      changed_twice schema (region ∷ regions) after (settle schema.page_rows index after) less end.changed,
-      record {
-        row = found.row;
-        key_is = found.key_is;
-        rows = subst (λ (rows : List Row). IsPermutation (rows_of (region ∷ regions)) (found.row ∷ rows)) (sym end.rows) found.rows;
-      },
-    )
+remove_rows schema next key regions h k = search (rules, chain_of, changed_twice, settled, taken, without_row)
 
 pub remove_keeps : (schema : Schema) (next : ℕ) (key : Key) (regions : List RegionRows) → AreRegions schema next regions → AreRegions schema next (remove schema.dims schema.page_rows key regions)
 remove_keeps schema next key regions h = elim (cases_Bool (has_key schema.dims key (rows_of regions))) [

@@ -1,4 +1,6 @@
 -- What an insertion and a removal leave of the rows of a region.
+use Rattle.std.proofs.lemmas.Grind.{common_steps}
+use Rattle.std.proofs.Common.{rules}
 use Rattle.std.proofs.Common.{◌≡◌, ◌≢◌, ◌<◌, ◌≤◌, ◌+◌, inl, inr, ℕ, List, [], ◌∷◌, ◌++◌, true, false, ◌||◌, length, refl, arith}
 use Rattle.std.proofs.lemmas.Bool.{cases_Bool}
 use Rattle.std.proofs.lemmas.List.Sorted.{IsPermutation-refl, IsPermutation-cons, IsPermutation-trans, IsPermutation-middle}
@@ -23,17 +25,11 @@ all_of_keys dims Q (row ∷ rows) h = (h.0, all_of_keys dims Q rows h.1)
 module _ (dims : ℕ) (row : Row) where
   pub all_insert : (P : Row → Type 0) (rows : List Row) → AllByRecursion P rows → P row → AllByRecursion P (insert_row dims row rows)
   all_insert P [] h p = (p, tt)
-  all_insert P (other ∷ rows) h p = elim (cases_Bool (precedes (key_of dims row) (key_of dims other))) [
-    | inl t ↦ rw t (p, h)
-    | inr f ↦ rw f (h.0, all_insert P rows h.1 p)
-  ]
+  all_insert P (other ∷ rows) h p = search (rules, (all_insert P rows h.1 p), cases_Bool)
 
   next_insert : (key : Key) (rows : List Row) → IsBefore key (key_of dims row) → IsBeforeNext key (keys_of dims rows) → IsBeforeNext key (keys_of dims (insert_row dims row rows))
   next_insert key [] before next = before
-  next_insert key (other ∷ rows) before next = elim (cases_Bool (precedes (key_of dims row) (key_of dims other))) [
-    | inl t ↦ rw t before
-    | inr f ↦ rw f next
-  ]
+  next_insert key (other ∷ rows) before next = search (rules, cases_Bool)
 
   pub up_insert : (rows : List Row) → AreKeysAscending (keys_of dims rows) → AllByRecursion (λ other. other.number < row.number) rows → AreKeysAscending (keys_of dims (insert_row dims row rows))
   up_insert [] up numbers = tt
@@ -49,10 +45,7 @@ module _ (dims : ℕ) (row : Row) where
 
   pub length-insert_row : (rows : List Row) → length (insert_row dims row rows) ≡ length rows + 1
   length-insert_row [] = refl
-  length-insert_row (other ∷ rows) = elim (cases_Bool (precedes (key_of dims row) (key_of dims other))) [
-    | inl t ↦ rw t (omega arith)
-    | inr f ↦ rw f (let more = length-insert_row rows in omega arith)
-  ]
+  length-insert_row (other ∷ rows) = search (rules, (length-insert_row rows), cases_Bool)
 
   pub moved_insert : (rows : List Row) → IsPermutation (row ∷ rows) (insert_row dims row rows)
   moved_insert [] = IsPermutation-refl (row ∷ [])
@@ -69,10 +62,7 @@ module _ (dims : ℕ) (row : Row) where
 module _ (dims : ℕ) (key : Key) where
   pub all_remove : (P : Row → Type 0) (rows : List Row) → AllByRecursion P rows → AllByRecursion P (remove_row dims key rows)
   all_remove P [] h = tt
-  all_remove P (row ∷ rows) h = elim (cases_Bool (is_same key (key_of dims row))) [
-    | inl t ↦ rw t h.1
-    | inr f ↦ rw f (h.0, all_remove P rows h.1)
-  ]
+  all_remove P (row ∷ rows) h = search (rules, (all_remove P rows h.1), cases_Bool)
 
   next_remove : (k : Key) (rows : List Row) → AreKeysAscending (k ∷ keys_of dims rows) → IsBeforeNext k (keys_of dims (remove_row dims key rows))
   next_remove k [] up = tt
@@ -87,17 +77,11 @@ module _ (dims : ℕ) (key : Key) where
 
   pub up_remove : (rows : List Row) → AreKeysAscending (keys_of dims rows) → AreKeysAscending (keys_of dims (remove_row dims key rows))
   up_remove [] up = tt
-  up_remove (row ∷ rows) up = elim (cases_Bool (is_same key (key_of dims row))) [
-    | inl t ↦ rw t (up_tail (key_of dims row) (keys_of dims rows) up)
-    | inr f ↦ rw f (up_cons (key_of dims row) (keys_of dims (remove_row dims key rows)) (next_remove (key_of dims row) rows up) (up_remove rows (up_tail (key_of dims row) (keys_of dims rows) up)))
-  ]
+  up_remove (row ∷ rows) up = grind (arith, common_steps, (up_remove rows (up_tail (key_of dims row) (keys_of dims rows) up)), cases_Bool, next_remove, up_cons, up_tail)
 
   pub length-remove_row : (rows : List Row) → length (remove_row dims key rows) ≤ length rows
   length-remove_row [] = omega arith
-  length-remove_row (row ∷ rows) = elim (cases_Bool (is_same key (key_of dims row))) [
-    | inl t ↦ rw t (omega arith)
-    | inr f ↦ rw f (let less = length-remove_row rows in omega arith)
-  ]
+  length-remove_row (row ∷ rows) = search (rules, (length-remove_row rows), cases_Bool)
 
   -- the row that is taken out
   pub moved_remove : (rows : List Row) → has_key dims key rows ≡ true → (row : Row) × (is_same key (key_of dims row) ≡ true) × IsPermutation rows (row ∷ remove_row dims key rows)
@@ -115,11 +99,7 @@ module _ (dims : ℕ) (key : Key) where
   ]
 
   pub has_append : (xs ys : List Row) → has_key dims key (xs ++ ys) ≡ (has_key dims key xs || has_key dims key ys)
-  has_append [] ys = refl
-  has_append (x ∷ xs) ys = elim (cases_Bool (is_same key (key_of dims x))) [
-    | inl t ↦ rw t refl
-    | inr f ↦ rw f (has_append xs ys)
-  ]
+  has_append xs ys = grind (arith, common_steps, cases_Bool)
 
   pub has_none : (rows : List Row) → AllByRecursion (λ row. is_same key (key_of dims row) ≡ false) rows → has_key dims key rows ≡ false
   has_none [] h = refl

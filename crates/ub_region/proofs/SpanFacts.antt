@@ -1,5 +1,6 @@
 -- The spans of regions: each address lies in one, and each row's address in its region's.
-use Rattle.std.proofs.Common.{◌≡◌, ◌<◌, ◌≤◌, ◌⊎◌, inl, inr, ℕ, zero, suc, List, [], ◌∷◌, Some, drop, refl, arith, slice_get, subst}
+use Rattle.std.proofs.Common.{rules}
+use Rattle.std.proofs.Common.{◌≡◌, ◌<◌, ◌≤◌, inl, inr, ℕ, zero, suc, List, [], ◌∷◌, Some, drop, refl, arith, slice_get, subst}
 use Rattle.std.proofs.lemmas.Bool.{cases_lt}
 use Rattle.std.specs.List.{AllByRecursion}
 use Rattle.ub_region.proofs.ChainFacts.{IsBelow, IsChain, row_first}
@@ -7,7 +8,6 @@ use Rattle.ub_region.proofs.KeyLists.{all_both, all_more}
 use Rattle.ub_region.proofs.RowFacts.{all_of_keys}
 use Rattle.ub_region.specs.Regions.{firsts_of}
 use Rattle.ub_region.specs.Spans.{address_before, span_end}
-use Rattle.ub_table.proofs.Laws.{before_from, before_parts}
 use Rattle.ub_table.specs.Keys.{IsBefore}
 use Rattle.ub_table.specs.Region.{RegionRows, IsRegion, IsRow, key_of, measures_of}
 use Rattle.ub_table.specs.declared.row.Key.{Key}
@@ -16,20 +16,11 @@ use Rattle.ub_zaddr.specs.Address.{last_address}
 
 -- a key that is before another has an address of the span before it
 pub before_address : (key next : Key) → IsBefore key next → key.z ≤ address_before next.z next.number
-before_address key next before = by_number next.z next.number (before_parts key next before)
-  where
-    by_number : (y n : ℕ) → (key.z < y) ⊎ ((key.z ≡ y) × (key.number < n)) → key.z ≤ address_before y n
-    by_number y zero (inl lt) = omega arith
-    by_number y zero (inr both) = let none = both.1 in absurd (omega arith)
-    by_number y (suc n) (inl lt) = omega arith
-    by_number y (suc n) (inr both) = let same = both.0 in omega arith
+before_address key next h = search rules
 
 -- a key that isn't before another has no lesser address
 pub from_address : (a b : Key) → ¬ (IsBefore a b) → b.z ≤ a.z
-from_address a b h = elim (cases_lt a.z b.z) [
-  | inl lt ↦ absurd (h (before_from a b (inl lt)))
-  | inr ge ↦ ge
-]
+from_address a b h = search rules
 
 -- an address lies in the span of a region that begins with this key, before regions with those first keys
 abbrev pub IsWithin : ℕ → Key → List Key → ℕ → Type 0

@@ -1,20 +1,22 @@
 -- A page whose other bytes are zero is spelled by what stands on it.
-use Rattle.std.proofs.Common.{◌≡◌, ◌<◌, ◌≤◌, ◌+◌, ◌-◌, ◌*◌, ◌/◌, ◌%◌, ◌^◌, ◌++◌, ℕ, pos, zero, suc, List, [], ◌∷◌, length, map, take, drop, replicate, get_or, slice_index, refl, sym, ap, arith, ◌∙◌, append_assoc}
+use Rattle.std.proofs.lemmas.Grind.{common_steps}
+use Rattle.std.proofs.Common.{rules}
+use Rattle.std.proofs.Common.{◌≡◌, ◌<◌, ◌≤◌, ◌+◌, ◌-◌, ◌*◌, ◌/◌, ◌%◌, ◌^◌, ◌++◌, ℕ, zero, suc, List, [], ◌∷◌, length, map, take, drop, replicate, get_or, slice_index, refl, sym, ap, arith, ◌∙◌, append_assoc}
 use Rattle.byteorder.specs.Endian.{big_number, big_from}
 use Rattle.byteorder.specs.Numbers.{big_from-cons, big_from-lt}
-use Rattle.std.proofs.Math.Nat.{mul-le-mul_left, div-one, mul_assoc, mul_comm, pow-suc, mod-eq_of_lt, mul-add-mod_self_right, mul-add-div_right}
+use Rattle.std.proofs.Math.Nat.{mul-le-mul_left, mul_assoc, mul_comm, pow-suc, mod-eq_of_lt, mul-add-mod_self_right, mul-add-div_right}
 use Rattle.std.proofs.Math.Seq.{take-add}
 use Rattle.std.proofs.lemmas.Int.{of_z-to_z}
 use Rattle.std.proofs.lemmas.List.{length-append, length-drop, length-take-le, get_or-drop, drop-drop, take-append-drop}
 use Rattle.std.proofs.lemmas.List.FromFn.{length-map-range_with_len}
 use Rattle.std.proofs.lemmas.Nat.{div-mul-add}
-use Rattle.std.specs.Int.{byte_at, bytes_high_first, w64, cast_signed, cast_unsigned}
+use Rattle.std.specs.Int.{byte_at, bytes_high_first}
 use Rattle.std.specs.List.{flat_map, range_with_len}
 use Rattle.ub_bytes.proofs.BytesFacts.{AreAt, layout_len, length-layout}
 use Rattle.ub_region.proofs.ColumnFacts.{block_at}
 use Rattle.ub_bytes.proofs.DraftFacts.{of_front, same_count}
 use Rattle.ub_region.proofs.RegionFacts.{parts, number_lt, length-column, length-columns}
-use Rattle.ub_bytes.specs.Bytes.{number_bytes, number_at, layout, padded}
+use Rattle.ub_bytes.specs.Bytes.{number_bytes, number_at, layout}
 use Rattle.ub_region.specs.Columns.{end_with}
 use Rattle.ub_region.specs.RegionPage.{column, columns, dim_of, measure_of, head_fields, region_page, row_on, region_on, IsRegionKind, HasCounts, HasRows, HasOrder, HasFirst, IsRegionFault}
 use Rattle.ub_table.specs.Region.{RegionRows, measures_of, IsRegion}
@@ -23,8 +25,7 @@ use Rattle.ub_table.specs.declared.row.Row.{Row}
 use Rattle.ub_table.specs.declared.schema.Schema.{Schema}
 
 byte_is : (i n : ℕ) → byte_at i n ≡ n / 256 ^ i % 256
-byte_is zero n = ap (λ (x : ℕ). x % 256) (sym (div-one n))
-byte_is (suc i) n = refl
+byte_is i n = search rules
 
 power_pos : (k : ℕ) → 0 < 256 ^ k
 power_pos zero = omega arith
@@ -33,12 +34,7 @@ power_pos (suc k) = let p = power_pos k in rw pow-suc (omega arith)
 -- what stands above k bytes doesn't show in them
 low_bytes : (k a r : ℕ) → bytes_high_first k (a * 256 ^ k + r) ≡ bytes_high_first k r
 low_bytes zero a r = refl
-low_bytes (suc k) a r =
-    let up : a * 256 ^ suc k + r ≡ (a * 256) * 256 ^ k + r = ap (λ (x : ℕ). a * x + r) (pow-suc 256 k ∙ mul_comm (256 ^ k) 256) ∙ ap (λ (x : ℕ). x + r) (sym (mul_assoc a 256 (256 ^ k))) in
-    let top : byte_at k (a * 256 ^ suc k + r) ≡ byte_at k r =
-    ap (byte_at k) up ∙ byte_is k _ ∙ ap (λ (x : ℕ). x % 256) (mul-add-div_right (power_pos k) (a * 256) r) ∙ mul-add-mod_self_right a 256 (r / 256 ^ k) ∙ sym (byte_is k r) in
-    let rest : bytes_high_first k (a * 256 ^ suc k + r) ≡ bytes_high_first k r = ap (bytes_high_first k) up ∙ low_bytes k (a * 256) r in
-    rw (top, rest) refl
+low_bytes (suc k) a r = grind (arith, common_steps, (low_bytes k (a * 256) r), byte_is, mul-add-div_right, mul-add-mod_self_right, mul_assoc, mul_comm, pow-suc, power_pos)
 
 bytes-big_number : (n : ℕ) (xs : List ℕ) → n ≤ length xs → ((i : ℕ) → slice_index xs i < 256) → bytes_high_first n (big_number n xs) ≡ take n xs
 bytes-big_number zero xs h small = refl
@@ -58,40 +54,24 @@ bytes_back n offset page within small = bytes-big_number n (drop offset page) (o
 
 -- the bytes from an offset on, some and then more
 pub joined : (offset m n next : ℕ) (page xs ys : List ℕ) → next ≡ offset + m → xs ≡ take m (drop offset page) → ys ≡ take n (drop next page) → xs ++ ys ≡ take (m + n) (drop offset page)
-joined offset m n next page xs ys at first rest =
-    let behind : drop next page ≡ drop m (drop offset page) = ap (λ (k : ℕ). drop k page) (at ∙ omega arith) ∙ sym (drop-drop m offset page) in
-    ap (λ (zs : List ℕ). zs ++ ys) first ∙ ap (λ (zs : List ℕ). take m (drop offset page) ++ zs) (rest ∙ ap (take n) behind) ∙ sym (take-add m n (drop offset page))
+joined offset m n next page xs ys at first rest = search (rules, drop-drop, take-add)
 
 pub layout_back : (fields : List (ℕ × ℕ)) (offset : ℕ) (page : List ℕ) → ((k : ℕ) → get_or page k 0 < 256) → offset + layout_len fields ≤ length page → AreAt offset fields page
     → layout fields ≡ take (layout_len fields) (drop offset page)
 layout_back [] offset page small within there = refl
-layout_back (field ∷ fields) offset page small within there =
-    joined offset field.0 (layout_len fields) (offset + field.0) page (number_bytes field.0 field.1) (layout fields) refl
-    (ap (number_bytes field.0) (sym there.0) ∙ bytes_back field.0 offset page (omega arith) small)
-    (layout_back fields (offset + field.0) page small (omega arith) there.1)
+layout_back (field ∷ fields) offset page small within there = search (rules, (layout_back fields (offset + field.0) page small (omega arith) there.1), bytes_back, joined, layout_len)
 
 column_back : (width offset : ℕ) (number : Row → ℕ) (f : ℕ → Row) (page : List ℕ) (a n : ℕ) → ((k : ℕ) → get_or page k 0 < 256)
     → ((i : ℕ) → number (f i) ≡ number_at width (offset + width * i) page) → offset + width * (a + n) ≤ length page
     → column width number (map f (range_with_len a n)) ≡ take (width * n) (drop (offset + width * a) page)
-column_back width offset number f page a zero small is within = let none : width * 0 ≡ 0 = omega arith in ap (λ (k : ℕ). take k (drop (offset + width * a) page)) (sym none)
-column_back width offset number f page a (suc n) small is within =
-    let all : width + width * n ≡ width * suc n = omega arith in
-    joined (offset + width * a) width (width * n) (offset + width * (a + 1)) page (number_bytes width (number (f a))) (column width number (map f (range_with_len (a + 1) n))) (omega arith)
-    (ap (number_bytes width) (is a) ∙ bytes_back width (offset + width * a) page (omega arith) small)
-    (column_back width offset number f page (a + 1) n small is (omega arith))
-    ∙ ap (λ (k : ℕ). take k (drop (offset + width * a) page)) all
+column_back width offset number f page a zero small is within = search (rules, bytes_back, joined)
+column_back width offset number f page a (suc n) small is within = search (rules, (column_back width offset number f page (a + 1) n small is (omega arith)), bytes_back, joined)
 
 columns_back : (width offset count : ℕ) (number : ℕ → Row → ℕ) (rows : List Row) (page : List ℕ) (a n : ℕ)
     → ((d : ℕ) → d < a + n → column width (number d) rows ≡ take (width * count) (drop (offset + width * (count * d)) page))
     → flat_map (λ i. column width (number i) rows) (range_with_len a n) ≡ take (width * (count * n)) (drop (offset + width * (count * a)) page)
-columns_back width offset count number rows page a zero each =
-    let none : width * (count * 0) ≡ 0 = omega arith in ap (λ (k : ℕ). take k (drop (offset + width * (count * a)) page)) (sym none)
-columns_back width offset count number rows page a (suc n) each =
-    let all : width * count + width * (count * n) ≡ width * (count * suc n) = omega arith in
-    joined (offset + width * (count * a)) (width * count) (width * (count * n)) (offset + width * (count * (a + 1))) page (column width (number a) rows)
-    (flat_map (λ i. column width (number i) rows) (range_with_len (a + 1) n)) (omega arith)
-    (each a (omega arith)) (columns_back width offset count number rows page (a + 1) n (λ d less. each d (omega arith)))
-    ∙ ap (λ (k : ℕ). take k (drop (offset + width * (count * a)) page)) all
+columns_back width offset count number rows page a zero each = grind (arith, common_steps, joined)
+columns_back width offset count number rows page a (suc n) each = grind (arith, common_steps, (columns_back width offset count number rows page (a + 1) n (λ d less. each d (omega arith))), joined)
 
 -- a row's values are those on the page
 dim_on : (dims measures count i d : ℕ) (page : List ℕ) → d < dims → dim_of d (row_on dims measures count page i) ≡ number_at 4 (24 + 4 * count + 4 * (count * d + i)) page
@@ -105,20 +85,14 @@ number_on dims measures count i page = refl
 measure_on : (dims measures count i m : ℕ) (page : List ℕ) → ((k : ℕ) → get_or page k 0 < 256) → m < measures
     → measure_of m (row_on dims measures count page i) ≡ number_at 8 (24 + 4 * count + 4 * (count * dims) + 8 * (count * m + i)) page
 unfolding row_on
-measure_on dims measures count i m page small less =
-    let at : ℕ = 24 + 4 * count + 4 * (count * dims) + 8 * (count * m + i) in
-    ap (cast_unsigned w64) (block_at 4 (pos 0) (λ m. cast_signed w64 (number_at 8 (24 + 4 * count + 4 * (count * dims) + 8 * (count * m + i)) page)) measures m (pos 0) less)
-    ∙ of_z-to_z w64 (number_at 8 at page) (number_lt 8 at page small)
+measure_on dims measures count i m page h k = search (rules, block_at, number_lt, of_z-to_z)
 
 four_parts : (a b c d : List ℕ) → a ++ (b ++ (c ++ d)) ≡ ((a ++ b) ++ c) ++ d
 four_parts a b c d = simp append_assoc
 
 -- the fields of a region have room on a page
 room_for : (dims measures count : ℕ) → dims ≤ 4 → measures ≤ 4 → count ≤ 64 → 24 + 4 * count + 4 * (count * dims) + 8 * (count * measures) ≤ 4096
-room_for dims measures count few_dims few_measures few =
-    let a : count * dims ≤ count * 4 = mul-le-mul_left count few_dims in
-    let b : count * measures ≤ count * 4 = mul-le-mul_left count few_measures in
-    omega arith
+room_for dims measures count h k j = search rules
 
 room_for_one : (used count d : ℕ) → d < used → count * d + count ≤ count * used
 room_for_one used count d less = let a : count * (d + 1) ≤ count * used = mul-le-mul_left count (omega arith) in omega arith
@@ -164,16 +138,7 @@ fields_back schema page long small kind counts =
 pub spelled : (schema : Schema) (page : List ℕ) → length page ≡ 4096 → ((k : ℕ) → get_or page k 0 < 256) → IsRegionKind page → HasCounts schema page
     → drop (end_with schema (number_at 1 3 page)) page ≡ replicate (4096 - end_with schema (number_at 1 3 page)) 0 → page ≡ region_page schema (region_on schema page)
 unfolding region_page
-spelled schema page long small kind counts blank =
-    let end : ℕ = end_with schema (number_at 1 3 page) in
-    let few_dims = schema.counts.few_dims in
-    let few_columns = schema.counts.few_measures in
-    let few_rows = schema.counts.few_rows in
-    let few = counts.2 in
-    let room = room_for schema.dims (measures_of schema) (number_at 1 3 page) few_dims (omega arith) (omega arith) in
-    let used = length-take-le end page (omega arith) in
-    sym (ap padded (fields_back schema page long small kind counts)
-    ∙ ap (λ (k : ℕ). take end page ++ replicate (4096 - k) 0) used ∙ ap (λ (s : List ℕ). take end page ++ s) (sym blank) ∙ take-append-drop end page)
+spelled schema page h k j l m = grind (arith, fields_back, length-take-le, room_for, take-append-drop)
 
 -- a page of a region is blank behind its last field
 pub blank_behind : (schema : Schema) (region : RegionRows) (page : List ℕ) → IsRegion schema region → page ≡ region_page schema region
@@ -211,6 +176,4 @@ padding_fault schema page kind counts rows order first other = (kind, counts, ro
 -- the end of the fields is told by the page
 pub end_is : (schema : Schema) (page : List ℕ) (region : RegionRows) (len end : ℕ) → region ≡ region_on schema page → len ≡ length region.rows → end ≡ end_with schema len
     → end ≡ end_with schema (number_at 1 3 page)
-end_is schema page region len end on long at =
-    at ∙ ap (end_with schema) (long ∙ ap (λ (r : RegionRows). length r.rows) on
-    ∙ length-map-range_with_len (row_on schema.dims (measures_of schema) (number_at 1 3 page) page) 0 (number_at 1 3 page))
+end_is schema page region len end h k j = search (rules, length-map-range_with_len)

@@ -1,4 +1,5 @@
 -- Rows that are parted where one more is put in among them, and the key that is looked for.
+use Rattle.std.proofs.lemmas.Grind.{common_steps}
 use Rattle.std.proofs.Common.{◌≡◌, ◌<◌, ◌≤◌, ◌+◌, ◌-◌, ℕ, zero, suc, List, [], ◌∷◌, ◌++◌, Some, true, false, length, take, drop, get_or, slice_get, refl, sym, ap, ◌∙◌, arith}
 use Rattle.std.proofs.lemmas.List.{append_assoc, drop_more, get_or-drop, get_or-map, get_or-take, take_more}
 use Rattle.std.proofs.lemmas.Option.{get_or_from_slice_get}
@@ -6,7 +7,7 @@ use Rattle.std.specs.List.{insert}
 use Rattle.ub_region.proofs.BlankRow.{blank_row}
 use Rattle.ub_region.proofs.ChainFacts.{keys_drop, keys_take}
 use Rattle.ub_region.specs.Rows.{cut, has_key, remove_row, separator}
-use Rattle.ub_table.specs.Keys.{is_same, origin}
+use Rattle.ub_table.specs.Keys.{is_same}
 use Rattle.ub_table.specs.Region.{key_of, keys_of}
 use Rattle.ub_table.specs.declared.row.Key.{Key}
 use Rattle.ub_table.specs.declared.row.Row.{Row}
@@ -33,13 +34,7 @@ module _ {A : Type 0} (x : A) where
 
   -- put in behind the first n, these are as they were, and it is one of the others
   pub left_kept : (xs : List A) (i n : ℕ) → n ≤ i → i ≤ length xs → take n xs ≡ take n (insert xs i x)
-  left_kept [] zero zero le few = refl
-  left_kept [] zero (suc n) le few = absurd (omega arith)
-  left_kept [] (suc i) n le few = absurd (omega arith)
-  left_kept (y ∷ ys) zero zero le few = refl
-  left_kept (y ∷ ys) zero (suc n) le few = absurd (omega arith)
-  left_kept (y ∷ ys) (suc i) zero le few = refl
-  left_kept (y ∷ ys) (suc i) (suc n) le few = ap (λ (zs : List A). y ∷ zs) (left_kept ys i n (omega arith) (omega arith))
+  left_kept xs i n h k = grind (arith, common_steps)
 
   pub put_right : (xs : List A) (i n k : ℕ) → i ≡ n + k → i ≤ length xs → insert (drop n xs) k x ≡ drop n (insert xs i x)
   put_right [] i zero k is few = let same : i ≡ k = omega arith in rw same refl
@@ -52,16 +47,7 @@ module _ {A : Type 0} (x : A) where
 -- the last key on the left and the first one on the right part the rows that are cut there
 pub separator_at : (dims n : ℕ) (rows left right : List Row) (a b : Key) → 1 ≤ n → left ≡ take n rows → right ≡ drop n rows
     → slice_get (keys_of dims left) (n - 1) ≡ Some a → slice_get (keys_of dims right) 0 ≡ Some b → separator a b ≡ (cut dims n rows).first
-separator_at dims n rows left right a b some is_left is_right at_left at_right =
-    let keys = keys_of dims rows in
-    let there : n + 0 ≡ n = omega arith in
-    let first : get_or keys (n - 1) origin ≡ a =
-    sym (get_or-take n keys (n - 1) origin (omega arith)) ∙ ap (λ (ks : List Key). get_or ks (n - 1) origin) (sym (keys_take dims n rows) ∙ ap (keys_of dims) (sym is_left))
-    ∙ get_or_from_slice_get (keys_of dims left) (n - 1) a origin at_left in
-    let second : get_or keys n origin ≡ b =
-    ap (λ (k : ℕ). get_or keys k origin) (sym there) ∙ sym (get_or-drop n keys 0 origin) ∙ ap (λ (ks : List Key). get_or ks 0 origin) (sym (keys_drop dims n rows) ∙ ap (keys_of dims) (sym is_right))
-    ∙ get_or_from_slice_get (keys_of dims right) 0 b origin at_right in
-    rw (first, second) refl
+separator_at dims n rows left right a b h k j l m = grind (arith, common_steps, get_or-drop, get_or-take, get_or_from_slice_get, keys_drop, keys_take)
 
 module _ (dims : ℕ) (key : Key) (keys : List Key) (rows : List Row) (is : keys ≡ keys_of dims rows) (i : ℕ) (lt : i < length rows) (e : Key) where
   abbrev row : Row
@@ -76,9 +62,7 @@ module _ (dims : ℕ) (key : Key) (keys : List Key) (rows : List Row) (is : keys
 
   pub passed_rest : is_same key (get_or keys i e) ≡ false
       → take i rows ++ remove_row dims key (drop i rows) ≡ take (i + 1) rows ++ remove_row dims key (drop (i + 1) rows)
-  passed_rest other =
-      rw (drop_more rows i blank_row lt, sym (ap (is_same key) same_key) ∙ other, take_more rows i blank_row lt)
-      (sym (append_assoc (take i rows) (row ∷ []) (remove_row dims key (drop (i + 1) rows))))
+  passed_rest h = grind (arith, common_steps, append_assoc, blank_row, drop_more, same_key, take_more)
 
   -- the one of the key is found
   pub found_any : is_same key (get_or keys i e) ≡ true → has_key dims key (drop i rows) ≡ true

@@ -1,5 +1,6 @@
 -- What an insertion and a removal make of a table's rows.
-use Rattle.std.proofs.Common.{◌≡◌, ◌<◌, ◌+◌, inl, inr, ℕ, zero, suc, List, [], ◌∷◌, ◌++◌, Bool, true, false, not, length, map, get_or, nat_eq, ◌∙◌, sym, ap, refl, arith, subst, filter}
+use Rattle.std.proofs.Common.{rules}
+use Rattle.std.proofs.Common.{◌≡◌, ◌<◌, inl, inr, ℕ, zero, suc, List, [], ◌∷◌, ◌++◌, Bool, true, false, not, length, map, get_or, nat_eq, ◌∙◌, sym, ap, refl, arith, subst, filter}
 use Rattle.std.proofs.lemmas.Bool.{cases_Bool, cases_lt, eq-eqb, not-true, not_from_false}
 use Rattle.std.proofs.lemmas.List.{map-append, length-append, get_or_append_left}
 use Rattle.std.proofs.lemmas.List.Elements.{All-contains, All-from_recursion, recursion_from_All, Contains-append_cases, Contains-append_left, Contains-append_right, Contains-push_cases, Contains-push}
@@ -20,19 +21,7 @@ use Rattle.ub_region.proofs.InsertFacts.{insert_keeps, nat_eq_flips}
 use Rattle.ub_region.proofs.RemoveFacts.{remove_rows}
 
 increasing_push : (xs : List ℕ) (n : ℕ) → IsStrictlyIncreasing xs → All (λ x. x < n) xs → IsStrictlyIncreasing (xs ++ n ∷ [])
-increasing_push xs n up below k lt =
-    let long = length-append xs (n ∷ []) in
-    elim (cases_lt (k + 1) (length xs)) [
-      | inl inner ↦
-          let first = get_or_append_left xs (n ∷ []) 0 k (omega arith) in
-          let second = get_or_append_left xs (n ∷ []) 0 (k + 1) inner in
-          rw (first, second) (up k inner)
-      | inr outer ↦
-          let first = get_or_append_left xs (n ∷ []) 0 k (omega arith) in
-          let at : length xs ≡ k + 1 = omega arith in
-          let second = rw at at (get_or-append_seam xs n [] 0) in
-          rw (first, second) (below k 0 (omega arith))
-    ]
+increasing_push xs n h k = search (rules, cases_lt, get_or-append_seam, get_or_append_left, length-append)
 
 all_map : (P : ℕ → Type 0) (rows : List Row) → AllByRecursion (λ row. P row.number) rows → AllByRecursion P (map (λ row. row.number) rows)
 all_map P [] h = tt
@@ -97,10 +86,7 @@ module _ {X : Type 0} (p : X → Bool) where
 
 map_filter : (p : ℕ → Bool) (rows : List Row) → map (λ row. row.number) (filter (λ row. p row.number) rows) ≡ filter p (map (λ row. row.number) rows)
 map_filter p [] = refl
-map_filter p (row ∷ rows) = elim (cases_Bool (p row.number)) [
-  | inl t ↦ rw t (ap (λ (ns : List ℕ). row.number ∷ ns) (map_filter p rows))
-  | inr f ↦ rw f (map_filter p rows)
-]
+map_filter p (row ∷ rows) = search (rules, (map_filter p rows), cases_Bool)
 
 -- the table has all rows but the one of the key
 pub remove_table : (schema : Schema) (next : ℕ) (key : Key) (regions : List RegionRows) (rows : List Row) → AreRegions schema next regions → AreTableRows regions rows

@@ -1,6 +1,6 @@
 -- What is written of the columns of a region.
-use Rattle.std.proofs.Common.{◌≡◌, ◌<◌, ◌≤◌, ℕ, ℤ, zero, suc, List, [], ◌++◌, length, map, get_or, sym, ap, arith, ◌∙◌, append_assoc}
-use Rattle.std.proofs.lemmas.List.{append-nil}
+use Rattle.std.proofs.Common.{rules}
+use Rattle.std.proofs.Common.{◌≡◌, ◌<◌, ◌≤◌, ℕ, ℤ, zero, suc, List, [], ◌++◌, map, get_or, sym, ap, arith, ◌∙◌, append_assoc}
 use Rattle.std.proofs.lemmas.List.Folds.{flat_map-map}
 use Rattle.std.proofs.lemmas.List.FromFn.{length-map-range_with_len}
 use Rattle.std.specs.List.{flat_map, range_with_len}
@@ -21,20 +21,8 @@ pieces_same f g n h =
     ∙ ap (flat_map (λ (ys : List ℕ). ys)) (all_same f g n h)
     ∙ flat_map-map (λ (ys : List ℕ). ys) g (range_with_len 0 n)
 
--- the head is written field by field
-pub head_written : (dims measures count : ℕ) (first : Key)
-    → ((((number_bytes 1 0x52 ++ number_bytes 1 dims) ++ number_bytes 1 measures) ++ number_bytes 1 count) ++ number_bytes 16 first.z) ++ number_bytes 4 first.number
-    ≡ layout (head_fields dims measures count first)
-head_written dims measures count first =
-    six (number_bytes 1 0x52) (number_bytes 1 dims) (number_bytes 1 measures) (number_bytes 1 count) (number_bytes 16 first.z) (number_bytes 4 first.number)
-  where
-    six : (a b c d e f : List ℕ) → ((((a ++ b) ++ c) ++ d) ++ e) ++ f ≡ a ++ (b ++ (c ++ (d ++ (e ++ (f ++ [])))))
-    six a b c d e f = simp (append_assoc, append-nil)
-
 regrouped : {a b c d e f g h : List ℕ} → a ≡ e → b ≡ f → c ≡ g → d ≡ h → padded (((a ++ b) ++ c) ++ d) ≡ padded (e ++ (f ++ (g ++ h)))
-regrouped {e = e} {f = f} {g = g} {h = h} p q r s =
-    let same : ((e ++ f) ++ g) ++ h ≡ e ++ (f ++ (g ++ h)) = simp append_assoc in
-    rw (p, q, r, s) (ap padded same)
+regrouped h k j l = search (rules, append_assoc)
 
 module _ (keys : List Key) (points : List (List ℕ)) (values : List (List ℤ)) (count : ℕ) where
   abbrev pub rows : List Row
@@ -45,11 +33,7 @@ module _ (keys : List Key) (points : List (List ℕ)) (values : List (List ℤ))
   numbers_are = sym (flat_map-map (λ (row : Row). number_bytes 4 row.number) (row_in keys points values) (range_with_len 0 count))
 
   dim_is : (d : ℕ) → d < 4 → first_numbers 4 (dim_in (get_or points d [])) count ≡ column 4 (dim_of d) rows
-  dim_is zero less = sym (flat_map-map (λ (row : Row). number_bytes 4 (dim_of 0 row)) (row_in keys points values) (range_with_len 0 count))
-  dim_is (suc zero) less = sym (flat_map-map (λ (row : Row). number_bytes 4 (dim_of 1 row)) (row_in keys points values) (range_with_len 0 count))
-  dim_is (suc (suc zero)) less = sym (flat_map-map (λ (row : Row). number_bytes 4 (dim_of 2 row)) (row_in keys points values) (range_with_len 0 count))
-  dim_is (suc (suc (suc zero))) less = sym (flat_map-map (λ (row : Row). number_bytes 4 (dim_of 3 row)) (row_in keys points values) (range_with_len 0 count))
-  dim_is (suc (suc (suc (suc d)))) less = absurd (omega arith)
+  dim_is d h = search (rules, flat_map-map)
 
   measure_is : (m : ℕ) → m < 4 → first_numbers 8 (measure_in (get_or values m [])) count ≡ column 8 (measure_of m) rows
   measure_is zero less = sym (flat_map-map (λ (row : Row). number_bytes 8 (measure_of 0 row)) (row_in keys points values) (range_with_len 0 count))
@@ -70,7 +54,4 @@ module _ (keys : List Key) (points : List (List ℕ)) (values : List (List ℤ))
       ++ dims_in points schema.dims count) ++ measures_in values (measures_of schema) count)
       ≡ region_page schema (record { first = first; rows = rows })
   unfolding region_page
-  written schema first few_dims few_measures =
-      let long : length rows ≡ count = length-map-range_with_len (row_in keys points values) 0 count in
-      regrouped (ap (λ (n : ℕ). layout (head_fields schema.dims (measures_of schema) n first)) (sym long))
-      numbers_are (dims_are schema.dims few_dims) (measures_are (measures_of schema) few_measures)
+  written schema first h k = search (rules, dims_are, length-map-range_with_len, measures_are, numbers_are, regrouped)

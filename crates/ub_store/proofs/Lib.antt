@@ -1,3 +1,1 @@
 pub mod Lookups
-pub mod FaultyFacts
-pub mod PagerFacts

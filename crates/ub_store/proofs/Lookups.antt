@@ -20,10 +20,6 @@ module _ {V : Type 0} where
   some_of None h = cc
   some_of (Some x) h = (x, refl)
 
-  pub none_of : (o : Option V) → is_some o ≡ false → (x : V) → ¬ (o ≡ Some x)
-  none_of None h x e = cc
-  none_of (Some y) h x e = cc
-
   entry_is : (k : ℕ) (es : List (ℕ × V)) (e : ℕ × V) → lookup_entry (nat_eq k) es ≡ Some e → (e.0 ≡ k) × (lookup (nat_eq k) es ≡ Some e.1)
   entry_is k [] e h = cc
   entry_is k (f ∷ es) e h = elim (cases_Bool (nat_eq k f.0)) [

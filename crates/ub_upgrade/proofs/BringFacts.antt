@@ -1,16 +1,15 @@
 -- The header that was read, and why pages aren't brought over.
-use Rattle.std.proofs.Common.{◌≡◌, ◌∙◌, ℕ, Bool, Option, Some, Result, Ok, Err, IfErr, ap, sym, arith}
+use Rattle.std.proofs.Common.{rules}
+use Rattle.std.proofs.Common.{◌≡◌, ◌∙◌, ℕ, Bool, Option, Some, Result, IfErr, ap}
 use Rattle.ub_page.specs.Header.{AreSame}
 use Rattle.ub_page.specs.declared.header.Header.{Header}
 use Rattle.ub_page.specs.declared.header.OldHeader.{OldHeader}
 use Rattle.ub_store.specs.Facts.{StoreFacts, page_count}
-use Rattle.ub_store.specs.declared.fault.StoreFault.TheVariants as store
 use Rattle.ub_table.proofs.Laws.{same_schema}
 use Rattle.ub_table.specs.declared.schema.Schema.{Schema}
 use Rattle.ub_upgrade.specs.Bringing.{IsBringFault, directory_of}
 use Rattle.ub_upgrade.specs.Building.{IsBuildFault}
 use Rattle.ub_upgrade.specs.declared.fault.UpgradeFault.{UpgradeFault}
-use Rattle.ub_upgrade.specs.declared.fault.UpgradeFault.TheVariants.{Page, Old, New}
 
 abbrev header_with : Schema → ℕ → ℕ → ℕ → ℕ → ℕ → Bool → Header
 header_with schema next rows regions root levels unclean = record { schema = schema; next = next; rows = rows; regions = regions; root = root; levels = levels; unclean = unclean }
@@ -38,16 +37,4 @@ some_same o x y a b = cc
 -- no index was built
 pub build_refused : {T : Type 0} (head : OldHeader) (from mid new : StoreFacts) (r : Result T UpgradeFault) → head.version ≡ 1 → page_count mid ≡ page_count from → mid.can_fail ≡ new.can_fail
     → IfErr r (IsBuildFault (directory_of head.header) from mid) → IfErr r (IsBringFault head from new)
-build_refused head from mid new (Ok x) first count fails h = tt
-build_refused head from mid new (Err e) first count fails h = by_fault e h
-  where
-    by_fault : (e : UpgradeFault) → IsBuildFault (directory_of head.header) from mid e → IsBringFault head from new e
-    by_fault (Old store.Memory) h = tt
-    by_fault (Old store.Device) h = h
-    by_fault (Old store.NoPage) h = (first, h.0, h.1, h.2)
-    by_fault (Old store.BadSize) h = absurd h
-    by_fault (New store.Memory) h = tt
-    by_fault (New store.Device) h = sym fails ∙ h
-    by_fault (New store.NoPage) h = absurd h
-    by_fault (New store.BadSize) h = (first, omega (arith, h, count))
-    by_fault (Page n fault) h = (first, h.0, h.1, h.2)
+build_refused head from mid new r h k j l = search rules

@@ -1,4 +1,5 @@
 -- The lowest level of the index while the directory is read.
+use Rattle.std.proofs.Common.{rules}
 use Rattle.std.proofs.Common.{◌≡◌, ◌≤◌, ◌<◌, ◌+◌, ◌-◌, ◌^◌, ◌++◌, ◌∙◌, ℕ, List, [], ◌∷◌, Some, None, Result, Ok, Err, IfErr, true, false, ap, arith, length, refl, subst, sym}
 use Rattle.std.proofs.lemmas.List.{length-append}
 use Rattle.ub_page.specs.Index.{index_page}
@@ -80,8 +81,7 @@ same_store P Q R e f = f ∙ e
 
 pub refused_by : {A : Type 0} (P Q new : StoreFacts) (heading : HeadingView) (r : Result A UpgradeFault) (e : UpgradeFault) → IsErrAnd r (λ x. x ≡ e) → Q ≡ P → IsBuildFault heading Q new e
     → IfErr r (IsBuildFault heading P new)
-refused_by P Q new heading (Ok x) e is same h = tt
-refused_by P Q new heading (Err f) e is same h = rw is (subst (λ (s : StoreFacts). IsBuildFault heading s new e) same h)
+refused_by P Q new heading r e h k j = search rules
 
 -- a store that can't fail
 abbrev calm : StoreFacts → StoreFacts

@@ -1,4 +1,5 @@
 -- The levels of an index that is built from below.
+use Rattle.std.proofs.Common.{rules}
 use Rattle.std.proofs.Common.{◌≡◌, ◌≢◌, ◌≤◌, ◌<◌, ◌+◌, ◌-◌, ◌^◌, ◌++◌, ◌∙◌, true, ℕ, zero, suc, List, [], ◌∷◌, Option, Some, None, IfSome, ap, arith, append_assoc, length, nat_eq, refl, slice_get, slice_set, subst, sym, take}
 use Rattle.std.proofs.lemmas.Grind.{flat_map-append}
 use Rattle.std.proofs.lemmas.List.{append-nil, length-append}
@@ -7,12 +8,12 @@ use Rattle.ub_index.specs.Spans.{ArePlaces, first_keys}
 use Rattle.ub_index.proofs.KeptFacts.{kept_index, kept_list, same_page, told_index}
 use Rattle.ub_index.proofs.Lists.{all_left as numbers_left, all_right as numbers_right, ascend_first, ascend_left, ascend_right, each_left, each_right, each_same}
 use Rattle.ub_index.proofs.Numbers.{StandApart, distinct_apart, distinct_cons, distinct_join, distinct_left, distinct_right, kept_pages_list}
-use Rattle.ub_index.specs.Index.{IsTold, AscendTo, EachTo, IsUnder, entries_of, first_or, page_in, pages_under, top, under}
+use Rattle.ub_index.specs.Index.{IsTold, AscendTo, EachTo, IsUnder, entries_of, first_or, page_in, pages_under, under}
 use Rattle.ub_index.specs.Standing.{PagesStay, IsOutside}
 use Rattle.ub_page.proofs.IndexLaws.{length-node_on, node_get, node_parts}
 use Rattle.ub_page.specs.Index.{IsNode, Node, index_page, node_on}
 use Rattle.ub_bytes.specs.Bytes.{number_at}
-use Rattle.ub_page.specs.Entries.{AreAscending, IsEntry, entry_on, key_on}
+use Rattle.ub_page.specs.Entries.{AreAscending, IsEntry, entry_on}
 use Rattle.ub_region.specs.declared.entry.Entry.{Entry}
 use Rattle.ub_region.proofs.Laws.{all_append, all_left, all_more, all_right}
 use Rattle.ub_table.proofs.Laws.{before_of}
@@ -21,24 +22,17 @@ use Rattle.ub_table.specs.declared.row.Key.{Key}
 use Rattle.std.proofs.lemmas.Bool.{and_parts}
 use Rattle.ub_upgrade.proofs.AddFacts.{get_front, get_last}
 use Rattle.ub_upgrade.specs.Levels.{Cut, IsIndexOf, IsLevel, name_of, names_of}
-use Rattle.ub_upgrade.specs.declared.building.Root.{Root}
 
 -- ---- names
 
 pub names_join : (pages : List (List ℕ)) (n a b m c : ℕ) → c ≡ a + b → m ≡ n + a → names_of pages n c ≡ names_of pages n a ++ names_of pages m b
-names_join pages n zero b m c e f =
-    let same : c ≡ b = omega arith in
-    let at : m ≡ n = omega arith in
-    rw (same, at) refl
-names_join pages n (suc a) b m zero e f = absurd (omega arith)
-names_join pages n (suc a) b m (suc c) e f = ap (λ (names : List Entry). name_of pages n ∷ names) (names_join pages (suc n) a b m c (omega arith) (omega arith))
+names_join pages n zero b m c e f = search rules
+names_join pages n (suc a) b m zero e f = search rules
+names_join pages n (suc a) b m (suc c) e f = search (rules, (names_join pages (suc n) a b m c (omega arith) (omega arith)))
 
 pub names_kept : (old new : List (List ℕ)) (n count to : ℕ) → n + count ≤ to → ((m : ℕ) → m < to → slice_get new m ≡ slice_get old m) → names_of new n count ≡ names_of old n count
 names_kept old new n zero to le kept = refl
-names_kept old new n (suc count) to le kept =
-    let page : page_in new n ≡ page_in old n = same_page old new n (kept n (omega arith)) in
-    ap (λ (p : List ℕ). record { first = key_on 16 p; page = n } ∷ names_of new (suc n) count) page
-    ∙ ap (λ (names : List Entry). name_of old n ∷ names) (names_kept old new (suc n) count to (omega arith) kept)
+names_kept old new n (suc count) to le kept = search (rules, (names_kept old new (suc n) count to (omega arith) kept), same_page)
 
 pub length-names : (pages : List (List ℕ)) (n count : ℕ) → length (names_of pages n count) ≡ count
 length-names pages n zero = refl
@@ -49,8 +43,7 @@ length-names pages n (suc count) = ap (λ (k : ℕ). suc k) (length-names pages 
 pub cut_kept : (old new : List (List ℕ)) (level n count to : ℕ) (entries : List Entry) → n + count ≤ to → ((m : ℕ) → m < to → slice_get new m ≡ slice_get old m)
     → Cut old level n count entries → Cut new level n count entries
 cut_kept old new level n zero to entries le kept h = h
-cut_kept old new level n (suc count) to entries le kept (part, rest, is, some, few, at, more) =
-    (part, rest, is, some, few, kept n (omega arith) ∙ at, cut_kept old new level (suc n) count to rest (omega arith) kept more)
+cut_kept old new level n (suc count) to entries le kept (part, rest, is, some, few, at, more) = search (rules, (cut_kept old new level (suc n) count to rest (omega arith) kept more))
 
 pub cut_more : (pages : List (List ℕ)) (level n count m : ℕ) (entries part : List Entry) → m ≡ n + count → Cut pages level n count entries → 1 ≤ length part → length part ≤ 170
     → slice_get pages m ≡ Some (index_page (record { level = level; entries = part })) → Cut pages level n (suc count) (entries ++ part)
@@ -80,8 +73,7 @@ ascending_of (x ∷ []) end h = tt
 ascending_of (x ∷ y ∷ entries) end h = (h.0, ascending_of (y ∷ entries) end h.1)
 
 first_is : (entries : List Entry) (entry : Entry) → slice_get entries 0 ≡ Some entry → first_or entries None ≡ Some entry.first
-first_is [] entry at = cc
-first_is (x ∷ entries) entry at = let same : x ≡ entry = cc in ap (λ (e : Entry). Some e.first) same
+first_is entries entry h = search rules
 
 -- a page of entries in order is told of by the entry that names it
 told : (last : ℕ) (pages : List (List ℕ)) (level n : ℕ) (part : List Entry) (end : Option Key) → last < 256 ^ 16 → 1 ≤ level → level ≤ 16 → 1 ≤ length part → length part ≤ 170
@@ -105,21 +97,13 @@ told last pages level n part end small low high some few each up at =
 
 -- a name of entries in order is before their end, and in range
 name_before : (part : List Entry) (end : Option Key) (first : Key) → AscendTo part end → first_or part None ≡ Some first → IfSome end (IsBefore first)
-name_before [] end first up begins = cc
-name_before (x ∷ part) end first up begins =
-    let same : x.first ≡ first = cc in
-    subst (λ (key : Key). IfSome end (IsBefore key)) same (ascend_first x part end up)
+name_before part end first h k = search (rules, ascend_first)
 
 name_entry : (last n : ℕ) (part : List Entry) (first : Key) → AllByRecursion (IsEntry last) part → first_or part None ≡ Some first → 1 ≤ n → n < 2 ^ 32 → IsEntry last (record { first = first; page = n })
-name_entry last n [] first each begins some small = cc
-name_entry last n (x ∷ part) first each begins some small =
-    let same : x.first ≡ first = cc in
-    subst (λ (key : Key). IsEntry last (record { first = key; page = n })) same
-    (let h = each.0 in record { z = h.z; number = h.number; some_page = some; page = small })
+name_entry last n part first h k j l = search rules
 
 first_part : (part rest : List Entry) (first : Key) → first_or part None ≡ Some first → first_or (part ++ rest) None ≡ Some first
-first_part [] rest first h = cc
-first_part (x ∷ part) rest first h = h
+first_part part rest first h = search rules
 
 -- ---- a level
 
@@ -283,8 +267,7 @@ ascend_of (x ∷ []) up = (tt, tt)
 ascend_of (x ∷ y ∷ entries) up = let parts = and_parts _ _ up in (before_of x.first y.first parts.0, ascend_of (y ∷ entries) parts.1)
 
 begins_of : (entries : List Entry) → slice_get (first_keys entries) 0 ≡ Some origin → first_or entries None ≡ Some origin
-begins_of [] h = cc
-begins_of (x ∷ entries) h = h
+begins_of entries h = search rules
 
 each_none : (last : ℕ) (pages : List (List ℕ)) (entries : List Entry) → EachTo (IsUnder last pages zero) entries None
 each_none last pages [] = tt
@@ -300,31 +283,9 @@ no_pages pages (x ∷ entries) = no_pages pages entries
 
 pub regions_level : (last : ℕ) (pages : List (List ℕ)) (from to : ℕ) (entries : List Entry) → ArePlaces last entries → AllByRecursion (IsEntry last) entries
     → IsLevel last pages from to 0 entries entries
-regions_level last pages from to entries places each = record {
-  begins = begins_of entries places.0;
-  ascends = ascend_of entries places.2;
-  each = each;
-  under_them = each_none last pages entries;
-  entries_are = single pages entries;
-  apart = subst (λ (ns : List ℕ). IsDistinct nat_eq ns) (sym (no_pages pages entries)) none_distinct;
-  within = subst (λ (ns : List ℕ). AllByRecursion (λ n. (from ≤ n) × (n < to)) ns) (sym (no_pages pages entries)) tt;
-}
+regions_level last pages from to entries h k = search (rules, ascend_of, begins_of, each_none, no_pages, none_distinct, single)
 
 -- ---- the root
-
-pub root_of : (last : ℕ) (pages : List (List ℕ)) (from to level n : ℕ) (root : Root) (entries : List Entry) → IsLevel last pages from to level (names_of pages n 1) entries
-    → root ≡ record { page = n; level = level } → IsIndexOf last pages from to root entries
-root_of last pages from to level n root entries is same =
-    let begins : Some (name_of pages n).first ≡ Some origin = is.begins in
-    let first : (name_of pages n).first ≡ origin = cc in
-    let name : name_of pages n ≡ top n = ap (λ (key : Key). record { first = key; page = n }) first in
-    let at : IsIndexOf last pages from to (record { page = n; level = level }) entries = record {
-      under_it = subst (λ (e : Entry). IsUnder last pages level e None) name is.under_them.0;
-      entries_are = ap (under pages level) (sym name) ∙ sym (append-nil (under pages level (name_of pages n))) ∙ is.entries_are;
-      reached = subst (λ (ns : List ℕ). IsDistinct nat_eq ns) (append-nil (pages_under pages level (name_of pages n)) ∙ ap (pages_under pages level) name) is.apart;
-      within = subst (λ (ns : List ℕ). AllByRecursion (λ m. (from ≤ m) × (m < to)) ns) (append-nil (pages_under pages level (name_of pages n)) ∙ ap (pages_under pages level) name) is.within;
-    } in
-    subst (λ (r : Root). IsIndexOf last pages from to r entries) (sym same) at
 
 take_set : (i : ℕ) (xs : List Entry) (x : Entry) → i < length xs → take (suc i) (slice_set xs i x) ≡ take i xs ++ x ∷ []
 take_set i [] x less = absurd (omega arith)
@@ -332,9 +293,7 @@ take_set zero (y ∷ xs) x less = refl
 take_set (suc i) (y ∷ xs) x less = ap (λ (ys : List Entry). y ∷ ys) (take_set i xs x (omega arith))
 
 pub length-set_entry : (xs : List Entry) (i : ℕ) (x : Entry) → length (slice_set xs i x) ≡ length xs
-length-set_entry [] i x = refl
-length-set_entry (y ∷ xs) zero x = refl
-length-set_entry (y ∷ xs) (suc i) x = ap (λ (k : ℕ). suc k) (length-set_entry xs i x)
+length-set_entry xs i x = search rules
 
 -- the entry that names one page more
 pub take_more_names : (pages : List (List ℕ)) (n i : ℕ) (entries : List Entry) (entry : Entry) → i < length entries → take i entries ≡ names_of pages n i → entry ≡ name_of pages (n + i)
@@ -383,8 +342,7 @@ level_next last a b from level next first count nodes entries small step high ke
 -- the level that has one page alone is the root's
 pub root_at : (last : ℕ) (pages : List (List ℕ)) (from to level n count : ℕ) (entries : List Entry) → IsLevel last pages from to level (names_of pages n count) entries → 1 ≡ count
     → IsIndexOf last pages from to (record { page = n; level = level }) entries
-root_at last pages from to level n count entries is one =
-    root_of last pages from to level n (record { page = n; level = level }) entries (subst (λ (k : ℕ). IsLevel last pages from to level (names_of pages n k) entries) (sym one) is) refl
+root_at last pages from to level n count entries h k = search rules
 
 -- the lowest level, of the entries of a directory
 pub lowest_level : (last : ℕ) (pages : List (List ℕ)) (first count : ℕ) (entries : List Entry) → last < 2 ^ 128 → ArePlaces last entries → AllByRecursion (IsEntry last) entries → 1 ≤ first

@@ -1,5 +1,7 @@
 -- Reading a directory page by page.
-use Rattle.std.proofs.Common.{◌≡◌, ◌<◌, ◌≤◌, ◌+◌, ◌-◌, ◌*◌, ◌↔◌, ◌&&◌, ◌++◌, inl, inr, ℕ, zero, suc, get_or, Bool, true, false, IsTrue, List, [], ◌∷◌, Some, None, Err, length, take, drop, ◌∙◌, sym, ap, subst, refl, arith, slice_get, slice_index_or}
+use Rattle.std.proofs.lemmas.Grind.{common_steps}
+use Rattle.std.proofs.Common.{rules}
+use Rattle.std.proofs.Common.{◌≡◌, ◌<◌, ◌≤◌, ◌+◌, ◌-◌, ◌*◌, ◌↔◌, ◌&&◌, ◌++◌, inl, inr, ℕ, suc, get_or, Bool, true, IsTrue, List, [], ◌∷◌, Some, None, Err, length, take, drop, ◌∙◌, ap, subst, refl, arith, slice_get, slice_index_or}
 use Rattle.std.proofs.lemmas.Bool.{and_parts, cases_eq, cases_lt}
 use Rattle.std.proofs.lemmas.List.{length-append, length-take, length-drop, take-append-le, drop-append-le}
 use Rattle.std.proofs.lemmas.List.Elements.{All-from_recursion}
@@ -33,8 +35,7 @@ pub record IsReadWhole (store : StoreFacts) (heading : HeadingView) (chain : Lis
   pub directory : IsHonest store → IsDirectory store.pages heading chain entries
 
 and_true : (b : Bool) → (b && true) ≡ b
-and_true true = refl
-and_true false = refl
+and_true b = search rules
 
 -- entries after others are in order where the first of them is after the last of those
 joined : (xs ys : List Entry) (key : Key) (f : Entry) → are_ascending (first_keys xs) ≡ true → are_ascending (first_keys ys) ≡ true → last_first xs ≡ Some key → slice_get ys 0 ≡ Some f
@@ -53,16 +54,11 @@ joined (x ∷ z ∷ xs) ys key f up rest last first =
 pub ascends : (entries : List Entry) → AreAscending entries → are_ascending (first_keys entries) ≡ true
 ascends [] up = refl
 ascends (x ∷ []) up = refl
-ascends (x ∷ y ∷ entries) up =
-    ap (λ (b : Bool). b && are_ascending (first_keys (y ∷ entries))) (precedes_of x.first y.first up.0) ∙ ascends (y ∷ entries) up.1
+ascends (x ∷ y ∷ entries) up = search (rules, (ascends (y ∷ entries) up.1), precedes_of)
 
 pub begun_after : (before entries : List Entry) (key : Key) (d : Entry) (b : Bool) → AreBegun before → AreAscending entries → last_first before ≡ Some key → 1 ≤ length entries
     → b ≡ precedes key (get_or entries 0 d).first → (b ≡ true) ↔ AreBegun (before ++ entries)
-begun_after [] entries key d b begun up last some tells = cc
-begun_after (x ∷ before) [] key d b begun up last some tells = absurd (omega arith)
-begun_after (x ∷ before) (y ∷ entries) key d b begun up last some tells =
-    let same = joined (x ∷ before) (y ∷ entries) key y begun.1 (ascends (y ∷ entries) up) last refl in
-    (λ t. (begun.0, same ∙ sym tells ∙ t), λ h. tells ∙ sym same ∙ h.1)
+begun_after before entries key d b k j l m o = grind (arith, common_steps, ascends, joined)
 
 some_last : (x : Entry) (xs : List Entry) → last_first (x ∷ xs) ≡ None → ⊥
 some_last x [] e = cc
@@ -70,39 +66,29 @@ some_last x (y ∷ xs) e = some_last y xs e
 
 pub begun_first : (before entries : List Entry) (d : Entry) (b : Bool) → last_first before ≡ None → AreAscending entries → 1 ≤ length entries
     → b ≡ is_same (get_or entries 0 d).first origin → (b ≡ true) ↔ AreBegun (before ++ entries)
-begun_first (x ∷ before) entries d b none up some tells = absurd (some_last x before none)
-begun_first [] [] d b none up some tells = absurd (omega arith)
-begun_first [] (y ∷ entries) d b none up some tells =
-    (λ t. (same_key y.first origin (sym tells ∙ t), ascends (y ∷ entries) up), λ h. tells ∙ rw h.0 refl)
+begun_first (x ∷ before) entries d b none up some tells = grind (arith, common_steps, ascends, same_key, some_last)
+begun_first [] [] d b none up some tells = grind (arith, common_steps, ascends, same_key, some_last)
+begun_first [] (y ∷ entries) d b none up some tells = grind (arith, common_steps, ascends, same_key, some_last)
 
 -- the last of entries after others
 pub last_behind : (xs ys : List Entry) (d : Entry) → 1 ≤ length ys → last_first (xs ++ ys) ≡ Some (get_or ys (length ys - 1) d).first
-last_behind [] [] d some = absurd (omega arith)
+last_behind [] [] d some = search rules
 last_behind [] (y ∷ []) d some = refl
-last_behind [] (y ∷ z ∷ ys) d some =
-    let last : length (y ∷ z ∷ ys) - 1 ≡ suc (length (z ∷ ys) - 1) = omega arith in
-    last_behind [] (z ∷ ys) d (omega arith) ∙ ap (λ (k : ℕ). Some (get_or (y ∷ z ∷ ys) k d).first) (sym last)
-last_behind (x ∷ []) [] d some = absurd (omega arith)
-last_behind (x ∷ []) (y ∷ ys) d some = last_behind [] (y ∷ ys) d some
-last_behind (x ∷ z ∷ xs) ys d some = last_behind (z ∷ xs) ys d some
+last_behind [] (y ∷ z ∷ ys) d some = search (rules, (last_behind [] (z ∷ ys) d (omega arith)))
+last_behind (x ∷ []) [] d some = search rules
+last_behind (x ∷ []) (y ∷ ys) d some = search (rules, (last_behind [] (y ∷ ys) d some))
+last_behind (x ∷ z ∷ xs) ys d some = search (rules, (last_behind (z ∷ xs) ys d some))
 
 -- a list of no more than so many
 take_all : {X : Type 0} (k : ℕ) (xs : List X) → length xs ≤ k → take k xs ≡ xs
-take_all zero [] le = refl
-take_all (suc k) [] le = refl
-take_all zero (x ∷ xs) le = absurd (omega arith)
-take_all (suc k) (x ∷ xs) le = ap (λ ys. x ∷ ys) (take_all k xs (omega arith))
+take_all k xs j = grind (arith, common_steps)
 
 drop_all : {X : Type 0} (k : ℕ) (xs : List X) → length xs ≤ k → drop k xs ≡ []
-drop_all zero [] le = refl
-drop_all (suc k) [] le = refl
-drop_all zero (x ∷ xs) le = absurd (omega arith)
-drop_all (suc k) (x ∷ xs) le = drop_all k xs (omega arith)
+drop_all k xs j = grind (arith, common_steps)
 
 -- the first page of a chain that goes on
 pub first_goes_on : (chain : List ℕ) (n m : ℕ) → slice_index_or (chain ++ n ∷ []) 0 m ≡ slice_index_or chain 0 n
-first_goes_on [] n m = refl
-first_goes_on (a ∷ chain) n m = refl
+first_goes_on chain n m = grind (arith, common_steps)
 
 first_kept : (chain : List ℕ) (n m : ℕ) → slice_get ((chain ++ n ∷ []) ++ m ∷ []) 0 ≡ slice_get (chain ++ n ∷ []) 0
 first_kept [] n m = refl
@@ -138,23 +124,12 @@ module _ (dims : ℕ) (pages : List (List ℕ)) where
   -- the last page
   chain_whole : (chain : List ℕ) (entries : List Entry) (n : ℕ) (part : Listing) → AreFull dims pages chain entries n → Spells dims pages n part → part.next ≡ 0
       → IsChain pages (chain ++ n ∷ []) (entries ++ part.entries)
-  chain_whole [] entries n part h spells end =
-      rw h (spells.range.some, spells.range.few, subst (λ (k : ℕ). slice_get pages n ≡ Some (directory_page (record { entries = part.entries; next = k }))) end spells.page)
-  chain_whole (a ∷ []) entries n part h spells end =
-      let more = long_front entries h.1 in
-      let front : take 170 (entries ++ part.entries) ≡ take 170 entries = take-append-le 170 entries part.entries more in
-      let behind : drop 170 (entries ++ part.entries) ≡ drop 170 entries ++ part.entries = drop-append-le 170 entries part.entries more in
-      (rw front h.0.page, rw front h.1, rw behind (chain_whole [] (drop 170 entries) n part h.2 spells end))
-  chain_whole (a ∷ b ∷ chain) entries n part h spells end =
-      let more = long_front entries h.1 in
-      let front : take 170 (entries ++ part.entries) ≡ take 170 entries = take-append-le 170 entries part.entries more in
-      let behind : drop 170 (entries ++ part.entries) ≡ drop 170 entries ++ part.entries = drop-append-le 170 entries part.entries more in
-      (rw front h.0.page, rw front h.1, rw behind (chain_whole (b ∷ chain) (drop 170 entries) n part h.2 spells end))
+  chain_whole [] entries n part h spells end = search (rules, drop-append-le, long_front, take-append-le)
+  chain_whole (a ∷ []) entries n part h spells end = search (rules, (chain_whole [] (drop 170 entries) n part h.2 spells end), drop-append-le, long_front, take-append-le)
+  chain_whole (a ∷ b ∷ chain) entries n part h spells end = search (rules, (chain_whole (b ∷ chain) (drop 170 entries) n part h.2 spells end), drop-append-le, long_front, take-append-le)
 
 places_of : (last : ℕ) (entries : List Entry) → 1 ≤ length entries → AreBegun entries → AllByRecursion (IsEntry last) entries → ArePlaces last entries
-places_of last [] some begun each = absurd (omega arith)
-places_of last (e ∷ entries) some begun each =
-    (ap (λ k. Some k) begun.0, All-from_recursion (λ e. e.first.z ≤ last) (e ∷ entries) (all_more (IsEntry last) (λ e. e.first.z ≤ last) (λ e h. h.z) (e ∷ entries) each), begun.1)
+places_of last entries k j l = search (rules, All-from_recursion, all_more)
 
 -- a page of the directory was read that fits
 module _ (old : StoreFacts) (heading : HeadingView) (chain : List ℕ) (entries : List Entry) (n : ℕ) (page : List ℕ) (part : Listing) (h : IsReadUpTo old heading chain entries n)
@@ -167,50 +142,10 @@ module _ (old : StoreFacts) (heading : HeadingView) (chain : List ℕ) (entries 
   each_is = all_append (IsEntry (last_address heading.dims)) entries part.entries h.each range.entries
 
   pub part_full : length entries + 170 < heading.regions → IsReadUpTo old heading (chain ++ n ∷ []) (entries ++ part.entries) part.next × (length (entries ++ part.entries) ≡ length entries + 170)
-  part_full more =
-      let long : length part.entries ≡ 170 = omega (arith, fits.0) in
-      let all = length-append entries part.entries in (
-        record {
-          root_is = first_kept chain n part.next ∙ h.root_is;
-          some_page = elim (cases_eq part.next 0) [
-            | inl e ↦ let few = fits.1.0 e in absurd (omega arith)
-            | inr ne ↦ omega arith
-          ];
-          small = range.next;
-          full = λ is. full_next heading.dims old.pages chain entries n part (h.full is) (spells is) long;
-          each = each_is;
-          begun = begun;
-          more = omega arith;
-        },
-        omega arith,
-      )
+  part_full k = search (rules, cases_eq, each_is, first_kept, full_next, length-append, spells)
 
   pub part_whole : heading.regions ≤ length entries + 170 → IsReadWhole old heading (chain ++ n ∷ []) (entries ++ part.entries)
-  part_whole last =
-      let more = h.more in
-      let some = range.some in
-      let long : length part.entries ≡ heading.regions - length entries = omega (arith, fits.0) in
-      let all = length-append entries part.entries in
-      let end : part.next ≡ 0 = fits.1.1 (omega arith) in
-      let places = places_of (last_address heading.dims) (entries ++ part.entries) (omega arith) begun each_is in
-      let pages = length-append chain (n ∷ []) in
-      record {
-        each = All-from_recursion (IsEntry (last_address heading.dims)) (entries ++ part.entries) each_is;
-        places = places;
-        regions_are = omega arith;
-        root_is = h.root_is;
-        some_chain = omega arith;
-        directory = λ is. (
-            record {
-              root_is = h.root_is;
-              some_pages = all_append (λ n. 1 ≤ n) chain (n ∷ []) (full_some heading.dims old.pages chain entries n (h.full is)) (h.some_page, tt);
-              directory = chain_whole heading.dims old.pages chain entries n part (h.full is) (spells is) end;
-              regions_are = omega arith;
-              each = each_is;
-              places = places;
-            }
-            );
-      }
+  part_whole k = search (rules, All-from_recursion, all_append, chain_whole, each_is, full_some, length-append, places_of, spells)
 
 -- ---- a region's page that isn't there
 

@@ -1,9 +1,10 @@
 -- A table of an older format, over a new store: its mark stays, the root of its index stands where it stood, and why that isn't taken.
-use Rattle.std.proofs.Common.{◌≡◌, ◌≤◌, ◌<◌, ◌∙◌, ◌⊎◌, inl, inr, ℕ, zero, suc, List, [], None, Some, Result, Ok, Err, IfErr, OnErr, MatchResult, length, ap, slice_get, sym, subst, refl, arith}
+use Rattle.std.proofs.Common.{rules}
+use Rattle.std.proofs.Common.{◌≡◌, ◌≤◌, ◌∙◌, ◌⊎◌, inl, inr, ℕ, List, [], None, Some, Result, IfErr, OnErr, MatchResult, length, ap, slice_get, sym, subst, arith}
 use Rattle.std.proofs.lemmas.Option.{get_or_from_slice_get}
 use Rattle.std.specs.Result.{IsErrAnd}
 use Rattle.ub_index.specs.Fitting.{IsNotTaken, IsUnfit}
-use Rattle.ub_index.specs.Index.{Fits, IsUnder, NamesFitting, page_in, top}
+use Rattle.ub_index.specs.Index.{IsUnder, NamesFitting, page_in, top}
 use Rattle.ub_page.specs.Header.{IsOldHeader}
 use Rattle.ub_page.specs.declared.header.OldHeader.{OldHeader}
 use Rattle.ub_region.specs.declared.entry.Entry.{Entry}
@@ -24,16 +25,13 @@ use Rattle.ub_zaddr.specs.Address.{last_address}
 
 -- what a refusal answers
 pub err_passes : {T : Type 0} (r : Result T UpgradeFault) (Q : T → Type 0) (e : UpgradeFault) → IsErrAnd r (λ x. x ≡ e) → IsPassing e → MatchResult r Q IsPassing
-err_passes (Ok x) Q e is h = absurd is
-err_passes (Err f) Q e is h = subst IsPassing (sym is) h
+err_passes r Q e h k = search rules
 
 pub err_refused : {T : Type 0} (r : Result T UpgradeFault) (Q : UpgradeFault → Type 0) (e : UpgradeFault) → IsErrAnd r (λ x. x ≡ e) → Q e → IfErr r Q
-err_refused (Ok x) Q e is h = absurd is
-err_refused (Err f) Q e is h = subst Q (sym is) h
+err_refused r Q e h k = search rules
 
 pub on_err_by : {T E : Type 0} (r : Result T E) (P : Type 0) → P → OnErr r P
-on_err_by (Ok x) P p = tt
-on_err_by (Err e) P p = p
+on_err_by r P h = search rules
 
 -- the mark on the only page there was stays where pages come after it
 pub mark_before : (schema : Schema) (old new : StoreFacts) → Grows old new → page_count old ≡ 1 → IsHonest old → HasMark schema old.pages → HasMark schema new.pages
@@ -41,30 +39,15 @@ mark_before schema old new grows one honest mark = (mark.0, mark.1, grows.kept h
 
 -- a refusal is told of the stores alone, not of what was done before
 pub bring_moved : (head : OldHeader) (from a b : StoreFacts) → a.can_fail ≡ b.can_fail → (e : UpgradeFault) → IsBringFault head from a e → IsBringFault head from b e
-bring_moved head from a b fails (Page n fault) h = h
-bring_moved head from a b fails (Old store.Memory) h = h
-bring_moved head from a b fails (Old store.Device) h = h
-bring_moved head from a b fails (Old store.NoPage) h = h
-bring_moved head from a b fails (Old store.BadSize) h = h
-bring_moved head from a b fails (New store.Memory) h = h
-bring_moved head from a b fails (New store.Device) h = sym fails ∙ h
-bring_moved head from a b fails (New store.NoPage) h = h
-bring_moved head from a b fails (New store.BadSize) h = h
+bring_moved head from a b h e k = search rules
 
 -- a header of an old version is of version 1 or 2
 pub versions : (head : OldHeader) → IsOldHeader head → (head.version ≡ 1) ⊎ (head.version ≡ 2)
-versions head is = by_version head.version is.version.0 is.version.1
-  where
-    by_version : (n : ℕ) → 1 ≤ n → n < 3 → (n ≡ 1) ⊎ (n ≡ 2)
-    by_version zero low high = absurd (omega arith)
-    by_version (suc zero) low high = inl refl
-    by_version (suc (suc zero)) low high = inr refl
-    by_version (suc (suc (suc n))) low high = absurd (omega arith)
+versions head h = search rules
 
 -- the root of an index fits
 pub root_fits : (last : ℕ) (pages : List (List ℕ)) (n root : ℕ) → 1 ≤ n → IsUnder last pages n (top root) None → NamesFitting last pages n (top root) None
-root_fits last pages zero root low h = absurd (omega arith)
-root_fits last pages (suc n) root low h = h.0
+root_fits last pages n root h k = search rules
 
 module _ (head : OldHeader) (from : StoreFacts) (new : List (List ℕ)) (root : Root) (some : 1 ≤ root.page) (level : 1 ≤ root.level) (brought : IsBrought head from new root) where
   abbrev last : ℕ
@@ -83,19 +66,10 @@ module _ (head : OldHeader) (from : StoreFacts) (new : List (List ℕ)) (root : 
     root_page = (brought.index second).0 head.header.root (subst (λ (r : Root). 1 ≤ r.page) root_is some)
 
     pub fits_still : NamesFitting last from.pages head.header.levels (top head.header.root) None → NamesFitting last new root.level (top root.page) None
-    fits_still h =
-        let at : slice_get new head.header.root ≡ Some (page_in from.pages head.header.root) = root_page ∙ h.there in
-        let page : page_in new head.header.root ≡ page_in from.pages head.header.root = get_or_from_slice_get new head.header.root (page_in from.pages head.header.root) [] at in
-        subst (λ (r : Root). NamesFitting last new r.level (top r.page) None) (sym root_is) (record {
-          there = at ∙ ap (λ (x : List ℕ). Some x) (sym page);
-          fits = subst (λ (x : List ℕ). Fits last x head.header.levels (top head.header.root) None) (sym page) h.fits;
-        })
+    fits_still h = search (rules, get_or_from_slice_get, root_is, root_page)
 
     missing_still : length new ≤ root.page → IsNotTaken last from.pages head.header.levels (top head.header.root) None None
-    missing_still h =
-        let as_many = (brought.index second).1 in
-        let page : root.page ≡ head.header.root = ap (λ (r : Root). r.page) root_is in
-        omega (arith, h, as_many, page)
+    missing_still h = search rules
 
     refused_still : (page : List ℕ) (fault : PageFault) → slice_get new root.page ≡ Some page → IsUnfit last page root.level (top root.page) None fault
         → IsNotTaken last from.pages head.header.levels (top head.header.root) None (Some fault)
@@ -110,8 +84,7 @@ module _ (head : OldHeader) (from : StoreFacts) (new : List (List ℕ)) (root : 
 -- where the pages can be brought over, the root fits
 pub rooted : (head : OldHeader) (from : StoreFacts) (new : List (List ℕ)) (root : Root) → 1 ≤ root.page → 1 ≤ root.level → IsBrought head from new root → (entries : List Entry)
     → CanBring head from.pages entries → NamesFitting (last_address head.header.schema.dims) new root.level (top root.page) None
-rooted head from new root some level brought entries (inl first) = built_root head from new root some level brought first.0
-rooted head from new root some level brought entries (inr second) = fits_still head from new root some level brought second.0 second.1
+rooted head from new root h k j entries l = search (rules, built_root, fits_still)
 
 -- why the root isn't taken
 module _ (from new mid : StoreFacts) (head : OldHeader) (root : Root) (has : HasOldHeader from head) (some : 1 ≤ root.page) (level : 1 ≤ root.level) (fails : mid.can_fail ≡ new.can_fail)
@@ -121,10 +94,7 @@ module _ (from new mid : StoreFacts) (head : OldHeader) (root : Root) (has : Has
 
   -- over honest stores that comes in version 2 alone
   second_of : (e : UpgradeFault) → (IsHonest mid → NamesFitting end mid.pages root.level (top root.page) None → IsPassing e) → (¬ (IsPassing e)) → IsHonest from → IsHonest new → head.version ≡ 2
-  second_of e exact never honest new_honest = elim (versions head has.is) [
-    | inl first ↦ absurd (never (exact (still new_honest) (built_root head from mid.pages root some level (brought honest new_honest) first)))
-    | inr second ↦ second
-  ]
+  second_of e h k j l = search (rules, built_root, versions)
 
   pub root_fault : (e : UpgradeFault) → (IsHonest mid → NamesFitting end mid.pages root.level (top root.page) None → IsPassing e) → IsRootFault end root mid e → IsTableFault from new e
   root_fault (Old fault) exact h = absurd h

@@ -1,8 +1,10 @@
 -- The pages of a store hold one directory of format 1 alone that begins on a page, and reading finds it.
-use Rattle.std.proofs.Common.{◌≡◌, ◌<◌, ◌≤◌, ◌+◌, ◌-◌, ◌^◌, ◌++◌, inl, inr, ℕ, zero, suc, true, List, [], ◌∷◌, Option, Some, Result, Ok, Err, IfErr, IfOk, length, take, drop, ◌∙◌, sym, ap, subst, refl, arith, slice_get, slice_index_or, append_assoc}
+use Rattle.std.proofs.lemmas.Grind.{common_steps}
+use Rattle.std.proofs.Common.{rules}
+use Rattle.std.proofs.Common.{◌≡◌, ◌<◌, ◌≤◌, ◌+◌, ◌-◌, ◌^◌, ◌++◌, inl, inr, ℕ, zero, suc, true, List, [], ◌∷◌, Option, Some, Result, length, take, drop, ◌∙◌, sym, ap, subst, refl, arith, slice_get, slice_index_or, append_assoc}
 use Rattle.std.proofs.Math.Seq.{take-append-add}
 use Rattle.std.proofs.lemmas.Bool.{and_parts, and_from}
-use Rattle.std.proofs.lemmas.List.{length-append, length-take, length-drop, take-append-drop}
+use Rattle.std.proofs.lemmas.List.{length-append, length-drop, take-append-drop}
 use Rattle.std.proofs.lemmas.Option.{slice_get_within}
 use Rattle.std.specs.List.{AllByRecursion}
 use Rattle.std.specs.Result.{IsErrAnd, MatchResult}
@@ -14,8 +16,7 @@ use Rattle.ub_region.specs.declared.entry.Entry.{Entry}
 use Rattle.ub_region.proofs.Laws.{all_drop, all_right, all_take}
 use Rattle.ub_store.specs.Facts.{StoreFacts, IsHonest, page_count}
 use Rattle.ub_table.proofs.Laws.{before_of}
-use Rattle.ub_table.specs.Keys.{origin, are_ascending}
-use Rattle.ub_table.specs.declared.fault.PageFault.TheVariants.{WrongKind, OldFormat, Unclean, BadCount, BadName, BadRow, BadOrder, OutOfRegion, BadPadding}
+use Rattle.ub_table.specs.Keys.{are_ascending}
 use Rattle.ub_table.specs.declared.fault.PageFault.{PageFault}
 use Rattle.ub_upgrade.specs.Chain.{IsChain}
 use Rattle.ub_upgrade.specs.Reading.{HeadingView, IsDirectory, Spells, AreBelow, AreFull, AreBegun, HasPart, IsMisfit, IsPartFault, IsReadUpTo}
@@ -52,8 +53,7 @@ ascends_back (x ∷ y ∷ entries) up = let parts = and_parts _ _ up in (before_
 
 -- the first entries of a directory
 begun_of : (last : ℕ) (entries : List Entry) → ArePlaces last entries → AreBegun entries
-begun_of last [] h = tt
-begun_of last (e ∷ entries) h = (some_same (Some e.first) e.first origin refl h.0, h.2)
+begun_of last entries j = search rules
 
 begun_take : (n : ℕ) (entries : List Entry) → AreBegun entries → AreBegun (take n entries)
 begun_take zero [] h = tt
@@ -86,20 +86,17 @@ module _ (dims : ℕ) (few : dims ≤ 4) (pages : List (List ℕ)) where
       sym (listing_parts a (directory_page a) dims few at_a.range refl).on ∙ (listing_parts b (directory_page a) dims few at_b.range page).on
 
   listed_some : (n : ℕ) (chain : List ℕ) (entries : List Entry) → AreListed (n ∷ chain) entries → 1 ≤ n
-  listed_some n [] entries h = h.some
-  listed_some n (m ∷ chain) entries h = h.0.some
+  listed_some n chain entries j = search rules
 
   listed_in : (n : ℕ) (chain : List ℕ) (entries : List Entry) → AreListed (n ∷ chain) entries → n < length pages
   listed_in n [] entries h = slice_get_within pages n _ h.page
   listed_in n (m ∷ chain) entries h = slice_get_within pages n _ h.0.page
 
   listed_more : (n : ℕ) (chain : List ℕ) (entries : List Entry) → AreListed (n ∷ chain) entries → 1 ≤ length entries
-  listed_more n [] entries h = h.range.some
-  listed_more n (m ∷ chain) entries h = let long = h.1 in omega (arith, length-take 170 entries)
+  listed_more n chain entries j = search rules
 
   chain_in : (n : ℕ) (chain : List ℕ) (entries : List Entry) → IsChain pages (n ∷ chain) entries → n < length pages
-  chain_in n [] entries h = slice_get_within pages n _ h.2
-  chain_in n (m ∷ chain) entries h = slice_get_within pages n _ h.0
+  chain_in n chain entries j = search (rules, slice_get_within)
 
   listed_of : length pages < 2 ^ 32 → (chain : List ℕ) (entries : List Entry) → IsChain pages chain entries → AllByRecursion (λ n. 1 ≤ n) chain
       → AllByRecursion (IsEntry (last_address dims)) entries → AreAscending entries → AreListed chain entries
@@ -162,12 +159,10 @@ module _ (dims : ℕ) (few : dims ≤ 4) (pages : List (List ℕ)) where
     listed : AreListed (n ∷ rest) more
 
   first_or : (done : List ℕ) (n : ℕ) → slice_get (done ++ n ∷ []) 0 ≡ Some (slice_index_or done 0 n)
-  first_or [] n = refl
-  first_or (d ∷ done) n = refl
+  first_or done n = grind (arith, common_steps)
 
   next_some : (done : List ℕ) (entries : List Entry) (n : ℕ) → AreFull dims pages done entries n → 1 ≤ n → 1 ≤ slice_index_or done 0 n
-  next_some [] entries n h some = some
-  next_some (d ∷ done) entries n h some = h.0.some
+  next_some done entries n j l = grind (arith, common_steps)
 
   aligned : (done full : List ℕ) (entries all : List Entry) (n : ℕ) → AreFull dims pages done entries n → AreListed full all → 1 ≤ n → slice_get (done ++ n ∷ []) 0 ≡ slice_get full 0
       → IsAligned done full entries all n
@@ -221,20 +216,7 @@ module _ (dims : ℕ) (few : dims ≤ 4) (pages : List (List ℕ)) where
 
   part_not_refused : (entries more : List Entry) (left n : ℕ) (page : List ℕ) (fault : PageFault) → Fits entries more left n → slice_get pages n ≡ Some page
       → (listing : Listing) → IsListing dims listing → page ≡ directory_page listing → IsMisfit left entries listing fault → ⊥
-  part_not_refused entries more left n page fault f at listing range page_is misfit =
-      let same : f.listing ≡ listing = listings_same n n f.listing listing refl f.spells (record { some = f.spells.some; range = range; page = at ∙ ap (λ p. Some p) page_is }) in
-      by_fault fault (subst (λ (l : Listing). IsMisfit left entries l fault) (sym same) misfit)
-    where
-      by_fault : (fault : PageFault) → IsMisfit left entries f.listing fault → ⊥
-      by_fault WrongKind m = m
-      by_fault OldFormat m = m
-      by_fault Unclean m = m
-      by_fault BadCount m = m f.part
-      by_fault BadName m = m
-      by_fault BadRow m = m
-      by_fault BadOrder m = m.1 f.begun
-      by_fault OutOfRegion m = m
-      by_fault BadPadding m = m
+  part_not_refused entries more left n page fault j l listing m o p = search (rules, listings_same)
 
 -- what is known of a directory
 module _ (heading : HeadingView) (few : heading.dims ≤ 4) (pages : List (List ℕ)) (small : length pages < 2 ^ 32) (full : List ℕ) (all : List Entry) (k : IsDirectory pages heading full all) where
@@ -242,9 +224,7 @@ module _ (heading : HeadingView) (few : heading.dims ≤ 4) (pages : List (List 
   directory_listed = listed_of heading.dims few pages small full all k.directory k.some_pages k.each (ascends_back all k.places.2)
 
   one_directory : (chain : List ℕ) (entries : List Entry) → IsDirectory pages heading chain entries → (chain ≡ full) × (entries ≡ all)
-  one_directory chain entries h =
-      listed_same heading.dims few pages chain full entries all (listed_of heading.dims few pages small chain entries h.directory h.some_pages h.each (ascends_back entries h.places.2)) directory_listed
-      (h.root_is ∙ sym k.root_is)
+  one_directory chain entries j = search (rules, ascends_back, directory_listed, listed_of, listed_same)
 
 module _ (heading : HeadingView) (few : heading.dims ≤ 4) (old : StoreFacts) (honest : IsHonest old) (small : page_count old < 2 ^ 32) (full : List ℕ) (all : List Entry) (k : IsDirectory old.pages heading full all) where
   module _ (done : List ℕ) (entries : List Entry) (n : ℕ) (h : IsReadUpTo old heading done entries n) where
@@ -304,16 +284,8 @@ module _ (heading : HeadingView) (few : heading.dims ≤ 4) (old : StoreFacts) (
 
   -- what was built is the index of that directory
   pub built_same : (new then : StoreFacts) (root : Root) → IsBuilt heading old new then root → HasBuilt heading new then root all
-  built_same new then root (chain, entries, is, below, has) =
-      let one = one_directory heading few old.pages small full all k chain entries is in
-      subst (λ (es : List Entry). HasBuilt heading new then root es) one.1 has
-
-  pub exactly : (new then : StoreFacts) (r : Result Root UpgradeFault) → AreBelow (page_count old) all → IfOk r (IsBuilt heading old new then) → IfErr r (IsBuildFault heading old new)
-      → MatchResult r (λ made. HasBuilt heading new then made all) IsPassing
-  exactly new then (Ok root) below built refused = built_same new then root built
-  exactly new then (Err fault) below built refused = not_refused new fault below refused
+  built_same new then root j = search (rules, one_directory)
 
   pub exactly_refused : (P : Root → Type 0) (new : StoreFacts) (r : Result Root UpgradeFault) (e : UpgradeFault) → AreBelow (page_count old) all → IsErrAnd r (λ x. x ≡ e) → IsBuildFault heading old new e
       → MatchResult r P IsPassing
-  exactly_refused P new (Ok root) e below is h = absurd is
-  exactly_refused P new (Err fault) e below is h = rw is (not_refused new e below h)
+  exactly_refused P new r e j l m = search (rules, not_refused)

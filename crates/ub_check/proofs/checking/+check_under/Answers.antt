@@ -1,12 +1,9 @@
-use Rattle.std.proofs.Common.{Err, ◌≡◌, ◌≤◌, ◌<◌, ◌+◌, ◌-◌, ◌∙◌, suc, ℕ, List, Some, OnOk, drop, length, slice_get, slice_index_or, ap, arith, refl, rules, subst, sym}
+use Rattle.std.proofs.Common.{Err, ◌≡◌, ◌≤◌, ◌<◌, ◌+◌, ◌-◌, ◌∙◌, suc, ℕ, List, Some, OnOk, drop, length, slice_get, slice_index_or, ap, arith, rules, subst, sym}
 use Rattle.std.proofs.lemmas.Option.{slice_get-get_or}
-use Rattle.ub_index.proofs.HeldFacts.{keeps_on}
 use Rattle.ub_index.specs.Descending.{Steps}
 use Rattle.ub_index.specs.Index.{NamesFitting, first_or}
 use Rattle.ub_region.specs.declared.entry.Entry.{Entry}
-use Rattle.ub_check.proofs.CheckingFacts.{below_stops, page_stops, page_taken, walked_more, walked_none}
-use Rattle.ub_check.proofs.CheckingFacts.{refused_none}
-use Rattle.ub_store.specs.View.{PagerView}
+use Rattle.ub_check.proofs.CheckingFacts.{below_stops, page_stops, page_taken, walked_more}
 use Rattle.ub_check.specs.inner.Checking.{IsWalkedTo, TakesOn, Walks}
 use Rattle.ub_check.proofs.checking.+check_under.Goals as goal
 
@@ -67,36 +64,3 @@ returns-clause-taken g t c =
     c.in_ok-entries.ensures.effect.same c.in_ok-entries.ensures.effect.checked
     (λ honest. subst (λ (n : ℕ). NamesFitting c.args.last c.args.pager.now.store.pages n c.args.entry.now c.args.end) (sym one) (c.in_ok-entries.ensures.named honest))
     (λ honest. c.in_ok-entries.ensures.entries honest) c.loop-i.pager c.loop-i.walk c.loop-i.i end c.loop-i.invariant)
-
-pub returns-then-level-eq0-clause-bound : goal.returns-then-level-eq0-clause-bound
-returns-then-level-eq0-clause-bound g t c = c.check_region.ensures.bound
-
-pub returns-then-level-eq0-clause-effect : goal.returns-then-level-eq0-clause-effect
-returns-then-level-eq0-clause-effect g t c =
-    subst (λ (n : ℕ). Walks c.args.schema.now c.args.last n c.args.entry.now c.args.end c.args.walk.now c.args.pager.now c.check_region.new.pager c.check_region.result) (sym c.if-level-eq0.true) c.check_region.ensures.effect
-
-pub returns-in_err-entries-clause-bound : goal.returns-in_err-entries-clause-bound
-returns-in_err-entries-clause-bound g t c = refl
-
-pub returns-in_err-entries-clause-taken : goal.returns-in_err-entries-clause-taken
-returns-in_err-entries-clause-taken g t c = refused_none _ c.from_residual.result c.in_err-entries.field-0.0 c.from_residual.ensures.1
-
-pub loop-i-init : goal.loop-i-init
-loop-i-init g t c = walked_none c.args.schema.now c.args.last (c.args.level - 1) c.in_ok-entries.entries.items c.args.end c.entries_at.new.pager c.args.walk.now
-
-pub returns-in_err-check_under-clause-bound : goal.returns-in_err-check_under-clause-bound
-returns-in_err-check_under-clause-bound g t c = c.in_err-check_under.ensures.bound ∙ c.loop-i.invariant.bound
-
-pub returns-in_err-check_under-clause-taken : goal.returns-in_err-check_under-clause-taken
-returns-in_err-check_under-clause-taken g t c = refused_none _ c.from_residual-in_err-check_under.result c.in_err-check_under.field-0.0 c.from_residual-in_err-check_under.ensures.1
-
-pub returns-clause-bound : goal.returns-clause-bound
-returns-clause-bound g t c = c.loop-i.invariant.bound
-
-pub returns-clause-effect : goal.returns-clause-effect
-returns-clause-effect g t c =
-    record {
-      same = c.loop-i.invariant.same ∙ ap (λ (p : PagerView). record p { cached = c.loop-i.pager.cached }) c.in_ok-entries.ensures.effect.same;
-      checked = keeps_on c.args.last c.args.pager.now c.entries_at.new.pager c.loop-i.pager c.in_ok-entries.ensures.effect.checked c.loop-i.invariant.checked;
-      faults = tt;
-    }

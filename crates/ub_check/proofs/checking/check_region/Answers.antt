@@ -2,8 +2,8 @@ use Rattle.std.proofs.Common.{◌∙◌, ◌-◌, ◌++◌, Bool, Err, List, Ok,
 use Rattle.ub_index.specs.Held.{KeepsChecked}
 use Rattle.ub_region.specs.declared.region.Region.{Region}
 use Rattle.ub_store.specs.Facts.{IsHonest}
-use Rattle.ub_store.specs.View.{IsCached, PagerView}
-use Rattle.ub_check.proofs.CheckingFacts.{keyed, pager_read, refused_none, region_checked, region_not_new, region_refused, region_taken, region_unread, walks_by}
+use Rattle.ub_store.specs.View.{PagerView}
+use Rattle.ub_check.proofs.CheckingFacts.{keyed, pager_read, region_checked, region_not_new, region_refused, region_taken, region_unread, walks_by}
 use Rattle.ub_check.proofs.StandingFacts.{page_still}
 use Rattle.ub_check.specs.Checking.{StandsHere}
 use Rattle.ub_check.specs.Numbers.{AreNew, HasJust}
@@ -15,13 +15,6 @@ pub returns-in_err-bring-clause-effect : goal.returns-in_err-bring-clause-effect
 returns-in_err-bring-clause-effect g c =
     region_unread c.args.schema.now c.args.last c.args.entry.now c.args.end c.args.walk.now c.args.pager.now c.if-walk-eq0.false {U = Bool} c.from_residual.result c.in_err-bring.field-0.0 c.bring.new.self
     c.from_residual.ensures.1 c.in_err-bring.ensures.effect.same c.in_err-bring.ensures.trace c.in_err-bring.ensures.effect.device c.in_err-bring.ensures.missing c.in_err-bring.ensures.no_size c.in_err-bring.ensures.missed
-
-pub take_region-requires : goal.take_region-requires
-take_region-requires g c =
-    subst (λ (n : ℕ). IsCached c.bring.new.self n) (sym (ap (λ (r : Region). r.page) c.region_at-region.ensures.region)) c.in_ok-bring.ensures.cached
-
-pub returns-in_err-take_region-clause-taken : goal.returns-in_err-take_region-clause-taken
-returns-in_err-take_region-clause-taken g c = refused_none _ c.from_residual-in_err-take_region.result _ c.from_residual-in_err-take_region.ensures.1
 
 pub returns-in_err-take_region-clause-effect : goal.returns-in_err-take_region-clause-effect
 returns-in_err-take_region-clause-effect g c =

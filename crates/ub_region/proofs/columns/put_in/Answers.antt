@@ -1,5 +1,5 @@
-use Rattle.std.proofs.Common.{◌≡◌, arith, set}
-use Rattle.ub_region.proofs.ShiftFacts.{put_above, put_at, put_below, put_here, put_last}
+use Rattle.std.proofs.Common.{◌≡◌, arith}
+use Rattle.ub_region.proofs.ShiftFacts.{put_at, put_last}
 use Rattle.ub_region.proofs.columns.put_in.Goals as goal
 use Rattle.ub_region.proofs.columns.put_in.Goals.{then-index-len, else-index-len}
 
@@ -14,24 +14,3 @@ returns-clause-put g c =
           let last : c.args.index ≡ c.args.len = omega (arith, w.if-index-len.false) in
           rw w.column-is (put_last c.args.column.now c.args.index c.args.len c.args.value last (omega arith))
     ]
-
-pub returns-clause-below : goal.returns-clause-below
-returns-clause-below g c =
-    let room = c.requires.room in
-    let long = c.told-column in
-    put_below c.args.column.now (set c.if-index-len.column c.args.index c.args.value) c.args.index c.args.len c.args.value (returns-clause-put g c)
-    c.requires.within (omega arith)
-
-pub returns-clause-at : goal.returns-clause-at
-returns-clause-at g c =
-    let room = c.requires.room in
-    let long = c.told-column in
-    put_here c.args.column.now (set c.if-index-len.column c.args.index c.args.value) c.args.index c.args.len c.args.value (returns-clause-put g c)
-    c.requires.within (omega arith)
-
-pub returns-clause-above : goal.returns-clause-above
-returns-clause-above g c =
-    let room = c.requires.room in
-    let long = c.told-column in
-    put_above c.args.column.now (set c.if-index-len.column c.args.index c.args.value) c.args.index c.args.len c.args.value (returns-clause-put g c)
-    c.requires.within (omega arith)

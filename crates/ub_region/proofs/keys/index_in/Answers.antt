@@ -1,19 +1,10 @@
 use Rattle.std.proofs.Common.{◌≡◌, ◌+◌, ◌-◌, ◌/◌, List, true, false, length, sym, ap, ◌∙◌, arith}
 use Rattle.std.proofs.lemmas.List.{length-map}
-use Rattle.std.proofs.lemmas.Option.{slice_get_within}
 use Rattle.ub_region.proofs.IndexFacts.{after_from, found_index, not_after_upto}
 use Rattle.ub_region.proofs.keys.index_in.Goals as goal
 use Rattle.ub_table.specs.Keys.{precedes}
 use Rattle.ub_table.specs.Region.{key_of}
 use Rattle.ub_table.specs.declared.row.Key.{Key}
-
-pub loop-low-init : goal.loop-low-init
-loop-low-init c = record {
-  order = omega arith;
-  within = omega arith;
-  below = λ i k lt is. absurd (omega arith);
-  above = λ i k le is. let past = slice_get_within c.args.keys.now i k is in absurd (omega arith);
-}
 
 pub loop-low-preserved-then-is_before : goal.loop-low-preserved-then-is_before
 loop-low-preserved-then-is_before c =

@@ -1,10 +1,7 @@
 use Rattle.std.proofs.Common.{arith}
-use Rattle.ub_region.proofs.LaneFacts.{IsMaskTo-from, IsMaskTo-set, IsMaskTo-kept, IsMaskTo-all}
+use Rattle.ub_region.proofs.LaneFacts.{IsMaskTo-set, IsMaskTo-kept}
 use Rattle.ub_region.proofs.masks.mask_of.Goals as goal
 use Rattle.ub_region.proofs.masks.mask_of.Goals.{then-lo-column+then-column-i, else-lo-column, else-lo-column-via-then-lo-column+else-column-i, else-lo-column-via-else-lo-column}
-
-pub loop-i-init : goal.loop-i-init
-loop-i-init c = IsMaskTo-from c.args.lo c.args.hi _ c.mask_of_chunks-mask.result c.args.column.now (omega arith) c.mask_of_chunks-mask.ensures
 
 pub loop-i-preserved : goal.loop-i-preserved
 loop-i-preserved c = elim c.if-lo-column.branch [
@@ -19,6 +16,3 @@ loop-i-preserved c = elim c.if-lo-column.branch [
         | else-lo-column-via-else-lo-column w' ↦ absurd (omega (arith, low, w'.if-lo-column.false))
       ]) c.loop-i.invariant)
 ]
-
-pub returns : goal.returns
-returns c = IsMaskTo-all c.args.lo c.args.hi c.loop-i.i c.loop-i.mask c.args.column.now (omega (arith, c.loop-i-test.false)) c.loop-i.invariant

@@ -1,9 +1,6 @@
 use Rattle.std.proofs.Common.{◌≡◌, ◌≤◌, ◌+◌, ◌*◌, ℕ, length, arith}
-use Rattle.ub_region.proofs.LaneFacts.{IsMaskTo-none, IsMaskTo-chunk}
+use Rattle.ub_region.proofs.LaneFacts.{IsMaskTo-chunk}
 use Rattle.ub_region.proofs.masks.mask_of_chunks.Goals as goal
-
-pub loop-chunk-init : goal.loop-chunk-init
-loop-chunk-init c = IsMaskTo-none c.args.lo c.args.hi c.args.column.now
 
 pub loop-chunk-preserved : goal.loop-chunk-preserved
 loop-chunk-preserved c =

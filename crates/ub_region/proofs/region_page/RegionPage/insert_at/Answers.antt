@@ -1,4 +1,4 @@
-use Rattle.std.proofs.Common.{ap, arith, ◌∙◌, lit<}
+use Rattle.std.proofs.Common.{ap, arith, ◌∙◌}
 use Rattle.ub_bytes.specs.Numbers.{blank_key}
 use Rattle.ub_region.proofs.HeldFacts.{columns_held, held_put, held_now, view_held}
 use Rattle.ub_region.proofs.region_page.RegionPage.insert_at.Goals as goal
@@ -25,43 +25,3 @@ returns c =
     (λ j lt. c.put_in.ensures.below j blank_key lt) (c.put_in.ensures.at blank_key ∙ c.key.ensures) (λ j from lt. c.put_in.ensures.above j blank_key from lt)
     c.put_point.ensures.below c.put_point.ensures.at c.put_point.ensures.above c.put_values.ensures.below c.put_values.ensures.at c.put_values.ensures.above)
     (ap (λ (v : RegionView). v.dims) c.self.view_is) (ap (λ (v : RegionView). v.region.first) c.self.view_is)
-
-pub put_in-requires : goal.put_in-requires
-put_in-requires c =
-    let now = held_now c.self.inside c.args.self.now c.self.invariant c.self.view_is in
-    let long = now.long in
-    let room = c.requires.room in
-    let within = c.requires.within in
-    (lit< tt, (omega arith, omega arith))
-
-pub put_point-requires-clause-room : goal.put_point-requires-clause-room
-put_point-requires-clause-room c =
-    let now = held_now c.self.inside c.args.self.now c.self.invariant c.self.view_is in
-    let long = now.long in
-    let room = c.requires.room in
-    let within = c.requires.within in
-    omega arith
-
-pub put_point-requires-clause-within : goal.put_point-requires-clause-within
-put_point-requires-clause-within c =
-    let now = held_now c.self.inside c.args.self.now c.self.invariant c.self.view_is in
-    let long = now.long in
-    let room = c.requires.room in
-    let within = c.requires.within in
-    omega arith
-
-pub put_values-requires-clause-room : goal.put_values-requires-clause-room
-put_values-requires-clause-room c =
-    let now = held_now c.self.inside c.args.self.now c.self.invariant c.self.view_is in
-    let long = now.long in
-    let room = c.requires.room in
-    let within = c.requires.within in
-    omega arith
-
-pub put_values-requires-clause-within : goal.put_values-requires-clause-within
-put_values-requires-clause-within c =
-    let now = held_now c.self.inside c.args.self.now c.self.invariant c.self.view_is in
-    let long = now.long in
-    let room = c.requires.room in
-    let within = c.requires.within in
-    omega arith

@@ -1,11 +1,5 @@
-use Rattle.std.proofs.Common.{rules, Result, Ok, Err, OnErr}
+use Rattle.std.proofs.Common.{Result, Ok, Err, OnErr}
 use Rattle.ub_store.proofs.pager.Pager.bring_region.Goals as goal
-
-pub returns-then-is_err-clause-noted : goal.returns-then-is_err-clause-noted
-returns-then-is_err-clause-noted g c = search rules
-
-pub returns-then-is_err-clause-hit : goal.returns-then-is_err-clause-hit
-returns-then-is_err-clause-hit g c = search rules
 
 on_err : {T E : Type 0} (P : Type 0) (r : Result T E) → P → OnErr r P
 on_err P (Ok x) h = tt
