@@ -1,5 +1,5 @@
 -- The region that a key falls into, and what calls must answer.
-use Rattle.std.proofs.Common.{◌≡◌, ◌≢◌, ◌/◌, ◌≤◌, ◌<◌, ◌^◌, ◌++◌, inl, inr, ℕ, Bool, true, false, List, [], ◌∷◌, Result, Ok, Err, IfErr, MatchResult, length, map, ◌∙◌, sym, ap, subst, refl, arith, nat_eq, IfOk}
+use Rattle.std.proofs.Common.{◌≡◌, ◌≢◌, ◌/◌, ◌≤◌, ◌<◌, ◌^◌, ◌++◌, inl, inr, ℕ, Bool, true, false, List, [], ◌∷◌, Result, Ok, Err, IfErr, MatchResult, length, map, ◌∙◌, sym, ap, subst, refl, arith, nat_eq, IfOk, ◌⊎◌}
 use Rattle.std.proofs.lemmas.Bool.{cases_Bool, eqb-true}
 use Rattle.std.proofs.lemmas.List.{length-append, length-map}
 use Rattle.std.proofs.lemmas.List.Elements.{recursion_from_All}
@@ -22,7 +22,7 @@ use Rattle.ub_table.specs.declared.schema.Schema.{Schema}
 use Rattle.ub_tree.proofs.CallFacts.{one_falls}
 use Rattle.ub_tree.proofs.StoredFacts.{IsSpelled}
 use Rattle.ub_tree.specs.Faults.{tree_fault}
-use Rattle.ub_tree.specs.Holding.{Answers, AnswersKey, AnswersRemoval, FallsInto, HasNoRoom}
+use Rattle.ub_tree.specs.Holding.{Answers, AnswersKey, AnswersRemoval, FallsInto, HasNoRoom, IsJoined}
 use Rattle.ub_tree.specs.Indexed.{reserved}
 use Rattle.ub_tree.specs.Opened.{IsPassing}
 use Rattle.ub_tree.specs.Placed.{Placed}
@@ -78,7 +78,7 @@ pub passing_by : {T : Type 0} (r : Result T TreeFault) (e : TreeFault) (P : T �
 passing_by (Ok x) e P is h = absurd is
 passing_by (Err f) e P is h = rw is h
 
-passing_answers : {A : Type 0} (r : Result A TreeFault) (e told : TreeFault) → IsErrAnd r (λ x. x ≡ e) → IsPassing e → Answers r told
+pub passing_answers : {A : Type 0} (r : Result A TreeFault) (e told : TreeFault) → IsErrAnd r (λ x. x ≡ e) → IsPassing e → Answers r told
 passing_answers (Ok x) e told is h = absurd is
 passing_answers (Err f) e told is h = rw is (inr h)
 
@@ -98,6 +98,11 @@ passing_fault (Err f) e is h = rw is h
 pub fault_answers : {A : Type 0} (r : Result A TreeFault) (told : TreeFault) → IsErrAnd r (λ x. x ≡ told) → Answers r told
 fault_answers (Ok x) told is = absurd is
 fault_answers (Err f) told is = inl is
+
+-- what was answered within is answered
+pub fault_told : {A : Type 0} (r : Result A TreeFault) (e told : TreeFault) → IsErrAnd r (λ x. x ≡ e) → (e ≡ told) ⊎ IsPassing e → Answers r told
+fault_told (Ok x) e told is h = absurd is
+fault_told (Err f) e told is h = rw is h
 
 pub other_fault : {A : Type 0} (U : Type 0) (r : Result A TreeFault) (e told : TreeFault) (s q : Result U TreeFault) → s ≡ Err e → q ≡ Err told → IsErrAnd r (λ x. x ≡ e) → s ≡ q → IsErrAnd r (λ x. x ≡ told)
 other_fault U (Ok x) e told s q is_s is_q is same = absurd is
@@ -120,7 +125,7 @@ pub passing_removal : (a : TreeView) (key : Key) (r : Result Bool TreeFault) (e 
     → ((number : ℕ) (region : RegionRows) → IsHonest a.store → FallsInto a key number region → IsPassing e) → IsHonest a.store → AnswersRemoval a key r
 passing_removal a key r e told led honest number region into =
     let passing = led number region honest into in
-    (λ has none. passing_answers r e _ told passing, λ none. passing_fault r e told passing, no_answer r e _ told, λ some many. passing_fault r e told passing)
+    (λ has none. passing_answers r e _ told passing, λ none. passing_fault r e told passing, no_answer r e _ told, λ some many. passing_fault r e told passing, λ has some one joined. passing_answers r e _ told passing)
 
 -- the region that a key falls to was read
 module _ (a : TreeView) (key : Key) (span : Region) (page : RegionView) (read : HasReadAt a key span page) where
@@ -144,13 +149,16 @@ module _ (a : TreeView) (key : Key) (span : Region) (page : RegionView) (read : 
   pub removal_answers : (r : Result Bool TreeFault) → (has_key a.schema.dims key page.region.rows ≡ true → a.rows ≡ 0 → IsErrAnd r (λ x. x ≡ Page 0 BadCount))
       → (has_key a.schema.dims key page.region.rows ≡ false → IfErr r IsPassing) → IfOk r (λ found. found ≡ has_key a.schema.dims key page.region.rows)
       → (a.rows ≢ 0 → a.schema.page_rows / 2 ≤ length (remove_row a.schema.dims key page.region.rows) → IfErr r IsPassing)
+      → (has_key a.schema.dims key page.region.rows ≡ true → a.rows ≢ 0 → region_count a ≡ 1 → IsJoined a span (length (remove_row a.schema.dims key page.region.rows)) → IsHonest a.store → Answers r (Page 0 BadCount))
       → IsHonest a.store → AnswersRemoval a key r
-  removal_answers r none passing found left honest number region into =
-      let same = (read_region honest number region into).0 in (
+  removal_answers r none passing found left alone honest number region into =
+      let same = (read_region honest number region into).0 in
+      let one : into.span ≡ span = one_falls a key into.span span honest into.falls read.falls in (
         λ has zero. fault_answers r (Page 0 BadCount) (none (rw same has) zero),
         λ free. passing (rw same free),
         subst (λ (rs : List Row). IfOk r (λ found. found ≡ has_key a.schema.dims key rs)) same found,
         λ some many. left some (rw same many),
+        λ has some count joined. alone (rw same has) some count (rw same (subst (λ (s : Region). IsJoined a s (length (remove_row a.schema.dims key region.rows))) one joined)) honest,
       )
 
 -- whether the region has the key, which was told by other names

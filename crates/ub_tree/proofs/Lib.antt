@@ -12,6 +12,7 @@ pub mod SearchFacts
 pub mod CallFacts
 pub mod NeighbourFacts
 pub mod HoldingFacts
+pub mod AloneFacts
 pub mod ReadingFacts
 pub mod StoredFacts
 pub mod SplitFacts

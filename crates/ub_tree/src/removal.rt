@@ -7,13 +7,15 @@ ghost use Rattle.ub_store.specs.Facts as facts;
 ghost use Rattle.ub_store.specs.Facts.{page_count};
 ghost use Rattle.ub_store.specs.declared.fault.StoreFault.{StoreFault};
 ghost use Rattle.ub_table.specs.Region.{IsRegion};
+ghost use Rattle.ub_table.specs.declared.fault.PageFault.{PageFault};
 ghost use Rattle.ub_table.specs.declared.row.Key as key;
 ghost use Rattle.ub_tree.specs.inner.Change.{IsMadeOf, IsRegionIn, IsRegionThere, IsStored, JoinsAt, TakesAt};
 ghost use Rattle.ub_tree.specs.Effects.{Searches, Changes};
-ghost use Rattle.ub_tree.specs.Holding.{AnswersRemoval, ShrinksAt};
+ghost use Rattle.ub_tree.specs.Holding.{Answers, AnswersRemoval, CanFallInto, HasRoomAt, IsJoined, ShrinksAt};
+ghost use Rattle.ub_tree.specs.Opened.{IsPassing};
 ghost use Rattle.ub_tree.specs.Removal.{IsRemoved, IsRemovalFault};
 ghost use Rattle.ub_tree.specs.Told.{FallsTo, IsRegionOf};
-ghost use Rattle.ub_tree.specs.View.{IsSound, regions};
+ghost use Rattle.ub_tree.specs.View.{IsSound, region_count, regions};
 
 use crate::fault::{TreeFault, bad_count};
 use crate::tree::Tree;
@@ -47,6 +49,8 @@ impl<S: PageStore> Tree<S> {
             → OnOk result (IsStored self.new
             × (regions self.new
             ≡ put_rows i true page.now.region.rows (regions self.old))) }
+        ensures alone { region_count self.old ≡ 1
+            → result ≡ Err (TreeFault.Page 0 PageFault.BadCount) }
         ensures effect { Changes self.old self.new result }
         ensures faults { IfErr result (IsRemovalFault self.old) }
         ensures stays { self.old.is_changed ≡ true → self.new.is_changed ≡ true }
@@ -78,6 +82,10 @@ impl<S: PageStore> Tree<S> {
         ensures joined { (i : ℕ) → IsStored self.old → IsRegionIn self.old i region.now
             → IfOk result (λ found. JoinsNext self.old.schema.page_rows i
             room.old.region.region.rows room.new.region.region.rows (is_some found) (regions self.old)) }
+        ensures led { facts.IsHonest self.old.store → CanFallInto self.old region.now.next
+            → IfErr result IsPassing }
+        ensures fits { facts.IsHonest self.old.store → HasRoomAt self.old region.now.next
+            (length room.old.region.region.rows) → IfOk result (λ found. is_some found ≡ true) }
         ensures effect { Searches self.old self.new result }
     {
         let next = match self.region_after(region)? {
@@ -114,6 +122,12 @@ impl<S: PageStore> Tree<S> {
         ensures joined { (i : ℕ) → IsStored self.old → IsRegionIn self.old i region.now
             → IfOk result (λ found. JoinsBefore self.old.schema.page_rows i
             room.old.region.region.rows room.new.region.region.rows (is_some found) (regions self.old)) }
+        ensures led { facts.IsHonest self.old.store
+            → CanFallInto self.old (key_before region.now.first.z region.now.first.number)
+            → IfErr result IsPassing }
+        ensures fits { facts.IsHonest self.old.store → HasRoomAt self.old
+            (key_before region.now.first.z region.now.first.number)
+            (length room.old.region.region.rows) → IfOk result (λ found. is_some found ≡ true) }
         ensures effect { Searches self.old self.new result }
     {
         let before = match self.region_before(region)? {
@@ -146,6 +160,9 @@ impl<S: PageStore> Tree<S> {
         ensures faults { IfErr result (IsRemovalFault self.old) }
         ensures spare { self.old.schema.page_rows / 2 ≤ length room.old.region.region.rows
             → IfErr result (λ fault. fault ≡ TreeFault.Store StoreFault.Device) }
+        ensures alone { facts.IsHonest self.old.store → region_count self.old ≡ 1
+            → IsJoined self.old region.now (length room.old.region.region.rows)
+            → Answers result (TreeFault.Page 0 PageFault.BadCount) }
         ensures stays { self.old.is_changed ≡ true → self.new.is_changed ≡ true }
     {
         if !room.region.are_few(self.schema.page_rows()) {

@@ -1,4 +1,4 @@
-use Rattle.std.proofs.Common.{◌≡◌, ◌+◌, ◌-◌, ◌≤◌, true, ◌∙◌, Ok, inl, inr, sym, ap, subst, refl}
+use Rattle.std.proofs.Common.{◌≡◌, ◌+◌, ◌-◌, ◌≤◌, true, ◌∙◌, Ok, inl, inr, sym, ap, subst, refl, Err}
 use Rattle.ub_region.specs.Joins.{put_rows}
 use Rattle.ub_table.specs.Region.{IsRegion}
 use Rattle.ub_table.specs.declared.fault.PageFault.TheVariants.{BadCount}
@@ -12,6 +12,7 @@ use Rattle.ub_tree.proofs.HoldingFacts.{removal_fault}
 use Rattle.ub_tree.proofs.RefusedFacts.{device_removal, index_removal}
 use Rattle.ub_tree.proofs.JoinFacts.{alone_not_sound, behind_first, index_failed, joined_at, joined_effect, joined_written}
 use Rattle.ub_writing.specs.Marks.{is_written}
+use Rattle.ub_tree.specs.declared.fault.TreeFault.{TreeFault}
 use Rattle.ub_tree.proofs.tree.Tree.join_at.Goals as goal
 
 pub returns-then-self-eq1-clause-effect : goal.returns-then-self-eq1-clause-effect
@@ -179,3 +180,18 @@ returns-clause-faults g c = tt
 
 pub returns-clause-stays : goal.returns-clause-stays
 returns-clause-stays g c = λ was. ap (λ (v : TreeView). v.is_changed) c.self-2.view_is ∙ (c.put_index.ensures.marked ∙ c.rewrite.ensures.stays (subst (λ (v : TreeView). v.is_changed ≡ true) (sym c.in_ok-change.ensures.effect.same) was))
+
+pub returns-then-self-eq1-clause-alone : goal.returns-then-self-eq1-clause-alone
+returns-then-self-eq1-clause-alone g c = λ one. ap (λ (fault : TreeFault). Err fault) c.uncounted.ensures.fault
+
+pub returns-in_err-change-clause-alone : goal.returns-in_err-change-clause-alone
+returns-in_err-change-clause-alone g c = λ one. absurd (c.if-self-eq1.false (ap (λ (v : TreeView). region_count v) c.self.view_is ∙ one))
+
+pub returns-in_err-rewrite-clause-alone : goal.returns-in_err-rewrite-clause-alone
+returns-in_err-rewrite-clause-alone g c = λ one. absurd (c.if-self-eq1.false (ap (λ (v : TreeView). region_count v) c.self.view_is ∙ one))
+
+pub returns-in_err-put_index-clause-alone : goal.returns-in_err-put_index-clause-alone
+returns-in_err-put_index-clause-alone g c = λ one. absurd (c.if-self-eq1.false (ap (λ (v : TreeView). region_count v) c.self.view_is ∙ one))
+
+pub returns-clause-alone : goal.returns-clause-alone
+returns-clause-alone g c = λ one. absurd (c.if-self-eq1.false (ap (λ (v : TreeView). region_count v) c.self.view_is ∙ one))

@@ -1,9 +1,9 @@
-use Rattle.std.proofs.Common.{◌≡◌, ◌<◌, ◌-◌, ◌^◌, ◌∙◌, ap, sym, subst, arith, true, false, refl, inl, inr, Ok, Err, Bool, ℕ}
+use Rattle.std.proofs.Common.{◌≡◌, ◌<◌, ◌-◌, ◌^◌, ◌∙◌, ap, sym, subst, arith, true, false, refl, inl, inr, Ok, Err, Bool, ℕ, length}
 use Rattle.ub_region.specs.RegionPage.{RegionView}
 use Rattle.ub_region.specs.Rows.{has_key, remove_row}
 use Rattle.ub_table.specs.declared.fault.PageFault.TheVariants.{BadCount}
 use Rattle.ub_tree.proofs.EffectFacts.{counted_anew, left_by, marked_sound, nothing_changed, searched_by, then_changed, unchanged}
-use Rattle.ub_tree.proofs.HoldingFacts.{has_told, no_answer, passing_fault, passing_removal, removal_answers, removal_fault}
+use Rattle.ub_tree.proofs.HoldingFacts.{has_told, no_answer, passing_fault, passing_removal, removal_answers, removal_fault, fault_told}
 use Rattle.ub_tree.proofs.RemovalFacts.{holder, none_removed, read_there, searched_removal, shrinks_by, shrunk, some_counted}
 use Rattle.ub_tree.proofs.RoomFacts.{rows_on, rows_without}
 use Rattle.ub_tree.proofs.tree.Tree.remove_within.Goals as goal
@@ -14,6 +14,8 @@ use Rattle.ub_tree.specs.declared.fault.TreeFault.TheVariants.{Page}
 use Rattle.ub_tree.specs.inner.Change.{IsMadeOf, IsRegionThere}
 use Rattle.ub_writing.specs.Marks.{is_written}
 use Rattle.ub_zaddr.specs.Address.{last_address}
+use Rattle.ub_store.specs.Facts.{IsHonest}
+use Rattle.ub_tree.specs.Holding.{IsJoined}
 
 pub returns-in_err-region-clause-removed : goal.returns-in_err-region-clause-removed
 returns-in_err-region-clause-removed g c = λ sound. no_answer c.from_residual.result c.in_err-region.field-0.0 _ c.from_residual.ensures.1
@@ -68,6 +70,7 @@ returns-then-not-remove-clause-refused g c =
     let same = c.in_ok-region.ensures.effect.same in
     let has : has_key a.schema.dims key page.region.rows ≡ false = has_told page.region.rows read.read.dims refl c.remove.ensures.found c.if-not-remove.true in
     removal_answers a key span page read (Ok false) (λ some zero. absurd (let bad : true ≡ false = sym some ∙ has in cc)) (λ free. tt) (sym has) (λ some many. tt)
+    (λ is some one joined honest. absurd (let bad : true ≡ false = sym is ∙ has in cc))
 
 pub returns-then-not-remove-clause-effect : goal.returns-then-not-remove-clause-effect
 returns-then-not-remove-clause-effect g c = nothing_changed _ c.args.self.now c.read_holding.new.self c.in_ok-region.ensures.effect.same
@@ -105,7 +108,7 @@ returns-then-self-eq0-clause-refused g c =
     let none : a.rows ≡ 0 = sym (ap (λ (v : TreeView). v.rows) (c.self.view_is ∙ same)) ∙ c.if-self-eq0.true in
     rw c.bad_count.ensures
     (removal_answers a key span page read (Err (Page 0 BadCount)) (λ has zero. refl) (λ free. absurd (let bad : true ≡ false = sym has ∙ free in cc)) tt
-    (λ some many. absurd (some none)))
+    (λ some many. absurd (some none)) (λ is some one joined honest. absurd (some none)))
 
 pub returns-then-self-eq0-clause-effect : goal.returns-then-self-eq0-clause-effect
 returns-then-self-eq0-clause-effect g c =
@@ -180,6 +183,9 @@ returns-in_err-settle-clause-refused g c =
     (no_answer c.from_residual-in_err-settle.result c.in_err-settle.field-0.0 _ c.from_residual-in_err-settle.ensures.1)
     (λ some many. passing_fault c.from_residual-in_err-settle.result c.in_err-settle.field-0.0 c.from_residual-in_err-settle.ensures.1
     (inr (c.in_err-settle.ensures.spare (rw (size, left) many))))
+    (λ is some one joined honest. fault_told c.from_residual-in_err-settle.result c.in_err-settle.field-0.0 (Page 0 BadCount) c.from_residual-in_err-settle.ensures.1
+    (c.in_err-settle.ensures.alone (subst (λ (v : TreeView). IsHonest v.store) (sym same) honest) (ap (λ (v : TreeView). region_count v) same ∙ one)
+    (subst (λ (v : TreeView). IsJoined v span (length c.remove.new.self.region.rows)) (sym same) (rw left joined))))
 
 pub returns-in_err-settle-clause-effect : goal.returns-in_err-settle-clause-effect
 returns-in_err-settle-clause-effect g c =
@@ -250,7 +256,11 @@ returns-clause-refused g c =
     let some = c.if-self-eq0.false in
     let counts = ap (λ (v : TreeView). v.rows) (c.self.view_is ∙ same) in
     let has : has_key a.schema.dims key page.region.rows ≡ true = has_told page.region.rows read.read.dims refl c.remove.ensures.found c.if-not-remove.false in
+    let left : c.remove.new.self.region.rows ≡ remove_row a.schema.dims key page.region.rows =
+    ap (λ (v : RegionView). v.region.rows) c.remove.ensures.rows ∙ ap (λ (d : ℕ). remove_row d key page.region.rows) read.read.dims in
     removal_answers a key span page read (Ok true) (λ has zero. absurd (omega arith)) (λ free. tt) (sym has) (λ some many. tt)
+    (λ is some one joined honest. absurd (c.in_ok-settle.ensures.alone (subst (λ (v : TreeView). IsHonest v.store) (sym same) honest) (ap (λ (v : TreeView). region_count v) same ∙ one)
+    (subst (λ (v : TreeView). IsJoined v span (length c.remove.new.self.region.rows)) (sym same) (rw left joined))))
 
 pub returns-clause-effect : goal.returns-clause-effect
 returns-clause-effect g c =

@@ -1,12 +1,17 @@
 use Rattle.std.proofs.Common.{◌≡◌, ◌/◌, ◌∙◌, IfErr, inl, inr, refl, ap, sym, subst, length, nat_lt, true, false}
-use Rattle.ub_tree.specs.Holding.{IsThatOrBefore}
-use Rattle.ub_tree.specs.View.{TreeView}
+use Rattle.ub_tree.specs.Holding.{IsThatOrBefore, CanFallInto, HasRoomAt}
+use Rattle.ub_tree.specs.View.{TreeView, region_count}
 use Rattle.ub_table.specs.Region.{IsRegion}
 use Rattle.ub_tree.specs.Removal.{IsRemovalFault}
 use Rattle.ub_tree.specs.inner.Change.{IsMadeOf, IsRegionThere}
 use Rattle.ub_tree.specs.Told.{IsRegionOf}
 use Rattle.ub_tree.proofs.EffectFacts.{changed_by, refused_none, searched_by, then_changed}
 use Rattle.ub_tree.proofs.RemovalFacts.{not_few, searched_removal, written_removal, settled_alone, settled_before, settled_large, settled_next, taken_alone, taken_joined}
+use Rattle.ub_store.specs.Facts.{IsHonest}
+use Rattle.ub_index.specs.Searching.{key_before}
+use Rattle.ub_region.specs.RegionPage.{RegionView}
+use Rattle.ub_tree.proofs.AloneFacts.{are_few, before_room, next_can, none_some, room_any, told_answers}
+use Rattle.ub_tree.proofs.HoldingFacts.{passing_answers}
 use Rattle.ub_tree.proofs.tree.Tree.settle.Goals as goal
 
 pub returns-then-not-are_few-clause-written : goal.returns-then-not-are_few-clause-written
@@ -241,3 +246,44 @@ pub returns-clause-spare : goal.returns-clause-spare
 returns-clause-spare g c = λ large.
     let count = c.page_rows.ensures.page_rows ∙ ap (λ (v : TreeView). v.schema.page_rows) c.self.view_is in
     absurd (not_few count (sym c.are_few.ensures ∙ c.if-not-are_few.false) large)
+
+pub returns-then-not-are_few-clause-alone : goal.returns-then-not-are_few-clause-alone
+returns-then-not-are_few-clause-alone g c = λ honest one joined.
+    let count = c.page_rows.ensures.page_rows ∙ ap (λ (v : TreeView). v.schema.page_rows) c.self.view_is in
+    absurd (are_few count (sym c.are_few.ensures ∙ c.if-not-are_few.true) joined.0)
+
+pub returns-in_err-next-clause-alone : goal.returns-in_err-next-clause-alone
+returns-in_err-next-clause-alone g c = λ honest one joined.
+    passing_answers c.from_residual.result c.in_err-next.field-0.0 _ c.from_residual.ensures.1
+    (c.in_err-next.ensures.led honest (next_can c.args.self.now c.args.region.now _ joined))
+
+pub returns-in-Some-clause-alone : goal.returns-in-Some-clause-alone
+returns-in-Some-clause-alone g c = λ honest one joined.
+    told_answers c.join_at.result _ (c.join_at.ensures.alone (ap (λ (v : TreeView). region_count v) c.in_ok-next.ensures.effect.same ∙ one))
+
+pub returns-in_err-before-clause-alone : goal.returns-in_err-before-clause-alone
+returns-in_err-before-clause-alone g c = λ honest one joined.
+    let a = c.args.self.now in
+    let same = c.in_ok-next.ensures.effect.same in
+    let sought = key_before c.args.region.now.first.z c.args.region.now.first.number in
+    let room = before_room a c.args.region.now _ joined (λ room. none_some (rw c.in_default.is at (c.in_ok-next.ensures.fits honest room))) in
+    let can = subst (λ (v : TreeView). CanFallInto v sought) (sym same) (room_any a sought _ room) in
+    passing_answers c.from_residual-in_err-before.result c.in_err-before.field-0.0 _ c.from_residual-in_err-before.ensures.1
+    (c.in_err-before.ensures.led (subst (λ (v : TreeView). IsHonest v.store) (sym same) honest) can)
+
+pub returns-in-Some-2-clause-alone : goal.returns-in-Some-2-clause-alone
+returns-in-Some-2-clause-alone g c = λ honest one joined.
+    told_answers c.join_at-in-Some-2.result _
+    (c.join_at-in-Some-2.ensures.alone (ap (λ (v : TreeView). region_count v) (c.in_ok-before.ensures.effect.same ∙ c.in_ok-next.ensures.effect.same) ∙ one))
+
+pub returns-clause-alone : goal.returns-clause-alone
+returns-clause-alone g c = λ honest one joined.
+    let a = c.args.self.now in
+    let same = c.in_ok-next.ensures.effect.same in
+    let sought = key_before c.args.region.now.first.z c.args.region.now.first.number in
+    let room = before_room a c.args.region.now _ joined (λ room. none_some (rw c.in_default.is at (c.in_ok-next.ensures.fits honest room))) in
+    let left = rw c.in_default.is at c.in_ok-next.ensures.rows in
+    let room_b = subst (λ (v : TreeView). HasRoomAt v sought (length c.join_next.new.room.region.region.rows)) (sym same)
+    (subst (λ (p : RegionView). HasRoomAt a sought (length p.region.rows)) (sym left) room) in
+    let some = rw c.in_default-2.is at (c.in_ok-before.ensures.fits (subst (λ (v : TreeView). IsHonest v.store) (sym same) honest) room_b) in
+    absurd (none_some some)
