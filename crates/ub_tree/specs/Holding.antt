@@ -28,14 +28,15 @@ pub record FallsInto (t : TreeView) (key : Key) (page : ℕ) (region : RegionRow
   pub page_is : span.page ≡ page
   pub taken : IsTakenIn t span region
 
--- a row was put into the region that a key falls to, of any tree: its page alone was written; or a region and its page are more,
--- and those of the index were written; and that is so just where that region was full
+-- a row was put into the region that a key falls to, of any tree, which then counts as changed: its page alone was written; or a
+-- region and its page are more, and those of the index were written; and that is so just where that region was full
 pub record GrowsAt (key : Key) (old new : TreeView) : Type 0 where
   pub span : Region
   pub falls : FallsTo old key span
   pub others : (WritesPage span.page old new × KeepsEntries old new) ⊎ (WritesIndex span.page old new × AddsEntry span.first old new)
   pub full : (page : ℕ) (region : RegionRows) → IsHonest old.store → FallsInto old key page region → length region.rows ≡ old.schema.page_rows → AddsEntry span.first old new
   pub spare : (page : ℕ) (region : RegionRows) → IsHonest old.store → FallsInto old key page region → length region.rows < old.schema.page_rows → KeepsEntries old new
+  pub changed : new.is_changed ≡ true
 
 -- a region, or the one before it, which the greatest key before it falls to
 abbrev pub IsThatOrBefore : TreeView → Region → Region → Type 0
