@@ -29,6 +29,7 @@ pub mod JoinFacts
 pub mod RemovalFacts
 pub mod GrowFacts
 pub mod GrownFacts
+pub mod StandFacts
 pub mod ThereFacts
 pub mod ReadyFacts
 pub mod OpenedFacts

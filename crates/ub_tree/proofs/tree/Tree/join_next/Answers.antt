@@ -191,3 +191,21 @@ returns-clause-fits g c = λ honest room.
       | then-join w ↦ rw w.result-is refl
       | else-join w ↦ absurd (no_fit _ _ count (sym c.join.ensures.fit ∙ w.if-join.false) fits)
     ]
+
+pub returns-in_err-next-clause-taken : goal.returns-in_err-next-clause-taken
+returns-in_err-next-clause-taken g c = no_answer c.from_residual.result c.in_err-next.field-0.0 _ c.from_residual.ensures.1
+
+pub returns-in-None-clause-taken : goal.returns-in-None-clause-taken
+returns-in-None-clause-taken g c = tt
+
+pub returns-in_err-read_at-clause-taken : goal.returns-in_err-read_at-clause-taken
+returns-in_err-read_at-clause-taken g c = no_answer c.from_residual-in_err-read_at.result c.in_err-read_at.field-0.0 _ c.from_residual-in_err-read_at.ensures.1
+
+pub returns-clause-taken : goal.returns-clause-taken
+returns-clause-taken g c =
+    let next = c.in-Some.next in
+    let on = subst (λ (v : TreeView). IsTakenIn v next c.read_at.new.page.region) c.in_ok-next.ensures.effect.same c.in_ok-read_at.ensures.read.on in
+    elim c.if-join.branch [
+      | then-join w ↦ rw w.result-is (c.read_at.new.page.region, on, ap (λ (v : RegionView). v.region.rows) (rw w.if-join.true at c.join.ensures.rows))
+      | else-join w ↦ rw w.result-is tt
+    ]

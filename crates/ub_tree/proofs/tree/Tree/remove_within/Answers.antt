@@ -16,6 +16,8 @@ use Rattle.ub_writing.specs.Marks.{is_written}
 use Rattle.ub_zaddr.specs.Address.{last_address}
 use Rattle.ub_store.specs.Facts.{IsHonest}
 use Rattle.ub_tree.specs.Holding.{IsJoined}
+use Rattle.ub_tree.proofs.StandFacts.{takes_row}
+use Rattle.ub_tree.specs.Pages.{LeavesRows}
 
 pub returns-in_err-region-clause-removed : goal.returns-in_err-region-clause-removed
 returns-in_err-region-clause-removed g c = λ sound. no_answer c.from_residual.result c.in_err-region.field-0.0 _ c.from_residual.ensures.1
@@ -279,3 +281,32 @@ returns-clause-stays g c = λ was. ap (λ (v : TreeView). v.is_changed) c.self-2
 
 pub returns-clause-marks : goal.returns-clause-marks
 returns-clause-marks g c = λ _. ap (λ (v : TreeView). v.is_changed) c.self-2.view_is ∙ ap (λ (v : TreeView). v.is_changed) c.in_ok-settle.ensures.same.same
+
+pub returns-in_err-region-clause-put : goal.returns-in_err-region-clause-put
+returns-in_err-region-clause-put g c = no_answer c.from_residual.result c.in_err-region.field-0.0 _ c.from_residual.ensures.1
+
+pub returns-then-not-remove-clause-put : goal.returns-then-not-remove-clause-put
+returns-then-not-remove-clause-put g c = λ is. absurd (let bad : false ≡ true = is in cc)
+
+pub returns-then-self-eq0-clause-put : goal.returns-then-self-eq0-clause-put
+returns-then-self-eq0-clause-put g c = tt
+
+pub returns-in_err-settle-clause-put : goal.returns-in_err-settle-clause-put
+returns-in_err-settle-clause-put g c = no_answer c.from_residual-in_err-settle.result c.in_err-settle.field-0.0 _ c.from_residual-in_err-settle.ensures.1
+
+pub returns-clause-put : goal.returns-clause-put
+returns-clause-put g c = λ _.
+    let a = c.args.self.now in
+    let key = c.args.key.now in
+    let span = c.in_ok-region.region in
+    let page = c.read_holding.new.page in
+    let read = c.in_ok-region.ensures.read in
+    let same = c.in_ok-region.ensures.effect.same in
+    let u = c.self-2.inside in
+    let after = c.settle.new.self in
+    let d : TreeView = tree_view u.schema u.index u.count u.next (u.rows - 1) (is_written u.mark) u.is_failed u.pager in
+    let d_is : d ≡ record after { rows = after.rows - 1 } = ap (λ (v : TreeView). record v { rows = v.rows - 1 }) c.self-2.view_is in
+    let left : c.remove.new.self.region.rows ≡ remove_row a.schema.dims key page.region.rows =
+    ap (λ (v : RegionView). v.region.rows) c.remove.ensures.rows ∙ ap (λ (d : ℕ). remove_row d key page.region.rows) read.read.dims in
+    takes_row a after d key span page c.remove.new.self.region.rows (after.rows - 1) d_is read left
+    (subst (λ (v : TreeView). IsHonest v.store → LeavesRows span c.remove.new.self.region.rows v after) same c.in_ok-settle.ensures.put)
