@@ -187,6 +187,7 @@ grows_by a b mid d key span page same counted read h =
       others = others h.others;
       full = λ number region honest into full. added (h.full (ap length (read_region b key span page read honest number region into).0 ∙ full));
       spare = λ number region honest into spare. kept (h.spare (subst (λ (rs : List Row). length rs < b.schema.page_rows) (sym (read_region b key span page read honest number region into).0) spare));
+      changed = ap (λ (v : TreeView). v.is_changed) h.same;
     }
 
 -- the key of a new row stands in the region on a span already

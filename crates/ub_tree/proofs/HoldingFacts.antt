@@ -1,27 +1,32 @@
 -- The region that a key falls into, and what calls must answer.
-use Rattle.std.proofs.Common.{◌≡◌, ◌≢◌, ◌/◌, ◌≤◌, ◌<◌, ◌^◌, ◌++◌, inl, inr, ℕ, Bool, true, false, List, [], ◌∷◌, Result, Ok, Err, IfErr, length, map, ◌∙◌, sym, ap, subst, arith, nat_eq, IfOk}
+use Rattle.std.proofs.Common.{◌≡◌, ◌≢◌, ◌/◌, ◌≤◌, ◌<◌, ◌^◌, ◌++◌, inl, inr, ℕ, Bool, true, false, List, [], ◌∷◌, Result, Ok, Err, IfErr, MatchResult, length, map, ◌∙◌, sym, ap, subst, refl, arith, nat_eq, IfOk, ◌⊎◌}
 use Rattle.std.proofs.lemmas.Bool.{cases_Bool, eqb-true}
 use Rattle.std.proofs.lemmas.List.{length-append, length-map}
 use Rattle.std.proofs.lemmas.List.Elements.{recursion_from_All}
 use Rattle.std.proofs.lemmas.Map.Steps.{length-le_from_distinct_below}
 use Rattle.std.proofs.lemmas.Option.{slice_get_within}
 use Rattle.std.specs.List.{AllByRecursion, list_any}
-use Rattle.std.specs.Result.{IsErrAnd}
+use Rattle.std.specs.Result.{IsErrAnd, IsErrOf}
 use Rattle.ub_region.specs.declared.region.Region.{Region}
 use Rattle.ub_region.proofs.Laws.{all_append}
 use Rattle.ub_region.specs.Rows.{has_key, remove_row}
 use Rattle.ub_store.specs.Facts.{IsHonest, page_count}
+use Rattle.ub_store.specs.declared.fault.StoreFault.{StoreFault}
+use Rattle.ub_store.specs.declared.fault.StoreFault.TheVariants as store
 use Rattle.ub_table.specs.Region.{RegionRows, key_of}
+use Rattle.ub_table.specs.declared.fault.PageFault.{PageFault}
 use Rattle.ub_table.specs.declared.fault.PageFault.TheVariants.{BadCount, BadOrder}
 use Rattle.ub_table.specs.declared.row.Key.{Key}
 use Rattle.ub_table.specs.declared.row.Row.{Row}
 use Rattle.ub_table.specs.declared.schema.Schema.{Schema}
 use Rattle.ub_tree.proofs.CallFacts.{one_falls}
 use Rattle.ub_tree.proofs.StoredFacts.{IsSpelled}
-use Rattle.ub_tree.specs.Holding.{Answers, AnswersKey, AnswersRemoval, FallsInto}
+use Rattle.ub_tree.specs.Faults.{tree_fault}
+use Rattle.ub_tree.specs.Holding.{Answers, AnswersKey, AnswersRemoval, FallsInto, HasNoRoom, IsJoined}
 use Rattle.ub_tree.specs.Indexed.{reserved}
 use Rattle.ub_tree.specs.Opened.{IsPassing}
 use Rattle.ub_tree.specs.Placed.{Placed}
+use Rattle.ub_tree.specs.Removal.{IsRemovalFault}
 use Rattle.ub_tree.specs.Told.{FallsTo}
 use Rattle.ub_tree.specs.View.{TreeView, IsSound, region_count}
 use Rattle.ub_tree.specs.declared.fault.TreeFault.{TreeFault}
@@ -62,7 +67,11 @@ on_region t key page region span honest h falls =
     subst (λ (s : Region). IsTakenIn t s region × (s.page ≡ page)) (sym (one_falls t key span h.span honest falls h.falls))
     (h.taken, h.page_is)
 
-passing_answers : {A : Type 0} (r : Result A TreeFault) (e told : TreeFault) → IsErrAnd r (λ x. x ≡ e) → IsPassing e → Answers r told
+pub passing_by : {T : Type 0} (r : Result T TreeFault) (e : TreeFault) (P : T → Type 0) → IsErrAnd r (λ x. x ≡ e) → IsPassing e → MatchResult r P IsPassing
+passing_by (Ok x) e P is h = absurd is
+passing_by (Err f) e P is h = rw is h
+
+pub passing_answers : {A : Type 0} (r : Result A TreeFault) (e told : TreeFault) → IsErrAnd r (λ x. x ≡ e) → IsPassing e → Answers r told
 passing_answers (Ok x) e told is h = absurd is
 passing_answers (Err f) e told is h = rw is (inr h)
 
@@ -74,6 +83,11 @@ pub fault_answers : {A : Type 0} (r : Result A TreeFault) (told : TreeFault) →
 fault_answers (Ok x) told is = absurd is
 fault_answers (Err f) told is = inl is
 
+-- what was answered within is answered
+pub fault_told : {A : Type 0} (r : Result A TreeFault) (e told : TreeFault) → IsErrAnd r (λ x. x ≡ e) → (e ≡ told) ⊎ IsPassing e → Answers r told
+fault_told (Ok x) e told is h = absurd is
+fault_told (Err f) e told is h = rw is h
+
 pub no_answer : {A : Type 0} (r : Result A TreeFault) (e : TreeFault) (P : A → Type 0) → IsErrAnd r (λ x. x ≡ e) → IfOk r P
 no_answer (Ok x) e P is = absurd is
 no_answer (Err f) e P is = tt
@@ -83,7 +97,7 @@ pub passing_removal : (a : TreeView) (key : Key) (r : Result Bool TreeFault) (e 
     → ((number : ℕ) (region : RegionRows) → IsHonest a.store → FallsInto a key number region → IsPassing e) → IsHonest a.store → AnswersRemoval a key r
 passing_removal a key r e told led honest number region into =
     let passing = led number region honest into in
-    (λ has none. passing_answers r e _ told passing, λ none. passing_fault r e told passing, no_answer r e _ told, λ some many. passing_fault r e told passing)
+    (λ has none. passing_answers r e _ told passing, λ none. passing_fault r e told passing, no_answer r e _ told, λ some many. passing_fault r e told passing, λ has some one joined. passing_answers r e _ told passing)
 
 -- the region that a key falls to was read
 module _ (a : TreeView) (key : Key) (span : Region) (page : RegionView) (read : HasReadAt a key span page) where
@@ -107,13 +121,16 @@ module _ (a : TreeView) (key : Key) (span : Region) (page : RegionView) (read : 
   pub removal_answers : (r : Result Bool TreeFault) → (has_key a.schema.dims key page.region.rows ≡ true → a.rows ≡ 0 → IsErrAnd r (λ x. x ≡ Page 0 BadCount))
       → (has_key a.schema.dims key page.region.rows ≡ false → IfErr r IsPassing) → IfOk r (λ found. found ≡ has_key a.schema.dims key page.region.rows)
       → (a.rows ≢ 0 → a.schema.page_rows / 2 ≤ length (remove_row a.schema.dims key page.region.rows) → IfErr r IsPassing)
+      → (has_key a.schema.dims key page.region.rows ≡ true → a.rows ≢ 0 → region_count a ≡ 1 → IsJoined a span (length (remove_row a.schema.dims key page.region.rows)) → IsHonest a.store → Answers r (Page 0 BadCount))
       → IsHonest a.store → AnswersRemoval a key r
-  removal_answers r none passing found left honest number region into =
-      let same = (read_region honest number region into).0 in (
+  removal_answers r none passing found left alone honest number region into =
+      let same = (read_region honest number region into).0 in
+      let one : into.span ≡ span = one_falls a key into.span span honest into.falls read.falls in (
         λ has zero. fault_answers r (Page 0 BadCount) (none (rw same has) zero),
         λ free. passing (rw same free),
         subst (λ (rs : List Row). IfOk r (λ found. found ≡ has_key a.schema.dims key rs)) same found,
         λ some many. left some (rw same many),
+        λ has some count joined. alone (rw same has) some count (rw same (subst (λ (s : Region). IsJoined a s (length (remove_row a.schema.dims key region.rows))) one joined)) honest,
       )
 
 -- whether the region has the key, which was told by other names

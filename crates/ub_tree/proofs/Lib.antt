@@ -12,6 +12,7 @@ pub mod SearchFacts
 pub mod CallFacts
 pub mod NeighbourFacts
 pub mod HoldingFacts
+pub mod AloneFacts
 pub mod ReadingFacts
 pub mod StoredFacts
 pub mod SplitFacts
@@ -28,6 +29,7 @@ pub mod JoinFacts
 pub mod RemovalFacts
 pub mod GrowFacts
 pub mod GrownFacts
+pub mod StandFacts
 pub mod ThereFacts
 pub mod ReadyFacts
 pub mod OpenedFacts

@@ -4,6 +4,7 @@ use Rattle.std.proofs.lemmas.List.{append-nil, length-map}
 use Rattle.std.specs.List.{AllByRecursion, flat_map}
 use Rattle.std.specs.Result.{IsErrAnd}
 use Rattle.ub_index_change.proofs.FullFacts.{mended_few}
+use Rattle.ub_index.proofs.KeyFacts.{le_before}
 use Rattle.ub_index_change.specs.Changing.{IsAtMostOne, Mends, Spelled, Spreads, Turns, named_as, so_far}
 use Rattle.ub_index.specs.Index.{entries_of, pages_under, top, under}
 use Rattle.ub_index_change.specs.Lowering.{IsDropFault, IsDropped, IsLowerFault, IsRootRefused}
@@ -21,19 +22,24 @@ use Rattle.ub_region.proofs.Laws.{all_append, all_more}
 use Rattle.ub_store.specs.Facts.{StoreFacts, IsHonest, page_count}
 use Rattle.ub_store.specs.View.{PagerView}
 use Rattle.ub_store.specs.declared.fault.StoreFault.TheVariants as store
+use Rattle.ub_table.proofs.Laws.{not_before_origin}
+use Rattle.ub_table.specs.Keys.{IsBefore, origin}
 use Rattle.ub_table.specs.declared.fault.PageFault.{PageFault}
 use Rattle.ub_table.specs.declared.row.Key.{Key}
 use Rattle.ub_table.specs.declared.schema.Schema.{Schema}
+use Rattle.ub_tree.proofs.RoomFacts.{begins_before}
 use Rattle.ub_tree.proofs.SearchFacts.{index_not_refused, no_stop, stores_alike}
 use Rattle.ub_tree.proofs.WayFacts.{IsSpelledOf, Spells, led_not_stopped, never_gone, spells}
 use Rattle.ub_tree.specs.Effects.{IsIndexRefused}
 use Rattle.ub_tree.specs.Faults.{index_fault}
 use Rattle.ub_tree.specs.Holding.{HasNoRoom, IsRoomFault}
 use Rattle.ub_tree.specs.Placed.{entry_of}
+use Rattle.ub_tree.specs.Told.{FallsTo}
 use Rattle.ub_tree.specs.Tree.{tree_view}
 use Rattle.ub_tree.specs.View.{TreeView, IsSound, region_count}
 use Rattle.ub_tree.specs.declared.fault.TreeFault.{TreeFault}
 use Rattle.ub_tree.specs.inner.Change.{IsReadyFault, IsSpelledAt, MakesReady}
+use Rattle.std.proofs.lemmas.Option.{slice_get_within}
 
 -- where the way to a key leads to a span, a region comes behind it, unless there is no room
 pub change_room : (i : IndexView) (facts : StoreFacts) (key : Key) (span : Region) → i.last < 2 ^ 128 → IsHonest facts → Gives i facts key span
@@ -110,20 +116,21 @@ module _ (schema : Schema) (i : IndexView) (count next rows : ℕ) (changed fail
 
 -- each page that is spelled is one of the index, or new
 module _ (t : TreeView) (from : ℕ) (far : page_count t.store ≤ from) (start root levels : ℕ) (middle : Spelled) (change : ChangeView)
-    (s : Spells t.store.pages (pages_under t.store.pages t.inner.index.levels (top t.inner.index.root)) (so_far [] from) middle) where
+    (s : Spells t.inner.index.last t.store.pages (pages_under t.store.pages t.inner.index.levels (top t.inner.index.root)) (so_far [] from) middle) where
   abbrev numbers : List ℕ
   numbers = pages_under t.store.pages t.inner.index.levels (top t.inner.index.root)
 
   spelled_to : (other : ChangeView) → middle.next ≤ other.next → AllByRecursion (IsSpelledAt t from other) middle.sheets
   spelled_to other up =
       subst (AllByRecursion (IsSpelledAt t from other)) (sym s.sheets_are)
-      (all_more (IsSpelledOf t.store.pages numbers from middle.next) (IsSpelledAt t from other) (λ sheet h. record {
+      (all_more (IsSpelledOf t.inner.index.last t.store.pages numbers from middle.next) (IsSpelledAt t from other) (λ sheet h. record {
         own = λ n lt out. h.own n lt out.1;
         some = h.some;
         there = (elim h.there [
           | inl near ↦ inl near
           | inr new ↦ let less = new.1 in inr (new.0, omega arith)
         ]);
+        kind = h.kind;
       }) s.sheets s.each)
 
   same_root : change ≡ change_view middle start root levels → AllByRecursion (IsSpelledAt t from change) change.sheets
@@ -144,6 +151,7 @@ module _ (t : TreeView) (from : ℕ) (far : page_count t.store ≤ from) (start 
             | inr some ↦ omega arith
           ]);
           there = inr (grown, omega arith);
+          kind = λ stood at. (let within = slice_get_within t.store.pages middle.next stood at in absurd (omega arith));
         },
         tt,
       ))
@@ -216,7 +224,7 @@ drop_spelled t key change some (first, (middle, told, turns, settles), lowers) =
     (spells t.inner.index.last t.store.pages key None t.inner.index.levels (top t.inner.index.root) None (so_far [] (page_count t.store)) middle told (omega arith) some turns) told (inl few) settles in
     subst (λ (c : ChangeView). AllByRecursion (IsSpelledAt t (page_count t.store) c) c.sheets) (sym lowers.same)
     (all_more (IsSpelledAt t (page_count t.store) first) (IsSpelledAt t (page_count t.store) (record first { root = change.root; levels = change.levels }))
-    (λ sheet h. record { own = h.own; some = h.some; there = h.there }) first.sheets all)
+    (λ sheet h. record { own = h.own; some = h.some; there = h.there; kind = h.kind }) first.sheets all)
 
 -- why a region isn't made ready to go, on a tree that counts more regions than one: what is left to show is that on a sound tree each
 -- root is taken to which another one gives way

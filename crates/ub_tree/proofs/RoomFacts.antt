@@ -1,5 +1,5 @@
 -- Which rows can stand in the place of a region's, and where a region of theirs begins.
-use Rattle.std.proofs.Common.{◌≡◌, ◌<◌, ◌≤◌, ◌+◌, ◌-◌, inl, inr, ℕ, zero, suc, true, false, List, [], ◌∷◌, ◌++◌, Option, Some, None, IfSome, length, nat_le, drop, ◌∙◌, sym, ap, subst, refl, arith, slice_get, length-append}
+use Rattle.std.proofs.Common.{◌≡◌, ◌<◌, ◌≤◌, ◌+◌, ◌-◌, inl, inr, ℕ, zero, suc, true, false, List, [], ◌∷◌, ◌++◌, Option, Some, None, IfSome, length, nat_le, take, drop, ◌∙◌, sym, ap, subst, refl, arith, slice_get, length-append}
 use Rattle.std.proofs.lemmas.Bool.{cases_Bool, and_from, eq-eqb, le-leb, lt-leb, leb-true, leb-false}
 use Rattle.std.proofs.lemmas.List.{length-drop}
 use Rattle.std.specs.List.{AllByRecursion}
@@ -126,6 +126,14 @@ filled_with schema first next row rows are holds good none =
           (all_insert dims row (λ other. ¬ (IsBefore (key_of dims other) first)) rows (all_of_keys dims (λ k. ¬ (IsBefore k first)) rows are.0.within) holds.from);
     }
 
+-- rows that stand before the next region do so with a row that the region holds
+pub before_next : (dims : ℕ) (next : Option Key) (row : Row) (rows : List Row) → IfSome next (λ end. AllByRecursion (λ k. IsBefore k end) (keys_of dims rows)) → IfSome next (IsBefore (key_of dims row))
+    → IfSome next (λ end. AllByRecursion (λ k. IsBefore k end) (keys_of dims (insert_row dims row rows)))
+before_next dims next row rows =
+    if_some_both (λ end. AllByRecursion (λ k. IsBefore k end) (keys_of dims rows)) (λ end. IsBefore (key_of dims row) end)
+    (λ end. AllByRecursion (λ k. IsBefore k end) (keys_of dims (insert_row dims row rows))) next
+    (λ end all before. all_keys dims (λ k. IsBefore k end) (insert_row dims row rows) (all_insert dims row (λ other. IsBefore (key_of dims other) end) rows (all_of_keys dims (λ k. IsBefore k end) rows all) before))
+
 -- where they are more than a page holds, the other half begins between the region's first key and the next region
 pub within_for : (schema : Schema) (first : Key) (next : Option Key) (row : Row) (rows : List Row) → AreRowsFrom schema first next rows → HoldsKey (key_of schema.dims row) first next
     → IsRow schema.dims (measures_of schema) row → has_key schema.dims (key_of schema.dims row) rows ≡ false
@@ -133,18 +141,13 @@ pub within_for : (schema : Schema) (first : Key) (next : Option Key) (row : Row)
     → IsWithinRegion (last_address schema.dims) first next (split schema.dims schema.page_rows (insert_row schema.dims row rows)).first
 within_for schema first next row rows are holds good none over =
     let dims = schema.dims in
-    let key : Key = key_of dims row in
     let few = are.0.few in
     let long = length-insert_row dims row rows in
     let some = schema.counts.some_rows in
     let whole : RegionRows = record { first = first; rows = insert_row dims row rows } in
     let filled = filled_with schema first next row rows are holds good none in
     let sep = between schema whole (left_half schema.page_rows) filled (omega arith) (omega arith) (omega arith) (omega arith) in
-    let below : IfSome next (λ end. AllByRecursion (λ k. IsBefore k end) (keys_of dims (insert_row dims row rows))) =
-    if_some_both (λ end. AllByRecursion (λ k. IsBefore k end) (keys_of dims rows)) (λ end. IsBefore key end) (λ end. AllByRecursion (λ k. IsBefore k end) (keys_of dims (insert_row dims row rows)))
-    next
-    (λ end all before. all_keys dims (λ k. IsBefore k end) (insert_row dims row rows) (all_insert dims row (λ other. IsBefore (key_of dims other) end) rows (all_of_keys dims (λ k. IsBefore k end) rows all) before))
-    are.1 holds.to in
+    let below = before_next dims next row rows are.1 holds.to in
     record {
       from = sep.after;
       to = if_some_more (λ end. AllByRecursion (λ k. IsBefore k end) (keys_of dims (insert_row dims row rows))) (λ end. IsBefore _ end) next sep.before below;

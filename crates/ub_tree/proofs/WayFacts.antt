@@ -11,6 +11,7 @@ use Rattle.ub_index.proofs.KeyFacts.{before_le}
 use Rattle.ub_index.proofs.Lists.{ascend_right}
 use Rattle.ub_index.proofs.WayFacts.{named_not_refused}
 use Rattle.ub_index.proofs.WaysFacts.{compare, first_up_to}
+use Rattle.ub_page.proofs.IndexLaws.{node_not_refused}
 use Rattle.ub_index.specs.Standing.{IsOutside}
 use Rattle.ub_index_change.specs.Changing.{Mends, Spelled, Spreads, Turns, sheet_of, so_far}
 use Rattle.ub_index.specs.Fitting.{FallsTo}
@@ -23,8 +24,9 @@ use Rattle.ub_page.proofs.PageLaws.{region_parts}
 use Rattle.ub_region.specs.RegionPage.{region_page}
 use Rattle.ub_region.specs.declared.entry.Entry.{Entry}
 use Rattle.ub_table.specs.Keys.{IsBefore}
-use Rattle.ub_page.specs.Index.{IsIndexKind}
+use Rattle.ub_page.specs.Index.{IsIndexKind, node_on}
 use Rattle.ub_table.specs.Region.{RegionRows, IsRegion}
+use Rattle.ub_table.specs.declared.fault.PageFault.TheVariants.{WrongKind}
 use Rattle.ub_table.specs.declared.fault.PageFault.{PageFault}
 use Rattle.ub_table.specs.declared.row.Key.{Key}
 use Rattle.ub_table.specs.declared.schema.Schema.{Schema}
@@ -128,6 +130,13 @@ module _ (last : ℕ) (small : last < 256 ^ 16) (old new : List (List ℕ)) (kee
         still_led level below beyond found next (below_some last old key (suc level) entry end below beyond named falls) leads,
       )
 
+-- the page of a region is none of an index
+pub region_no_index : (last : ℕ) → last < 2 ^ 128 → (schema : Schema) (region : RegionRows) → IsRegion schema region → ¬ (IsIndexPage last (region_page schema region))
+region_no_index last small schema region is h =
+    let page = region_page schema region in
+    let kind = (region_parts schema region page is refl).kind in
+    node_not_refused (node_on page) page last small h.is h.spelled WrongKind (λ other. let e = sym kind ∙ other in absurd (omega arith))
+
 -- nor is it so by its first byte
 pub region_no_kind : (schema : Schema) (region : RegionRows) → IsRegion schema region → ¬ (IsIndexKind (region_page schema region))
 region_no_kind schema region is other =
@@ -153,17 +162,21 @@ never_gone last pages key added (suc level) entry end old new (named, below, nex
     by_news lower (One other) turns m = some_middle falls.before other falls.after m.0
     by_news lower (Two left right) turns m = some_middle falls.before left (right ∷ falls.after) m.0
 
--- which numbers a change spells: pages of the index that the store has, and new ones
-pub record IsSpelledOf (pages : List (List ℕ)) (numbers : List ℕ) (from to : ℕ) (sheet : Sheet) : Type 0 where
+-- which numbers a change spells: pages of the index that the store has, each of them a page of an index, and new ones
+pub record IsSpelledOf (last : ℕ) (pages : List (List ℕ)) (numbers : List ℕ) (from to : ℕ) (sheet : Sheet) : Type 0 where
   pub own : (n : ℕ) → n < length pages → IsOutside n numbers → n ≢ sheet.number
   pub some : 1 ≤ sheet.number
   pub there : (sheet.number < length pages) ⊎ ((from ≤ sheet.number) × (sheet.number < to))
+  pub kind : (page : List ℕ) → slice_get pages sheet.number ≡ Some page → IsIndexPage last page
 
-pub record Spells (pages : List (List ℕ)) (numbers : List ℕ) (old new : Spelled) : Type 0 where
+pub record Spells (last : ℕ) (pages : List (List ℕ)) (numbers : List ℕ) (old new : Spelled) : Type 0 where
   pub sheets : List Sheet
   pub sheets_are : new.sheets ≡ old.sheets ++ sheets
   pub grown : old.next ≤ new.next
-  pub each : AllByRecursion (IsSpelledOf pages numbers old.next new.next) sheets
+  pub each : AllByRecursion (IsSpelledOf last pages numbers old.next new.next) sheets
+
+some_page : {o : Option (List ℕ)} {a b : List ℕ} → o ≡ Some a → o ≡ Some b → a ≡ b
+some_page e f = cc
 
 each_as : (P Q : Sheet → Type 0) → ((s : Sheet) → P s → Q s) → (sheets : List Sheet) → AllByRecursion P sheets → AllByRecursion Q sheets
 each_as P Q f [] h = tt
@@ -189,7 +202,7 @@ outside_one f n (y ∷ before) x after h = outside_one f n before x after (outsi
 -- one step up: what is spelled below, and what the page of an entry becomes
 module _ (last : ℕ) (pages : List (List ℕ)) (key : Key) (level : ℕ) (entry : Entry) (end : Option Key) (old new middle : Spelled) (below : Entry) (next : Option Key)
     (named : NamesFitting last pages (suc level) entry end) (falls : FallsTo key (entries_of pages entry.page) end below next) (far : length pages ≤ old.next) (some : 1 ≤ entry.page)
-    (lower : Spells pages (pages_under pages level below) old middle) where
+    (lower : Spells last pages (pages_under pages level below) old middle) where
   abbrev numbers : List ℕ
   numbers = pages_under pages (suc level) entry
 
@@ -201,7 +214,7 @@ module _ (last : ℕ) (pages : List (List ℕ)) (key : Key) (level : ℕ) (entry
       outside_one (pages_under pages level) n falls.before below falls.after
       (subst (λ (xs : List Entry). IsOutside n (flat_map (pages_under pages level) xs)) falls.parts h.1)
 
-  wider : (to : ℕ) → middle.next ≤ to → (s : Sheet) → IsSpelledOf pages (pages_under pages level below) old.next middle.next s → IsSpelledOf pages numbers old.next to s
+  wider : (to : ℕ) → middle.next ≤ to → (s : Sheet) → IsSpelledOf last pages (pages_under pages level below) old.next middle.next s → IsSpelledOf last pages numbers old.next to s
   wider to up s h = record {
     own = λ n lt out. h.own n lt (outside_below n out);
     some = h.some;
@@ -209,44 +222,55 @@ module _ (last : ℕ) (pages : List (List ℕ)) (key : Key) (level : ℕ) (entry
       | inl lt ↦ inl lt
       | inr new_one ↦ let up_to = new_one.1 in inr (new_one.0, omega arith)
     ]);
+    kind = h.kind;
   }
 
-  all_wider : (to : ℕ) → middle.next ≤ to → AllByRecursion (IsSpelledOf pages numbers old.next to) lower.sheets
+  all_wider : (to : ℕ) → middle.next ≤ to → AllByRecursion (IsSpelledOf last pages numbers old.next to) lower.sheets
   all_wider to up =
-      each_as (IsSpelledOf pages (pages_under pages level below) old.next middle.next) (IsSpelledOf pages numbers old.next to) (wider to up) lower.sheets lower.each
+      each_as (IsSpelledOf last pages (pages_under pages level below) old.next middle.next) (IsSpelledOf last pages numbers old.next to) (wider to up) lower.sheets lower.each
 
-  here : (to : ℕ) (page : List ℕ) → IsSpelledOf pages numbers old.next to (record { number = entry.page; page = page })
-  here to page = record { own = λ n lt out. out.0; some = some; there = inl near }
+  here : (to : ℕ) (page : List ℕ) → IsSpelledOf last pages numbers old.next to (record { number = entry.page; page = page })
+  here to page = record {
+    own = λ n lt out. out.0;
+    some = some;
+    there = inl near;
+    kind = λ stood at. (let same : stood ≡ page_in pages entry.page = some_page at named.there in subst (IsIndexPage last) (sym same) named.fits.is);
+  }
 
-  fresh : (to : ℕ) (page : List ℕ) → middle.next < to → IsSpelledOf pages numbers old.next to (record { number = middle.next; page = page })
+  fresh : (to : ℕ) (page : List ℕ) → middle.next < to → IsSpelledOf last pages numbers old.next to (record { number = middle.next; page = page })
   fresh to page up =
       let more = lower.grown in
       let low = near in
-      record { own = λ n lt out e. absurd (omega arith); some = omega arith; there = inr (more, up) }
+      record {
+        own = λ n lt out e. absurd (omega arith);
+        some = omega arith;
+        there = inr (more, up);
+        kind = λ stood at. (let within = slice_get_within pages middle.next stood at in absurd (omega arith));
+      }
 
   -- what was spelled below, and then these
-  then_these : (more : List Sheet) → new.sheets ≡ middle.sheets ++ more → middle.next ≤ new.next → AllByRecursion (IsSpelledOf pages numbers old.next new.next) more
-      → Spells pages numbers old new
+  then_these : (more : List Sheet) → new.sheets ≡ middle.sheets ++ more → middle.next ≤ new.next → AllByRecursion (IsSpelledOf last pages numbers old.next new.next) more
+      → Spells last pages numbers old new
   then_these more are up each =
       let grown = lower.grown in
       record {
         sheets = lower.sheets ++ more;
         sheets_are = are ∙ ap (λ (xs : List Sheet). xs ++ more) lower.sheets_are ∙ append_assoc old.sheets lower.sheets more;
         grown = omega arith;
-        each = each_join (IsSpelledOf pages numbers old.next new.next) lower.sheets more (all_wider new.next up) each;
+        each = each_join (IsSpelledOf last pages numbers old.next new.next) lower.sheets more (all_wider new.next up) each;
       }
 
-  unchanged : new ≡ middle → Spells pages numbers old new
+  unchanged : new ≡ middle → Spells last pages numbers old new
   unchanged same =
       let next_is = ap (λ (s : Spelled). s.next) same in
       then_these [] (ap (λ (s : Spelled). s.sheets) same ∙ sym (append-nil middle.sheets)) (omega arith) tt
 
-  one_page : (entries : List Entry) → new ≡ so_far (middle.sheets ++ sheet_of entry.page (suc level) entries ∷ []) middle.next → Spells pages numbers old new
+  one_page : (entries : List Entry) → new ≡ so_far (middle.sheets ++ sheet_of entry.page (suc level) entries ∷ []) middle.next → Spells last pages numbers old new
   one_page entries is =
       let next_is : new.next ≡ middle.next = ap (λ (s : Spelled). s.next) is in
       then_these (sheet_of entry.page (suc level) entries ∷ []) (ap (λ (s : Spelled). s.sheets) is) (omega arith) (here new.next _, tt)
 
-  by_told : (entries : List Entry) (told : Told) → Spreads (suc level) entry entries middle new told → Spells pages numbers old new
+  by_told : (entries : List Entry) (told : Told) → Spreads (suc level) entry entries middle new told → Spells last pages numbers old new
   by_told entries Same m = one_page entries m.2
   by_told entries Gone m = unchanged m.1
   by_told entries (One other) m = one_page entries m.3
@@ -256,7 +280,7 @@ module _ (last : ℕ) (pages : List (List ℕ)) (key : Key) (level : ℕ) (entry
       then_these (sheet_of middle.next (suc level) (drop 86 entries) ∷ sheet_of entry.page (suc level) (take 86 entries) ∷ []) (ap (λ (s : Spelled). s.sheets) is) (omega arith)
       (fresh new.next _ (omega arith), (here new.next _, tt))
 
-  spells_up : (news told : Told) → Mends (suc level) entry falls.before below falls.after news middle new told → Spells pages numbers old new
+  spells_up : (news told : Told) → Mends (suc level) entry falls.before below falls.after news middle new told → Spells last pages numbers old new
   spells_up Same told m = unchanged m.1
   spells_up Gone told m = by_told _ told m
   spells_up (One other) told m = by_told _ told m
@@ -264,7 +288,7 @@ module _ (last : ℕ) (pages : List (List ℕ)) (key : Key) (level : ℕ) (entry
 
 module _ (last : ℕ) (pages : List (List ℕ)) (key : Key) (added : Option Entry) where
   pub spells : (level : ℕ) (entry : Entry) (end : Option Key) (old new : Spelled) (told : Told) → length pages ≤ old.next → 1 ≤ entry.page → Turns last pages key added level entry end old new told
-      → Spells pages (pages_under pages level entry) old new
+      → Spells last pages (pages_under pages level entry) old new
   spells zero entry end old new told far some h = record {
     sheets = [];
     sheets_are = ap (λ (s : Spelled). s.sheets) h.1 ∙ sym (append-nil old.sheets);

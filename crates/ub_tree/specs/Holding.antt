@@ -1,5 +1,5 @@
 -- The region that a key falls into, on any tree, and what a change of it must answer.
-use Rattle.std.specs.Prelude.{◌≡◌, ◌≢◌, ◌+◌, ◌/◌, ◌<◌, ◌≤◌, ◌⊎◌, ℕ, Bool, true, false, Some, Result, Err, IfErr, IfOk, length}
+use Rattle.std.specs.Prelude.{◌≡◌, ◌≢◌, ◌+◌, ◌/◌, ◌<◌, ◌≤◌, ◌⊎◌, ℕ, Bool, true, false, Option, Some, Result, Err, IfErr, IfOk, IfSome, length}
 use Rattle.std.specs.Result.{IsErrAnd}
 use Rattle.ub_index_change.specs.Preparing.{HasFullWay, NeedsPages}
 use Rattle.ub_index.specs.Searching.{key_before}
@@ -28,14 +28,15 @@ pub record FallsInto (t : TreeView) (key : Key) (page : ℕ) (region : RegionRow
   pub page_is : span.page ≡ page
   pub taken : IsTakenIn t span region
 
--- a row was put into the region that a key falls to, of any tree: its page alone was written; or a region and its page are more,
--- and those of the index were written; and that is so just where that region was full
+-- a row was put into the region that a key falls to, of any tree, which then counts as changed: its page alone was written; or a
+-- region and its page are more, and those of the index were written; and that is so just where that region was full
 pub record GrowsAt (key : Key) (old new : TreeView) : Type 0 where
   pub span : Region
   pub falls : FallsTo old key span
   pub others : (WritesPage span.page old new × KeepsEntries old new) ⊎ (WritesIndex span.page old new × AddsEntry span.first old new)
   pub full : (page : ℕ) (region : RegionRows) → IsHonest old.store → FallsInto old key page region → length region.rows ≡ old.schema.page_rows → AddsEntry span.first old new
   pub spare : (page : ℕ) (region : RegionRows) → IsHonest old.store → FallsInto old key page region → length region.rows < old.schema.page_rows → KeepsEntries old new
+  pub changed : new.is_changed ≡ true
 
 -- a region, or the one before it, which the greatest key before it falls to
 abbrev pub IsThatOrBefore : TreeView → Region → Region → Type 0
@@ -102,13 +103,33 @@ AnswersRow t key result =
     (t.next ≡ MAX_ROW_NUMBER + 1 → result ≡ Err Full)
     × (t.next ≢ MAX_ROW_NUMBER + 1 → IsHonest t.store → AnswersKey t key result)
 
+-- where there is such a key it falls into a region
+abbrev pub CanFallInto : TreeView → Option Key → Type 0
+CanFallInto t sought = IfSome sought (λ key. (page : ℕ) × (region : RegionRows) × FallsInto t key page region)
+
+-- there is such a key, and the region that it falls into has room for so many rows more
+abbrev pub HasRoomAt : TreeView → Option Key → ℕ → Type 0
+HasRoomAt t sought count =
+    (key : Key) × (sought ≡ Some key) × (page : ℕ) × (region : RegionRows) × FallsInto t key page region
+    × (count + length region.rows ≤ t.schema.page_rows)
+
+-- so many rows are left of a region that they are joined with those of a neighbour: they are fewer than half of what a page holds, and
+-- the next region has room for them, or else the one before
+abbrev pub IsJoined : TreeView → Region → ℕ → Type 0
+IsJoined t span left =
+    (left < t.schema.page_rows / 2)
+    × (HasRoomAt t span.next left ⊎ (CanFallInto t span.next × HasRoomAt t (key_before span.first.z span.first.number) left))
+
 -- what a removal of the row with this key must answer: BadCount of the first page where the region that it falls into has it
--- and no row is counted; no refusal where it hasn't it, or where as many rows are left without it as half of what a page holds; and
--- whether it has it
+-- and no row is counted; no refusal where it hasn't it, or where as many rows are left without it as half of what a page holds;
+-- whether it has it; and BadCount of the first page where rows are counted, but one region alone, and what is left of that region would
+-- be joined with a neighbour
 abbrev pub AnswersRemoval : TreeView → Key → Result Bool TreeFault → Type 0
 AnswersRemoval t key result =
-    (number : ℕ) (region : RegionRows) → FallsInto t key number region
+    (number : ℕ) (region : RegionRows) → (into : FallsInto t key number region)
     → (has_key t.schema.dims key region.rows ≡ true → t.rows ≡ 0 → Answers result (Page 0 BadCount))
     × (has_key t.schema.dims key region.rows ≡ false → IfErr result IsPassing)
     × IfOk result (λ found. found ≡ has_key t.schema.dims key region.rows)
     × (t.rows ≢ 0 → t.schema.page_rows / 2 ≤ length (remove_row t.schema.dims key region.rows) → IfErr result IsPassing)
+    × (has_key t.schema.dims key region.rows ≡ true → t.rows ≢ 0 → region_count t ≡ 1
+    → IsJoined t into.span (length (remove_row t.schema.dims key region.rows)) → Answers result (Page 0 BadCount))

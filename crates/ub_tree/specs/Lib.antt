@@ -18,6 +18,7 @@ pub mod Old
 pub mod Upgrade
 pub mod Others
 pub mod Holding
+pub mod Pages
 pub mod Removal
 pub mod Checking
 pub mod Laws

@@ -9,10 +9,11 @@ ghost use Rattle.ub_store.specs.Facts.{page_count};
 ghost use Rattle.ub_table.specs.Region.{RegionRows, IsRegion, key_of, measures_of};
 ghost use Rattle.ub_tree.specs.Change as spec;
 ghost use Rattle.ub_tree.specs.Change.{IsInserted, Suits, numbered};
-ghost use Rattle.ub_tree.specs.inner.Change.{CanStand, GrowsTo, HasReadAt, HasStopped, IsIndexFault, IsPut, IsReadAt, IsRegionIn, IsRegionThere, IsSplitAt, IsStored, KeepsGrown, StoresAt, StoresRows, Writes, WritesBoth, placed_with};
+ghost use Rattle.ub_tree.specs.inner.Change.{CanStand, GrowsTo, HasReadAt, HasStopped, IsIndexFault, IsPut, IsReadAt, IsRegionIn, IsRegionThere, IsSplitAt, IsStored, KeepsGrown, StandAt, StoresAt, StoresRows, Writes, WritesBoth, placed_with};
 ghost use Rattle.ub_tree.specs.Effects.{Searches, Changes, IsTakenIn};
 ghost use Rattle.ub_tree.specs.Holding.{AnswersKey, AnswersRow, AnswersAt, FallsInto, GrowsAt};
 ghost use Rattle.ub_tree.specs.Opened.{IsPassing};
+ghost use Rattle.ub_tree.specs.Pages.{PutsRow, Spells, SpellsHalves};
 ghost use Rattle.ub_tree.specs.Placed.{Placed};
 ghost use Rattle.ub_tree.specs.Told.{KeepsTold, IsRegionOf};
 ghost use Rattle.ub_tree.specs.View.{IsSound, region_count};
@@ -98,6 +99,8 @@ impl<S: PageStore> Tree<S> {
               region = record { first = region.now.first; rows = page.now.region.rows };
             } ∷ []) self.old.placed)) }
         ensures told { OnOk result (KeepsTold self.old self.new) }
+        ensures put { OnOk result (facts.IsHonest self.old.store → Spells self.new region.now.page
+            region.now.first page.now.region.rows) }
         ensures faults { IfErr result (λ fault. fault ≡ TreeFault.Store StoreFault.Device) }
         ensures stays { self.old.is_changed ≡ true → self.new.is_changed ≡ true }
         ensures effect { Writes region.now self.old self.new result }
@@ -227,6 +230,12 @@ impl<S: PageStore> Tree<S> {
               first = right.now.region.first;
               right = right.now.region.rows;
             }) self.old self.new × KeepsGrown self.old self.new) }
+        ensures halves { OnOk result (facts.IsHonest self.old.store → SpellsHalves self.new
+            region.now.page (page_count self.old.store) region.now.first (record {
+              left = left.now.region.rows;
+              first = right.now.region.first;
+              right = right.now.region.rows;
+            })) }
         ensures counted { AnswersAt (Unit {0}) self.old region.now result }
         ensures effect { Changes self.old self.new result }
     {
@@ -263,6 +272,10 @@ impl<S: PageStore> Tree<S> {
         ensures written { StoresRows region.now
             (insert_row self.old.schema.dims row.now room.old.region.region.rows)
             self.old self.new result }
+        ensures put { OnOk result (facts.IsHonest self.old.store → StandAt region.now
+            (length room.old.region.region.rows)
+            (insert_row self.old.schema.dims row.now room.old.region.region.rows)
+            self.old self.new) }
         ensures counted { AnswersAt
             (length room.old.region.region.rows ≡ self.old.schema.page_rows) self.old region.now
             result }
@@ -295,6 +308,8 @@ impl<S: PageStore> Tree<S> {
             × (self.new.rows ≡ self.old.rows + 1) × (self.new.is_failed ≡ false)
             × GrowsAt (key_of self.old.schema.dims
             (spec.row_of self.old.next dims.now measures.now)) self.old self.new) }
+        ensures put { OnOk result (PutsRow
+            (spec.row_of self.old.next dims.now measures.now) self.old self.new) }
         ensures failed { IsTrue self.old.is_failed → result ≡ Err TreeFault.Failed }
         ensures refused { self.old.is_failed ≡ false → AnswersRow self.old
             (key_of self.old.schema.dims (spec.row_of self.old.next dims.now measures.now)) result }
@@ -315,6 +330,8 @@ impl<S: PageStore> Tree<S> {
             × (self.new.rows ≡ self.old.rows + 1) × (self.new.is_failed ≡ false)
             × GrowsAt (key_of self.old.schema.dims (numbered self.old.next row.now))
             self.old self.new) }
+        ensures put { OnOk result
+            (PutsRow (numbered self.old.next row.now) self.old self.new) }
         ensures failed { IsTrue self.old.is_failed → result ≡ Err TreeFault.Failed }
         ensures refused { self.old.is_failed ≡ false → AnswersRow self.old
             (key_of self.old.schema.dims (numbered self.old.next row.now)) result }
@@ -347,6 +364,7 @@ impl<S: PageStore> Tree<S> {
         ensures counted { OnOk result ((self.new.next ≡ self.old.next + 1)
             × (self.new.rows ≡ self.old.rows + 1) × (self.new.is_failed ≡ false)
             × GrowsAt (key_of self.old.schema.dims row.now) self.old self.new) }
+        ensures put { OnOk result (PutsRow row.now self.old self.new) }
         ensures refused { facts.IsHonest self.old.store
             → AnswersKey self.old (key_of self.old.schema.dims row.now) result }
         ensures effect { Changes self.old self.new result }

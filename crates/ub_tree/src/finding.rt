@@ -1,6 +1,6 @@
-ghost use Rattle.std.specs.Prelude.{◌≡◌, ◌≢◌, ◌↔◌, ℕ, Some, None, map, IfErr, IfOk, IfSome, IsOk, IsTrue, MatchResult};
+ghost use Rattle.std.specs.Prelude.{◌≡◌, ◌≢◌, ◌↔◌, ℕ, Option, Some, None, map, IfErr, IfOk, IfSome, IsOk, IsTrue, MatchResult};
 ghost use Rattle.ub_index_change.specs.Preparing.{HasFullWay};
-ghost use Rattle.ub_index.specs.Searching.{key_before};
+ghost use Rattle.ub_index.specs.Searching.{GivesAny, key_before};
 ghost use Rattle.ub_index.specs.View.{IsNextRegion, IsPreviousRegion};
 ghost use Rattle.ub_page.specs.declared.header.TheConstants.{MAX_LEVEL};
 ghost use Rattle.ub_region.specs.Regions.{index_holding};
@@ -46,6 +46,9 @@ impl<S: PageStore> Tree<S> {
             (λ next. region.now.next ≡ Some next.first)) }
         ensures falls { IfOk result (λ found. IfSome found (IsRegionOf self.old)) }
         ensures last { IfOk result (λ found. found ≡ None → region.now.next ≡ None) }
+        ensures led { (told : Option Region) → IsHonest self.old.store
+            → GivesAny self.old.inner.index self.old.store region.now.next told
+            → MatchResult result (λ found. found ≡ told) IsPassing }
         ensures after { (i : ℕ) → IsStored self.old → IsRegionIn self.old i region.now
             → IfOk result (IsNextRegion (map entry_of self.old.placed) i) }
         ensures effect { Searches self.old self.new result }
@@ -68,6 +71,10 @@ impl<S: PageStore> Tree<S> {
         ensures falls { IfOk result (λ found. IfSome found (λ before. (k : key.Key)
             × (key_before region.now.first.z region.now.first.number ≡ Some k)
             × FallsTo self.old k before)) }
+        ensures led { (told : Option Region) → IsHonest self.old.store
+            → GivesAny self.old.inner.index self.old.store
+            (key_before region.now.first.z region.now.first.number) told
+            → MatchResult result (λ found. found ≡ told) IsPassing }
         ensures before { (i : ℕ) → IsStored self.old → IsRegionIn self.old i region.now
             → IfOk result (IsPreviousRegion (map entry_of self.old.placed) i) }
         ensures effect { Searches self.old self.new result }

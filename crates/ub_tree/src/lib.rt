@@ -3,7 +3,8 @@
 // and which region a search asks for), `View` (what contracts see of a tree, and when it is sound),
 // `Indexed` (where its index stands), `Effects` (what a call leaves), `Stored` (the pages of a closed table), `Opened` (which pages are
 // opened), `Old` and `Upgrade` (the pages of a table of an older format, and what is made of them), `Closing`, `Checking` (where a
-// check of all pages stops); the functions of `law` ensure the laws of a sound tree. The code: `creation`, `opening` and `upgrading`
+// check of all pages stops), `Holding`, `Others` and `Pages` (what a change of any tree must answer, and what it leaves of the
+// pages); the functions of `law` ensure the laws of a sound tree. The code: `creation`, `opening` and `upgrading`
 // to begin, `checking` to look at all pages, `tree` to search and read, `change` to put rows in, `removal` to take them out, `closing`
 // to end; `finding` asks the index where a region is.
 //

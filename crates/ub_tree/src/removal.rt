@@ -1,4 +1,4 @@
-ghost use Rattle.std.specs.Prelude.{◌≡◌, ◌+◌, ◌-◌, ◌/◌, ◌<◌, ◌≤◌, length, ℕ, true, false, IsTrue, Err, Some, is_some, IfOk, IfErr, IfSome, MatchOption, OnOk};
+ghost use Rattle.std.specs.Prelude.{◌≡◌, ◌+◌, ◌++◌, ◌-◌, ◌/◌, ◌<◌, ◌≤◌, length, ℕ, true, false, IsTrue, Err, Some, is_some, IfOk, IfErr, IfSome, MatchOption, OnOk};
 ghost use Rattle.std.specs.List.{AllByRecursion};
 ghost use Rattle.ub_index.specs.Searching.{key_before};
 ghost use Rattle.ub_region.specs.Joins.{JoinsNext, JoinsBefore, put_rows};
@@ -6,14 +6,17 @@ ghost use Rattle.ub_region.specs.Regions.{settle};
 ghost use Rattle.ub_store.specs.Facts as facts;
 ghost use Rattle.ub_store.specs.Facts.{page_count};
 ghost use Rattle.ub_store.specs.declared.fault.StoreFault.{StoreFault};
-ghost use Rattle.ub_table.specs.Region.{IsRegion};
+ghost use Rattle.ub_table.specs.Region.{IsRegion, RegionRows};
+ghost use Rattle.ub_table.specs.declared.fault.PageFault.{PageFault};
 ghost use Rattle.ub_table.specs.declared.row.Key as key;
 ghost use Rattle.ub_tree.specs.inner.Change.{IsMadeOf, IsRegionIn, IsRegionThere, IsStored, JoinsAt, TakesAt};
-ghost use Rattle.ub_tree.specs.Effects.{Searches, Changes};
-ghost use Rattle.ub_tree.specs.Holding.{AnswersRemoval, ShrinksAt};
+ghost use Rattle.ub_tree.specs.Effects.{Searches, Changes, IsTakenIn};
+ghost use Rattle.ub_tree.specs.Holding.{Answers, AnswersRemoval, CanFallInto, HasRoomAt, IsJoined, ShrinksAt};
+ghost use Rattle.ub_tree.specs.Opened.{IsPassing};
+ghost use Rattle.ub_tree.specs.Pages.{LeavesRows, Spells, TakesRow};
 ghost use Rattle.ub_tree.specs.Removal.{IsRemoved, IsRemovalFault};
 ghost use Rattle.ub_tree.specs.Told.{FallsTo, IsRegionOf};
-ghost use Rattle.ub_tree.specs.View.{IsSound, regions};
+ghost use Rattle.ub_tree.specs.View.{IsSound, region_count, regions};
 
 use crate::fault::{TreeFault, bad_count};
 use crate::tree::Tree;
@@ -47,6 +50,10 @@ impl<S: PageStore> Tree<S> {
             → OnOk result (IsStored self.new
             × (regions self.new
             ≡ put_rows i true page.now.region.rows (regions self.old))) }
+        ensures put { OnOk result (facts.IsHonest self.old.store → Spells self.new region.now.page
+            region.now.first page.now.region.rows) }
+        ensures alone { region_count self.old ≡ 1
+            → result ≡ Err (TreeFault.Page 0 PageFault.BadCount) }
         ensures effect { Changes self.old self.new result }
         ensures faults { IfErr result (IsRemovalFault self.old) }
         ensures stays { self.old.is_changed ≡ true → self.new.is_changed ≡ true }
@@ -78,6 +85,13 @@ impl<S: PageStore> Tree<S> {
         ensures joined { (i : ℕ) → IsStored self.old → IsRegionIn self.old i region.now
             → IfOk result (λ found. JoinsNext self.old.schema.page_rows i
             room.old.region.region.rows room.new.region.region.rows (is_some found) (regions self.old)) }
+        ensures taken { IfOk result (λ found. IfSome found (λ next. (other : RegionRows)
+            × IsTakenIn self.old next other
+            × (room.new.region.region.rows ≡ room.old.region.region.rows ++ other.rows))) }
+        ensures led { facts.IsHonest self.old.store → CanFallInto self.old region.now.next
+            → IfErr result IsPassing }
+        ensures fits { facts.IsHonest self.old.store → HasRoomAt self.old region.now.next
+            (length room.old.region.region.rows) → IfOk result (λ found. is_some found ≡ true) }
         ensures effect { Searches self.old self.new result }
     {
         let next = match self.region_after(region)? {
@@ -114,6 +128,15 @@ impl<S: PageStore> Tree<S> {
         ensures joined { (i : ℕ) → IsStored self.old → IsRegionIn self.old i region.now
             → IfOk result (λ found. JoinsBefore self.old.schema.page_rows i
             room.old.region.region.rows room.new.region.region.rows (is_some found) (regions self.old)) }
+        ensures taken { IfOk result (λ found. IfSome found (λ before. (other : RegionRows)
+            × IsTakenIn self.old before other
+            × (room.new.region.region.rows ≡ other.rows ++ room.old.region.region.rows))) }
+        ensures led { facts.IsHonest self.old.store
+            → CanFallInto self.old (key_before region.now.first.z region.now.first.number)
+            → IfErr result IsPassing }
+        ensures fits { facts.IsHonest self.old.store → HasRoomAt self.old
+            (key_before region.now.first.z region.now.first.number)
+            (length room.old.region.region.rows) → IfOk result (λ found. is_some found ≡ true) }
         ensures effect { Searches self.old self.new result }
     {
         let before = match self.region_before(region)? {
@@ -146,6 +169,11 @@ impl<S: PageStore> Tree<S> {
         ensures faults { IfErr result (IsRemovalFault self.old) }
         ensures spare { self.old.schema.page_rows / 2 ≤ length room.old.region.region.rows
             → IfErr result (λ fault. fault ≡ TreeFault.Store StoreFault.Device) }
+        ensures put { OnOk result (facts.IsHonest self.old.store
+            → LeavesRows region.now room.old.region.region.rows self.old self.new) }
+        ensures alone { facts.IsHonest self.old.store → region_count self.old ≡ 1
+            → IsJoined self.old region.now (length room.old.region.region.rows)
+            → Answers result (TreeFault.Page 0 PageFault.BadCount) }
         ensures stays { self.old.is_changed ≡ true → self.new.is_changed ≡ true }
     {
         if !room.region.are_few(self.schema.page_rows()) {
@@ -175,6 +203,7 @@ impl<S: PageStore> Tree<S> {
         ensures counted { IfOk result (λ found. found ≡ true → (self.new.next ≡ self.old.next)
             × (self.new.rows + 1 ≡ self.old.rows)
             × ShrinksAt key self.old self.new) }
+        ensures put { IfOk result (λ found. found ≡ true → TakesRow key self.old self.new) }
         ensures failed { IsTrue self.old.is_failed → result ≡ Err TreeFault.Failed }
         ensures refused { self.old.is_failed ≡ false → facts.IsHonest self.old.store
             → AnswersRemoval self.old key result }
@@ -201,6 +230,7 @@ impl<S: PageStore> Tree<S> {
         ensures counted { IfOk result (λ found. found ≡ true → (self.new.next ≡ self.old.next)
             × (self.new.rows + 1 ≡ self.old.rows)
             × ShrinksAt key.now self.old self.new) }
+        ensures put { IfOk result (λ found. found ≡ true → TakesRow key.now self.old self.new) }
         ensures refused { facts.IsHonest self.old.store → AnswersRemoval self.old key.now result }
         ensures effect { Changes self.old self.new result }
         ensures faults { IfErr result (IsRemovalFault self.old) }

@@ -4,6 +4,7 @@ use Rattle.std.specs.List.{AllByRecursion}
 use Rattle.ub_store.specs.Writing.{Grows}
 use Rattle.ub_index_change.specs.Changed.{Replaces}
 use Rattle.ub_index_change.specs.Changing.{AreIndexPages}
+use Rattle.ub_index.specs.Index.{IsIndexPage}
 use Rattle.ub_index.specs.Standing.{IsOutside}
 use Rattle.ub_index_change.specs.Filling.{KeepsFilled}
 use Rattle.ub_index_change.specs.Making.{IsPutFault}
@@ -25,6 +26,7 @@ use Rattle.ub_tree.specs.Grown.{IsOnlyGrown}
 use Rattle.ub_tree.specs.Holding.{IsThatOrBefore}
 use Rattle.ub_tree.specs.Indexed.{HasIndex, reserved}
 use Rattle.ub_tree.specs.Others.{AddsEntry, DropsEntry, KeepsEntries, KeepsOthers, WritesIndex, WritesPage}
+use Rattle.ub_tree.specs.Pages.{Spells, SpellsHalves}
 use Rattle.ub_tree.specs.Placed.{Placed, ArePlaced, entry_of}
 use Rattle.ub_tree.specs.Spans.{Region, first_keys}
 use Rattle.ub_tree.specs.Told.{FallsTo, IsRegionOf}
@@ -56,6 +58,12 @@ pub record StoresAt (span : Region) (count : ℕ) (old new : TreeView) : Type 0 
   pub others : (WritesPage span.page old new × KeepsEntries old new) ⊎ (WritesIndex span.page old new × AddsEntry span.first old new)
   pub full : count ≡ old.schema.page_rows → AddsEntry span.first old new
   pub spare : count < old.schema.page_rows → KeepsEntries old new
+
+-- these rows stand on the page of a region, which had so many, or their halves do, where that was full, the second on the first page
+-- that the store hadn't
+pub record StandAt (span : Region) (count : ℕ) (rows : List Row) (old new : TreeView) : Type 0 where
+  pub alone : count < old.schema.page_rows → Spells new span.page span.first rows
+  pub halved : count ≡ old.schema.page_rows → SpellsHalves new span.page (page_count old.store) span.first (split old.schema.dims old.schema.page_rows rows)
 
 -- the same, and a region was written anew, with the rows of the next one, which is no more
 pub record JoinsAt (span : Region) (old new : TreeView) : Type 0 where
@@ -129,11 +137,13 @@ pub record IsMadeOf (schema : Schema) (span : Region) (page : RegionView) : Type
   pub first : page.region.first ≡ span.first
   pub rows : AreRowsFrom schema span.first span.next page.region.rows
 
--- each page that is spelled is one of the index, which the store has, or one that the change brings, and not the first
+-- each page that is spelled is one of the index, which the store has, or one that the change brings, and not the first; what stood
+-- there was a page of an index
 pub record IsSpelledAt (t : TreeView) (from : ℕ) (change : ChangeView) (sheet : Sheet) : Type 0 where
   pub own : (n : ℕ) → n < page_count t.store → IsOutside n (reserved t.inner.index t.store.pages) → ¬ (n ≡ sheet.number)
   pub some : 1 ≤ sheet.number
   pub there : (sheet.number < page_count t.store) ⊎ ((from ≤ sheet.number) × (sheet.number < change.next))
+  pub kind : (page : List ℕ) → slice_get t.store.pages sheet.number ≡ Some page → IsIndexPage t.inner.index.last page
 
 -- what is prepared for a region that comes behind another one, with this first key
 pub record IsAddReady (t : TreeView) (span : Region) (first : Key) (change : ChangeView) : Type 0 where

@@ -1,9 +1,10 @@
 use Rattle.std.proofs.Common.{◌≡◌, ◌<◌, ◌+◌, ◌^◌, ◌∙◌, ℕ, Ok, Err, sym, ap, subst, length, arith, inr, refl, true, false}
 use Rattle.ub_region.specs.Rows.{has_key, insert_row}
+use Rattle.ub_store.specs.Facts.{page_count, IsHonest}
 use Rattle.ub_table.specs.Region.{IsRow, key_of, measures_of}
 use Rattle.ub_table.specs.declared.fault.PageFault.TheVariants.{BadOrder}
 use Rattle.ub_table.specs.declared.row.Key.{Key}
-use Rattle.ub_tree.proofs.EffectFacts.{counted_anew, left_by, marked_sound, then_changed, unchanged}
+use Rattle.ub_tree.proofs.EffectFacts.{counted_anew, left_by, marked_sound, refused_all, refused_none, searched_by, then_changed, unchanged}
 use Rattle.ub_tree.proofs.GrowFacts.{added_answers, grown, grows_by, key_there, passing_answers_key, answers_err_at, answers_ok_at}
 use Rattle.ub_tree.proofs.HoldingFacts.{has_told, key_is_there, next_key}
 use Rattle.ub_tree.proofs.NewFacts.{numbered_row}
@@ -11,12 +12,14 @@ use Rattle.ub_tree.proofs.RemovalFacts.{holder}
 use Rattle.ub_tree.proofs.RoomFacts.{can_stand, rows_on}
 use Rattle.ub_tree.specs.Effects.{Changes}
 use Rattle.ub_tree.specs.Holding.{FallsInto}
+use Rattle.ub_tree.specs.Told.{IsRegionOf}
 use Rattle.ub_tree.specs.Tree.{tree_view}
 use Rattle.ub_tree.specs.View.{TreeView}
 use Rattle.ub_tree.specs.declared.fault.TreeFault.TheVariants.{Page}
-use Rattle.ub_tree.specs.inner.Change.{CanStand, HasReadAt}
+use Rattle.ub_tree.specs.inner.Change.{CanStand, HasReadAt, IsReadAt, StandAt, StoresAt}
 use Rattle.ub_writing.specs.Marks.{is_written}
 use Rattle.ub_zaddr.specs.Address.{last_address}
+use Rattle.ub_tree.proofs.StandFacts.{puts_row}
 use Rattle.ub_tree.proofs.tree.Tree.insert_within.Goals as goal
 
 pub returns-in_err-region-clause-refused : goal.returns-in_err-region-clause-refused
@@ -157,3 +160,39 @@ returns-clause-effect g c =
     let d : TreeView = tree_view u.schema u.index u.count (u.next + 1) (u.rows + 1) (is_written u.mark) u.is_failed u.pager in
     counted_anew {T = Unit {0}} {U = ℕ} tt _ c.args.self.now after d (after.rows + 1) (after.next + 1) (ap (λ (v : TreeView). record v { next = v.next + 1; rows = v.rows + 1 }) c.self-2.view_is)
     (then_changed {T = Unit {0}} _ c.args.self.now c.read_holding.new.self after c.in_ok-region.ensures.effect.same c.in_ok-store_with.ensures.effect)
+
+pub returns-in_err-region-clause-put : goal.returns-in_err-region-clause-put
+returns-in_err-region-clause-put g c = refused_none _ c.from_residual.result c.in_err-region.field-0.0 c.from_residual.ensures.1
+
+pub returns-then-has-clause-put : goal.returns-then-has-clause-put
+returns-then-has-clause-put g c = tt
+
+pub returns-in_err-store_with-clause-put : goal.returns-in_err-store_with-clause-put
+returns-in_err-store_with-clause-put g c = refused_none _ c.from_residual-in_err-store_with.result c.in_err-store_with.field-0.0 c.from_residual-in_err-store_with.ensures.1
+
+pub returns-clause-put : goal.returns-clause-put
+returns-clause-put g c =
+    let a = c.args.self.now in
+    let row = c.args.row.now in
+    let span = c.in_ok-region.region in
+    let page = c.read_holding.new.page in
+    let is = next_key _ a c.shape.result row c.key-key.result c.self.view_is c.shape.ensures c.key-key.ensures in
+    let read = subst (λ (k : Key). HasReadAt a k span page) is c.in_ok-region.ensures.read in
+    let has : has_key a.schema.dims (key_of a.schema.dims row) page.region.rows ≡ false =
+    has_told page.region.rows read.read.dims is c.has.ensures c.if-has.false in
+    let number = c.requires.row.1 in
+    let fewer = c.self.invariant.fewer in
+    let last_next = c.self.invariant.last_next in
+    let same_next : c.self.inside.next ≡ a.next = ap (λ (v : TreeView). v.next) c.self.view_is in
+    let not_last = c.requires.able.1 in
+    let good : IsRow a.schema.dims (measures_of a.schema) row = numbered_row a.schema.dims (measures_of a.schema) row c.requires.row.0 (omega arith, omega arith) in
+    let last : a.inner.index.last ≡ last_address a.schema.dims = subst (λ (v : TreeView). v.inner.index.last ≡ last_address v.schema.dims) c.self.view_is c.self.invariant.last_is in
+    let can = can_stand a span row page.region.rows last (rows_on a span page.region read.read.on) read.falls.holds good has in
+    let same = c.in_ok-region.ensures.effect.same in
+    let u = c.self-2.inside in
+    let after = c.store_with.new.self in
+    let d : TreeView = tree_view u.schema u.index u.count (u.next + 1) (u.rows + 1) (is_written u.mark) u.is_failed u.pager in
+    let d_is : d ≡ record after { next = after.next + 1; rows = after.rows + 1 } = ap (λ (v : TreeView). record v { next = v.next + 1; rows = v.rows + 1 }) c.self-2.view_is in
+    let stores = subst (λ (v : TreeView). StoresAt span (length page.region.rows) v after) same c.in_ok-store_with.ensures.same in
+    let stand = subst (λ (v : TreeView). IsHonest v.store → StandAt span (length page.region.rows) (insert_row v.schema.dims row page.region.rows) v after) same c.in_ok-store_with.ensures.put in
+    puts_row a after d row span page d_is read stores can stand

@@ -1,4 +1,4 @@
-use Rattle.std.proofs.Common.{◌≡◌, ◌+◌, ◌-◌, ◌≤◌, true, ◌∙◌, Ok, inl, inr, sym, ap, subst, refl}
+use Rattle.std.proofs.Common.{◌≡◌, ◌+◌, ◌-◌, ◌≤◌, true, ◌∙◌, Ok, inl, inr, sym, ap, subst, refl, Err, ◌<◌, ◌^◌}
 use Rattle.ub_region.specs.Joins.{put_rows}
 use Rattle.ub_table.specs.Region.{IsRegion}
 use Rattle.ub_table.specs.declared.fault.PageFault.TheVariants.{BadCount}
@@ -7,9 +7,16 @@ use Rattle.ub_tree.specs.View.{TreeView, region_count, regions}
 use Rattle.ub_tree.specs.declared.fault.TreeFault.TheVariants.{Page}
 use Rattle.ub_tree.specs.inner.Change.{IsDropReady, IsRegionIn, IsRegionThere, IsStored, JoinsAt}
 use Rattle.ub_tree.specs.Told.{IsRegionOf}
-use Rattle.ub_tree.proofs.EffectFacts.{changes_by, ready_by, then_changed, unchanged}
-use Rattle.ub_tree.proofs.JoinFacts.{alone_not_sound, index_failed, joined_at, joined_effect, joined_written}
+use Rattle.ub_tree.proofs.EffectFacts.{changes_by, ready_by, refused_none, then_changed, unchanged}
+use Rattle.ub_tree.proofs.HoldingFacts.{removal_fault}
+use Rattle.ub_tree.proofs.RefusedFacts.{device_removal, index_removal}
+use Rattle.ub_tree.proofs.JoinFacts.{alone_not_sound, behind_first, index_failed, joined_at, joined_effect, joined_written}
 use Rattle.ub_writing.specs.Marks.{is_written}
+use Rattle.ub_tree.specs.declared.fault.TreeFault.{TreeFault}
+use Rattle.ub_store.specs.Facts.{IsHonest}
+use Rattle.ub_tree.proofs.CallFacts.{last_small}
+use Rattle.ub_tree.proofs.StandFacts.{joined_stand}
+use Rattle.ub_tree.specs.Pages.{Spells}
 use Rattle.ub_tree.proofs.tree.Tree.join_at.Goals as goal
 
 pub returns-then-self-eq1-clause-effect : goal.returns-then-self-eq1-clause-effect
@@ -99,3 +106,50 @@ returns-clause-effect g c =
     then_changed (Ok tt) c.args.self.now b d same
     (joined_effect b c.rewrite.new.self c.put_index.new.self span next change there c.requires.next.1 ready c.in_ok-rewrite.ensures.same c.in_ok-rewrite.ensures.effect c.put_index.ensures.kept
     d c.in_ok-put_index.ensures.now is tt c.in_ok-put_index.ensures.works)
+
+pub returns-then-self-eq1-clause-alone : goal.returns-then-self-eq1-clause-alone
+returns-then-self-eq1-clause-alone g c = λ one. ap (λ (fault : TreeFault). Err fault) c.uncounted.ensures.fault
+
+pub returns-in_err-change-clause-alone : goal.returns-in_err-change-clause-alone
+returns-in_err-change-clause-alone g c = λ one. absurd (c.if-self-eq1.false (ap (λ (v : TreeView). region_count v) c.self.view_is ∙ one))
+
+pub returns-in_err-rewrite-clause-alone : goal.returns-in_err-rewrite-clause-alone
+returns-in_err-rewrite-clause-alone g c = λ one. absurd (c.if-self-eq1.false (ap (λ (v : TreeView). region_count v) c.self.view_is ∙ one))
+
+pub returns-in_err-put_index-clause-alone : goal.returns-in_err-put_index-clause-alone
+returns-in_err-put_index-clause-alone g c = λ one. absurd (c.if-self-eq1.false (ap (λ (v : TreeView). region_count v) c.self.view_is ∙ one))
+
+pub returns-clause-alone : goal.returns-clause-alone
+returns-clause-alone g c = λ one. absurd (c.if-self-eq1.false (ap (λ (v : TreeView). region_count v) c.self.view_is ∙ one))
+
+pub returns-then-self-eq1-clause-put : goal.returns-then-self-eq1-clause-put
+returns-then-self-eq1-clause-put g c = tt
+
+pub returns-in_err-change-clause-put : goal.returns-in_err-change-clause-put
+returns-in_err-change-clause-put g c = refused_none _ c.from_residual.result c.in_err-change.field-0.0 c.from_residual.ensures.1
+
+pub returns-in_err-rewrite-clause-put : goal.returns-in_err-rewrite-clause-put
+returns-in_err-rewrite-clause-put g c = refused_none _ c.from_residual-in_err-rewrite.result c.in_err-rewrite.field-0.0 c.from_residual-in_err-rewrite.ensures.1
+
+pub returns-in_err-put_index-clause-put : goal.returns-in_err-put_index-clause-put
+returns-in_err-put_index-clause-put g c = refused_none _ c.from_residual-in_err-put_index.result c.in_err-put_index.field-0.0 c.from_residual-in_err-put_index.ensures.1
+
+pub returns-clause-put : goal.returns-clause-put
+returns-clause-put g c =
+    let b = c.prepare_drop.new.self in
+    let span = c.args.region.now in
+    let next = c.args.next.now in
+    let change = c.in_ok-change.change in
+    let same = c.in_ok-change.ensures.effect.same in
+    let there = subst (λ (v : TreeView). IsRegionThere v span) (sym same) c.requires.there in
+    let ready = subst (λ (v : TreeView). IsDropReady v next change) (sym same) c.in_ok-change.ensures.ready in
+    let t = c.self.inside in
+    let u = c.self-2.inside in
+    let d : TreeView = tree_view u.schema u.index (u.count - 1) u.next u.rows (is_written u.mark) u.is_failed u.pager in
+    let is = ap (λ (v : TreeView). record v { inner = record v.inner { count = v.inner.count - 1 } }) c.self-2.view_is in
+    let small = subst (λ n. n < 2 ^ 128) (sym c.self.invariant.last_is) (last_small t.schema.dims t.schema.counts.few_dims) in
+    let near = subst (λ (v : TreeView). v.inner.index.last < 2 ^ 128) (c.self.view_is ∙ sym same) small in
+    subst (λ (v : TreeView). IsHonest v.store → Spells d span.page span.first c.args.page.now.region.rows) same
+    (joined_stand b c.rewrite.new.self c.put_index.new.self d span change c.args.page.now.region.rows there near ready.spelled
+    (λ honest. ap (λ (v : TreeView). v.store.honest) c.in_ok-rewrite.ensures.effect.frame ∙ honest) c.put_index.ensures.kept c.in_ok-rewrite.ensures.put
+    (ap (λ (v : TreeView). v.store) is) (ap (λ (v : TreeView). v.schema) is ∙ ap (λ (v : TreeView). v.schema) c.in_ok-put_index.ensures.now))

@@ -1,6 +1,7 @@
-use Rattle.std.proofs.Common.{◌<◌, ◌^◌, inl, inr, Option, subst, sym}
+use Rattle.std.proofs.Common.{◌<◌, ◌^◌, inl, inr, Option, subst, sym, Some, None, ◌≡◌}
 use Rattle.ub_region.specs.declared.region.Region.{Region}
 use Rattle.ub_tree.proofs.CallFacts.{last_small}
+use Rattle.ub_tree.proofs.EffectFacts.{refused_all}
 use Rattle.ub_tree.proofs.NeighbourFacts.{given_next, next_begins, search_apart}
 use Rattle.ub_tree.proofs.SearchFacts.{search_refused}
 use Rattle.ub_store.specs.Facts.{IsHonest}
@@ -8,6 +9,8 @@ use Rattle.ub_tree.specs.Tree.{tree_view}
 use Rattle.ub_tree.specs.View.{TreeView}
 use Rattle.ub_tree.specs.Told.{IsRegionOf}
 use Rattle.ub_writing.specs.Marks.{is_written}
+use Rattle.ub_index.specs.Searching.{GivesAny, IsWayFault}
+use Rattle.ub_tree.proofs.AloneFacts.{any_given, any_refused}
 use Rattle.ub_tree.proofs.tree.Tree.region_after.Goals as goal
 
 pub returns-in_err-next-clause-effect : goal.returns-in_err-next-clause-effect
@@ -30,3 +33,38 @@ returns-else-begins_at-clause-effect g c =
     ] in
     rw (← c.self.view_is) (search_apart t.schema t.index t.count t.next t.rows (is_written t.mark) t.is_failed t.pager c.after.new.pager _ (Option Region) c.in_ok-next.field-0 c.apart.result
     c.in_ok-next.ensures.effect c.apart.ensures over)
+
+pub returns-in_err-next-clause-led : goal.returns-in_err-next-clause-led
+returns-in_err-next-clause-led g c = λ told honest given.
+    let t = c.args.self.now in
+    let i = c.self.inside in
+    let next = c.args.region.now.next in
+    let small = subst (λ n. n < 2 ^ 128) (sym c.self.invariant.last_is) (last_small i.schema.dims i.schema.counts.few_dims) in
+    let near = subst (λ (v : TreeView). v.inner.index.last < 2 ^ 128) c.self.view_is small in
+    let fault = subst (λ (v : TreeView). IsWayFault v.inner.index v.store (λ k. next ≡ Some k) c.in_err-next.field-0.0) c.self.view_is (c.in_err-next.ensures.effect.faults c.self.invariant.checked) in
+    any_refused t.inner.index t.store next told c.from_residual.result c.in_err-next.field-0.0 near honest given c.from_residual.ensures.1 fault
+
+pub returns-in_default-clause-led : goal.returns-in_default-clause-led
+returns-in_default-clause-led g c = λ told honest given.
+    let t = c.args.self.now in
+    let next = c.args.region.now.next in
+    let found = subst (λ (v : TreeView). GivesAny v.inner.index v.store next c.in_ok-next.field-0) c.self.view_is (c.in_ok-next.ensures.given c.self.invariant.checked) in
+    any_given t.inner.index t.store next None told honest (rw c.in_default.is at found) given
+
+pub returns-then-begins_at-clause-led : goal.returns-then-begins_at-clause-led
+returns-then-begins_at-clause-led g c = λ told honest given.
+    let t = c.args.self.now in
+    let next = c.args.region.now.next in
+    let found = subst (λ (v : TreeView). GivesAny v.inner.index v.store next c.in_ok-next.field-0) c.self.view_is (c.in_ok-next.ensures.given c.self.invariant.checked) in
+    any_given t.inner.index t.store next (Some c.in-Some.next) told honest (rw c.in-Some.is at found) given
+
+pub returns-else-begins_at-clause-led : goal.returns-else-begins_at-clause-led
+returns-else-begins_at-clause-led g c = λ told honest given.
+    let t = c.self.inside in
+    let v : TreeView = tree_view t.schema t.index t.count t.next t.rows (is_written t.mark) t.is_failed t.pager in
+    let of = subst (λ (x : TreeView). IsRegionOf x c.args.region.now) (sym c.self.view_is) c.requires in
+    let found = given_next v c.args.region.now.next c.in-Some.next (rw c.in-Some.is at (c.in_ok-next.ensures.given c.self.invariant.checked)) in
+    elim (next_begins v of.key found.0 c.args.region.now c.in-Some.next of.falls found.1 found.2) [
+      | inl same ↦ let no = c.if-begins_at.ensures.1 same in cc
+      | inr over ↦ absurd (over (subst (λ (x : TreeView). IsHonest x.store) (sym c.self.view_is) honest))
+    ]

@@ -1,19 +1,23 @@
-use Rattle.std.proofs.Common.{◌≡◌, ◌<◌, ◌-◌, ◌^◌, ◌∙◌, ap, sym, subst, arith, true, false, refl, inl, inr, Ok, Err, Bool, ℕ}
+use Rattle.std.proofs.Common.{◌≡◌, ◌<◌, ◌-◌, ◌^◌, ◌∙◌, ap, sym, subst, arith, true, false, refl, inl, inr, Ok, Err, Bool, ℕ, length}
 use Rattle.ub_region.specs.RegionPage.{RegionView}
 use Rattle.ub_region.specs.Rows.{has_key, remove_row}
 use Rattle.ub_table.specs.declared.fault.PageFault.TheVariants.{BadCount}
-use Rattle.ub_tree.proofs.EffectFacts.{counted_anew, left_by, marked_sound, then_changed, unchanged}
-use Rattle.ub_tree.proofs.HoldingFacts.{has_told, no_answer, passing_fault, passing_removal, removal_answers}
-use Rattle.ub_tree.proofs.RemovalFacts.{holder, none_removed, shrinks_by, shrunk, some_counted}
+use Rattle.ub_tree.proofs.EffectFacts.{counted_anew, left_by, marked_sound, nothing_changed, searched_by, then_changed, unchanged}
+use Rattle.ub_tree.proofs.HoldingFacts.{has_told, no_answer, passing_fault, passing_removal, removal_answers, removal_fault, fault_told}
+use Rattle.ub_tree.proofs.RemovalFacts.{holder, none_removed, read_there, searched_removal, shrinks_by, shrunk, some_counted}
 use Rattle.ub_tree.proofs.RoomFacts.{rows_on, rows_without}
 use Rattle.ub_tree.proofs.tree.Tree.remove_within.Goals as goal
 use Rattle.ub_tree.specs.Effects.{Changes}
 use Rattle.ub_tree.specs.Tree.{tree_view}
 use Rattle.ub_tree.specs.View.{TreeView, region_count}
 use Rattle.ub_tree.specs.declared.fault.TreeFault.TheVariants.{Page}
-use Rattle.ub_tree.specs.inner.Change.{IsMadeOf}
+use Rattle.ub_tree.specs.inner.Change.{IsMadeOf, IsRegionThere}
 use Rattle.ub_writing.specs.Marks.{is_written}
 use Rattle.ub_zaddr.specs.Address.{last_address}
+use Rattle.ub_store.specs.Facts.{IsHonest}
+use Rattle.ub_tree.specs.Holding.{IsJoined}
+use Rattle.ub_tree.proofs.StandFacts.{takes_row}
+use Rattle.ub_tree.specs.Pages.{LeavesRows}
 
 pub returns-in_err-region-clause-refused : goal.returns-in_err-region-clause-refused
 returns-in_err-region-clause-refused g c =
@@ -40,6 +44,7 @@ returns-then-not-remove-clause-refused g c =
     let same = c.in_ok-region.ensures.effect.same in
     let has : has_key a.schema.dims key page.region.rows ≡ false = has_told page.region.rows read.read.dims refl c.remove.ensures.found c.if-not-remove.true in
     removal_answers a key span page read (Ok false) (λ some zero. absurd (let bad : true ≡ false = sym some ∙ has in cc)) (λ free. tt) (sym has) (λ some many. tt)
+    (λ is some one joined honest. absurd (let bad : true ≡ false = sym is ∙ has in cc))
 
 pub returns-then-self-eq0-clause-refused : goal.returns-then-self-eq0-clause-refused
 returns-then-self-eq0-clause-refused g c =
@@ -53,7 +58,7 @@ returns-then-self-eq0-clause-refused g c =
     let none : a.rows ≡ 0 = sym (ap (λ (v : TreeView). v.rows) (c.self.view_is ∙ same)) ∙ c.if-self-eq0.true in
     rw c.bad_count.ensures
     (removal_answers a key span page read (Err (Page 0 BadCount)) (λ has zero. refl) (λ free. absurd (let bad : true ≡ false = sym has ∙ free in cc)) tt
-    (λ some many. absurd (some none)))
+    (λ some many. absurd (some none)) (λ is some one joined honest. absurd (some none)))
 
 pub returns-then-self-eq0-clause-effect : goal.returns-then-self-eq0-clause-effect
 returns-then-self-eq0-clause-effect g c =
@@ -100,6 +105,9 @@ returns-in_err-settle-clause-refused g c =
     (no_answer c.from_residual-in_err-settle.result c.in_err-settle.field-0.0 _ c.from_residual-in_err-settle.ensures.1)
     (λ some many. passing_fault c.from_residual-in_err-settle.result c.in_err-settle.field-0.0 c.from_residual-in_err-settle.ensures.1
     (inr (c.in_err-settle.ensures.spare (rw (size, left) many))))
+    (λ is some one joined honest. fault_told c.from_residual-in_err-settle.result c.in_err-settle.field-0.0 (Page 0 BadCount) c.from_residual-in_err-settle.ensures.1
+    (c.in_err-settle.ensures.alone (subst (λ (v : TreeView). IsHonest v.store) (sym same) honest) (ap (λ (v : TreeView). region_count v) same ∙ one)
+    (subst (λ (v : TreeView). IsJoined v span (length c.remove.new.self.region.rows)) (sym same) (rw left joined))))
 
 pub returns-in_err-settle-clause-effect : goal.returns-in_err-settle-clause-effect
 returns-in_err-settle-clause-effect g c =
@@ -160,7 +168,11 @@ returns-clause-refused g c =
     let some = c.if-self-eq0.false in
     let counts = ap (λ (v : TreeView). v.rows) (c.self.view_is ∙ same) in
     let has : has_key a.schema.dims key page.region.rows ≡ true = has_told page.region.rows read.read.dims refl c.remove.ensures.found c.if-not-remove.false in
+    let left : c.remove.new.self.region.rows ≡ remove_row a.schema.dims key page.region.rows =
+    ap (λ (v : RegionView). v.region.rows) c.remove.ensures.rows ∙ ap (λ (d : ℕ). remove_row d key page.region.rows) read.read.dims in
     removal_answers a key span page read (Ok true) (λ has zero. absurd (omega arith)) (λ free. tt) (sym has) (λ some many. tt)
+    (λ is some one joined honest. absurd (c.in_ok-settle.ensures.alone (subst (λ (v : TreeView). IsHonest v.store) (sym same) honest) (ap (λ (v : TreeView). region_count v) same ∙ one)
+    (subst (λ (v : TreeView). IsJoined v span (length c.remove.new.self.region.rows)) (sym same) (rw left joined))))
 
 pub returns-clause-effect : goal.returns-clause-effect
 returns-clause-effect g c =
@@ -170,3 +182,32 @@ returns-clause-effect g c =
     let d_is : d ≡ record after { rows = after.rows - 1 } = ap (λ (v : TreeView). record v { rows = v.rows - 1 }) c.self-2.view_is in
     counted_anew {T = Unit {0}} {U = Bool} tt _ c.args.self.now after d (after.rows - 1) after.next d_is
     (then_changed {T = Unit {0}} _ c.args.self.now c.read_holding.new.self after c.in_ok-region.ensures.effect.same c.in_ok-settle.ensures.effect)
+
+pub returns-in_err-region-clause-put : goal.returns-in_err-region-clause-put
+returns-in_err-region-clause-put g c = no_answer c.from_residual.result c.in_err-region.field-0.0 _ c.from_residual.ensures.1
+
+pub returns-then-not-remove-clause-put : goal.returns-then-not-remove-clause-put
+returns-then-not-remove-clause-put g c = λ is. absurd (let bad : false ≡ true = is in cc)
+
+pub returns-then-self-eq0-clause-put : goal.returns-then-self-eq0-clause-put
+returns-then-self-eq0-clause-put g c = tt
+
+pub returns-in_err-settle-clause-put : goal.returns-in_err-settle-clause-put
+returns-in_err-settle-clause-put g c = no_answer c.from_residual-in_err-settle.result c.in_err-settle.field-0.0 _ c.from_residual-in_err-settle.ensures.1
+
+pub returns-clause-put : goal.returns-clause-put
+returns-clause-put g c = λ _.
+    let a = c.args.self.now in
+    let key = c.args.key.now in
+    let span = c.in_ok-region.region in
+    let page = c.read_holding.new.page in
+    let read = c.in_ok-region.ensures.read in
+    let same = c.in_ok-region.ensures.effect.same in
+    let u = c.self-2.inside in
+    let after = c.settle.new.self in
+    let d : TreeView = tree_view u.schema u.index u.count u.next (u.rows - 1) (is_written u.mark) u.is_failed u.pager in
+    let d_is : d ≡ record after { rows = after.rows - 1 } = ap (λ (v : TreeView). record v { rows = v.rows - 1 }) c.self-2.view_is in
+    let left : c.remove.new.self.region.rows ≡ remove_row a.schema.dims key page.region.rows =
+    ap (λ (v : RegionView). v.region.rows) c.remove.ensures.rows ∙ ap (λ (d : ℕ). remove_row d key page.region.rows) read.read.dims in
+    takes_row a after d key span page c.remove.new.self.region.rows (after.rows - 1) d_is read left
+    (subst (λ (v : TreeView). IsHonest v.store → LeavesRows span c.remove.new.self.region.rows v after) same c.in_ok-settle.ensures.put)

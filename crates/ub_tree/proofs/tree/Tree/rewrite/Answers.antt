@@ -1,10 +1,11 @@
-use Rattle.std.proofs.Common.{◌<◌, ◌^◌, ◌∙◌, ◌∷◌, [], true, Ok, Err, ap, subst, sym, refl, length, Bool, IsTrue}
+use Rattle.std.proofs.Common.{◌<◌, ◌^◌, ◌∙◌, ◌∷◌, [], true, Ok, Err, ap, subst, sym, refl, length, Bool, IsTrue, ℕ, List, Some}
 use Rattle.ub_region.specs.RegionPage.{region_page}
 use Rattle.ub_store.specs.Facts.{StoreFacts}
 use Rattle.ub_store.specs.declared.fault.StoreFault.{StoreFault}
 use Rattle.ub_table.specs.Region.{IsRegion}
 use Rattle.ub_table.specs.declared.row.Key.{Key}
 use Rattle.ub_tree.proofs.CallFacts.{last_small}
+use Rattle.ub_tree.proofs.EffectFacts.{mark_stays}
 use Rattle.ub_tree.proofs.PutFacts.{own_page, put_rows, told_there}
 use Rattle.ub_tree.proofs.ReadingFacts.{only_device, past_page}
 use Rattle.ub_tree.proofs.WriteFacts.{ended_by, marks_first, others_written, put_is, write_refused, wrote_tree}
@@ -90,3 +91,9 @@ invariant_of-self-in-Err g c =
     (written_checked t.index.last (region_page t.schema c.args.page.now.region ∷ []) t.pager c.put_region.new.pager (subst (λ (b : Bool). IsTrue b) (ap (λ (s : StoreFacts). s.honest) c.put_region.ensures.effect.same))
     (region_no_kind t.schema c.args.page.now.region is, tt) c.put_region.ensures.held)
     c.put_region.new.mark c.put_region.ensures.marks.stays
+
+pub returns-in-Ok-clause-put : goal.returns-in-Ok-clause-put
+returns-in-Ok-clause-put g c =
+    let t = c.self.inside in
+    let spells = ap (λ (k : Key). region_page t.schema (record { first = k; rows = c.args.page.now.region.rows })) c.requires.first in
+    rw (← c.self.view_is) (λ honest. c.in-Ok.ensures.put.written honest ∙ ap (λ (page : List ℕ). Some page) spells)

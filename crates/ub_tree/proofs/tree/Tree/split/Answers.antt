@@ -1,4 +1,4 @@
-use Rattle.std.proofs.Common.{◌≡◌, ◌≤◌, ◌+◌, ◌-◌, ◌∙◌, ℕ, Ok, ap, subst, sym, refl}
+use Rattle.std.proofs.Common.{◌≡◌, ◌≤◌, ◌+◌, ◌-◌, ◌∙◌, ℕ, Err, Ok, ap, arith, inl, inr, subst, sym, refl, ◌<◌, ◌^◌}
 use Rattle.ub_store.specs.Facts.{StoreFacts, IsHonest, page_count}
 use Rattle.ub_index_change.specs.Making.{changed}
 use Rattle.ub_index.specs.View.{IndexView}
@@ -8,14 +8,20 @@ use Rattle.ub_table.specs.declared.row.Key.{Key}
 use Rattle.ub_table.specs.declared.schema.Schema.{Schema}
 use Rattle.ub_tree.proofs.AddFacts.{parts_stored}
 use Rattle.ub_tree.proofs.RoomFacts.{ready_for}
-use Rattle.ub_tree.proofs.EffectFacts.{ready_by}
-use Rattle.ub_tree.proofs.PartFacts.{halves_refused, index_refused, parts_at, parts_effect, unready_answers}
+use Rattle.ub_tree.proofs.EffectFacts.{ready_by, refused_none, unchanged}
+use Rattle.ub_tree.proofs.PartFacts.{growth_refused, growth_short, halves_refused, index_refused, indexed_short, parted_answers, parts_at, parts_effect, unparted_answers, unready_answers, written_short}
 use Rattle.ub_tree.specs.Tree.{placed_in, tree_view}
-use Rattle.ub_tree.specs.View.{TreeView}
-use Rattle.ub_tree.specs.inner.Change.{GrowsTo}
+use Rattle.ub_table.specs.declared.fault.PageFault.TheVariants.{BadCount}
+use Rattle.ub_tree.specs.View.{TreeView, region_count}
+use Rattle.ub_tree.specs.declared.fault.TreeFault.{TreeFault}
+use Rattle.ub_tree.specs.declared.fault.TreeFault.TheVariants.{Page}
+use Rattle.ub_tree.specs.inner.Change.{GrowsTo, IsGrowthLeft, IsIndexFault, IsWriteFault}
 use Rattle.ub_index.proofs.LeadFacts.{ways_hold}
 use Rattle.ub_index_change.specs.Changing.{AreIndexPages}
+use Rattle.ub_table.specs.Region.{IsRegion}
 use Rattle.ub_writing.specs.Marks.{is_written}
+use Rattle.ub_tree.proofs.CallFacts.{last_small}
+use Rattle.ub_tree.proofs.StandFacts.{halves_stand}
 use Rattle.ub_tree.proofs.tree.Tree.split.Goals as goal
 
 pub returns-in_err-change-clause-counted : goal.returns-in_err-change-clause-counted
@@ -121,3 +127,34 @@ put_index-requires g c = λ honest.
     ap (λ (v : TreeView). v.inner.index.last) c.in_ok-put_halves.ensures.same ∙ ap (λ (v : TreeView). v.inner.index.last) grew.frame in
     subst (λ (n : ℕ). AreIndexPages n c.in_ok-change.change.sheets) (sym last)
     ((ready_for c.first.ensures c.in_ok-change.ensures.ready).pages was (record { holds = holds.1; from = told.falls.from; to = told.falls.to; way = λ _. holds.2 c.args.region.now.first holds.1 }) c.requires.within)
+
+pub returns-clause-halves : goal.returns-clause-halves
+returns-clause-halves g c = λ honest.
+    let change = c.in_ok-change.change in
+    let u = c.self-2.inside in
+    let t = c.self.inside in
+    let a = c.args.self.now in
+    let n = c.put_index.new.self in
+    let h = c.put_halves.new.self in
+    let d : TreeView = tree_view u.schema u.index (u.count + 1) u.next u.rows (is_written u.mark) u.is_failed u.pager in
+    let grew = subst (λ (v : TreeView). GrowsTo {A = Unit {0}} (page_count v.store + (change.next - change.start)) v c.grow.new.self (Ok tt)) c.in_ok-change.ensures.effect.same c.in_ok-grow.ensures in
+    let small = subst (λ n. n < 2 ^ 128) (sym c.self.invariant.last_is) (last_small t.schema.dims t.schema.counts.few_dims) in
+    let near = subst (λ (v : TreeView). v.inner.index.last < 2 ^ 128) c.self.view_is small in
+    let honest_g = ap (λ (v : TreeView). v.store.honest) grew.frame ∙ honest in
+    let honest_h = ap (λ (v : TreeView). v.store.honest) c.in_ok-put_halves.ensures.effect.frame ∙ honest_g in
+    let d_is = ap (λ (v : TreeView). record v { inner = record v.inner { count = v.inner.count + 1 } }) c.self-2.view_is in
+    halves_stand a c.grow.new.self h n c.args.region.now c.requires.there c.args.right.now.region.first change c.page.result near (ready_for c.first.ensures c.in_ok-change.ensures.ready) c.page.ensures
+    c.args.left.now.region c.args.right.now.region c.in_ok-put_halves.ensures.put c.in_ok-put_index.ensures.kept honest honest_g honest_h d (ap (λ (v : TreeView). v.store) d_is)
+    (ap (λ (v : TreeView). v.schema) d_is ∙ ap (λ (v : TreeView). v.schema) c.in_ok-put_index.ensures.now ∙ ap (λ (v : TreeView). v.schema) c.in_ok-put_halves.ensures.same) c.requires.first
+
+pub returns-in_err-change-clause-halves : goal.returns-in_err-change-clause-halves
+returns-in_err-change-clause-halves g c = refused_none _ c.from_residual.result c.in_err-change.field-0.0 c.from_residual.ensures.1
+
+pub returns-in_err-grow-clause-halves : goal.returns-in_err-grow-clause-halves
+returns-in_err-grow-clause-halves g c = refused_none _ c.from_residual-in_err-grow.result c.in_err-grow.field-0.0 c.from_residual-in_err-grow.ensures.1
+
+pub returns-in_err-put_halves-clause-halves : goal.returns-in_err-put_halves-clause-halves
+returns-in_err-put_halves-clause-halves g c = refused_none _ c.from_residual-in_err-put_halves.result c.in_err-put_halves.field-0.0 c.from_residual-in_err-put_halves.ensures.1
+
+pub returns-in_err-put_index-clause-halves : goal.returns-in_err-put_index-clause-halves
+returns-in_err-put_index-clause-halves g c = refused_none _ c.from_residual-in_err-put_index.result c.in_err-put_index.field-0.0 c.from_residual-in_err-put_index.ensures.1

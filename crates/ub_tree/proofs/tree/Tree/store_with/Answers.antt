@@ -1,21 +1,26 @@
 use Rattle.std.proofs.Common.{◌≡◌, ◌<◌, ◌≤◌, ◌∙◌, [], ◌∷◌, ℕ, List, OnOk, true, nat_le, ap, subst, sym, length, arith, false, refl, ◌+◌}
 use Rattle.std.proofs.lemmas.Bool.{le-leb, lt-leb}
 use Rattle.std.proofs.lemmas.List.Edits.{length-insert}
-use Rattle.ub_region.specs.Rows.{Halves}
+use Rattle.ub_index_change.specs.Preparing.{IsWithinRegion}
+use Rattle.ub_region.specs.Rows.{Halves, split}
 use Rattle.std.proofs.lemmas.List.{length-map}
 use Rattle.std.specs.List.{insert}
 use Rattle.ub_region.specs.RegionPage.{RegionView}
 use Rattle.ub_region.proofs.Laws.{length-insert_row}
 use Rattle.ub_region.specs.Rows.{insert_row}
+use Rattle.ub_table.specs.Keys.{AreKeysAscending}
 use Rattle.ub_table.specs.Region.{IsRegion, RegionRows, key_of, keys_of}
 use Rattle.ub_table.specs.declared.row.Key.{Key}
 use Rattle.ub_table.specs.declared.row.Row.{Row}
 use Rattle.ub_tree.proofs.EffectFacts.{changed_by}
 use Rattle.ub_tree.proofs.FilledFacts.{writes_grown}
-use Rattle.ub_tree.proofs.GrowFacts.{one_stored, same_split, two_stored}
+use Rattle.ub_tree.proofs.GrowFacts.{filled_answers, one_stored, put_at, same_split, spared_answers, two_stored}
 use Rattle.ub_tree.proofs.RoomFacts.{one_stands, two_stand}
 use Rattle.ub_tree.specs.View.{TreeView}
-use Rattle.ub_tree.specs.inner.Change.{CanStand, IsStored, StoresRows, placed_with}
+use Rattle.ub_tree.specs.inner.Change.{CanStand, IsStored, StoresAt, StoresRows, placed_with}
+use Rattle.ub_store.specs.Facts.{IsHonest, page_count}
+use Rattle.ub_tree.proofs.StandFacts.{stand_alone, stand_halved}
+use Rattle.ub_tree.specs.Pages.{Spells, SpellsHalves}
 use Rattle.ub_tree.proofs.tree.Tree.store_with.Goals as goal
 
 pub returns-clause-effect : goal.returns-clause-effect
@@ -92,3 +97,31 @@ rewrite-requires-clause-region g c =
     let more = length-insert_row b.schema.dims row rows in
     let rows_are : c.insert_at.new.self.region.rows ≡ new = ap (λ (v : RegionView). v.region.rows) c.insert_at.ensures ∙ sym made in
     subst (λ (rs : List Row). IsRegion b.schema (record { first = c.args.region.now.first; rows = rs })) (sym rows_are) (one_stands b c.args.region.now new c.requires.rows (omega arith))
+
+pub returns-clause-put : goal.returns-clause-put
+returns-clause-put g c =
+    let b = c.args.self.now in
+    let row = c.args.row.now in
+    let span = c.args.region.now in
+    let rows = c.args.room.now.region.region.rows in
+    let new = insert_row b.schema.dims row rows in
+    let keys = c.keys.ensures.keys ∙ ap (λ (d : ℕ). keys_of d rows) c.requires.read.dims in
+    let made : new ≡ insert rows c.index_in-index.result row = c.index_in-index.ensures.index b.schema.dims row rows keys c.requires.key in
+    let same = c.page_rows.ensures.page_rows ∙ ap (λ (v : TreeView). v.schema.page_rows) c.self.view_is in
+    let rows_are : c.insert_at.new.self.region.rows ≡ new = ap (λ (v : RegionView). v.region.rows) c.insert_at.ensures ∙ sym made in
+    stand_alone c.rewrite.result span (length rows) new b c.rewrite.new.self (λ full. c.if-len-page_rows.false (c.len.ensures.len ∙ full ∙ sym same))
+    (subst (λ (rs : List Row). OnOk c.rewrite.result (IsHonest b.store → Spells c.rewrite.new.self span.page span.first rs)) rows_are c.rewrite.ensures.put)
+
+pub returns-then-len-page_rows-clause-put : goal.returns-then-len-page_rows-clause-put
+returns-then-len-page_rows-clause-put g c =
+    let b = c.args.self.now in
+    let row = c.args.row.now in
+    let span = c.args.region.now in
+    let before = c.args.room.now.region.region.rows in
+    let keys = c.keys.ensures.keys ∙ ap (λ (d : ℕ). keys_of d before) c.requires.read.dims in
+    let made = c.index_in-index.ensures.index b.schema.dims row before keys c.requires.key in
+    let rows = insert before c.index_in-index.result row in
+    let full = sym c.len.ensures.len ∙ c.if-len-page_rows.true ∙ c.page_rows.ensures.page_rows ∙ ap (λ (v : TreeView). v.schema.page_rows) c.self.view_is in
+    let halves = rw (c.split_with.ensures.left, c.split_with.ensures.right, c.requires.read.dims, full) at c.split.ensures.halves in
+    stand_halved c.split.result span (length before) (insert_row b.schema.dims row before) b c.split.new.self full
+    (subst (λ (rs : List Row). OnOk c.split.result (IsHonest b.store → SpellsHalves c.split.new.self span.page (page_count b.store) span.first (split b.schema.dims b.schema.page_rows rs))) (sym made) halves)

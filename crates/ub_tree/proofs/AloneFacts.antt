@@ -1,0 +1,128 @@
+-- Where a region would be joined with one beside it: what the regions beside one answer, over an honest store.
+use Rattle.std.proofs.Common.{◌≡◌, ◌<◌, ◌≤◌, ◌+◌, ◌/◌, ◌^◌, inl, inr, ℕ, true, false, Option, Some, None, Result, Err, IfSome, MatchResult, length, nat_le, nat_lt, ◌∙◌, sym, ap, subst, refl, arith}
+use Rattle.std.proofs.lemmas.Bool.{leb-false, ltb-false}
+use Rattle.std.specs.Result.{IsErrAnd}
+use Rattle.ub_index.proofs.LeadFacts.{one_given}
+use Rattle.ub_index.specs.Searching.{GivesAny, IsWayFault, key_before}
+use Rattle.ub_index.specs.View.{IndexView}
+use Rattle.ub_index.specs.declared.fault.IndexFault.{IndexFault}
+use Rattle.ub_index.specs.declared.fault.IndexFault.TheVariants as index
+use Rattle.ub_region.specs.declared.region.Region.{Region}
+use Rattle.ub_store.specs.Facts.{StoreFacts, IsHonest}
+use Rattle.ub_store.specs.declared.fault.StoreFault.TheVariants as store
+use Rattle.ub_table.specs.Region.{RegionRows}
+use Rattle.ub_table.specs.declared.row.Key.{Key}
+use Rattle.ub_tree.proofs.CallFacts.{way_passing}
+use Rattle.ub_tree.proofs.HoldingFacts.{passing_by}
+use Rattle.ub_tree.specs.Effects.{IsTakenIn}
+use Rattle.ub_tree.specs.Faults.{index_fault}
+use Rattle.ub_tree.specs.Holding.{Answers, CanFallInto, HasRoomAt, IsJoined}
+use Rattle.ub_tree.specs.Opened.{IsPassing}
+use Rattle.ub_tree.specs.View.{TreeView}
+use Rattle.ub_tree.specs.declared.fault.TreeFault.{TreeFault}
+
+-- one region is given for a key, and none for none
+pub any_given : (i : IndexView) (facts : StoreFacts) (sought : Option Key) (a b : Option Region) → IsHonest facts → GivesAny i facts sought a → GivesAny i facts sought b → a ≡ b
+any_given i facts None a b honest ga gb = ga ∙ sym gb
+any_given i facts (Some key) None b honest ga gb = absurd ga
+any_given i facts (Some key) (Some x) None honest ga gb = absurd gb
+any_given i facts (Some key) (Some x) (Some y) honest ga gb = ap (λ (r : Region). Some r) (one_given i facts key x y honest ga gb)
+
+some_key : (a b : Key) → Some a ≡ Some b → b ≡ a
+some_key a b h = cc
+
+none_key : (k : Key) → None ≡ Some k → ⊥
+none_key k h = cc
+
+same_way : (i : IndexView) (facts : StoreFacts) (key : Key) (e : IndexFault) → IsWayFault i facts (λ k. Some key ≡ Some k) e → IsWayFault i facts (λ k. k ≡ key) e
+same_way i facts key (index.Page n fault) h = λ honest. let w = h honest in (w.0, some_key key w.0 w.1, w.2)
+same_way i facts key index.Full h = h
+same_way i facts key (index.Store store.Memory) h = h
+same_way i facts key (index.Store store.Device) h = h
+same_way i facts key (index.Store store.BadSize) h = h
+same_way i facts key (index.Store store.NoPage) h = (h.0, h.1, λ honest. let w = h.2 honest in (w.0, some_key key w.0 w.1, w.2))
+
+no_way : (i : IndexView) (facts : StoreFacts) → IsHonest facts → (e : IndexFault) → IsWayFault i facts (λ k. None ≡ Some k) e → IsPassing (index_fault e)
+no_way i facts honest (index.Page n fault) h = let w = h honest in absurd (none_key w.0 w.1)
+no_way i facts honest index.Full h = absurd h
+no_way i facts honest (index.Store store.Memory) h = inl refl
+no_way i facts honest (index.Store store.Device) h = inr refl
+no_way i facts honest (index.Store store.BadSize) h = absurd h
+no_way i facts honest (index.Store store.NoPage) h = let w = h.2 honest in absurd (none_key w.0 w.1)
+
+-- a search to a key that there may be fails in passing alone, where its way leads somewhere
+pub any_passing : (i : IndexView) (facts : StoreFacts) (sought : Option Key) (told : Option Region) → i.last < 2 ^ 128 → IsHonest facts → GivesAny i facts sought told
+    → (e : IndexFault) → IsWayFault i facts (λ k. sought ≡ Some k) e → IsPassing (index_fault e)
+any_passing i facts None told small honest given e h = no_way i facts honest e h
+any_passing i facts (Some key) None small honest given e h = absurd given
+any_passing i facts (Some key) (Some span) small honest given e h = way_passing i facts key span small honest given e (same_way i facts key e h)
+
+pub any_refused : (i : IndexView) (facts : StoreFacts) (sought : Option Key) (told : Option Region) (r : Result (Option Region) TreeFault) (e : IndexFault) → i.last < 2 ^ 128 → IsHonest facts
+    → GivesAny i facts sought told → IsErrAnd r (λ x. x ≡ index_fault e) → IsWayFault i facts (λ k. sought ≡ Some k) e → MatchResult r (λ found. found ≡ told) IsPassing
+any_refused i facts sought told r e small honest given is h = passing_by r (index_fault e) (λ found. found ≡ told) is (any_passing i facts sought told small honest given e h)
+
+-- a region that may be given is taken in, if it is
+abbrev pub IsTold : TreeView → Option Key → Option Region → Type 0
+IsTold t sought told = GivesAny t.inner.index t.store sought told × IfSome told (λ span. (region : RegionRows) × IsTakenIn t span region)
+
+pub told_any : (t : TreeView) (sought : Option Key) → CanFallInto t sought → (told : Option Region) × IsTold t sought told
+told_any t None can = (None, (refl, tt))
+told_any t (Some key) can = let into = can.2 in (Some into.span, (into.falls, (can.1, into.taken)))
+
+pub room_any : (t : TreeView) (sought : Option Key) (count : ℕ) → HasRoomAt t sought count → CanFallInto t sought
+room_any t sought count room = subst (CanFallInto t) (sym room.1) (room.2, room.3, room.4)
+
+-- the region where there is room, which was told otherwise
+pub room_taken : (t : TreeView) (sought : Option Key) (count : ℕ) (span : Region) → IsHonest t.store → HasRoomAt t sought count
+    → ((told : Option Region) → GivesAny t.inner.index t.store sought told → Some span ≡ told) → (region : RegionRows) × IsTakenIn t span region × (count + length region.rows ≤ t.schema.page_rows)
+room_taken t sought count span honest room found =
+    let into = room.4 in
+    let same : Some span ≡ Some into.span = found (Some into.span) (subst (λ (o : Option Key). GivesAny t.inner.index t.store o (Some into.span)) (sym room.1) into.falls) in
+    (room.3, subst (λ (s : Region). IsTakenIn t s room.3) (some_span into.span span (sym same)) into.taken, room.5)
+  where
+    some_span : (a b : Region) → Some a ≡ Some b → a ≡ b
+    some_span a b h = cc
+
+-- there is a region where there is room
+pub room_some : (t : TreeView) (sought : Option Key) (count : ℕ) → HasRoomAt t sought count → ((told : Option Region) → GivesAny t.inner.index t.store sought told → None ≡ told) → ⊥
+room_some t sought count room found =
+    let into = room.4 in
+    none_span into.span (found (Some into.span) (subst (λ (o : Option Key). GivesAny t.inner.index t.store o (Some into.span)) (sym room.1) into.falls))
+  where
+    none_span : (s : Region) → None ≡ Some s → ⊥
+    none_span s h = cc
+
+-- a region is read that may be given
+pub told_taken : (t : TreeView) (sought : Option Key) (span : Region) → CanFallInto t sought → ((told : Option Region) → GivesAny t.inner.index t.store sought told → Some span ≡ told)
+    → (region : RegionRows) × IsTakenIn t span region
+told_taken t sought span can found =
+    let any = told_any t sought can in
+    let both = any.1 in
+    subst (λ (o : Option Region). IfSome o (λ span. (region : RegionRows) × IsTakenIn t span region)) (sym (found any.0 both.0)) both.1
+
+-- rows that fit are joined
+pub no_fit : (a b : ℕ) {told size : ℕ} → told ≡ size → nat_le (a + b) told ≡ false → a + b ≤ size → ⊥
+no_fit a b {told} {size} same over fit = let more = leb-false (a + b) told over in omega arith
+
+pub are_few : {rows told size : ℕ} → told ≡ size → nat_lt rows (told / 2) ≡ false → rows < size / 2 → ⊥
+are_few {rows} {told} {size} same large few = let more = ltb-false rows (told / 2) large in let alike : told / 2 ≡ size / 2 = ap (λ n. n / 2) same in omega (arith, more, alike, few)
+
+pub told_answers : {A : Type 0} (r : Result A TreeFault) (told : TreeFault) → r ≡ Err told → Answers r told
+told_answers r told is = subst (λ (x : Result _ TreeFault). Answers x told) (sym is) (inl refl)
+
+pub none_some : false ≡ true → ⊥
+none_some h = cc
+
+-- what is left of a region is joined: the next one is read, and where that isn't joined the one before has room
+module _ (t : TreeView) (span : Region) (left : ℕ) (joined : IsJoined t span left) where
+  pub next_can : CanFallInto t span.next
+  next_can = elim joined.1 [
+    | inl room ↦ room_any t span.next left room
+    | inr before ↦ before.0
+  ]
+
+  pub before_room : (HasRoomAt t span.next left → ⊥) → HasRoomAt t (key_before span.first.z span.first.number) left
+  before_room none = elim joined.1 [
+    | inl room ↦ absurd (none room)
+    | inr before ↦ before.1
+  ]

@@ -1,0 +1,48 @@
+-- What stands on the pages of regions once a row was put into any tree, or taken out of it, over an honest store.
+use Rattle.std.specs.Prelude.{◌≡◌, ◌<◌, ◌+◌, ◌++◌, ◌⊎◌, ℕ, List, Option, Some, length, slice_get}
+use Rattle.ub_index.specs.Searching.{key_before}
+use Rattle.ub_region.specs.RegionPage.{region_page}
+use Rattle.ub_region.specs.Rows.{Halves, insert_row, remove_row, split}
+use Rattle.ub_store.specs.Facts.{IsHonest, page_count}
+use Rattle.ub_table.specs.Region.{RegionRows, key_of}
+use Rattle.ub_table.specs.declared.row.Key.{Key}
+use Rattle.ub_table.specs.declared.row.Row.{Row}
+use Rattle.ub_tree.specs.Holding.{FallsInto}
+use Rattle.ub_tree.specs.Spans.{Region}
+use Rattle.ub_tree.specs.View.{TreeView, region_count}
+
+-- the page of this number spells the region of these rows that begins with this key
+abbrev pub Spells : TreeView → ℕ → Key → List Row → Type 0
+Spells t page first rows = slice_get t.store.pages page ≡ Some (region_page t.schema (record { first = first; rows = rows }))
+
+-- two pages spell the halves of a region that begins with this key
+abbrev pub SpellsHalves : TreeView → ℕ → ℕ → Key → Halves → Type 0
+SpellsHalves t page other first halves = Spells t page first halves.left × Spells t other halves.first halves.right
+
+-- a row was put in among those of the region that its key falls into: the key falls into the region with that row then, on the same
+-- page; or where that was full, its halves stand on its page, and on the first one that the store hadn't
+pub record PutsRow (row : Row) (old new : TreeView) : Type 0 where
+  pub alone : (page : ℕ) (region : RegionRows) → IsHonest old.store → FallsInto old (key_of old.schema.dims row) page region → length region.rows < old.schema.page_rows
+      → FallsInto new (key_of old.schema.dims row) page (record { first = region.first; rows = insert_row old.schema.dims row region.rows })
+  pub halved : (page : ℕ) (region : RegionRows) → IsHonest old.store → FallsInto old (key_of old.schema.dims row) page region → length region.rows ≡ old.schema.page_rows
+      → SpellsHalves new page (page_count old.store) region.first (split old.schema.dims old.schema.page_rows (insert_row old.schema.dims row region.rows))
+
+-- there is such a key, and it falls into this region
+abbrev pub FallsAt : TreeView → Option Key → ℕ → RegionRows → Type 0
+FallsAt t sought page region = (key : Key) × (sought ≡ Some key) × FallsInto t key page region
+
+-- these rows are left of a region: they stand on its page then, and as many regions are counted; or one fewer, and they stand there with
+-- those of the next region behind them, or with those of the one before in front of them, on that one's page
+abbrev pub LeavesRows : Region → List Row → TreeView → TreeView → Type 0
+LeavesRows span rows old new =
+    ((region_count new ≡ region_count old) × Spells new span.page span.first rows)
+    ⊎ ((region_count old ≡ region_count new + 1)
+    × (page : ℕ) × (other : RegionRows)
+    × ((FallsAt old span.next page other × Spells new span.page span.first (rows ++ other.rows))
+    ⊎ (FallsAt old (key_before span.first.z span.first.number) page other × Spells new page other.first (other.rows ++ rows))))
+
+-- a row was taken out of the region that its key falls into: all its other rows stand where `LeavesRows` says
+abbrev pub TakesRow : Key → TreeView → TreeView → Type 0
+TakesRow key old new =
+    (page : ℕ) (region : RegionRows) → IsHonest old.store → (into : FallsInto old key page region)
+    → LeavesRows into.span (remove_row old.schema.dims key region.rows) old new
