@@ -1,26 +1,14 @@
 use Rattle.std.proofs.Common.{◌≡◌, ◌∙◌, Bool, List, ℕ, Ok, inl, inr, ap, refl, subst, sym}
 use Rattle.std.proofs.lemmas.Bool.{cases_Bool, true≢false}
 use Rattle.ub_store.specs.Facts.{IsHonest}
-use Rattle.ub_index.specs.Descending.{IsForgotten}
 use Rattle.ub_index.specs.Held.{AreChecked, WasChecked}
-use Rattle.ub_index.specs.declared.fault.IndexFault.TheVariants.{Store}
 use Rattle.ub_page.specs.Index.{head_on}
 use Rattle.ub_index.specs.Fitting.{FitsAtEnds}
 use Rattle.ub_index.specs.Index.{IsIndexPage}
 use Rattle.ub_index.proofs.FitFacts.{is_refused, same_page}
 use Rattle.ub_index.proofs.HeldFacts.{keeps_but, keeps_gone, more_but, more_gone}
-use Rattle.ub_index.proofs.StepFacts.{bring_refused, forgets, held_once, honest_back, if_err, names_fitting, none_ok, same_honest, stepped_down}
+use Rattle.ub_index.proofs.StepFacts.{forgets, held_once, honest_back, names_fitting, same_honest, stepped_down}
 use Rattle.ub_index.proofs.descent.bring_next.Goals as goal
-
-pub returns-in_err-is_read : goal.returns-in_err-is_read
-returns-in_err-is_read g c = record {
-  cached = none_ok _ c.from_residual.result _ c.from_residual.ensures.1;
-  ends = none_ok _ c.from_residual.result _ c.from_residual.ensures.1;
-  named = λ honest sure. none_ok _ c.from_residual.result _ c.from_residual.ensures.1;
-  forgotten = if_err (IsForgotten c.bring.new.self) c.from_residual.result (Store c.in_err-is_read.field-0.0) c.from_residual.ensures.1 tt;
-  steps = bring_refused c.args.last c.args.level c.args.place.now.entry c.args.place.now.next c.args.pager.now c.bring.new.self c.from_residual.result c.in_err-is_read.field-0.0
-      c.from_residual.ensures.1 c.in_err-is_read.ensures.effect c.in_err-is_read.ensures.trace c.in_err-is_read.ensures.missed c.in_err-is_read.ensures.missing c.in_err-is_read.ensures.no_size;
-}
 
 pub returns-in-Ok : goal.returns-in-Ok
 returns-in-Ok g c =

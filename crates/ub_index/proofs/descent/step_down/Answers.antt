@@ -1,17 +1,7 @@
-use Rattle.std.proofs.Common.{◌≤◌, ap, subst, sym}
+use Rattle.std.proofs.Common.{◌≤◌, subst, sym}
 use Rattle.ub_page.specs.declared.index.Head.{Head}
-use Rattle.ub_store.specs.View.{PagerView}
 use Rattle.ub_index.proofs.BehindFacts.{below_holds}
-use Rattle.ub_index.proofs.FitFacts.{falls_there}
-use Rattle.ub_index.specs.Descending.{IsForgotten}
-use Rattle.ub_index.proofs.StepFacts.{if_err, none_ok, page_now, refused_step, stepped_as}
 use Rattle.ub_index.proofs.descent.step_down.Goals as goal
-
-pub cached-page-requires : goal.cached-page-requires
-cached-page-requires g c = c.in_ok-head.ensures.cached
-
-pub fall-requires-clause-count : goal.fall-requires-clause-count
-fall-requires-clause-count g c = ap (λ (h : Head). h.count) (c.in_ok-head.ensures.ends c.cached-page.result.now c.cached-page.ensures.held).0
 
 pub fall-requires-clause-some : goal.fall-requires-clause-some
 fall-requires-clause-some g c =
@@ -27,30 +17,3 @@ pub returns-clause-holds : goal.returns-clause-holds
 returns-clause-holds g c =
     below_holds c.cached-page.result.now c.args.level c.args.key.now c.args.place.now.entry c.args.place.now.next c.fall.result.entry c.fall.result.next
     (c.in_ok-head.ensures.ends c.cached-page.result.now c.cached-page.ensures.held).1 c.requires c.fall.ensures
-
-pub returns-clause-below : goal.returns-clause-below
-returns-clause-below g c = λ honest sure. record {
-  named = c.in_ok-head.ensures.named honest sure;
-  falls = falls_there c.args.pager.now.store.pages c.args.place.now.entry.page c.cached-page.result.now c.args.key.now c.args.place.now.next c.fall.result.next c.fall.result.entry
-      (page_now c.args.pager.now c.bring_next.new.pager c.args.place.now.entry.page c.cached-page.result.now (ap (λ (p : PagerView). p.store) c.in_ok-head.ensures.steps.same)
-      c.cached-page.ensures.page honest) c.fall.ensures;
-}
-
-pub returns-clause-effect : goal.returns-clause-effect
-returns-clause-effect g c =
-    stepped_as c.args.last c.args.level c.args.place.now.entry c.args.place.now.next c.args.pager.now c.bring_next.new.pager c.in_ok-head.head c.fall.result c.in_ok-head.ensures.steps
-
-pub returns-in_err-head-clause-holds : goal.returns-in_err-head-clause-holds
-returns-in_err-head-clause-holds g c = none_ok _ c.from_residual.result _ c.from_residual.ensures.1
-
-pub returns-in_err-head-clause-below : goal.returns-in_err-head-clause-below
-returns-in_err-head-clause-below g c = λ honest sure. none_ok _ c.from_residual.result _ c.from_residual.ensures.1
-
-pub returns-in_err-head-clause-forgotten : goal.returns-in_err-head-clause-forgotten
-returns-in_err-head-clause-forgotten g c =
-    if_err (IsForgotten c.bring_next.new.pager) c.from_residual.result c.in_err-head.field-0.0 c.from_residual.ensures.1 c.in_err-head.ensures.forgotten
-
-pub returns-in_err-head-clause-effect : goal.returns-in_err-head-clause-effect
-returns-in_err-head-clause-effect g c =
-    refused_step c.args.last c.args.level c.args.place.now.entry c.args.place.now.next c.args.pager.now c.bring_next.new.pager c.from_residual.result c.in_err-head.field-0.0
-    c.from_residual.ensures.1 c.in_err-head.ensures.steps

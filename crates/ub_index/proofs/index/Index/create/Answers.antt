@@ -1,4 +1,4 @@
-use Rattle.std.proofs.Common.{◌≡◌, List, ℕ, ap, arith, inl, inr, rules, subst, sym}
+use Rattle.std.proofs.Common.{◌≡◌, List, ℕ, ap, arith, inl, rules, subst, sym}
 use Rattle.ub_index.specs.Opening.{IsAlone, root_page}
 use Rattle.ub_index.specs.View.{IndexView}
 use Rattle.ub_index.specs.Index.{IsIndexPage}
@@ -19,10 +19,3 @@ returns-clause-checked g c = λ some.
     put_checked c.args.last c.args.root c.page.result.now c.args.pager.now c.put.new.self (ap (λ (s : StoreFacts). s.honest) c.in_ok-put.ensures.effect.frame)
     (subst (λ (p : List ℕ). IsIndexPage c.args.last p) (sym page_is) (root_page_is c.args.last c.args.page (omega arith) some (omega arith)))
     (inl c.in_ok-put.ensures.renewed) c.in_ok-put.ensures.others
-
-pub returns-in_err-put-clause-checked : goal.returns-in_err-put-clause-checked
-returns-in_err-put-clause-checked g c = λ some.
-    let page_is : c.page.result.now ≡ root_page c.args.page = search rules in
-    put_checked c.args.last c.args.root c.page.result.now c.args.pager.now c.put.new.self (ap (λ (s : StoreFacts). s.honest) c.in_err-put.ensures.effect.frame)
-    (subst (λ (p : List ℕ). IsIndexPage c.args.last p) (sym page_is) (root_page_is c.args.last c.args.page (omega arith) some (omega arith)))
-    (inr c.in_err-put.ensures.forgotten) c.in_err-put.ensures.others

@@ -2,7 +2,7 @@ use Rattle.std.proofs.Common.{◌≡◌, ◌∙◌, ℕ, None, Some, Option, Err
 use Rattle.ub_store.specs.Facts.{StoreFacts}
 use Rattle.ub_store.specs.View.{PagerView}
 use Rattle.ub_table.specs.declared.row.Key.{Key}
-use Rattle.ub_index.specs.Descending.{FindsAfter, IsForgotten, LooksAt}
+use Rattle.ub_index.specs.Descending.{FindsAfter, LooksAt}
 use Rattle.ub_index.specs.Held.{AreChecked}
 use Rattle.ub_index.specs.Searching.{Aims, Gives, GoesDown, IsSought}
 use Rattle.ub_index.specs.Spans.{region_of}
@@ -11,9 +11,8 @@ use Rattle.ub_index.specs.declared.descent.Found.{Found}
 use Rattle.ub_index.specs.declared.descent.Leaf.{Leaf}
 use Rattle.ub_region.specs.declared.region.Region.{Region}
 use Rattle.ub_index.proofs.BehindFacts.{beyond_found, beyond_sought, here_found, nothing_found}
-use Rattle.ub_index.proofs.HeldFacts.{all_kept, both_on, Keeps}
-use Rattle.ub_index.proofs.SearchFacts.{answered, down_keeps, search_refused, step_keeps, step_refused}
-use Rattle.ub_index.proofs.StepFacts.{if_err, none_ok}
+use Rattle.ub_index.proofs.HeldFacts.{both_on, Keeps}
+use Rattle.ub_index.proofs.SearchFacts.{down_keeps, search_refused, step_keeps, step_refused}
 use Rattle.ub_index.proofs.index.Index.region_behind.Goals as goal
 
 -- what is looked at on the pages of a store that is the same
@@ -89,77 +88,3 @@ returns-in_err-region_holding-in-Beyond-clause-effect g c =
     (λ sure k is. subst (λ (x : Key). IsSought (index_view c.self.inside.root c.self.inside.levels c.self.inside.last) c.args.pager.now.store (Aims c.args.goal.now) (Some c.args.region.now) x) (sym is) (sought sure))
     (stores_too ∙ stores) (traces_too ∙ traces) kept
     c.from_residual-in_err-region_holding-in-Beyond.result c.in_err-region_holding-in-Beyond.field-0.0 c.from_residual-in_err-region_holding-in-Beyond.ensures.1 effect)
-
-pub returns-in_err-leaf-clause-found : goal.returns-in_err-leaf-clause-found
-returns-in_err-leaf-clause-found g c = λ sure. none_ok _ c.from_residual.result _ c.from_residual.ensures.1
-
-pub returns-in_err-leaf-clause-forgotten : goal.returns-in_err-leaf-clause-forgotten
-returns-in_err-leaf-clause-forgotten g c = if_err (IsForgotten c.leaf_of.new.pager) c.from_residual.result c.in_err-leaf.field-0.0 c.from_residual.ensures.1 c.in_err-leaf.ensures.forgotten
-
-pub returns-in_err-leaf-clause-effect : goal.returns-in_err-leaf-clause-effect
-returns-in_err-leaf-clause-effect g c =
-    subst (λ (v : IndexView). GoesDown (IsSought v c.args.pager.now.store (Aims c.args.goal.now) (Some c.args.region.now)) v c.args.pager.now c.leaf_of.new.pager c.from_residual.result) c.self.view_is
-    (search_refused (Option (Key × Region)) Leaf (λ (k : Key). k ≡ c.args.region.now.first)
-    (IsSought (index_view c.self.inside.root c.self.inside.levels c.self.inside.last) c.args.pager.now.store (Aims c.args.goal.now) (Some c.args.region.now))
-    (index_view c.self.inside.root c.self.inside.levels c.self.inside.last) c.args.pager.now c.args.pager.now c.leaf_of.new.pager
-    (λ sure k is. inl (c.args.region.now, refl, is)) refl refl
-    (all_kept c.self.inside.last c.args.pager.now) c.from_residual.result c.in_err-leaf.field-0.0 c.from_residual.ensures.1 c.in_err-leaf.ensures.effect)
-
-pub returns-in_err-look-clause-found : goal.returns-in_err-look-clause-found
-returns-in_err-look-clause-found g c = λ sure. none_ok _ c.from_residual-in_err-look.result _ c.from_residual-in_err-look.ensures.1
-
-pub returns-in_err-look-clause-forgotten : goal.returns-in_err-look-clause-forgotten
-returns-in_err-look-clause-forgotten g c =
-    if_err (IsForgotten c.look.new.pager) c.from_residual-in_err-look.result c.in_err-look.field-0.0 c.from_residual-in_err-look.ensures.1 c.in_err-look.ensures.forgotten
-
-pub returns-in_err-region_holding-in-Beyond-clause-found : goal.returns-in_err-region_holding-in-Beyond-clause-found
-returns-in_err-region_holding-in-Beyond-clause-found g c = λ sure. none_ok _ c.from_residual-in_err-region_holding-in-Beyond.result _ c.from_residual-in_err-region_holding-in-Beyond.ensures.1
-
-pub returns-in_err-region_holding-in-Beyond-clause-forgotten : goal.returns-in_err-region_holding-in-Beyond-clause-forgotten
-returns-in_err-region_holding-in-Beyond-clause-forgotten g c =
-    if_err (IsForgotten c.region_holding.new.pager) c.from_residual-in_err-region_holding-in-Beyond.result c.in_err-region_holding-in-Beyond.field-0.0 c.from_residual-in_err-region_holding-in-Beyond.ensures.1
-    c.in_err-region_holding-in-Beyond.ensures.forgotten
-
-pub returns-in-Nothing-clause-effect : goal.returns-in-Nothing-clause-effect
-returns-in-Nothing-clause-effect g c =
-    answered (IsSought c.args.self.now c.args.pager.now.store (Aims c.args.goal.now) (Some c.args.region.now)) c.args.self.now c.args.pager.now c.look.new.pager None
-    (ap (λ (p : PagerView). p.store) c.in_ok-look.ensures.effect.same ∙ ap (λ (p : PagerView). p.store) c.in_ok-leaf.ensures.effect.same)
-    (ap (λ (p : PagerView). p.trace) c.in_ok-look.ensures.effect.same ∙ ap (λ (p : PagerView). p.trace) c.in_ok-leaf.ensures.effect.same)
-    (kept_so c.self.inside.last c.args.self.now.last c.args.pager.now c.look.new.pager (ap (λ (v : IndexView). v.last) c.self.view_is)
-    (both_on c.self.inside.last c.args.pager.now c.leaf_of.new.pager c.look.new.pager (down_keeps c.in_ok-leaf.ensures.effect) (step_keeps c.in_ok-look.ensures.effect)))
-
-pub returns-in-Here-clause-effect : goal.returns-in-Here-clause-effect
-returns-in-Here-clause-effect g c =
-    answered (IsSought c.args.self.now c.args.pager.now.store (Aims c.args.goal.now) (Some c.args.region.now)) c.args.self.now c.args.pager.now c.look.new.pager (Some (c.in-Here.from, c.region_at.result))
-    (ap (λ (p : PagerView). p.store) c.in_ok-look.ensures.effect.same ∙ ap (λ (p : PagerView). p.store) c.in_ok-leaf.ensures.effect.same)
-    (ap (λ (p : PagerView). p.trace) c.in_ok-look.ensures.effect.same ∙ ap (λ (p : PagerView). p.trace) c.in_ok-leaf.ensures.effect.same)
-    (kept_so c.self.inside.last c.args.self.now.last c.args.pager.now c.look.new.pager (ap (λ (v : IndexView). v.last) c.self.view_is)
-    (both_on c.self.inside.last c.args.pager.now c.leaf_of.new.pager c.look.new.pager (down_keeps c.in_ok-leaf.ensures.effect) (step_keeps c.in_ok-look.ensures.effect)))
-
-pub returns-in_ok-region_holding-in-Beyond-clause-effect : goal.returns-in_ok-region_holding-in-Beyond-clause-effect
-returns-in_ok-region_holding-in-Beyond-clause-effect g c =
-    answered (IsSought c.args.self.now c.args.pager.now.store (Aims c.args.goal.now) (Some c.args.region.now)) c.args.self.now c.args.pager.now c.region_holding.new.pager
-    (Some (c.in-Beyond.from, c.in_ok-region_holding-in-Beyond.field-0))
-    (ap (λ (p : PagerView). p.store) c.in_ok-region_holding-in-Beyond.ensures.effect.same
-    ∙ (ap (λ (p : PagerView). p.store) c.in_ok-look.ensures.effect.same ∙ ap (λ (p : PagerView). p.store) c.in_ok-leaf.ensures.effect.same))
-    (ap (λ (p : PagerView). p.trace) c.in_ok-region_holding-in-Beyond.ensures.effect.same
-    ∙ (ap (λ (p : PagerView). p.trace) c.in_ok-look.ensures.effect.same ∙ ap (λ (p : PagerView). p.trace) c.in_ok-leaf.ensures.effect.same))
-    (both_on c.args.self.now.last c.args.pager.now c.look.new.pager c.region_holding.new.pager
-    (kept_so c.self.inside.last c.args.self.now.last c.args.pager.now c.look.new.pager (ap (λ (v : IndexView). v.last) c.self.view_is)
-    (both_on c.self.inside.last c.args.pager.now c.leaf_of.new.pager c.look.new.pager (down_keeps c.in_ok-leaf.ensures.effect) (step_keeps c.in_ok-look.ensures.effect)))
-    (down_keeps c.in_ok-region_holding-in-Beyond.ensures.effect))
-
-pub returns-in-Here-clause-small : goal.returns-in-Here-clause-small
-returns-in-Here-clause-small g c = c.region_at.ensures.small
-
-pub returns-in_ok-region_holding-in-Beyond-clause-small : goal.returns-in_ok-region_holding-in-Beyond-clause-small
-returns-in_ok-region_holding-in-Beyond-clause-small g c = c.in_ok-region_holding-in-Beyond.ensures.small
-
-pub returns-in_err-leaf-clause-small : goal.returns-in_err-leaf-clause-small
-returns-in_err-leaf-clause-small g c = none_ok _ c.from_residual.result _ c.from_residual.ensures.1
-
-pub returns-in_err-look-clause-small : goal.returns-in_err-look-clause-small
-returns-in_err-look-clause-small g c = none_ok _ c.from_residual-in_err-look.result _ c.from_residual-in_err-look.ensures.1
-
-pub returns-in_err-region_holding-in-Beyond-clause-small : goal.returns-in_err-region_holding-in-Beyond-clause-small
-returns-in_err-region_holding-in-Beyond-clause-small g c = none_ok _ c.from_residual-in_err-region_holding-in-Beyond.result _ c.from_residual-in_err-region_holding-in-Beyond.ensures.1
