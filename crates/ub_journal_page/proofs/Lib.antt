@@ -1,5 +1,11 @@
+pub mod HeldFacts
 pub mod LawFacts
 pub mod Lists
 pub mod NumberFacts
+pub mod PackedFacts
 pub mod PageFacts
 pub mod ReadFacts
+pub mod SpellFacts
+pub mod StreamFacts
+pub mod WholeFacts
+pub mod ZeroFacts

@@ -4,7 +4,8 @@ use Rattle.std.proofs.lemmas.List.{append-nil, drop-drop, drop_all, length-drop}
 use Rattle.std.proofs.Math.Seq.{drop-append_seam, take-append_seam}
 use borrow.Rule.Slice.PartMut.{put_mid, post_of, mid_of}
 
-same_count : (m n : ℕ) (a : ℕ) → m ≡ n → replicate m a ≡ replicate n a
+-- as many zeros
+pub same_count : (m n : ℕ) (a : ℕ) → m ≡ n → replicate m a ≡ replicate n a
 same_count m n a e = ap (λ (k : ℕ). replicate k a) e
 
 pub drop-replicate : (m n : ℕ) (a : ℕ) → drop m (replicate n a) ≡ replicate (n - m) a
@@ -57,3 +58,43 @@ get_drop xs zero n k e = let same : n ≡ k = omega arith in ap (slice_get xs) s
 get_drop [] (suc m) n k e = refl
 get_drop (x ∷ xs) (suc m) n zero e = absurd (omega arith)
 get_drop (x ∷ xs) (suc m) n (suc k) e = get_drop xs m n k (omega arith)
+
+take_none : {X : Type 0} (n : ℕ) (xs : List X) → xs ≡ [] → take n xs ≡ []
+take_none zero [] e = refl
+take_none zero (x ∷ xs) e = refl
+take_none (suc n) [] e = refl
+take_none (suc n) (x ∷ xs) e = absurd (let wrong = e in cc)
+
+-- the first elements, and the next ones
+pub take_both : {X : Type 0} (m n : ℕ) (xs : List X) → take m xs ++ take n (drop m xs) ≡ take (m + n) xs
+take_both zero n xs = let same : n ≡ 0 + n = omega arith in ap (λ (k : ℕ). take k xs) same
+take_both (suc m) n [] = take_none n [] refl ∙ sym (take_none (suc m + n) [] refl)
+take_both (suc m) n (x ∷ xs) = let next : suc (m + n) ≡ suc m + n = omega arith in ap (λ (zs : List _). x ∷ zs) (take_both m n xs) ∙ ap (λ (k : ℕ). take k (x ∷ xs)) next
+
+-- the first of what goes on longer
+pub take_within : {X : Type 0} (n : ℕ) (xs ys : List X) → n ≤ length xs → take n (xs ++ ys) ≡ take n xs
+take_within zero xs ys few = refl
+take_within (suc n) [] ys few = absurd (omega arith)
+take_within (suc n) (x ∷ xs) ys few = ap (λ (zs : List _). x ∷ zs) (take_within n xs ys (omega arith))
+
+-- what stands behind the first of what goes on longer
+pub drop_within : {X : Type 0} (n : ℕ) (xs ys : List X) → n ≤ length xs → drop n (xs ++ ys) ≡ drop n xs ++ ys
+drop_within zero xs ys few = refl
+drop_within (suc n) [] ys few = absurd (omega arith)
+drop_within (suc n) (x ∷ xs) ys few = drop_within n xs ys (omega arith)
+
+-- one byte, and again
+pub both_counts : (a b z : ℕ) → replicate a z ++ replicate b z ≡ replicate (a + b) z
+both_counts zero b z = same_count b (0 + b) z (omega arith)
+both_counts (suc a) b z = ap (λ (xs : List ℕ). z ∷ xs) (both_counts a b z) ∙ same_count (suc (a + b)) (suc a + b) z (omega arith)
+
+take_fewer : (k m z : ℕ) → k ≤ m → take k (replicate m z) ≡ replicate k z
+take_fewer zero m z few = refl
+take_fewer (suc k) zero z few = absurd (omega arith)
+take_fewer (suc k) (suc m) z few = ap (λ (xs : List ℕ). z ∷ xs) (take_fewer k m z (omega arith))
+
+-- some bytes and the first of those behind them
+pub take_counts : (n m k z : ℕ) (bytes : List ℕ) → n ≡ length bytes + k → k ≤ m → take n (bytes ++ replicate m z) ≡ bytes ++ replicate k z
+take_counts n m k z [] is few = let same : n ≡ k = omega arith in ap (λ (i : ℕ). take i (replicate m z)) same ∙ take_fewer k m z few
+take_counts zero m k z (b ∷ bytes) is few = absurd (omega arith)
+take_counts (suc n) m k z (b ∷ bytes) is few = ap (λ (xs : List ℕ). b ∷ xs) (take_counts n m k z bytes (omega arith) few)

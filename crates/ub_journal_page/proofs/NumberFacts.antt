@@ -1,7 +1,7 @@
 -- What numbers on a page read as.
 use Rattle.std.proofs.Common.{◌≡◌, ◌<◌, ◌+◌, ◌-◌, ◌*◌, ◌^◌, ℕ, List, [], ◌∷◌, ◌++◌, length, map, take, drop, replicate, refl, sym, ap, arith, ◌∙◌, append_assoc}
 use Rattle.std.proofs.lemmas.Grind.{flat_map-append}
-use Rattle.std.proofs.lemmas.List.{append-nil, drop-drop, length-append}
+use Rattle.std.proofs.lemmas.List.{append-nil, drop-drop, drop_all, length-append, length-drop}
 use Rattle.std.specs.List.{flat_map, range_with_len, AllByRecursion}
 use Rattle.byteorder.specs.Endian.{big_number}
 use Rattle.byteorder.specs.Numbers.{big_number-reads_back, length-bytes_high_first}
@@ -17,7 +17,8 @@ pub length-numbers : (numbers : List ℕ) → length (flat_map number_bytes numb
 length-numbers [] = omega arith
 length-numbers (x ∷ numbers) = omega (arith, length-append (number_bytes x) (flat_map number_bytes numbers), length-number_bytes x, length-numbers numbers)
 
-reads_back : (x : ℕ) (rest : List ℕ) → x < 2 ^ 32 → big_number 4 (number_bytes x ++ rest) ≡ x
+-- a number reads back
+pub reads_back : (x : ℕ) (rest : List ℕ) → x < 2 ^ 32 → big_number 4 (number_bytes x ++ rest) ≡ x
 unfolding number_bytes
 reads_back x rest small = big_number-reads_back 4 x rest small
 
@@ -62,3 +63,14 @@ unfolding number_page
 numbers_back numbers page m long small is =
     ap (λ (k : ℕ). map (λ i. number_at (4 * i) page) (range_with_len 0 k)) (sym long)
     ∙ back_from numbers [] (replicate (4096 - 4 * length numbers) 0) page 0 (omega arith) small is
+
+-- two numbers written on eight bytes
+pub two_put : (number held : ℕ) (old one two : List ℕ) → length old ≡ 8 → one ≡ (take 0 old ++ number_bytes number) ++ drop (0 + 4) old
+    → two ≡ (take 4 one ++ number_bytes held) ++ drop (4 + 4) one → two ≡ number_bytes number ++ number_bytes held
+two_put number held old one two long first second =
+    let a : List ℕ = number_bytes number in
+    let is : one ≡ a ++ drop 4 old = first in
+    let cut = of_front a (drop 4 old) one 4 (sym (length-number_bytes number)) is in
+    let none : drop (4 + 4) one ≡ [] = drop_all 8 one (let e = ap length is in omega (arith, e, length-append a (drop 4 old), length-number_bytes number, length-drop 4 old)) in
+    second ∙ ap (λ (s : List ℕ). (take 4 one ++ number_bytes held) ++ s) none ∙ append-nil (take 4 one ++ number_bytes held)
+    ∙ ap (λ (s : List ℕ). s ++ number_bytes held) cut.1

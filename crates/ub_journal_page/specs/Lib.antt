@@ -1,4 +1,5 @@
 pub mod Laws
 pub mod Pages
 pub mod Reading
+pub mod Whole
 pub mod inner

@@ -1,45 +1,40 @@
 // Numbers on a page: four bytes each, the highest of them first.
-ghost use Rattle.std.specs.Prelude.{◌≡◌, ◌↔◌, ◌<◌, ◌≤◌, ◌+◌, ◌-◌, ◌*◌, ◌++◌, ◌∷◌, [], ℕ, List, IsTrue, length, take, drop};
-ghost use Rattle.ub_journal.specs.Image.{numbers_of};
+ghost use Rattle.std.specs.Prelude.{◌≡◌, ◌↔◌, ◌<◌, ◌≤◌, ◌+◌, ◌*◌, ◌++◌, ◌∷◌, [], ℕ, List, IsTrue, length, take, drop};
 ghost use Rattle.ub_journal_page.specs.Pages.{head_of, number_bytes, number_page};
 ghost use Rattle.ub_journal_page.specs.inner.Numbers.{number_at};
 
 use byteorder::{BigEndian, ByteOrder};
-use ub_journal::Tells;
 use ub_store::Page;
 
 /// How many numbers stand on a page.
 pub const MAX_NUMBERS: usize = 1024;
 
+/// The version of the journals in which each page that changes stands whole.
+pub const WHOLE: u32 = 1;
+
+/// The version of those in which it stands without the zeros with which it ends.
+pub const PACKED: u32 = 2;
+
 // 'UBTJ', with which the head of each journal begins. No page of a table begins so.
 const KIND: u32 = 0x5542_544A;
 
-// The version of journals.
-const VERSION: u32 = 1;
-
-/// Spells the head of a journal: how many pages the table is to have, and how many of them change besides the first.
-pub fn spell_head(count: u32, changes: u32, page: &mut Page)
-    ensures { page.new ≡ number_page (head_of count changes) }
+/// Spells the head of a journal: its version, how many pages the table is to have, and how many of them change besides the first.
+pub fn spell_head(version: u32, count: u32, changes: u32, page: &mut Page)
+    ensures { page.new ≡ number_page (head_of version count changes) }
 {
     *page = [0; 4096];
     put(page, 0, KIND);
-    put(page, 1, VERSION);
+    put(page, 1, version);
     put(page, 2, count);
     put(page, 3, changes);
 }
 
-/// Spells the numbers of a journal's changes from one on up to another one, as many as a page holds.
-pub fn spell_numbers<J: Tells>(journal: &J, from: usize, to: usize, page: &mut Page)
-    requires few { (from ≤ to) × (to - from ≤ MAX_NUMBERS) }
-    requires within { to ≤ length (J.told journal.now).changes }
-    ensures { page.new
-        ≡ number_page (numbers_of (take (to - from) (drop from (J.told journal.now).changes))) }
+/// Spells what stands before the bytes of a change: the number of its page, and how many bytes there are.
+pub fn spell_front(number: u32, held: u32, front: &mut [u8; 8])
+    ensures { front.new ≡ number_bytes number ++ number_bytes held }
 {
-    *page = [0; 4096];
-    for at in from..to {
-        let (number, _) = journal.change(at);
-        put(page, at - from, number);
-    }
+    write_u32(front, 0, number);
+    write_u32(front, 4, held);
 }
 
 /// Puts a number behind those that stand on a page.
@@ -68,8 +63,22 @@ pub fn number_in(page: &Page, i: usize) -> u32
     BigEndian::read_u32(&page[4 * i..])
 }
 
+/// The two numbers that stand before the bytes of a change.
+pub fn numbers_before(front: &[u8; 8]) -> (u32, u32)
+    ensures { result ≡ (number_at 0 front.now, number_at 4 front.now) }
+{
+    (BigEndian::read_u32(front), BigEndian::read_u32(&front[4..]))
+}
+
 /// Whether two pages are the same, byte for byte.
 pub fn is_same(a: &Page, b: &Page) -> bool
+    ensures { IsTrue result ↔ (a.now ≡ b.now) }
+{
+    *a == *b
+}
+
+/// Whether what stands before the bytes of a change is the same, byte for byte.
+pub fn is_same_front(a: &[u8; 8], b: &[u8; 8]) -> bool
     ensures { IsTrue result ↔ (a.now ≡ b.now) }
 {
     *a == *b

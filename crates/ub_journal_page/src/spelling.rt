@@ -1,17 +1,37 @@
-ghost use Rattle.std.specs.Prelude.{◌≡◌, ◌<◌, ◌≤◌, ◌+◌, ◌^◌, Some, length, slice_get};
+// The writer of a journal's pages: byte by byte, so that none of it stands in memory.
+ghost use Rattle.std.specs.Prelude.{◌≡◌, ◌<◌, ◌≤◌, ◌^◌, ◌-◌, ◌%◌, IfOk, OnOk, length, replicate};
+ghost use Rattle.std.specs.Io.KnownBytes.{Appends};
 ghost use Rattle.ub_journal.specs.Image.{IsJournal};
-ghost use Rattle.ub_journal_page.specs.Pages.{pages_of, parts_of, total_of};
+ghost use Rattle.ub_journal_page.specs.Pages.{change_bytes, changes_bytes, head_of, joined, number_page, pages_of};
 
-use crate::numbers::{MAX_NUMBERS, spell_head, spell_numbers};
+use crate::held::held_in;
+use crate::numbers::{PACKED, spell_front, spell_head};
+use std::io::{self, Write};
 use ub_journal::Tells;
 use ub_store::Page;
 
-/// How many pages a journal has.
-pub fn page_total<J: Tells>(journal: &J) -> u64
+/// Writes the pages of a journal, one behind the other. Takes no memory.
+pub fn write_journal<W: Write, J: Tells>(out: &mut W, journal: &J) -> io::Result<()>
     requires { IsJournal (J.told journal.now) }
-    ensures { result ≡ length (pages_of (J.told journal.now)) }
+    ensures { OnOk result (Appends (W.contents out.old) (W.contents out.new)
+        (joined (pages_of (J.told journal.now)))) }
 {
-    total(changed(journal))
+    write_head(out, journal)?;
+    out.write_all(&journal.before())?;
+    out.write_all(&journal.head())?;
+    let within = write_changes(out, journal)?;
+    write_zeros(out, within)
+}
+
+// Writes the head.
+fn write_head<W: Write, J: Tells>(out: &mut W, journal: &J) -> io::Result<()>
+    requires { IsJournal (J.told journal.now) }
+    ensures { OnOk result (Appends (W.contents out.old) (W.contents out.new)
+        (number_page (head_of 2 (J.told journal.now).count (length (J.told journal.now).changes)))) }
+{
+    let mut page = [0; 4096];
+    spell_head(PACKED, journal.count(), changed(journal), &mut page);
+    out.write_all(&page)
 }
 
 // How many pages change besides the first.
@@ -22,48 +42,47 @@ fn changed<J: Tells>(journal: &J) -> u32
     journal.changes() as u32
 }
 
-/// How many pages a journal of so many changes has.
-pub fn total(changes: u32) -> u64
-    ensures { result ≡ total_of changes }
+// Writes the changes, and tells how many of their bytes stand on the last page: none where it is full.
+fn write_changes<W: Write, J: Tells>(out: &mut W, journal: &J) -> io::Result<usize>
+    ensures written { OnOk result (Appends (W.contents out.old) (W.contents out.new)
+        (changes_bytes (J.told journal.now).changes)) }
+    ensures within { IfOk result (λ within.
+        within ≡ length (changes_bytes (J.told journal.now).changes) % 4096) }
 {
-    3 + (parts(changes) + u64::from(changes))
-}
-
-/// On how many pages the numbers of so many changes stand.
-pub fn parts(changes: u32) -> u64
-    ensures { result ≡ parts_of changes }
-{
-    let most = MAX_NUMBERS as u64;
-    (u64::from(changes) + (most - 1)) / most
-}
-
-/// Spells the page of this number of a journal, which has one. Takes no memory.
-pub fn spell_page<J: Tells>(journal: &J, n: u64, page: &mut Page)
-    requires journal { IsJournal (J.told journal.now) }
-    requires there { n < length (pages_of (J.told journal.now)) }
-    ensures { slice_get (pages_of (J.told journal.now)) n ≡ Some page.new }
-{
-    match n {
-        0 => spell_head(journal.count(), changed(journal), page),
-        1 => *page = journal.before(),
-        2 => *page = journal.head(),
-        _ => spell_later(journal, n - 3, page),
+    let mut within = 0;
+    for at in 0..journal.changes() {
+        let (number, page) = journal.change(at);
+        let count = write_change(out, number, page)?;
+        within = (within + count) % 4096;
     }
+    Ok(within)
 }
 
-// Spells a page of a journal that stands behind the first three: of numbers, or one that the table is to have.
-fn spell_later<J: Tells>(journal: &J, n: u64, page: &mut Page)
-    requires journal { IsJournal (J.told journal.now) }
-    requires there { n + 3 < length (pages_of (J.told journal.now)) }
-    ensures { slice_get (pages_of (J.told journal.now)) (n + 3) ≡ Some page.new }
+// Writes a change, and tells how many bytes that took.
+fn write_change<W: Write>(out: &mut W, number: u32, page: &Page) -> io::Result<usize>
+    ensures written { OnOk result (Appends (W.contents out.old) (W.contents out.new)
+        (change_bytes (record { number = number; page = page.now }))) }
+    ensures count { IfOk result (λ n. n
+        ≡ length (change_bytes (record { number = number; page = page.now }))) }
+    ensures few { IfOk result (λ n. n ≤ 4104) }
 {
-    let parts = parts(changed(journal));
-    if n < parts {
-        let from = n as usize * MAX_NUMBERS;
-        let to = (from + MAX_NUMBERS).min(journal.changes());
-        spell_numbers(journal, from, to, page);
-    } else {
-        let (_, new) = journal.change((n - parts) as usize);
-        *page = *new;
+    let held = held_in(page);
+    let mut front = [0; 8];
+    spell_front(number, held as u32, &mut front);
+    out.write_all(&front)?;
+    out.write_all(&page[..held])?;
+    Ok(8 + held)
+}
+
+// Writes the zeros behind so many bytes on a page.
+fn write_zeros<W: Write>(out: &mut W, within: usize) -> io::Result<()>
+    requires { within < 4096 }
+    ensures { OnOk result (Appends (W.contents out.old) (W.contents out.new)
+        (replicate ((4096 - within) % 4096) 0)) }
+{
+    if within == 0 {
+        return Ok(());
     }
+    let page = [0; 4096];
+    out.write_all(&page[within..])
 }
