@@ -1,7 +1,6 @@
 -- What the ends of a page tell of it, and which pages are held that were checked.
 use Rattle.std.proofs.Common.{◌≡◌, ◌<◌, ◌^◌, ◌⊎◌, inl, inr, ℕ, List, Option, Some, None, Result, Ok, Err, IfOk, IfErr, sym, subst, refl, arith}
 use Rattle.std.proofs.lemmas.Bool.{cases_eq}
-use Rattle.std.specs.Result.{IsErrAnd}
 use Rattle.ub_page.proofs.IndexLaws.{length-node_on, node_parts}
 use Rattle.ub_page.specs.Index.{node_on, HasHead, IsIndexKind}
 use Rattle.ub_bytes.specs.Bytes.{number_at}
@@ -60,10 +59,6 @@ pub err_so : {T : Type 0} (r : Result T PageFault) (P Q : PageFault → Type 0) 
 err_so (Ok x) P Q f h = tt
 err_so (Err e) P Q f h = f e h
 
-pub err_by : {T : Type 0} (r : Result T PageFault) (e : PageFault) (Q : PageFault → Type 0) → IsErrAnd r (λ x. x ≡ e) → Q e → IfErr r Q
-err_by (Ok x) e Q is h = tt
-err_by (Err f) e Q is h = subst Q (sym is) h
-
 -- what begins otherwise is refused for that
 unfit_other : (last : ℕ) (page : List ℕ) (level : ℕ) (entry : Entry) (end : Option Key) (fault : PageFault) → ¬ (IsIndexKind page) → IsUnfitAtEnds page level entry end fault
     → IsUnfit last page level entry end fault
@@ -108,10 +103,6 @@ keeps_gone last old new n honest others gone = keeps_but last old new n honest o
 
 pub keeps_on : (last : ℕ) (old mid new : PagerView) → KeepsChecked last old mid → KeepsChecked last mid new → KeepsChecked last old new
 keeps_on last old mid new before after was = after (before was)
-
--- of the pages that are held none is more but one of an index where none is, or but one that is
-pub more_less : (last : ℕ) (old new : List (ℕ × List ℕ)) → NoneMore old new → NoneMoreButIndex last old new
-more_less last old new less m page at = inl (less m page at)
 
 pub more_but : (last : ℕ) (old new : List (ℕ × List ℕ)) (n : ℕ) → NoneMoreBut n old new
     → ((page : List ℕ) → page_at new n ≡ Some page → (page_at old n ≡ Some page) ⊎ IsIndexPage last page) → NoneMoreButIndex last old new
