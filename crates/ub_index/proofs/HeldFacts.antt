@@ -120,9 +120,6 @@ more_gone last old new n others gone = more_but last old new n others (λ page a
 abbrev pub Keeps : ℕ → PagerView → PagerView → Type 0
 Keeps last old new = KeepsChecked last old new × NoneMoreButIndex last old.cached new.cached
 
-pub all_kept : (last : ℕ) (pager : PagerView) → Keeps last pager pager
-all_kept last pager = ((λ was. was), (λ n page at. inl at))
-
 pub both_on : (last : ℕ) (old mid new : PagerView) → Keeps last old mid → Keeps last mid new → Keeps last old new
 both_on last old mid new before after = (
   keeps_on last old mid new before.0 after.0,

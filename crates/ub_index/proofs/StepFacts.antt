@@ -21,11 +21,6 @@ use Rattle.ub_index.proofs.FitFacts.{is_refused, page_is}
 use Rattle.ub_index.proofs.HeldFacts.{both_on, keeps_gone, more_gone, Keeps}
 use Rattle.ub_index.proofs.SearchFacts.{err_is, pager_with, same_store}
 
--- nothing is said of what is answered where a call is refused
-pub none_ok : {T E : Type 0} (P : T → Type 0) (r : Result T E) (e : E) → IsErrAnd r (λ x. x ≡ e) → IfOk r P
-none_ok P (Ok x) e is = absurd is
-none_ok P (Err f) e is = tt
-
 pub if_err : {T E : Type 0} (P : E → Type 0) (r : Result T E) (e : E) → IsErrAnd r (λ x. x ≡ e) → P e → IfErr r P
 if_err P (Ok x) e is h = tt
 if_err P (Err f) e is h = subst P (sym is) h
@@ -49,21 +44,9 @@ same_honest old new same good = subst (λ (p : PagerView). IsHonest p.store) sam
 pub steps_keep : {T : Type 0} {last level : ℕ} {entry : Entry} {end : Option Key} {old new : PagerView} {r : Result T IndexFault} → Steps last level entry end old new r → Keeps last old new
 steps_keep h = (h.checked, h.more)
 
--- a step is made, and leaves the store
-pub stepped : {T : Type 0} (last : ℕ) (level : ℕ) (entry : Entry) (end : Option Key) (old new : PagerView) (x : T) → new.store ≡ old.store → new.trace ≡ old.trace
-    → Keeps last old new → Steps last level entry end old new (Ok x)
-stepped last level entry end old new x stores traces kept = record { same = pager_so old new old.store stores traces; checked = kept.0; more = kept.1; faults = tt }
-
 pub stepped_down : {T : Type 0} (last : ℕ) (level : ℕ) (entry : Entry) (end : Option Key) (old new : PagerView) (x : T) → new.store ≡ old.store → new.trace ≡ old.trace
     → Keeps last old new → StepsDown last level entry end old new (Ok x)
 stepped_down last level entry end old new x stores traces kept = record { same = pager_so old new old.store stores traces; checked = kept.0; more = kept.1; faults = λ sure. tt }
-
--- memory was refused after it
-pub memory_refused : {T : Type 0} (last : ℕ) (level : ℕ) (entry : Entry) (end : Option Key) (old new : PagerView) (r : Result T IndexFault)
-    → IsErrAnd r (λ x. x ≡ Store store.Memory) → new.store ≡ old.store → new.trace ≡ old.trace → Keeps last old new → Steps last level entry end old new r
-memory_refused {T = T} last level entry end old new r is stores traces kept =
-    subst (λ (x : Result T IndexFault). Steps last level entry end old new x) (sym (err_is r (Store store.Memory) is))
-    (record { same = pager_so old new old.store stores traces; checked = kept.0; more = kept.1; faults = tt })
 
 -- the page that stands there and fits is the one that is named
 pub names_fitting : (pages : List (List ℕ)) (last level : ℕ) (entry : Entry) (end : Option Key) (page : List ℕ) → slice_get pages entry.page ≡ Some page → Fits last page level entry end
@@ -109,13 +92,6 @@ module _ (last level : ℕ) (entry : Entry) (end : Option Key) (old new : PagerV
     more = h.more;
     faults = step_fault e h.faults;
   })
-
-  pub step_fits : {T : Type 0} (head : Head) (x : T) → BringsFitting last level entry end old new (Ok head) → Steps last level entry end old new (Ok x)
-  step_fits head x h = record { same = h.same; checked = h.checked; more = h.more; faults = tt }
-
-  pub step_memory : {T : Type 0} (head : Head) (r : Result T IndexFault) → IsErrAnd r (λ x. x ≡ Store store.Memory) → BringsFitting last level entry end old new (Ok head)
-      → Steps last level entry end old new r
-  step_memory head r is h = memory_refused last level entry end old new r is (ap (λ (p : PagerView). p.store) h.same) (ap (λ (p : PagerView). p.trace) h.same) (h.checked, h.more)
 
   -- and the page that is held then stood there
   pub brought_page : (head : Head) (page : List ℕ) → BringsFitting last level entry end old new (Ok head) → IsPage new.store entry.page page → IsPage old.store entry.page page
