@@ -9,7 +9,7 @@ use Rattle.ub_table.specs.Keys.{IsBefore, origin}
 use Rattle.ub_table.specs.declared.row.Key.{Key}
 use Rattle.ub_index.specs.Descending.{FindsAfter, HoldsLeaf, LeadsDown, LooksAt, StepsTo}
 use Rattle.ub_index.specs.Fitting.{FallsTo, FitsAtEnds}
-use Rattle.ub_index.specs.Index.{entries_of, first_or, page_in, top, NamesFitting}
+use Rattle.ub_index.specs.Index.{entries_of, first_or, page_in, NamesFitting}
 use Rattle.ub_index.specs.Searching.{Gives, IsAim, IsFrom, IsSought}
 use Rattle.ub_index.specs.Spans.{region_of}
 use Rattle.ub_index.specs.View.{IndexView, Leads}
@@ -77,17 +77,6 @@ holds_step key leaf place until parts holds here = record {
   until = (parts key).1 (here.to, holds.until);
   within = λ k h. ((parts k).0 h).0;
 }
-
--- at the root nothing lies above
-pub root_holds : (root : ℕ) (key : Key) (place : Place) → place ≡ record { entry = top root; next = None } → HoldsLeaf key (record { place = place; until = None })
-root_holds root key place same =
-    subst (λ (p : Place). HoldsLeaf key (record { place = p; until = None })) (sym same)
-    (record { place = record { from = not_before_origin key; to = tt }; until = tt; within = λ k h. tt })
-
-pub root_leads : (index : IndexView) (store : StoreFacts) (key : Key) (place : Place) → place ≡ record { entry = top index.root; next = None }
-    → LeadsDown index store key index.levels (record { place = place; until = None })
-root_leads index store key place same =
-    subst (λ (p : Place). LeadsDown index store key index.levels (record { place = p; until = None })) (sym same) (record { leads = λ k later to found next h. h; stops = λ n fault h. h })
 
 -- a step that is made on the pages of a store that is the same
 pub step_before : (last : ℕ) (old mid : StoreFacts) → mid ≡ old → (key : Key) (level : ℕ) (entry : Entry) (end : Option Key) (below : Entry) (next : Option Key)

@@ -10,7 +10,7 @@ use Rattle.ub_region.specs.declared.entry.Entry.{Entry}
 use Rattle.ub_table.specs.Keys.{IsBefore}
 use Rattle.ub_table.specs.declared.row.Key.{Key}
 use Rattle.ub_index.specs.Fitting.{FallsTo, IsNotTaken, IsUnfit}
-use Rattle.ub_index.specs.Index.{entries_of, first_or, page_in, AscendTo, Fits}
+use Rattle.ub_index.specs.Index.{first_or, page_in, AscendTo, Fits}
 use Rattle.ub_store.specs.Facts.{StoreFacts, IsPage}
 use Rattle.ub_table.specs.declared.fault.PageFault.{PageFault}
 
@@ -123,11 +123,6 @@ pub page_is : (pages : List (List ℕ)) (n : ℕ) (page : List ℕ) → slice_ge
 page_is [] n page at = cc
 page_is (p ∷ pages) zero page at = cc
 page_is (p ∷ pages) (suc n) page at = page_is pages n page at
-
--- the key falls to the same entry of the page of that number
-pub falls_there : (pages : List (List ℕ)) (n : ℕ) (page : List ℕ) (key : Key) (end next : Option Key) (below : Entry) → slice_get pages n ≡ Some page
-    → FallsTo key (node_on page).entries end below next → FallsTo key (entries_of pages n) end below next
-falls_there pages n page key end next below at h = subst (λ (p : List ℕ). FallsTo key (node_on p).entries end below next) (sym (page_is pages n page at)) h
 
 pub is_refused : (pages : List (List ℕ)) (last level : ℕ) (entry : Entry) (end : Option Key) (page : List ℕ) (fault : PageFault)
     → slice_get pages entry.page ≡ Some page → IsUnfit last page level entry end fault → IsNotTaken last pages level entry end (Some fault)

@@ -1,7 +1,6 @@
 -- What the ends of a page tell of it, and which pages are held that were checked.
 use Rattle.std.proofs.Common.{◌≡◌, ◌<◌, ◌^◌, ◌⊎◌, inl, inr, ℕ, List, Option, Some, None, Result, Ok, Err, IfOk, IfErr, sym, subst, refl, arith}
 use Rattle.std.proofs.lemmas.Bool.{cases_eq}
-use Rattle.std.specs.Result.{IsErrAnd}
 use Rattle.ub_page.proofs.IndexLaws.{length-node_on, node_parts}
 use Rattle.ub_page.specs.Index.{node_on, HasHead, IsIndexKind}
 use Rattle.ub_bytes.specs.Bytes.{number_at}
@@ -60,10 +59,6 @@ pub err_so : {T : Type 0} (r : Result T PageFault) (P Q : PageFault → Type 0) 
 err_so (Ok x) P Q f h = tt
 err_so (Err e) P Q f h = f e h
 
-pub err_by : {T : Type 0} (r : Result T PageFault) (e : PageFault) (Q : PageFault → Type 0) → IsErrAnd r (λ x. x ≡ e) → Q e → IfErr r Q
-err_by (Ok x) e Q is h = tt
-err_by (Err f) e Q is h = subst Q (sym is) h
-
 -- what begins otherwise is refused for that
 unfit_other : (last : ℕ) (page : List ℕ) (level : ℕ) (entry : Entry) (end : Option Key) (fault : PageFault) → ¬ (IsIndexKind page) → IsUnfitAtEnds page level entry end fault
     → IsUnfit last page level entry end fault
@@ -109,10 +104,6 @@ keeps_gone last old new n honest others gone = keeps_but last old new n honest o
 pub keeps_on : (last : ℕ) (old mid new : PagerView) → KeepsChecked last old mid → KeepsChecked last mid new → KeepsChecked last old new
 keeps_on last old mid new before after was = after (before was)
 
--- of the pages that are held none is more but one of an index where none is, or but one that is
-pub more_less : (last : ℕ) (old new : List (ℕ × List ℕ)) → NoneMore old new → NoneMoreButIndex last old new
-more_less last old new less m page at = inl (less m page at)
-
 pub more_but : (last : ℕ) (old new : List (ℕ × List ℕ)) (n : ℕ) → NoneMoreBut n old new
     → ((page : List ℕ) → page_at new n ≡ Some page → (page_at old n ≡ Some page) ⊎ IsIndexPage last page) → NoneMoreButIndex last old new
 more_but last old new n others here m page at = elim (cases_eq m n) [
@@ -128,9 +119,6 @@ more_gone last old new n others gone = more_but last old new n others (λ page a
 -- what a search leaves of the pages that are held: checked, if they were before, and none more but of an index
 abbrev pub Keeps : ℕ → PagerView → PagerView → Type 0
 Keeps last old new = KeepsChecked last old new × NoneMoreButIndex last old.cached new.cached
-
-pub all_kept : (last : ℕ) (pager : PagerView) → Keeps last pager pager
-all_kept last pager = ((λ was. was), (λ n page at. inl at))
 
 pub both_on : (last : ℕ) (old mid new : PagerView) → Keeps last old mid → Keeps last mid new → Keeps last old new
 both_on last old mid new before after = (

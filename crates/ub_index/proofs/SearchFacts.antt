@@ -75,23 +75,6 @@ module _ (T U : Type 0) (Sought : Key → Type 0) (index : IndexView) (key : Key
     faults = λ sure. fault_of e sure (h.faults (kept.0 sure));
   })
 
--- a search that was answered left the store
-pub kept_store : {T : Type 0} (Sought : Key → Type 0) (index : IndexView) (old mid : PagerView) (x : T) → GoesDown Sought index old mid (Ok x) → mid.store ≡ old.store
-kept_store Sought index old mid x h = ap (λ (p : PagerView). p.store) h.same
-
-pub kept_trace : {T : Type 0} (Sought : Key → Type 0) (index : IndexView) (old mid : PagerView) (x : T) → GoesDown Sought index old mid (Ok x) → mid.trace ≡ old.trace
-kept_trace Sought index old mid x h = ap (λ (p : PagerView). p.trace) h.same
-
--- a search that leaves all as it was but what the pager holds
-pub answered : {T : Type 0} (Sought : Key → Type 0) (index : IndexView) (old new : PagerView) (x : T) → new.store ≡ old.store → new.trace ≡ old.trace → Keeps index.last old new
-    → GoesDown Sought index old new (Ok x)
-answered Sought index old new x stores traces kept = record {
-  same = ap (λ (s : StoreFacts). pager_with s new.trace new.cached) stores ∙ ap (λ (t : Trace). pager_with old.store t new.cached) traces;
-  checked = kept.0;
-  more = kept.1;
-  faults = λ sure. tt;
-}
-
 -- a search that was refused as another one was, which went down to these keys among others, after some pages were read
 module _ (T U : Type 0) (A B : Key → Type 0) (index : IndexView) (old mid new : PagerView) (wider : AreChecked index.last old → (k : Key) → A k → B k) (stores : mid.store ≡ old.store) (traces : mid.trace ≡ old.trace)
     (kept : Keeps index.last old mid) where

@@ -1,5 +1,5 @@
 -- The way down to a key: its steps, and where it ends on pages on which an index stands.
-use Rattle.std.proofs.Common.{◌≡◌, ◌≤◌, ◌<◌, ◌-◌, ◌^◌, ◌++◌, inl, inr, ℕ, zero, suc, false, List, [], ◌∷◌, Option, Some, None, IfSome, length, slice_get, ◌∙◌, sym, ap, subst, refl, arith, append_assoc}
+use Rattle.std.proofs.Common.{◌≡◌, ◌<◌, ◌-◌, ◌^◌, ◌++◌, inl, inr, ℕ, zero, suc, false, List, [], ◌∷◌, Option, Some, None, IfSome, length, slice_get, ◌∙◌, sym, ap, subst, refl, arith, append_assoc}
 use Rattle.std.proofs.lemmas.Bool.{cases_Bool}
 use Rattle.std.proofs.lemmas.Grind.{flat_map-append}
 use Rattle.std.proofs.lemmas.Option.{slice_get_within}
@@ -46,10 +46,6 @@ module _ (store now : StoreFacts) (same : now ≡ store) (last : ℕ) (key : Key
       → StopsAt last store.pages key level entry end entry.page fault
   stops_here zero entry end fault some h = absurd (omega arith)
   stops_here (suc level) entry end fault some h = inl (refl, subst (λ (s : StoreFacts). IsNotTaken last s.pages (suc level) entry end fault) same h)
-
-pub ends_here : (last : ℕ) (pages : List (List ℕ)) (key : Key) (level : ℕ) (entry : Entry) (end : Option Key) → level ≤ 0 → LeadsTo last pages key level entry end entry end
-ends_here last pages key zero entry end h = (refl, refl)
-ends_here last pages key (suc level) entry end h = absurd (omega arith)
 
 -- in a list of entries this one holds the key, and the next one begins there
 record IsPlace (key : Key) (entries : List Entry) (end : Option Key) (found : Entry) (next : Option Key) : Type 0 where

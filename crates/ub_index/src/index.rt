@@ -166,6 +166,7 @@ impl Index {
             → IsIndexOn self.now pager.old.store → IfOk result (First
             (λ r. IsLater (option_copied after.entry) r × (z ≤ r.to))
             (regions_of self.now.last (entries_in self.now pager.old.store))) }
+        ensures forgotten { IfErr result (IsForgotten pager.new) }
         ensures effect { GoesDown (IsSought self.now pager.old.store (λ _ to. to ≡ Some z)
             (option_copied after.entry)) self.now pager.old pager.new result }
     {
@@ -190,6 +191,7 @@ impl Index {
             → IsIndexOn self.now pager.old.store → IfOk result (First
             (λ r. IsLater (option_copied after.entry) r × Meets boxes.now r)
             (regions_of self.now.last (entries_in self.now pager.old.store))) }
+        ensures forgotten { IfErr result (IsForgotten pager.new) }
         ensures effect { GoesDown (IsSought self.now pager.old.store
             (λ from. LeastFrom (HoldsAny boxes.now) from.z) (option_copied after.entry))
             self.now pager.old pager.new result }
@@ -197,7 +199,8 @@ impl Index {
         self.later_region(pager, &Goal::Boxes(boxes), after)
     }
 
-    // The region that is found after another one, if one is given. It is refused where it would not begin later.
+    // The region that is found after another one, if one is given. It is refused where it would not begin later, and the pager then
+    // forgets the root.
     fn later_region<S: PageStore>(
         &self,
         pager: &mut Pager<S>,
@@ -210,14 +213,18 @@ impl Index {
         ensures later { AreChecked self.now.last pager.old
             → IfOk result (λ found. IfSome found (IsLater (option_copied after.entry))) }
         ensures small { IfOk result (λ found. IfSome found (λ r. r.first.number < 2 ^ 32)) }
+        ensures forgotten { IfErr result (IsForgotten pager.new) }
         ensures effect { GoesDown (IsSought self.now pager.old.store (Aims goal.now)
             (option_copied after.entry)) self.now pager.old pager.new result }
     {
         match self.region_after(pager, goal, after)? {
-            Some((from, region)) if region.first.is_before(&from) => Err(IndexFault::Page {
-                page: self.root,
-                fault: PageFault::OutOfRegion,
-            }),
+            Some((from, region)) if region.first.is_before(&from) => {
+                pager.forget(self.root);
+                Err(IndexFault::Page {
+                    page: self.root,
+                    fault: PageFault::OutOfRegion,
+                })
+            }
             Some((_, region)) => Ok(Some(region)),
             None => Ok(None),
         }

@@ -170,14 +170,6 @@ module _ (index : IndexView) (store : StoreFacts) (i : ℕ) (region : Region) (s
     (first : ChangeView) (middle : Spelled) (told : Told)
     (turns : Turns index.last store.pages region.first None index.levels (top index.root) None (so_far [] (page_count store)) middle told)
     (settles : Settles index.root index.levels told (page_count store) middle first) where
-  some_room : (level : ℕ) → 1 ≤ level → IsUnder index.last store.pages level (top index.root) None → 0 < page_count store
-  some_room zero l u = absurd (omega arith)
-  some_room (suc level) l u = some_length store.pages index.root u.0.there
-    where
-      some_length : (pages : List (List ℕ)) (n : ℕ) → slice_get pages n ≡ Some (page_in store.pages index.root) → 0 < length pages
-      some_length [] n h = cc
-      some_length (p ∷ pages) n h = omega arith
-
   r : Risen index.last store.pages region.first None index.levels (top index.root) None (so_far [] (page_count store)) middle told
   r = rises index.last small store.pages region.first None index.levels (top index.root) None (so_far [] (page_count store)) middle told (omega arith) is.under_it
       (root_entry index.last store.pages index.root index.levels is.some few own is.under_it)

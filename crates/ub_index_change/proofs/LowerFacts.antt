@@ -1,11 +1,8 @@
 -- A root that gives way, on the pages as they are and once the sheets stand.
-use Rattle.std.proofs.Common.{ap, sym, subst, ◌∙◌, ◌≡◌, ◌≢◌, ◌<◌, ◌-◌, inl, inr, ℕ, zero, suc, List, Option, Some, None, refl, arith, slice_get}
+use Rattle.std.proofs.Common.{ap, sym, subst, ◌∙◌, ◌≡◌, ◌≢◌, ◌<◌, ◌-◌, inl, inr, ℕ, zero, suc, List, Some, None, refl, arith}
 use Rattle.ub_page.specs.Entries.{entries_on}
-use Rattle.ub_index.specs.Index.{page_in}
-use Rattle.ub_index_change.specs.Lowering.{Lowers, entries_then, sole_page, spelled_or, spelled_page}
+use Rattle.ub_index_change.specs.Lowering.{Lowers, entries_then, sole_page}
 use Rattle.ub_index_change.specs.declared.sheet.Sheet.{Sheet}
-use Rattle.ub_page.specs.Index.{node_on}
-use Rattle.ub_index.proofs.FitFacts.{page_is}
 
 pub sole_none : (n : ℕ) (page : List ℕ) → n ≢ 1 → None ≡ sole_page (entries_on 16 n page)
 sole_none zero page h = refl
@@ -26,14 +23,3 @@ lowers_on sheets pages root (suc level) to at page more (inl (same, same_level))
     inr (page, here, omega arith, subst (λ (n : ℕ). Lowers sheets pages page level page n) one (lowers_here sheets pages page level))
 lowers_on sheets pages root (suc level) to at page more (inr (next, named, some, lowers)) sole =
     inr (next, named, some, lowers_on sheets pages next level to at page more lowers sole)
-
--- the page that a root names alone, on a page that is spelled, or else on the one that stands there
-pub sole_spelled : (sheets : List Sheet) (pages : List (List ℕ)) (n : ℕ) (page : List ℕ) → spelled_page sheets n ≡ Some page
-    → sole_page (node_on page).entries ≡ sole_page (entries_then sheets pages n)
-sole_spelled sheets pages n page is = ap (λ (o : Option (List ℕ)). sole_page (node_on (spelled_or o (page_in pages n))).entries) (sym is)
-
-pub sole_there : (sheets : List Sheet) (pages : List (List ℕ)) (n : ℕ) (page : List ℕ) → spelled_page sheets n ≡ None → slice_get pages n ≡ Some page
-    → sole_page (node_on page).entries ≡ sole_page (entries_then sheets pages n)
-sole_there sheets pages n page none at =
-    ap (λ (p : List ℕ). sole_page (node_on p).entries) (sym (page_is pages n page at))
-    ∙ ap (λ (o : Option (List ℕ)). sole_page (node_on (spelled_or o (page_in pages n))).entries) (sym none)

@@ -10,7 +10,7 @@ use Rattle.ub_region.proofs.Laws.{all_left, all_right}
 use Rattle.ub_table.specs.declared.row.Key.{Key}
 use Rattle.ub_index.specs.Index.{IsTold, pages_under, first_or, AscendTo}
 use Rattle.ub_index_change.specs.Changed.{StandOn}
-use Rattle.ub_index_change.specs.Changing.{AreOnce, IsAtMostOne, IsNoNew, IsUnspelled, Mends, NamesPage, Spelled, Spreads, Stand, named_as, sheet_of}
+use Rattle.ub_index_change.specs.Changing.{AreOnce, IsNoNew, IsUnspelled, NamesPage, Spelled, Spreads, Stand, named_as, sheet_of}
 use Rattle.ub_index.specs.Standing.{IsOutside}
 use Rattle.ub_index_change.specs.declared.sheet.Sheet.{Sheet}
 use Rattle.ub_index_change.specs.declared.told.Told.{Told}
@@ -40,13 +40,6 @@ spread_next level entry entries from to Same h = let e = ap (λ (s : Spelled). s
 spread_next level entry entries from to Gone h = let e = ap (λ (s : Spelled). s.next) h.1 in omega arith
 spread_next level entry entries from to (One other) h = let e = ap (λ (s : Spelled). s.next) h.3 in omega arith
 spread_next level entry entries from to (Two left right) h = let e = ap (λ (s : Spelled). s.next) h.4 in omega arith
-
-pub spread_one : (level : ℕ) (entry : Entry) (entries : List Entry) (from to : Spelled) (told : Told) → Spreads level entry entries from to told
-    → to.next ≤ from.next + 1
-spread_one level entry entries from to Same h = let e = ap (λ (s : Spelled). s.next) h.2 in omega arith
-spread_one level entry entries from to Gone h = let e = ap (λ (s : Spelled). s.next) h.1 in omega arith
-spread_one level entry entries from to (One other) h = let e = ap (λ (s : Spelled). s.next) h.3 in omega arith
-spread_one level entry entries from to (Two left right) h = let e = ap (λ (s : Spelled). s.next) h.4 in omega arith
 
 pub spread_outside : (level : ℕ) (entry : Entry) (entries : List Entry) (from to : Spelled) (told : Told) → Spreads level entry entries from to told → (n : ℕ) → n ≢ entry.page
     → IsNoNew from.next to.next n → IsUnspelled n (new_sheets level entry entries from.next told)
@@ -229,35 +222,3 @@ module _ (last : ℕ) (small : last < 2 ^ 128) where
         outside_put n right.page (flat_map (pages_under later level) (take 86 entries)) (flat_map (pages_under later level) (drop 86 entries)) (subst (λ (m : ℕ). n ≢ m) (sym h.2) q)
             (subst (λ (ns : List ℕ). IsOutside n ns) (halves later level entries) out),
       )
-
--- how many entries a page has, one of which became others
-pub named_length : (news : Told) (below : Entry) (before after : List Entry) → length (before ++ (named_as news below ++ after)) ≤ length before + length after + 2
-named_length Same below [] after = omega arith
-named_length Gone below [] after = omega arith
-named_length (One other) below [] after = omega arith
-named_length (Two left right) below [] after = omega arith
-named_length news below (b ∷ before) after = let less = named_length news below before after in omega arith
-
-pub named_one : (news : Told) (below : Entry) (before after : List Entry) → IsAtMostOne news → length (before ++ (named_as news below ++ after)) ≤ length before + length after + 1
-named_one Same below [] after h = omega arith
-named_one Gone below [] after h = omega arith
-named_one (One other) below [] after h = omega arith
-named_one (Two left right) below [] after h = absurd h
-named_one news below (b ∷ before) after h = let less = named_one news below before after h in omega arith
-
--- an entry is mended by what is spelled of the page's entries, where the one below isn't as it was
-pub mends_by : (level : ℕ) (entry : Entry) (before : List Entry) (below : Entry) (after entries : List Entry) (news : Told) (old new : Spelled) (told : Told) → news ≢ Same
-    → entries ≡ before ++ (named_as news below ++ after) → Spreads level entry entries old new told → Mends level entry before below after news old new told
-mends_by level entry before below after entries Same old new told other is h = absurd (other refl)
-mends_by level entry before below after entries Gone old new told other is h = subst (λ (xs : List Entry). Spreads level entry xs old new told) is h
-mends_by level entry before below after entries (One one) old new told other is h = subst (λ (xs : List Entry). Spreads level entry xs old new told) is h
-mends_by level entry before below after entries (Two left right) old new told other is h = subst (λ (xs : List Entry). Spreads level entry xs old new told) is h
-
-pub mend_next : (level : ℕ) (entry : Entry) (before : List Entry) (below : Entry) (after : List Entry) (news : Told) (old new : Spelled) (told : Told) → Mends level entry before below after news old new told
-    → (old.next ≤ new.next) × (new.next ≤ old.next + 1)
-mend_next level entry before below after Same old new told h = let e = ap (λ (s : Spelled). s.next) h.1 in (omega arith, omega arith)
-mend_next level entry before below after Gone old new told h = (spread_next level entry (before ++ ([] ++ after)) old new told h, spread_one level entry (before ++ ([] ++ after)) old new told h)
-mend_next level entry before below after (One other) old new told h =
-    (spread_next level entry (before ++ (other ∷ after)) old new told h, spread_one level entry (before ++ (other ∷ after)) old new told h)
-mend_next level entry before below after (Two left right) old new told h =
-    (spread_next level entry (before ++ (left ∷ right ∷ after)) old new told h, spread_one level entry (before ++ (left ∷ right ∷ after)) old new told h)

@@ -2,14 +2,8 @@ use Rattle.std.proofs.Common.{ap}
 use Rattle.ub_page.specs.declared.index.Head.{Head}
 use Rattle.ub_index.proofs.FitFacts.{few_count, some_count}
 use Rattle.ub_index_change.proofs.ClimbFacts.{opens_page}
-use Rattle.ub_index.specs.Descending.{IsForgotten}
-use Rattle.ub_index.specs.declared.fault.IndexFault.TheVariants.{Store}
-use Rattle.ub_store.specs.declared.fault.StoreFault.TheVariants.{Memory}
-use Rattle.ub_index.proofs.StepFacts.{brought_page, if_err, none_ok, step_fits, step_memory, step_misfits}
+use Rattle.ub_index.proofs.StepFacts.{brought_page, step_misfits}
 use Rattle.ub_index_change.proofs.turning.open.Goals as goal
-
-pub cached-page-requires : goal.cached-page-requires
-cached-page-requires g c = c.in_ok-head.ensures.effect.cached
 
 pub opened_at-requires-clause-few : goal.opened_at-requires-clause-few
 opened_at-requires-clause-few g c =
@@ -25,43 +19,10 @@ returns-clause-opened g c = λ honest.
     c.in_ok-head.ensures.effect c.cached-page.ensures.page honest)
     (c.in_ok-head.ensures.effect.fits c.cached-page.result.now c.cached-page.ensures.held).1 c.in_ok-opened_at.ensures.falls
 
-pub returns-in_err-head-clause-opened : goal.returns-in_err-head-clause-opened
-returns-in_err-head-clause-opened g c = λ honest. none_ok _ c.from_residual.result _ c.from_residual.ensures.1
-
-pub returns-in_err-head-clause-few : goal.returns-in_err-head-clause-few
-returns-in_err-head-clause-few g c = none_ok _ c.from_residual.result _ c.from_residual.ensures.1
-
-pub returns-in_err-head-clause-forgotten : goal.returns-in_err-head-clause-forgotten
-returns-in_err-head-clause-forgotten g c =
-    if_err (IsForgotten c.bring_fitting.new.pager) c.from_residual.result c.in_err-head.field-0.0 c.from_residual.ensures.1 c.in_err-head.ensures.effect.forgotten
-
 pub returns-in_err-head-clause-effect : goal.returns-in_err-head-clause-effect
 returns-in_err-head-clause-effect g c =
     step_misfits c.args.last c.args.level c.args.place.now.entry c.args.place.now.next c.args.pager.now c.bring_fitting.new.pager c.from_residual.result c.in_err-head.field-0.0
     c.from_residual.ensures.1 c.in_err-head.ensures.effect
-
-pub returns-in_err-opened_at-clause-opened : goal.returns-in_err-opened_at-clause-opened
-returns-in_err-opened_at-clause-opened g c = λ honest. none_ok _ c.from_residual-in_err-opened_at.result _ c.from_residual-in_err-opened_at.ensures.1
-
-pub returns-in_err-opened_at-clause-few : goal.returns-in_err-opened_at-clause-few
-returns-in_err-opened_at-clause-few g c = none_ok _ c.from_residual-in_err-opened_at.result _ c.from_residual-in_err-opened_at.ensures.1
-
-pub returns-in_err-opened_at-clause-forgotten : goal.returns-in_err-opened_at-clause-forgotten
-returns-in_err-opened_at-clause-forgotten g c =
-    if_err (IsForgotten c.bring_fitting.new.pager) c.from_residual-in_err-opened_at.result (Store Memory) c.from_residual-in_err-opened_at.ensures.1 tt
-
-pub returns-in_err-opened_at-clause-effect : goal.returns-in_err-opened_at-clause-effect
-returns-in_err-opened_at-clause-effect g c =
-    step_memory c.args.last c.args.level c.args.place.now.entry c.args.place.now.next c.args.pager.now c.bring_fitting.new.pager c.in_ok-head.head
-    c.from_residual-in_err-opened_at.result c.from_residual-in_err-opened_at.ensures.1 c.in_ok-head.ensures.effect
-
-pub returns-clause-few : goal.returns-clause-few
-returns-clause-few g c = c.in_ok-opened_at.ensures.few
-
-pub returns-clause-effect : goal.returns-clause-effect
-returns-clause-effect g c =
-    step_fits c.args.last c.args.level c.args.place.now.entry c.args.place.now.next c.args.pager.now c.bring_fitting.new.pager c.in_ok-head.head c.in_ok-opened_at.field-0
-    c.in_ok-head.ensures.effect
 
 pub opened_at-requires-clause-some : goal.opened_at-requires-clause-some
 opened_at-requires-clause-some g c =
