@@ -52,7 +52,7 @@ padding_fault listing page d few on kind count entries ascending other =
 -- what stands on a page in range and in order can be spelled
 pub is_listing : (listing : Listing) (page : List ℕ) (d : ℕ) → listing ≡ listing_on page → HasCount page → HasEntries d page → AreAscending (listing_on page).entries → listing.next < 2 ^ 32
     → IsListing d listing
-is_listing listing page d hh1 hh2 hh3 hh4 hh5 = search (rules, length-entries_on)
+is_listing listing page d h k j l m = search (rules, length-entries_on)
 
 -- a page of a directory's entries is the spelling of its listing
 pub spelled : (entries : List Entry) (next : ℕ) → entries_page 0x44 0 next entries ≡ directory_page (record { entries = entries; next = next })

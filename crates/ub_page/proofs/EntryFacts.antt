@@ -42,7 +42,7 @@ length-entries_on offset (suc n) page = omega (arith, length-entries_on (offset 
 
 pub entries_next : (offset n after less : ℕ) (page : List ℕ) → 0 < n → after ≡ offset + 24 → less ≡ n - 1
     → entries_on offset n page ≡ entry_on offset page ∷ entries_on after less page
-entries_next offset n after less page hh1 hh2 hh3 = search rules
+entries_next offset n after less page h k j = search rules
 
 -- what stands on a page that was written of entries
 pub record HasFields (kind level next : ℕ) (entries : List Entry) (page : List ℕ) : Type 0 where
@@ -86,7 +86,7 @@ fields_read kind level next entries page last kind_small level_small next_small 
 pub entries_step : (entries all : List Entry) (page : List ℕ) (i count : ℕ) → i < count
     → entries ++ entries_on (16 + 24 * i) (count - i) page ≡ all
     → (entries ++ entry_on (16 + 24 * i) page ∷ []) ++ entries_on (16 + 24 * (i + 1)) (count - (i + 1)) page ≡ all
-entries_step entries all page i count hh1 hh2 = search (rules, append_assoc, entries_next)
+entries_step entries all page i count h k = search (rules, append_assoc, entries_next)
 
 pub short_ascending : (entries : List Entry) → length entries ≤ 1 → AreAscending entries
 short_ascending [] h = tt

@@ -1,25 +1,22 @@
 -- What the page of a header reads as.
 use Rattle.std.proofs.lemmas.Grind.{common_steps}
 use Rattle.std.proofs.Common.{rules}
-use Rattle.std.proofs.Common.{inl, inr, ◌≡◌, ◌≢◌, ◌≤◌, ◌<◌, ◌+◌, ◌-◌, ◌*◌, ◌^◌, ◌↔◌, ℕ, zero, suc, List, [], ◌∷◌, ◌++◌, true, false, Result, Ok, Err, IsOk, IfErr, subst, length, take, drop, replicate, if◌then◌else◌, refl, sym, ap, arith, ◌∙◌, append_assoc, length-take-le}
+use Rattle.std.proofs.Common.{◌≡◌, ◌≢◌, ◌≤◌, ◌<◌, ◌+◌, ◌-◌, ◌*◌, ◌^◌, ◌↔◌, ℕ, zero, suc, List, [], ◌∷◌, ◌++◌, true, false, Result, IsOk, IfErr, length, take, drop, replicate, if◌then◌else◌, refl, sym, ap, arith, ◌∙◌, append_assoc, length-take-le}
 use Rattle.std.specs.Prelude.{IsErrOf, nat_lt}
-use Rattle.std.proofs.Math.Nat.{mul-div-le}
-use Rattle.std.proofs.lemmas.Bool.{cases_Bool, lt-ltb, ltb-true}
+use Rattle.std.proofs.lemmas.Bool.{lt-ltb}
 use Rattle.std.proofs.lemmas.List.{length-append, length-replicate, length-drop}
 use Rattle.std.specs.List.{flat_map, AllByRecursion}
 use Rattle.std.specs.Result.{IfOk, IsErrAnd}
 use Rattle.ub_bytes.specs.Bytes.{number_bytes, number_at, layout, padded}
-use Rattle.ub_page.specs.Header.{numbers_of, names_of, number_fields, name_bytes, page_of, header_page, header_page_of, IsHeader, IsHeaderOf, IsOldHeader, IsOldVersion, AreInRangeOf, AreLevels, AreSame, IsOfVersion, IsHeaderKind, IsFaultOf, IsHeaderFault, IsOldHeaderFault, directory_pages, version_on, HasNames, columns_on, numbers_on, name_on, names_on, IsNameOn, AreNamesOn}
-use Rattle.ub_page.specs.declared.entries.TheConstants.{MAX_ENTRIES}
+use Rattle.ub_page.specs.Header.{numbers_of, names_of, number_fields, name_bytes, page_of, header_page, header_page_of, IsHeader, IsHeaderOf, IsOldHeader, IsOldVersion, AreInRangeOf, AreLevels, AreSame, IsOfVersion, IsHeaderKind, IsFaultOf, IsHeaderFault, IsOldHeaderFault, version_on, HasNames, columns_on, numbers_on, name_on, names_on, IsNameOn, AreNamesOn}
 use Rattle.ub_page.specs.declared.header.Header.{Header}
 use Rattle.ub_page.specs.declared.header.Numbers.{Numbers}
 use Rattle.ub_page.specs.declared.header.OldHeader.{OldHeader}
-use Rattle.ub_page.specs.declared.header.TheConstants.{FIRST_INDEXED, FIRST_SIGNED, MAX_LEVEL, VERSION}
+use Rattle.ub_page.specs.declared.header.TheConstants.{FIRST_SIGNED, MAX_LEVEL, VERSION}
 use Rattle.ub_bytes.proofs.BytesFacts.{length-number_bytes, read_at, layout_read, length-layout, AllFit}
 use Rattle.ub_bytes.proofs.DraftFacts.{of_front}
 use Rattle.ub_table.proofs.Laws.{name_block, length-name}
 use Rattle.ub_table.proofs.Laws.{few}
-use Rattle.ub_table.specs.Block.{IsNameBlock}
 use Rattle.ub_table.specs.Name.{IsName}
 use Rattle.ub_table.specs.declared.fault.PageFault.TheVariants.{WrongKind, OldFormat, Unclean, BadCount, BadName, BadRow, BadOrder, OutOfRegion, BadPadding}
 use Rattle.ub_table.specs.declared.fault.PageFault.{PageFault}
@@ -60,7 +57,7 @@ names_read (name ∷ names) page front rest offset is good e =
     ((first.0, others.0), rw (first.1, others.1) refl)
 
 take_short : (n m : ℕ) (xs : List ℕ) → n ≤ m → take n (take m xs) ≡ take n xs
-take_short n m xs hh1 = grind (arith, common_steps)
+take_short n m xs h = grind (arith, common_steps)
 
 -- a name that stands on a page is a name
 name_valid : (offset : ℕ) (page : List ℕ) → IsNameOn offset page → IsName (name_on offset page)
@@ -76,11 +73,11 @@ pub named : (page name : List ℕ) (offset len m : ℕ) → m ≡ 32 → length 
     → name ≡ take len (take m (drop (offset + 1) page)) → IsName (take len (take m (drop (offset + 1) page)))
     → name ++ replicate (32 - length name) 0 ≡ take m (drop (offset + 1) page)
     → (name ≡ name_on offset page) × IsNameOn offset page
-named page name offset len m hh1 hh2 hh3 hh4 hh5 hh6 hh7 hh8 = search (rules, length-drop, length-take-le, take_short)
+named page name offset len m h k j l o p q r = search (rules, length-drop, length-take-le, take_short)
 
 pub names_next : (offset n after less : ℕ) (page : List ℕ) → 0 < n → after ≡ offset + 33 → less ≡ n - 1
     → names_on offset n page ≡ name_on offset page ∷ names_on after less page
-names_next offset n after less page hh1 hh2 hh3 = search rules
+names_next offset n after less page h k j = search rules
 
 pub valid_next : (offset n after less : ℕ) (page : List ℕ) → 0 < n → after ≡ offset + 33 → less ≡ n - 1
     → AreNamesOn offset n page ↔ (IsNameOn offset page × AreNamesOn after less page)
@@ -90,7 +87,7 @@ valid_next offset (suc n) after less page some a b = let m : less ≡ n = omega 
 pub names_step : (columns all : List (List ℕ)) (page : List ℕ) (i count : ℕ) → i < count
     → columns ++ names_on (65 + 33 * i) (count - i) page ≡ all
     → (columns ++ name_on (65 + 33 * i) page ∷ []) ++ names_on (65 + 33 * (i + 1)) (count - (i + 1)) page ≡ all
-names_step columns all page i count hh1 hh2 = search (rules, append_assoc, names_next)
+names_step columns all page i count h k = search (rules, append_assoc, names_next)
 
 pub length-names_on : (offset n : ℕ) (page : List ℕ) → length (names_on offset n page) ≡ n
 length-names_on offset zero page = refl
@@ -98,27 +95,23 @@ length-names_on offset (suc n) page = omega (arith, length-names_on (offset + 33
 
 -- where the counts are right, a schema is refused for its names alone
 pub refused_schema : (r : Result Schema PageFault) (P Q : Type 0) → (IsOk r ↔ (P × Q)) → (IsErrOf r BadName ↔ (P × (¬ Q))) → P → IfErr r (λ e. (e ≡ BadName) × (¬ Q))
-refused_schema r P Q hh1 hh2 hh3 = search rules
+refused_schema r P Q h k j = search rules
 
 -- the columns of one that is made have different names
 pub made_schema : (r : Result Schema PageFault) (P Q : Type 0) → (IsOk r ↔ (P × Q)) → IfOk r (λ s. Q)
-made_schema r P Q hh1 = search rules
+made_schema r P Q h = search rules
 
 -- what holds of a fault holds of what is refused by it
 pub refused_by : {T : Type 0} (P : PageFault → Type 0) (r : Result T PageFault) (e : PageFault) → IsErrAnd r (λ x. x ≡ e) → P e → IfErr r P
-refused_by P r e hh1 hh2 = search rules
-
-with_same : (n : Numbers) (state dims measures page_rows signed : ℕ) → state ≡ n.state → dims ≡ n.dims → measures ≡ n.measures → page_rows ≡ n.page_rows → signed ≡ n.signed
-    → record n { state = state; dims = dims; measures = measures; page_rows = page_rows; signed = signed } ≡ n
-with_same n state dims measures page_rows signed a b c d e = rw (a, b, c, d, e) refl
+refused_by P r e h k = search rules
 
 pub same_numbers : (version : ℕ) (n : Numbers) (s : Schema) → s.dims ≡ n.dims → length s.columns ≡ n.dims + n.measures → s.page_rows ≡ n.page_rows → s.signed ≡ n.signed → n.state ≢ 1 → AreInRangeOf version n
     → numbers_of (record { schema = s; next = n.next; rows = n.rows; regions = n.regions; root = n.root; levels = n.levels; unclean = false }) ≡ n
-same_numbers version n s hh1 hh2 hh3 hh4 hh5 hh6 = search rules
+same_numbers version n s h k j l m o = search rules
 
 -- the byte of the mask is the mask, where none is signed before the first version that tells of it
 mask_read : (version signed byte : ℕ) → byte ≡ signed → (version < FIRST_SIGNED → signed ≡ 0) → (if nat_lt version FIRST_SIGNED then 0 else byte) ≡ signed
-mask_read version signed byte hh1 hh2 = search rules
+mask_read version signed byte h k = search rules
 
 -- before the first version that tells of signed dimensions, the mask on a page is zero
 no_mask : (version byte : ℕ) → version < FIRST_SIGNED → (if nat_lt version FIRST_SIGNED then 0 else byte) ≡ 0
@@ -126,7 +119,7 @@ no_mask version byte older = rw (lt-ltb version FIRST_SIGNED older) refl
 
 -- a page has room for the levels: a directory has no more pages than regions
 pub levels_fit : (version : ℕ) (n : Numbers) → AreLevels version n → 1 ≤ n.regions → n.regions < 2 ^ 32 → n.levels < 2 ^ 32
-levels_fit version n hh1 hh2 hh3 = search rules
+levels_fit version n h k j = search rules
 
 -- the parts of a header that stand on a page of a version make a header of it
 pub is_header : (version : ℕ) (h : Header) (page : List ℕ) → numbers_of h ≡ numbers_on version page → AreInRangeOf version (numbers_on version page) → h.regions < 2 ^ 32 → h.root < 2 ^ 32
@@ -191,7 +184,7 @@ parts version h page byte is e =
 
 -- headers of one page agree
 pub same : (a b : Header) → numbers_of a ≡ numbers_of b → a.schema.name ≡ b.schema.name → a.schema.columns ≡ b.schema.columns → a.unclean ≡ b.unclean → AreSame a b
-same a b hh1 hh2 hh3 hh4 = search rules
+same a b h k j l = search rules
 
 -- where the numbers and the names are the same, so is the page
 pub same_page : (version : ℕ) (a b : Header) → numbers_of a ≡ numbers_of b → a.schema.name ≡ b.schema.name → a.schema.columns ≡ b.schema.columns
@@ -276,7 +269,7 @@ old_byte version is = let older = is.1 in omega arith
 
 -- where an old header tells of an index, its levels are the level of the root
 pub old_level : (old : OldHeader) → IsOldHeader old → old.version ≢ 1 → (1 ≤ old.header.levels) × (old.header.levels ≤ MAX_LEVEL)
-old_level old hh1 hh2 = search rules
+old_level old h k = search rules
 
 -- the parts of an old header are read from its page
 pub old_parts : (old : OldHeader) (page : List ℕ) → IsOldHeader old → page ≡ header_page_of old.version old.header → HasPartsOf old.version old.header page

@@ -1,16 +1,14 @@
 -- What a page of an index reads as, and which page is spelled by what stands on it.
 use Rattle.std.proofs.Common.{rules}
-use Rattle.std.proofs.Common.{◌≡◌, ◌&&◌, Bool, true, false, IsTrue, ◌≤◌, ◌<◌, ◌+◌, ◌-◌, ◌*◌, ◌^◌, ℕ, zero, suc, List, ◌++◌, length, take, drop, get_or, replicate, ◌↔◌, refl, sym, ap, arith, ◌∙◌, inl, inr}
+use Rattle.std.proofs.Common.{◌≡◌, ◌&&◌, Bool, IsTrue, ◌≤◌, ◌<◌, ◌+◌, ◌-◌, ◌*◌, ◌^◌, ℕ, zero, suc, List, ◌++◌, length, take, drop, get_or, replicate, ◌↔◌, refl, sym, ap, arith, ◌∙◌}
 use Rattle.std.proofs.lemmas.List.{length-take-le, take-append-drop}
 use Rattle.std.specs.List.{flat_map, AllByRecursion}
 use Rattle.ub_bytes.specs.Bytes.{number_at, layout, padded}
 use Rattle.ub_page.specs.Entries.{AreAscending, IsEntry, entry_fields, entry_bytes, page_fields, entries_page, key_on, entry_on, entries_on}
 use Rattle.ub_region.specs.declared.entry.Entry.{Entry}
-use Rattle.ub_page.proofs.PageLaws.{fields_read, length-entries_on, entries_next, short_ascending, layout_back, joined}
+use Rattle.ub_page.proofs.PageLaws.{fields_read, length-entries_on, entries_next, layout_back, joined}
 use Rattle.ub_page.specs.Named.{IsNamed}
-use Rattle.ub_table.proofs.Laws.{before_parts}
 use Rattle.ub_table.specs.Keys.{IsBefore}
-use Rattle.ub_table.specs.declared.row.Key.{Key}
 use Rattle.ub_table.specs.declared.fault.PageFault.TheVariants.{WrongKind, OldFormat, Unclean, BadCount, BadName, BadRow, BadOrder, OutOfRegion, BadPadding}
 use Rattle.ub_table.specs.declared.fault.PageFault.{PageFault}
 use Rattle.ub_page.specs.Index.{Node, IsNode, index_page, head_on, node_on, IsIndexKind, HasHead, HasNodeEntries, HasNodeOrder, IsBlankBehind, IsHeadFault, IsIndexFault}
@@ -67,7 +65,7 @@ not_refused node page last small is same OutOfRegion fault = fault
 
 -- a refusal of the first bytes is one of the page
 pub head_fault : (last : ℕ) (page : List ℕ) (e : PageFault) → IsHeadFault page e → IsIndexFault last page e
-head_fault last page e hh1 = search rules
+head_fault last page e h = search rules
 
 -- a page whose unused bytes aren't zero is written of nothing
 pub padding_fault : (page : List ℕ) (last : ℕ) → last < 256 ^ 16 → IsIndexKind page → HasHead page → HasNodeEntries last page → HasNodeOrder page
@@ -76,7 +74,7 @@ padding_fault page last small kind head entries order other = (kind, head, entri
 
 -- what stands on a page that is in range and in order is a node
 pub is_node : (page : List ℕ) (last : ℕ) → HasHead page → HasNodeEntries last page → HasNodeOrder page → IsNode last (node_on page)
-is_node page last hh1 hh2 hh3 = search (rules, length-entries_on)
+is_node page last h k j = search (rules, length-entries_on)
 
 -- entries that stand in some bytes are spelled by them
 entries_back : (offset n : ℕ) (page : List ℕ) → ((k : ℕ) → get_or page k 0 < 256) → offset + 24 * n ≤ length page → flat_map entry_bytes (entries_on offset n page) ≡ take (24 * n) (drop offset page)
@@ -111,7 +109,7 @@ spelled page long small kind head blank =
 pub range_step : (last i count : ℕ) (page : List ℕ) → i < count
     → AllByRecursion (IsEntry last) (entries_on (16 + 24 * i) (count - i) page)
     ↔ (IsEntry last (entry_on (16 + 24 * i) page) × AllByRecursion (IsEntry last) (entries_on (16 + 24 * (i + 1)) (count - (i + 1)) page))
-range_step last i count page hh1 = search (rules, entries_next)
+range_step last i count page h = search (rules, entries_next)
 
 ascending_on : (offset n less : ℕ) (page : List ℕ) → 1 ≤ less → n ≡ less + 1
     → AreAscending (entries_on offset n page) ↔ (IsBefore (key_on offset page) (key_on (offset + 24) page) × AreAscending (entries_on (offset + 24) less page))
@@ -130,17 +128,10 @@ order_step i count page some more =
     let b : i + 1 - 1 ≡ i = omega arith in
     rw b (rw a at step)
 
--- where one entry is left, they ascend
-pub order_end : (i count : ℕ) (page : List ℕ) → 1 ≤ i → count ≤ i → AreAscending (entries_on (16 + 24 * (i - 1)) (count - (i - 1)) page)
-order_end i count page some done = short_ascending _ (rw (length-entries_on (16 + 24 * (i - 1)) (count - (i - 1)) page) (omega arith))
-
 -- the entries from a slot on are in range and begin one after the other
 abbrev pub AreWellFrom : ℕ → ℕ → ℕ → List ℕ → Type 0
 AreWellFrom last i count page =
     AllByRecursion (IsEntry last) (entries_on (16 + 24 * i) (count - i) page) × AreAscending (entries_on (16 + 24 * i) (count - i) page)
-
-pub before_address : (a b : Key) → IsBefore a b → a.z ≤ b.z
-before_address a b hh1 = search rules
 
 -- so are those from the next one on, and the first one is before that
 pub well_rest : (last i count : ℕ) (page : List ℕ) → 1 ≤ i → i < count → AreWellFrom last (i - 1) count page
@@ -155,7 +146,7 @@ well_rest last i count page some more all =
 pub well_more : (last i count : ℕ) (page : List ℕ) → 1 ≤ i → i < count → IsNamed (entry_on (16 + 24 * (i - 1)) page)
     → number_at 4 (16 + 24 * (i - 1) + 20) page < 2 ^ 32 → IsBefore (key_on (16 + 24 * (i - 1)) page) (key_on (16 + 24 * i) page)
     → AreWellFrom last (i + 1 - 1) count page → AreWellFrom last (i - 1) count page
-well_more last i count page hh1 hh2 hh3 hh4 hh5 hh6 = grind arith
+well_more last i count page h k j l m o = grind arith
 
 -- two tests that both pass
 pub both_pass : (a b : Bool) → IsTrue (a && b) ↔ (IsTrue a × IsTrue b)
@@ -164,4 +155,4 @@ both_pass a b = search rules
 -- the last one is where its address is in the space
 pub well_last : (last i count : ℕ) (page : List ℕ) → 1 ≤ i → i ≡ count → IsNamed (entry_on (16 + 24 * (i - 1)) page)
     → number_at 4 (16 + 24 * (i - 1) + 20) page < 2 ^ 32 → AreWellFrom last (i - 1) count page ↔ (number_at 16 (16 + 24 * (i - 1)) page ≤ last)
-well_last last i count page hh1 hh2 hh3 hh4 = search rules
+well_last last i count page h k j l = search rules

@@ -1,11 +1,11 @@
 -- What the proofs of crates above use of pages: what the page of a value tells of it, that a page of a value is not refused (of an
 -- unclean header, that it is refused as Unclean alone), in which ranges the numbers of an old header are, and how entries and other fields stand on a page.
-use Rattle.std.proofs.Common.{◌≡◌, ◌≢◌, ◌<◌, ◌^◌, ℕ, ◌≤◌, List, true, false, arith}
+use Rattle.std.proofs.Common.{◌≡◌, ◌≢◌, ℕ, ◌≤◌, List, true, false, arith}
 use Rattle.ub_page.proofs.DirectoryFacts as directory
 use Rattle.ub_page.proofs.HeaderFacts as headers
 use Rattle.ub_region.proofs.RegionFacts as regions
 use Rattle.ub_page.specs.Directory.{Listing, IsListing, IsDirectoryFault, directory_page}
-use Rattle.ub_page.specs.Header.{AreSame, IsHeader, IsHeaderFault, IsOldHeader, IsOldHeaderFault, header_page, header_page_of, numbers_of}
+use Rattle.ub_page.specs.Header.{AreSame, IsHeader, IsHeaderFault, IsOldHeader, header_page, numbers_of}
 use Rattle.ub_region.specs.RegionPage.{region_page}
 use Rattle.ub_page.specs.declared.header.Header.{Header}
 use Rattle.ub_page.specs.declared.header.OldHeader.{OldHeader}
@@ -36,21 +36,8 @@ header_not_refused = headers.not_refused
 pub unclean_refused : (h : Header) (page : List ℕ) → IsHeader h → h.unclean ≡ true → page ≡ header_page h → (e : PageFault) → IsHeaderFault page e → e ≡ Unclean
 unclean_refused = headers.unclean_refused
 
-pub old_header_parts : (old : OldHeader) (page : List ℕ) → IsOldHeader old → page ≡ header_page_of old.version old.header → HasPartsOf old.version old.header page
-old_header_parts = headers.old_parts
-
-pub old_header_not_refused : (old : OldHeader) (page : List ℕ) → IsOldHeader old → old.header.unclean ≡ false → page ≡ header_page_of old.version old.header
-    → (e : PageFault) → IsOldHeaderFault page e → ⊥
-old_header_not_refused = headers.old_not_refused
-
-pub old_levels_fit : (old : OldHeader) → IsOldHeader old → old.header.levels < 2 ^ 32
-old_levels_fit old is = headers.levels_fit old.version (numbers_of old.header) is.header.numbers.levels is.header.numbers.regions is.header.regions
-
 pub old_level : (old : OldHeader) → IsOldHeader old → old.version ≢ 1 → (1 ≤ old.header.levels) × (old.header.levels ≤ MAX_LEVEL)
 old_level = headers.old_level
-
-pub old_unsigned : (old : OldHeader) → IsOldHeader old → old.header.schema.signed ≡ 0
-old_unsigned old is = is.header.unsigned is.version.1
 
 pub same_header : (a b : Header) → numbers_of a ≡ numbers_of b → a.schema.name ≡ b.schema.name → a.schema.columns ≡ b.schema.columns → a.unclean ≡ b.unclean → AreSame a b
 same_header = headers.same
