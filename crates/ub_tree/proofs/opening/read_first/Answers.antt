@@ -6,8 +6,7 @@ use Rattle.ub_tree.proofs.HeldFacts.{header_no_kind, kind_checked}
 use Rattle.std.proofs.lemmas.Option.{slice_get_within}
 use Rattle.ub_page.specs.Header.{header_page}
 use Rattle.ub_store.specs.Facts.{page_count}
-use Rattle.ub_tree.proofs.EffectFacts.{refused_all, refused_none}
-use Rattle.ub_tree.proofs.ReadingFacts.{passing_there}
+use Rattle.ub_tree.proofs.EffectFacts.{refused_none}
 use Rattle.ub_tree.proofs.opening.read_first.Goals as goal
 
 pub returns-in-Ok-clause-checked : goal.returns-in-Ok-clause-checked

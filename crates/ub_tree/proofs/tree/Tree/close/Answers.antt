@@ -1,6 +1,6 @@
 use Rattle.std.proofs.Common.{◌≡◌, ◌∙◌, ℕ, ap, false, refl, subst, sym, true}
 use Rattle.ub_store.specs.Facts.{StoreFacts}
-use Rattle.ub_tree.proofs.ClosingFacts.{close_refused, sound_pages, unchanged_pages}
+use Rattle.ub_tree.proofs.ClosingFacts.{sound_pages, unchanged_pages}
 use Rattle.ub_tree.specs.Tree.{tree_view}
 use Rattle.ub_tree.specs.View.{TreeView}
 use Rattle.ub_writing.specs.Closing.{IsClosed}

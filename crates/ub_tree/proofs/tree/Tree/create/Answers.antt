@@ -2,7 +2,6 @@ use Rattle.std.proofs.Common.{◌≡◌, ◌∙◌, ℕ, None, ap, refl, rules, 
 use Rattle.ub_index.specs.Held.{AreChecked}
 use Rattle.ub_index.specs.View.{IndexView}
 use Rattle.ub_store.specs.Cache.{page_at}
-use Rattle.ub_tree.proofs.HeldFacts.{none_checked}
 use Rattle.ub_zaddr.specs.Address.{last_address}
 use Rattle.ub_store.specs.Facts.{StoreFacts}
 use Rattle.ub_store.specs.View.{PagerView}

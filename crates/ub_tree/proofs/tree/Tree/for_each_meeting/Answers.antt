@@ -1,7 +1,6 @@
 use Rattle.std.proofs.Common.{◌++◌, ◌∷◌, ◌∙◌, []}
-use Rattle.ub_tree.proofs.MeetFacts.{Walks-none, still_began, takes_more, takes_none, walks_down, walks_ended, walks_on}
+use Rattle.ub_tree.proofs.MeetFacts.{still_began, takes_more, takes_none, walks_down, walks_ended, walks_on}
 use Rattle.ub_tree.proofs.AnswerFacts.{next_later}
-use Rattle.ub_tree.proofs.ReadFacts.{memory_searches, tree_searches}
 use Rattle.ub_tree.proofs.tree.Tree.for_each_meeting.Goals as goal
 
 pub push-requires-clause-meets : goal.push-requires-clause-meets

@@ -4,7 +4,7 @@ use Rattle.ub_store.specs.Facts.{page_count, IsHonest}
 use Rattle.ub_table.specs.Region.{IsRow, key_of, measures_of}
 use Rattle.ub_table.specs.declared.fault.PageFault.TheVariants.{BadOrder}
 use Rattle.ub_table.specs.declared.row.Key.{Key}
-use Rattle.ub_tree.proofs.EffectFacts.{counted_anew, left_by, marked_sound, refused_all, refused_none, searched_by, then_changed, unchanged}
+use Rattle.ub_tree.proofs.EffectFacts.{counted_anew, left_by, marked_sound, refused_none, searched_by, then_changed, unchanged}
 use Rattle.ub_tree.proofs.GrowFacts.{added_answers, grown, grows_by, key_there, passing_answers_key, answers_err_at, answers_ok_at}
 use Rattle.ub_tree.proofs.HoldingFacts.{has_told, key_is_there, next_key}
 use Rattle.ub_tree.proofs.NewFacts.{numbered_row}

@@ -3,7 +3,7 @@ use Rattle.std.proofs.lemmas.Bool.{leb-true}
 use Rattle.ub_tree.proofs.RoomFacts.{next_region, rows_on}
 use Rattle.ub_tree.proofs.RemovalFacts.{joins_one, read_there}
 use Rattle.ub_tree.proofs.HoldingFacts.{no_answer, passing_fault}
-use Rattle.ub_tree.proofs.RefusedFacts.{refused_search, searched, then_refused_search}
+use Rattle.ub_tree.proofs.RefusedFacts.{searched}
 use Rattle.ub_region.specs.Joins.{JoinsBefore}
 use Rattle.ub_region.specs.RegionPage.{RegionView}
 use Rattle.ub_writing.specs.declared.room.Room.{Room}

@@ -4,7 +4,7 @@ use Rattle.std.proofs.lemmas.List.{length-map}
 use Rattle.ub_tree.proofs.RoomFacts.{next_region, rows_on}
 use Rattle.ub_tree.proofs.RemovalFacts.{joins_next}
 use Rattle.ub_tree.proofs.HoldingFacts.{no_answer, passing_fault}
-use Rattle.ub_tree.proofs.RefusedFacts.{refused_search, searched, then_refused_search}
+use Rattle.ub_tree.proofs.RefusedFacts.{searched}
 use Rattle.ub_tree.proofs.ShrinkFacts.{join_last, length-regions}
 use Rattle.ub_region.specs.RegionPage.{RegionView}
 use Rattle.ub_tree.specs.Placed.{entry_of}

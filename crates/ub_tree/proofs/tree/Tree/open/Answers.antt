@@ -1,6 +1,5 @@
 use Rattle.std.proofs.Common.{◌≡◌, ◌∙◌, None, ap, refl, rules, subst, sym}
 use Rattle.ub_store.specs.Cache.{page_at}
-use Rattle.ub_tree.proofs.HeldFacts.{none_checked}
 use Rattle.ub_store.specs.Facts.{StoreFacts, IsHonest}
 use Rattle.ub_store.specs.View.{PagerView}
 use Rattle.ub_tree.proofs.OpenedFacts.{mark_refused, never_clean, opened, opened_sound}

@@ -6,7 +6,7 @@ use Rattle.ub_index.specs.Held.{KeepsChecked}
 use Rattle.ub_region.specs.RegionPage.{RegionView, region_page}
 use Rattle.ub_store.specs.Facts.{IsHonest, IsPage, page_count}
 use Rattle.ub_tree.proofs.EffectFacts.{refused_none}
-use Rattle.ub_tree.proofs.ReadingFacts.{missing_there, page_refused_by, passing_there, read_page_by, read_there, refused_there, searched_tree, sound_span, store_refused, told_above}
+use Rattle.ub_tree.proofs.ReadingFacts.{missing_there, page_refused_by, read_page_by, read_there, refused_there, searched_tree, sound_span, store_refused, told_above}
 use Rattle.ub_tree.proofs.ThereFacts.{rows_there}
 use Rattle.ub_tree.specs.Faults.{index_fault}
 use Rattle.ub_store.specs.View.{PagerView}

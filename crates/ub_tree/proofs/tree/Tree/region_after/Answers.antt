@@ -1,7 +1,6 @@
 use Rattle.std.proofs.Common.{◌<◌, ◌^◌, inl, inr, Option, subst, sym, Some, None, ◌≡◌}
 use Rattle.ub_region.specs.declared.region.Region.{Region}
 use Rattle.ub_tree.proofs.CallFacts.{last_small}
-use Rattle.ub_tree.proofs.EffectFacts.{refused_all}
 use Rattle.ub_tree.proofs.NeighbourFacts.{given_next, next_begins, search_apart}
 use Rattle.ub_tree.proofs.SearchFacts.{search_refused}
 use Rattle.ub_store.specs.Facts.{IsHonest}

@@ -2,8 +2,8 @@ use Rattle.std.proofs.Common.{◌≡◌, ◌<◌, ◌-◌, ◌^◌, ◌∙◌, a
 use Rattle.ub_region.specs.RegionPage.{RegionView}
 use Rattle.ub_region.specs.Rows.{has_key, remove_row}
 use Rattle.ub_table.specs.declared.fault.PageFault.TheVariants.{BadCount}
-use Rattle.ub_tree.proofs.EffectFacts.{counted_anew, left_by, marked_sound, nothing_changed, searched_by, then_changed, unchanged}
-use Rattle.ub_tree.proofs.HoldingFacts.{has_told, no_answer, passing_fault, passing_removal, removal_answers, removal_fault, fault_told}
+use Rattle.ub_tree.proofs.EffectFacts.{counted_anew, left_by, marked_sound, searched_by, then_changed, unchanged}
+use Rattle.ub_tree.proofs.HoldingFacts.{has_told, no_answer, passing_fault, passing_removal, removal_answers, fault_told}
 use Rattle.ub_tree.proofs.RemovalFacts.{holder, none_removed, read_there, searched_removal, shrinks_by, shrunk, some_counted}
 use Rattle.ub_tree.proofs.RoomFacts.{rows_on, rows_without}
 use Rattle.ub_tree.proofs.tree.Tree.remove_within.Goals as goal

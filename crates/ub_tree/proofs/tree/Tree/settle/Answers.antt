@@ -6,7 +6,7 @@ use Rattle.ub_tree.specs.Removal.{IsRemovalFault}
 use Rattle.ub_tree.specs.inner.Change.{IsMadeOf, IsRegionThere}
 use Rattle.ub_tree.specs.Told.{IsRegionOf, FallsTo}
 use Rattle.ub_tree.proofs.EffectFacts.{changed_by, refused_none, searched_by, then_changed}
-use Rattle.ub_tree.proofs.RemovalFacts.{not_few, searched_removal, written_removal, settled_alone, settled_before, settled_large, settled_next, taken_alone, taken_joined}
+use Rattle.ub_tree.proofs.RemovalFacts.{searched_removal, settled_alone, settled_before, settled_large, settled_next, taken_alone, taken_joined}
 use Rattle.ub_store.specs.Facts.{IsHonest}
 use Rattle.ub_index.specs.Searching.{key_before}
 use Rattle.ub_region.specs.RegionPage.{RegionView}

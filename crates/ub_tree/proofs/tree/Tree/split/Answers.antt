@@ -9,7 +9,7 @@ use Rattle.ub_table.specs.declared.schema.Schema.{Schema}
 use Rattle.ub_tree.proofs.AddFacts.{parts_stored}
 use Rattle.ub_tree.proofs.RoomFacts.{ready_for}
 use Rattle.ub_tree.proofs.EffectFacts.{ready_by, refused_none, unchanged}
-use Rattle.ub_tree.proofs.PartFacts.{growth_refused, growth_short, halves_refused, index_refused, indexed_short, parted_answers, parts_at, parts_effect, unparted_answers, unready_answers, written_short}
+use Rattle.ub_tree.proofs.PartFacts.{growth_refused, growth_short, halves_refused, index_refused, parts_at, parts_effect, unready_answers}
 use Rattle.ub_tree.specs.Tree.{placed_in, tree_view}
 use Rattle.ub_table.specs.declared.fault.PageFault.TheVariants.{BadCount}
 use Rattle.ub_tree.specs.View.{TreeView, region_count}

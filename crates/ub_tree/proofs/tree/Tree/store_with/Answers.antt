@@ -14,7 +14,7 @@ use Rattle.ub_table.specs.declared.row.Key.{Key}
 use Rattle.ub_table.specs.declared.row.Row.{Row}
 use Rattle.ub_tree.proofs.EffectFacts.{changed_by}
 use Rattle.ub_tree.proofs.FilledFacts.{writes_grown}
-use Rattle.ub_tree.proofs.GrowFacts.{filled_answers, one_stored, put_at, same_split, spared_answers, two_stored}
+use Rattle.ub_tree.proofs.GrowFacts.{one_stored, put_at, same_split, two_stored}
 use Rattle.ub_tree.proofs.RoomFacts.{one_stands, two_stand}
 use Rattle.ub_tree.specs.View.{TreeView}
 use Rattle.ub_tree.specs.inner.Change.{CanStand, IsStored, StoresAt, StoresRows, placed_with}
