@@ -7,7 +7,7 @@ use Rattle.ub_store.specs.Facts.{StoreFacts, IsHonest}
 use Rattle.ub_store.specs.View.{PagerView}
 use Rattle.ub_store.specs.declared.fault.StoreFault.TheVariants as store
 use Rattle.ub_table.specs.declared.row.Key.{Key}
-use Rattle.ub_index_change.specs.Changing.{IsAtMostOne, IsSpreadFault, Mends, NeedsNoGrowth, OpensTo, Prepares, Spelled, Turns, IsTurnFault, IsNoGrowth}
+use Rattle.ub_index_change.specs.Changing.{IsAtMostOne, IsSpreadFault, Mends, NeedsNoGrowth, OpensTo, Prepares, Spelled, Turns, IsTurnFault}
 use Rattle.ub_index.specs.Descending.{IsStepFault, Steps, StepsTo}
 use Rattle.ub_index.specs.Fitting.{FallsTo}
 use Rattle.ub_index.specs.Index.{entries_of, NamesFitting, Fits}
@@ -16,7 +16,7 @@ use Rattle.ub_index.specs.declared.fault.IndexFault.{IndexFault}
 use Rattle.ub_index.specs.declared.fault.IndexFault.TheVariants.{Full, Page, Store}
 use Rattle.ub_index_change.specs.declared.told.Told.{Told}
 use Rattle.ub_index_change.specs.declared.told.Told.TheVariants.{Same, Gone, One, Two}
-use Rattle.ub_index_change.proofs.FullFacts.{full_next, full_way}
+use Rattle.ub_index_change.proofs.FullFacts.{ends_all, ends_few, full_next, full_way}
 use Rattle.ub_index.proofs.HeldFacts.{both_on, Keeps}
 use Rattle.ub_index.proofs.SearchFacts.{err_is, failed, frame, pager_with, same_store}
 use Rattle.ub_index.proofs.WayFacts.{stops_here, stops_on}
@@ -74,7 +74,19 @@ ends_on : (last : ℕ) (pages : List (List ℕ)) (key : Key) (level : ℕ) (entr
 ends_on last pages key zero entry below end after next some step h = absurd (omega arith)
 ends_on last pages key (suc level) entry below end after next some step (full, ends, more) =
     let one : suc level - 1 ≡ level = omega arith in
-    (full, inr (step.0, below, after, step.1, subst (λ (n : ℕ). EndsFull last pages key n below after full) one ends), more)
+    let ends_below : EndsFull last pages key level below after full = subst (λ (n : ℕ). EndsFull last pages key n below after full) one ends in
+    let few : length (entries_of pages entry.page) ≤ 170 = step.0.fits.is.is.few in
+    let at_most = ends_few last pages key level below after full ends_below in
+    elim (cases_lt full level) [
+      | inl less ↦ (full, inr (step.0, (λ e. absurd (omega (arith, e, less))), below, after, step.1, ends_below), more)
+      | inr all ↦ elim (cases_lt (length (entries_of pages entry.page)) 170) [
+        | inl room ↦ (full, inr (step.0, (λ e. room), below, after, step.1, ends_below), more)
+        | inr long ↦
+            let is_level : full ≡ level = omega (arith, all, at_most) in
+            let way = ends_all last pages key level below after full is_level ends_below in
+            (suc level, inl (refl, (step.0, omega (arith, few, long), below, after, step.1, way)), omega (arith, more, is_level))
+      ]
+    ]
 
 -- and so is why the change is refused below it
 below_fault : (last : ℕ) (old : StoreFacts) (key : Key) (level : ℕ) (entry below : Entry) (end after : Option Key) (next : ℕ) (e : IndexFault) → 0 < level
@@ -171,12 +183,3 @@ opens_page pages last key level entry end before below next after page at fits t
       before_is = parts.1;
       after_is = parts.2;
     }
-
--- a step that is refused is so not for want of pages, nor of levels
-pub step_no_growth : (last : ℕ) (old : StoreFacts) (level : ℕ) (entry : Entry) (end : Option Key) (e : IndexFault) → IsStepFault last old level entry end e → IsNoGrowth e
-step_no_growth last old level entry end (Page n fault) h = tt
-step_no_growth last old level entry end (Store store.Memory) h = tt
-step_no_growth last old level entry end (Store store.Device) h = tt
-step_no_growth last old level entry end (Store store.NoPage) h = tt
-step_no_growth last old level entry end (Store store.BadSize) h = h
-step_no_growth last old level entry end Full h = h

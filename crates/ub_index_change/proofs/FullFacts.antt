@@ -1,5 +1,6 @@
 -- Full pages on the way to a key: which pages a change takes.
 use Rattle.std.proofs.Common.{◌≡◌, ◌≤◌, ◌<◌, ◌+◌, ◌++◌, ◌⊎◌, inl, inr, ℕ, zero, suc, List, [], ◌∷◌, Option, Some, None, IfSome, length, ◌∙◌, sym, ap, subst, refl, arith}
+use Rattle.std.proofs.lemmas.Bool.{cases_lt}
 use Rattle.ub_region.specs.declared.entry.Entry.{Entry}
 use Rattle.ub_store.specs.Facts.{StoreFacts, page_count}
 use Rattle.ub_table.proofs.Laws.{before_trans}
@@ -7,7 +8,7 @@ use Rattle.ub_table.specs.Keys.{IsBefore}
 use Rattle.ub_table.specs.declared.row.Key.{Key}
 use Rattle.ub_index_change.specs.Changing.{IsAtMostOne, Mends, Spelled, Spreads, Turns, named_as}
 use Rattle.ub_index.specs.Fitting.{FallsTo}
-use Rattle.ub_index.specs.Index.{entries_of, first_or, top, AscendTo}
+use Rattle.ub_index.specs.Index.{entries_of, first_or, top, AscendTo, NamesFitting}
 use Rattle.ub_index_change.specs.Preparing.{ChangeView, HasFullWay, NeedsPages, Settles, TakesNeeded}
 use Rattle.ub_index.specs.View.{IndexView}
 use Rattle.ub_index_change.specs.FullWay.{EndsFull, IsFullWay}
@@ -195,6 +196,19 @@ turns_room last old key added zero entry end from to told few h = let e = ap (λ
 turns_room last old key added (suc level) entry end from to told few (named, below, next, falls, middle, news, turns, mends) =
     mends_room (suc level) entry falls.before below falls.after news middle to told (turns_room last old key added level below next from middle news few turns) mends
 
+-- no more are full than there are levels
+pub ends_few : (last : ℕ) (old : List (List ℕ)) (key : Key) (level : ℕ) (entry : Entry) (end : Option Key) (full : ℕ) → EndsFull last old key level entry end full → full ≤ level
+ends_few last old key zero entry end full h = omega arith
+ends_few last old key (suc level) entry end full (inl all) = let e = all.0 in omega arith
+ends_few last old key (suc level) entry end full (inr (named, room, below, next, falls, ends)) = let few = ends_few last old key level below next full ends in omega arith
+
+-- where as many are full as there are levels, all are
+pub ends_all : (last : ℕ) (old : List (List ℕ)) (key : Key) (level : ℕ) (entry : Entry) (end : Option Key) (full : ℕ) → full ≡ level → EndsFull last old key level entry end full
+    → IsFullWay last old key level entry end
+ends_all last old key zero entry end full e h = tt
+ends_all last old key (suc level) entry end full e (inl all) = all.1
+ends_all last old key (suc level) entry end full e (inr (named, room, below, next, falls, ends)) = let few = ends_few last old key level below next full ends in absurd (omega arith)
+
 -- one page at least is taken for each of the lowest that are full
 pub takes_all : (last : ℕ) (old : List (List ℕ)) (key : Key) (added : Entry) (level : ℕ) (entry : Entry) (end : Option Key) (from to : Spelled) (told : Told) (full : ℕ)
     → EndsFull last old key level entry end full → Turns last old key (Some added) level entry end from to told → from.next + full ≤ to.next
@@ -204,7 +218,7 @@ takes_all last old key added (suc level) entry end from to told full (inl all) h
     let next = full_next last old key (Some added) (suc level) entry end from to two.0 two.1 (subst (λ (t : Told). Turns last old key (Some added) (suc level) entry end from to t) two.2 h) in
     let count = all.0 in
     omega arith
-takes_all last old key added (suc level) entry end from to told full (inr (named1, x1, n1, falls1, ends)) (named, below, next, falls, middle, news, turns, mends) =
+takes_all last old key added (suc level) entry end from to told full (inr (named1, room, x1, n1, falls1, ends)) (named, below, next, falls, middle, news, turns, mends) =
     let same = falls_once key (entries_of old entry.page) end x1 n1 below next named.fits.ascends falls1 falls in
     let ends_below : EndsFull last old key level below next full =
     subst (λ (e : Entry). EndsFull last old key level e next full) same.0 (subst (λ (o : Option Key). EndsFull last old key level x1 o full) same.1 ends) in
@@ -212,42 +226,45 @@ takes_all last old key added (suc level) entry end from to told full (inr (named
     let at_it = mends_next (suc level) entry falls.before below falls.after news middle to told mends in
     omega arith
 
+-- where an entry that gets another one behind it doesn't become two, and each page below is full, this one has room
+room_here : (last : ℕ) (old : List (List ℕ)) (key : Key) (added : Entry) (level : ℕ) (entry : Entry) (end : Option Key) (from to : Spelled) (told : Told) (below : Entry) (next : Option Key)
+    → NamesFitting last old (suc level) entry end → FallsTo key (entries_of old entry.page) end below next → IsFullWay last old key level below next
+    → IsAtMostOne told → Turns last old key (Some added) (suc level) entry end from to told → length (entries_of old entry.page) < 170
+room_here last old key added level entry end from to told below next named falls way narrow turns = elim (cases_lt (length (entries_of old entry.page)) 170) [
+  | inl less ↦ less
+  | inr long ↦
+      let few : length (entries_of old entry.page) ≤ 170 = named.fits.is.is.few in
+      let two = full_parts last old key added (suc level) entry end from to told (named, omega (arith, few, long), below, next, falls, way) turns in
+      absurd (subst (λ (t : Told). IsAtMostOne t) two.2 narrow)
+]
+
 -- and no others
-pub takes_only : (last : ℕ) (old : List (List ℕ)) (key : Key) (added : Option Entry) (level : ℕ) (entry : Entry) (end : Option Key) (from to : Spelled) (told : Told)
-    → Turns last old key added level entry end from to told → (full : ℕ) × EndsFull last old key level entry end full × (to.next ≡ from.next + full)
+pub takes_only : (last : ℕ) (old : List (List ℕ)) (key : Key) (added : Entry) (level : ℕ) (entry : Entry) (end : Option Key) (from to : Spelled) (told : Told)
+    → Turns last old key (Some added) level entry end from to told → (full : ℕ) × EndsFull last old key level entry end full × (to.next ≡ from.next + full)
 takes_only last old key added zero entry end from to told h = (0, refl, (let e = ap (λ (s : Spelled). s.next) h.1 in omega arith))
 takes_only last old key added (suc level) entry end from to told (named, below, next, falls, middle, news, turns, mends) =
     by_told told (takes_only last old key added level below next from middle news turns) (named, below, next, falls, middle, news, turns, mends) mends
   where
     by_rest : (t : Told) → IsAtMostOne t → ((full : ℕ) × EndsFull last old key level below next full × (middle.next ≡ from.next + full))
-        → Mends (suc level) entry falls.before below falls.after news middle to t → (full : ℕ) × EndsFull last old key (suc level) entry end full × (to.next ≡ from.next + full)
-    by_rest t n (full, ends, count) m =
+        → Turns last old key (Some added) (suc level) entry end from to t → Mends (suc level) entry falls.before below falls.after news middle to t
+        → (full : ℕ) × EndsFull last old key (suc level) entry end full × (to.next ≡ from.next + full)
+    by_rest t n (full, ends, count) h m =
         let same = mends_none (suc level) entry falls.before below falls.after news middle to t n m in
-        (full, inr (named, below, next, falls, ends), same ∙ count)
+        let room : full ≡ level → length (entries_of old entry.page) < 170 = λ e.
+        room_here last old key added level entry end from to t below next named falls (ends_all last old key level below next full e ends) n h in
+        (full, inr (named, room, below, next, falls, ends), same ∙ count)
 
     by_told : (t : Told) → ((full : ℕ) × EndsFull last old key level below next full × (middle.next ≡ from.next + full))
-        → Turns last old key added (suc level) entry end from to t → Mends (suc level) entry falls.before below falls.after news middle to t
+        → Turns last old key (Some added) (suc level) entry end from to t → Mends (suc level) entry falls.before below falls.after news middle to t
         → (full : ℕ) × EndsFull last old key (suc level) entry end full × (to.next ≡ from.next + full)
-    by_told Same in_it h m = by_rest Same tt in_it m
-    by_told Gone in_it h m = by_rest Gone tt in_it m
-    by_told (One other) in_it h m = by_rest (One other) tt in_it m
+    by_told Same in_it h m = by_rest Same tt in_it h m
+    by_told Gone in_it h m = by_rest Gone tt in_it h m
+    by_told (One other) in_it h m = by_rest (One other) tt in_it h m
     by_told (Two left right) in_it h m = (
       suc level,
-      inl (refl, full_way last old key added (suc level) entry end from to left right h),
-      full_next last old key added (suc level) entry end from to left right h,
+      inl (refl, full_way last old key (Some added) (suc level) entry end from to left right h),
+      full_next last old key (Some added) (suc level) entry end from to left right h,
     )
-
-ends_few : (last : ℕ) (old : List (List ℕ)) (key : Key) (level : ℕ) (entry : Entry) (end : Option Key) (full : ℕ) → EndsFull last old key level entry end full → full ≤ level
-ends_few last old key zero entry end full h = omega arith
-ends_few last old key (suc level) entry end full (inl all) = let e = all.0 in omega arith
-ends_few last old key (suc level) entry end full (inr (named, below, next, falls, ends)) = let few = ends_few last old key level below next full ends in omega arith
-
--- where as many are full as there are levels, all are
-ends_all : (last : ℕ) (old : List (List ℕ)) (key : Key) (level : ℕ) (entry : Entry) (end : Option Key) (full : ℕ) → full ≡ level → EndsFull last old key level entry end full
-    → IsFullWay last old key level entry end
-ends_all last old key zero entry end full e h = tt
-ends_all last old key (suc level) entry end full e (inl all) = all.1
-ends_all last old key (suc level) entry end full e (inr (named, below, next, falls, ends)) = let few = ends_few last old key level below next full ends in absurd (omega arith)
 
 pub all_end : (last : ℕ) (old : List (List ℕ)) (key : Key) (level : ℕ) (entry : Entry) (end : Option Key) → IsFullWay last old key level entry end
     → EndsFull last old key level entry end level
@@ -278,7 +295,7 @@ module _ (index : IndexView) (old : StoreFacts) (key : Key) (added : Entry) (sta
   settles_next (Two left right) h = let e = ap (λ (c : ChangeView). c.next) h.2 in let less = h.1 in (omega arith, λ small. omega arith)
 
   needs_all : (n : ℕ) → NeedsPages index old key n → page_count old + 1 + n ≤ change.next
-  needs_all n (full, ends, inl same) =
+  needs_all n (full, ends, inl (high, same)) =
       let taken = takes_all index.last old.pages key added index.levels (top index.root) None from middle told full ends turns in
       let more = (settles_next told settles).0 in
       omega arith
@@ -289,16 +306,20 @@ module _ (index : IndexView) (old : StoreFacts) (key : Key) (added : Entry) (sta
       omega arith
 
   needs_only : (n : ℕ) × NeedsPages index old key n × (change.next ≡ page_count old + 1 + n)
-  needs_only = by_told told refl settles (takes_only index.last old.pages key (Some added) index.levels (top index.root) None from middle told turns)
+  needs_only = by_told told refl settles (takes_only index.last old.pages key added index.levels (top index.root) None from middle told turns)
     where
-      kept : change.next ≡ middle.next → ((full : ℕ) × EndsFull index.last old.pages key index.levels (top index.root) None full × (middle.next ≡ from.next + full)) → (n : ℕ) × NeedsPages index old key n × (change.next ≡ page_count old + 1 + n)
-      kept same (full, ends, next) = (full, (full, ends, inl refl), omega arith)
+      kept : IsAtMostOne told → change.next ≡ middle.next → ((full : ℕ) × EndsFull index.last old.pages key index.levels (top index.root) None full × (middle.next ≡ from.next + full)) → (n : ℕ) × NeedsPages index old key n × (change.next ≡ page_count old + 1 + n)
+      kept narrow same (full, ends, next) =
+          let high : full ≡ index.levels → 16 ≤ index.levels = λ e.
+          (let two = root_two (ends_all index.last old.pages key index.levels (top index.root) None full e ends) in
+          absurd (subst (λ (t : Told). IsAtMostOne t) two.2 narrow)) in
+          (full, (full, ends, inl (high, refl)), omega arith)
 
       by_told : (t : Told) → told ≡ t → Settles index.root index.levels t start middle change → ((full : ℕ) × EndsFull index.last old.pages key index.levels (top index.root) None full × (middle.next ≡ from.next + full))
           → (n : ℕ) × NeedsPages index old key n × (change.next ≡ page_count old + 1 + n)
-      by_told Same e h taken = kept (ap (λ (c : ChangeView). c.next) h) taken
+      by_told Same e h taken = kept (subst (λ (t : Told). IsAtMostOne t) (sym e) tt) (ap (λ (c : ChangeView). c.next) h) taken
       by_told Gone e h taken = absurd h
-      by_told (One other) e h taken = kept (ap (λ (c : ChangeView). c.next) h) taken
+      by_told (One other) e h taken = kept (subst (λ (t : Told). IsAtMostOne t) (sym e) tt) (ap (λ (c : ChangeView). c.next) h) taken
       by_told (Two left right) e h taken =
           let way = full_way index.last old.pages key (Some added) index.levels (top index.root) None from middle left right
           (subst (λ (t : Told). Turns index.last old.pages key (Some added) index.levels (top index.root) None from middle t) e turns) in

@@ -1,5 +1,6 @@
 -- A change that is prepared makes an index on all later pages on which what it spells stands.
 use Rattle.std.proofs.Common.{◌≡◌, ◌≢◌, ◌≤◌, ◌<◌, ◌+◌, ◌^◌, ◌++◌, inl, inr, ℕ, zero, suc, nat_eq, List, [], ◌∷◌, Option, Some, None, Result, Ok, Err, IfErr, length, slice_get, ◌∙◌, sym, ap, subst, refl, arith}
+use Rattle.std.proofs.lemmas.Bool.{cases_lt}
 use Rattle.std.proofs.lemmas.List.{append-nil}
 use Rattle.std.proofs.lemmas.Option.{slice_get_within}
 use Rattle.std.specs.Result.{IsErrAnd}
@@ -17,8 +18,9 @@ use Rattle.ub_index_change.specs.Changed.{Becomes, Replaces, Stays}
 use Rattle.ub_index.specs.Index.{IsTold, entries_of, first_or, page_in, pages_under, AscendTo, EachTo, IsUnder, under, top}
 use Rattle.ub_index_change.specs.Changing.{AreOnce, IsFine, IsNoNew, IsTurnFault, IsUnspelled, NamesPage, Spelled, Stand, StayBut, named_as, sheet_of, so_far, with_added, Prepares}
 use Rattle.ub_index.specs.Standing.{IsOutside}
+use Rattle.ub_index_change.specs.FullWay.{EndsFull}
 use Rattle.ub_index_change.specs.Filling.{IsFilled, IsFilledRoot, KeepsFilled}
-use Rattle.ub_index_change.specs.Preparing.{ChangeView, IsChangeFault, IsIndexThen, IsPrepared, MakesIndex, IsSettleFault, IsWithinRegion, PreparesAll, Settles, TurnsRoot, added_at, change_view, HasFullWay}
+use Rattle.ub_index_change.specs.Preparing.{ChangeView, IsChangeFault, IsIndexThen, IsPrepared, MakesIndex, IsSettleFault, IsWithinRegion, PreparesAll, Settles, TurnsRoot, added_at, change_view, HasFullWay, NeedsPages}
 use Rattle.ub_index.specs.View.{IsReachedOnce, pages_of_index, IndexView, IsIndexOn, IsRegionAt, entries_in, index_view, entry_at}
 use Rattle.ub_index.specs.Way.{LeadsTo}
 use Rattle.ub_index.specs.declared.fault.IndexFault.{IndexFault}
@@ -31,7 +33,7 @@ use Rattle.ub_index.proofs.HeldFacts.{Keeps}
 use Rattle.ub_index_change.proofs.Changes.{replaced, stays}
 use Rattle.ub_index.proofs.KeptFacts.{told_index}
 use Rattle.ub_index_change.proofs.FillFacts.{AreFilled, filled_becomes, filled_over}
-use Rattle.ub_index_change.proofs.FullFacts.{all_end, full_next, full_way}
+use Rattle.ub_index_change.proofs.FullFacts.{all_end, ends_few, full_next, full_way}
 use Rattle.ub_index.proofs.Numbers.{distinct_cons, distinct_first, distinct_rest, outside_less, within_store}
 use Rattle.ub_index_change.proofs.SheetNumbers.{no_new_left, once_join}
 use Rattle.ub_index.proofs.OrderFacts.{first_through, under_first}
@@ -85,6 +87,20 @@ settled_all T U index key added from to old new told (Err (Store store.NoPage)) 
 settled_all T U index key added from to old new told (Err (Store store.BadSize)) few room turns same kept h =
     record { same = same; checked = kept.0; more = kept.1; faults = settle_fault index old.store key added from to told (Store store.BadSize) few room turns h }
 
+-- where those that are full are too many, so are the pages that the index needs
+needs_more : (index : IndexView) (old : StoreFacts) (key : Key) (next : ℕ)
+    → (full : ℕ) × EndsFull index.last old.pages key index.levels (top index.root) None full × (4294967295 < next + full)
+    → (n : ℕ) × NeedsPages index old key n × (4294967295 < next + n)
+needs_more index old key next (full, ends, more) = elim (cases_lt index.levels 16) [
+  | inr high ↦ (full, (full, ends, inl ((λ e. high), refl)), more)
+  | inl low ↦ elim (cases_lt full index.levels) [
+    | inl less ↦ (full, (full, ends, inl ((λ e. absurd (omega (arith, e, less))), refl)), more)
+    | inr all ↦
+        let few = ends_few index.last old.pages key index.levels (top index.root) None full ends in
+        (full + 1, (full, ends, inr (omega (arith, all, few), low, refl)), omega (arith, more))
+  ]
+]
+
 -- and so is why it doesn't go down or up
 turn_fault : (index : IndexView) (old : StoreFacts) (key : Key) (added : Option Entry) (from : Spelled) (e : IndexFault)
     → IsTurnFault index.last old key index.levels (top index.root) None from.next e → IsChangeFault index old key added from e
@@ -93,7 +109,7 @@ turn_fault index old key added from (Store store.Device) h = h
 turn_fault index old key added from (Store store.NoPage) h = h
 turn_fault index old key added from (Store store.BadSize) h = (
   (let more = h.0 in omega arith),
-  inr (λ honest. let ends = h.1 honest in (ends.0, (ends.0, ends.1, inl refl), ends.2)),
+  inr (λ honest. needs_more index old key from.next (h.1 honest)),
 )
 turn_fault index old key added from (Page n fault) h = λ honest. inl (h honest)
 turn_fault index old key added from Full h = absurd h

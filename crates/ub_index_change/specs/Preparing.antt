@@ -105,12 +105,12 @@ pub record IsWithinRegion (last : ℕ) (start : Key) (next : Option Key) (first 
 abbrev pub HasFullWay : IndexView → StoreFacts → Key → Type 0
 HasFullWay index store key = IsFullWay index.last store.pages key index.levels (top index.root) None
 
--- an index needs n pages more at least where a region comes behind that of the key: one for each of the lowest pages on the way
--- that are full, and one for a new root, where all are, and there may be a level more
+-- an index needs n pages more where a region comes behind that of the key: one for each of the lowest pages on the way that are
+-- full, and one for a new root, where all are, and there may be a level more
 abbrev pub NeedsPages : IndexView → StoreFacts → Key → ℕ → Type 0
 NeedsPages index store key n =
     (full : ℕ) × EndsFull index.last store.pages key index.levels (top index.root) None full
-    × ((n ≡ full) ⊎ ((full ≡ index.levels) × (index.levels < 16) × (n ≡ full + 1)))
+    × (((full ≡ index.levels → 16 ≤ index.levels) × (n ≡ full)) ⊎ ((full ≡ index.levels) × (index.levels < 16) × (n ≡ full + 1)))
 
 -- a change begins with so many pages, and its next one has this number at least, and is so much further at most
 pub record TakesFew (start next most : ℕ) (change : ChangeView) : Type 0 where

@@ -290,11 +290,11 @@ ends_full_to : (last : ℕ) (pages : List (List ℕ)) (key other : Key) (level :
 ends_full_to last pages key other zero entry end found next leads h full ends = ends
 ends_full_to last pages key other (suc level) entry end found next leads h full (inl (all, way)) =
     inl (all, full_way_to last pages key other (suc level) entry end found next leads h way)
-ends_full_to last pages key other (suc level) entry end found next (named, below, beyond, falls, leads) h full (inr (fitting, below2, beyond2, falls2, ends)) =
+ends_full_to last pages key other (suc level) entry end found next (named, below, beyond, falls, leads) h full (inr (fitting, room, below2, beyond2, falls2, ends)) =
     let same = falls_once key (entries_of pages entry.page) end fitting.fits.ascends below2 beyond2 falls2 below beyond falls in
     let there : EndsFull last pages key level below beyond full =
     subst (λ (o : Option Key). EndsFull last pages key level below o full) same.1 (subst (λ (e : Entry). EndsFull last pages key level e beyond2 full) same.0 ends) in
-    inr (fitting, below, beyond, falls_other last pages key other level entry end found next below beyond falls leads h, ends_full_to last pages key other level below beyond found next leads h full there)
+    inr (fitting, room, below, beyond, falls_other last pages key other level entry end found next below beyond falls leads h, ends_full_to last pages key other level below beyond found next leads h full there)
 
 -- where there is no room behind the region of a key, there is none behind that of each key that it holds
 room_to : (F G : Type 0) → (F → G) → (t : TreeView) (key other : Key) (found : Entry) (next : Option Key)
