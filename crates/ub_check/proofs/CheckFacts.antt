@@ -1,6 +1,5 @@
 -- The check of a table: what its walk from the root comes to.
-use Rattle.std.proofs.Common.{rules}
-use Rattle.std.proofs.Common.{◌≡◌, ◌<◌, ◌+◌, ◌⊎◌, ◌↔◌, inl, ℕ, Bool, IsTrue, List, [], Some, None, Result, Ok, Err, min, subst}
+use Rattle.std.proofs.Common.{rules, ◌≡◌, ◌<◌, ◌+◌, ◌⊎◌, ◌↔◌, inl, ℕ, Bool, IsTrue, List, [], Some, None, Result, Ok, Err, min, subst}
 use Rattle.std.specs.Result.{IsErrAnd}
 use Rattle.ub_check.specs.Calls.{Checks, IsCheckFault, asked_in}
 use Rattle.ub_check.specs.Checking.{Asked, StopsIn, TakesAll, TakesTable}

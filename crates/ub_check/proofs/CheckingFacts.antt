@@ -1,7 +1,6 @@
 -- The steps of a check: numbers that are put into a set, and entries of a page that are walked through.
 use Rattle.std.proofs.lemmas.Grind.{common_steps}
-use Rattle.std.proofs.Common.{rules}
-use Rattle.std.proofs.Common.{◌≡◌, ◌≤◌, ◌<◌, ◌+◌, ◌-◌, ◌++◌, inl, inr, ℕ, zero, suc, IsTrue, List, [], ◌∷◌, Option, Some, None, Result, Ok, Err, OnOk, length, take, drop, map, min, slice_get, ◌^◌, ap, refl, sym, ◌∙◌, arith, subst}
+use Rattle.std.proofs.Common.{rules, ◌≡◌, ◌≤◌, ◌<◌, ◌+◌, ◌-◌, ◌++◌, inl, inr, ℕ, zero, suc, IsTrue, List, [], ◌∷◌, Option, Some, None, Result, Ok, Err, OnOk, length, take, drop, map, min, slice_get, ◌^◌, ap, refl, sym, ◌∙◌, arith, subst}
 use Rattle.std.proofs.lemmas.List.{append-nil, append_assoc, length-append, map-append}
 use Rattle.std.specs.Result.{IsErrAnd, IsErrOf}
 use Rattle.ub_index.specs.Descending.{IsStepFault, Steps}

@@ -1,6 +1,5 @@
 -- A bit for each number: what one number more changes.
-use Rattle.std.proofs.Common.{rules}
-use Rattle.std.proofs.Common.{◌≡◌, ◌≢◌, ◌<◌, ◌/◌, ◌%◌, ◌*◌, ◌^◌, ◌++◌, inl, inr, ℕ, List, [], ◌∷◌, length, slice_index_or, slice_set, bit_or, ap, sym, ◌∙◌, arith}
+use Rattle.std.proofs.Common.{rules, ◌≡◌, ◌≢◌, ◌<◌, ◌/◌, ◌%◌, ◌*◌, ◌^◌, ◌++◌, inl, inr, ℕ, List, [], ◌∷◌, length, slice_index_or, slice_set, bit_or, ap, sym, ◌∙◌, arith}
 use Rattle.std.proofs.lemmas.Bool.{cases_eq}
 use Rattle.std.proofs.lemmas.List.{get_or-set_same, get_or-set_other}
 use Rattle.std.proofs.lemmas.Nat.Bits.{bit_at_set_same, bit_at_set_other}

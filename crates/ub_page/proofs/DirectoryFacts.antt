@@ -1,6 +1,5 @@
 -- What a page of the directory reads as.
-use Rattle.std.proofs.Common.{rules}
-use Rattle.std.proofs.Common.{◌≡◌, ◌≢◌, ◌≤◌, ◌<◌, ◌^◌, ℕ, List, length, refl, sym, ap, arith, ◌∙◌}
+use Rattle.std.proofs.Common.{rules, ◌≡◌, ◌≢◌, ◌≤◌, ◌<◌, ◌^◌, ℕ, List, length, refl, sym, ap, arith, ◌∙◌}
 use Rattle.ub_zaddr.specs.Address.{last_address}
 use Rattle.ub_bytes.specs.Bytes.{number_at}
 use Rattle.ub_page.specs.Directory.{Listing, IsListing, directory_page, listing_on, IsDirectoryKind, HasCount, HasEntries, IsDirectoryFault}

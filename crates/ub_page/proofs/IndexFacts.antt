@@ -1,6 +1,5 @@
 -- What a page of an index reads as, and which page is spelled by what stands on it.
-use Rattle.std.proofs.Common.{rules}
-use Rattle.std.proofs.Common.{◌≡◌, ◌&&◌, Bool, IsTrue, ◌≤◌, ◌<◌, ◌+◌, ◌-◌, ◌*◌, ◌^◌, ℕ, zero, suc, List, ◌++◌, length, take, drop, get_or, replicate, ◌↔◌, refl, sym, ap, arith, ◌∙◌}
+use Rattle.std.proofs.Common.{rules, ◌≡◌, ◌&&◌, Bool, IsTrue, ◌≤◌, ◌<◌, ◌+◌, ◌-◌, ◌*◌, ◌^◌, ℕ, zero, suc, List, ◌++◌, length, take, drop, get_or, replicate, ◌↔◌, refl, sym, ap, arith, ◌∙◌}
 use Rattle.std.proofs.lemmas.List.{length-take-le, take-append-drop}
 use Rattle.std.specs.List.{flat_map, AllByRecursion}
 use Rattle.ub_bytes.specs.Bytes.{number_at, layout, padded}

@@ -1,7 +1,6 @@
 -- What the proofs of crates above use of the pages of an index: what the page of a node tells of it, that it is not refused, and
 -- which entry stands in a slot.
-use Rattle.std.proofs.Common.{rules}
-use Rattle.std.proofs.Common.{◌≡◌, ◌<◌, ◌+◌, ◌*◌, ◌^◌, ℕ, zero, suc, List, length, Some, slice_get, arith}
+use Rattle.std.proofs.Common.{rules, ◌≡◌, ◌<◌, ◌+◌, ◌*◌, ◌^◌, ℕ, zero, suc, List, length, Some, slice_get, arith}
 use Rattle.ub_page.proofs.IndexFacts as facts
 use Rattle.ub_page.specs.Index.{Node, IsNode, IsIndexFault, index_page, node_on}
 use Rattle.ub_page.specs.Slots.{entry_in}

@@ -1,6 +1,5 @@
 -- What the columns of a region hold at an index.
-use Rattle.std.proofs.Common.{rules}
-use Rattle.std.proofs.Common.{◌≡◌, ◌<◌, ◌≤◌, ◌+◌, ◌*◌, ℕ, ℤ, pos, zero, suc, List, [], ◌∷◌, length, map, take, replicate, get_or, Some, refl, sym, ap, arith, ◌∙◌}
+use Rattle.std.proofs.Common.{rules, ◌≡◌, ◌<◌, ◌≤◌, ◌+◌, ◌*◌, ℕ, ℤ, pos, zero, suc, List, [], ◌∷◌, length, map, take, replicate, get_or, Some, refl, sym, ap, arith, ◌∙◌}
 use Rattle.std.proofs.Math.Seq.{get_or-take}
 use Rattle.std.proofs.lemmas.Bool.{cases_order}
 use Rattle.std.proofs.lemmas.List.{get_or_append_left, get_or-append_right, get_or-replicate, length-append, length-replicate}

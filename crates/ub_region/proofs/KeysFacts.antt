@@ -1,6 +1,5 @@
 -- The keys of a page's rows.
-use Rattle.std.proofs.Common.{rules}
-use Rattle.std.proofs.Common.{◌≡◌, ◌<◌, ◌↔◌, Bool, not, IsTrue, ℕ, List, [], ◌∷◌, length, get_or}
+use Rattle.std.proofs.Common.{rules, ◌≡◌, ◌<◌, ◌↔◌, Bool, not, IsTrue, ℕ, List, [], ◌∷◌, length, get_or}
 use Rattle.std.specs.List.{AllByRecursion}
 use Rattle.ub_region.specs.Columns.{IsKeyNumbered}
 use Rattle.ub_table.proofs.Laws.{before_trans}

@@ -1,6 +1,5 @@
 -- The mask of a region, one dimension after the other.
-use Rattle.std.proofs.Common.{rules}
-use Rattle.std.proofs.Common.{◌≡◌, ◌<◌, ◌≤◌, ◌+◌, ◌-◌, ◌^◌, ◌↔◌, inl, inr, ℕ, ℤ, zero, suc, List, [], Some, length, map, take, get_or, slice_index, bit_and, min, refl, sym, ap, arith, ◌∙◌}
+use Rattle.std.proofs.Common.{rules, ◌≡◌, ◌<◌, ◌≤◌, ◌+◌, ◌-◌, ◌^◌, ◌↔◌, inl, inr, ℕ, ℤ, zero, suc, List, [], Some, length, map, take, get_or, slice_index, bit_and, min, refl, sym, ap, arith, ◌∙◌}
 use Rattle.std.proofs.lemmas.Bool.{cases_order}
 use Rattle.std.proofs.lemmas.List.{length-take-le, get_or-take}
 use Rattle.std.proofs.lemmas.List.FromFn.{length-map-range_with_len, get_or-map-range_with_len}

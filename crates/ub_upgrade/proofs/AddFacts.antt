@@ -1,6 +1,5 @@
 -- What a store is to which pages are added, and what its counts of failures are.
-use Rattle.std.proofs.Common.{rules}
-use Rattle.std.proofs.Common.{◌≡◌, ◌≤◌, ◌<◌, ◌+◌, ◌++◌, ◌∙◌, inl, ℕ, zero, suc, List, [], ◌∷◌, Option, Some, None, Result, Ok, Err, IsTrue, ap, arith, length, refl, slice_get, slice_set}
+use Rattle.std.proofs.Common.{rules, ◌≡◌, ◌≤◌, ◌<◌, ◌+◌, ◌++◌, ◌∙◌, inl, ℕ, zero, suc, List, [], ◌∷◌, Option, Some, None, Result, Ok, Err, IsTrue, ap, arith, length, refl, slice_get, slice_set}
 use Rattle.std.specs.Prelude.{OnOk, OnErr, IfErr, option_map}
 use Rattle.std.specs.Result.{IsErrAnd}
 use Rattle.ub_store.specs.Writing.{Grows}

@@ -1,6 +1,5 @@
 -- The lowest level of the index while the directory is read.
-use Rattle.std.proofs.Common.{rules}
-use Rattle.std.proofs.Common.{◌≡◌, ◌≤◌, ◌<◌, ◌+◌, ◌-◌, ◌^◌, ◌++◌, ◌∙◌, ℕ, List, [], ◌∷◌, Some, None, Result, Ok, Err, IfErr, true, false, ap, arith, length, refl, subst, sym}
+use Rattle.std.proofs.Common.{rules, ◌≡◌, ◌≤◌, ◌<◌, ◌+◌, ◌-◌, ◌^◌, ◌++◌, ◌∙◌, ℕ, List, [], ◌∷◌, Some, None, Result, Ok, Err, IfErr, true, false, ap, arith, length, refl, subst, sym}
 use Rattle.std.proofs.lemmas.List.{length-append}
 use Rattle.ub_page.specs.Index.{index_page}
 use Rattle.ub_page.specs.Directory.{Listing, IsListing, directory_page}

@@ -1,6 +1,5 @@
 -- The levels of an index that is built from below.
-use Rattle.std.proofs.Common.{rules}
-use Rattle.std.proofs.Common.{◌≡◌, ◌≢◌, ◌≤◌, ◌<◌, ◌+◌, ◌-◌, ◌^◌, ◌++◌, ◌∙◌, true, ℕ, zero, suc, List, [], ◌∷◌, Option, Some, None, IfSome, ap, arith, append_assoc, length, nat_eq, refl, slice_get, slice_set, subst, sym, take}
+use Rattle.std.proofs.Common.{rules, ◌≡◌, ◌≢◌, ◌≤◌, ◌<◌, ◌+◌, ◌-◌, ◌^◌, ◌++◌, ◌∙◌, true, ℕ, zero, suc, List, [], ◌∷◌, Option, Some, None, IfSome, ap, arith, append_assoc, length, nat_eq, refl, slice_get, slice_set, subst, sym, take}
 use Rattle.std.proofs.lemmas.Grind.{flat_map-append}
 use Rattle.std.proofs.lemmas.List.{append-nil, length-append}
 use Rattle.std.specs.List.{AllByRecursion, IsDistinct, flat_map}

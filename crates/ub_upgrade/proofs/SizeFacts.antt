@@ -1,6 +1,5 @@
 -- How many pages a level has, and how many levels there are.
-use Rattle.std.proofs.Common.{rules}
-use Rattle.std.proofs.Common.{◌≡◌, ◌≤◌, ◌<◌, ◌+◌, ◌-◌, ◌*◌, ℕ, suc, arith, refl}
+use Rattle.std.proofs.Common.{rules, ◌≡◌, ◌≤◌, ◌<◌, ◌+◌, ◌-◌, ◌*◌, ℕ, suc, arith, refl}
 use Rattle.std.proofs.lemmas.Bool.{lt-leb}
 use Rattle.ub_upgrade.specs.Levels.{most_pages, pages_above, pages_for}
 

@@ -1,6 +1,5 @@
 -- A table of an older format, over a new store: its mark stays, the root of its index stands where it stood, and why that isn't taken.
-use Rattle.std.proofs.Common.{rules}
-use Rattle.std.proofs.Common.{◌≡◌, ◌≤◌, ◌∙◌, ◌⊎◌, inl, inr, ℕ, List, [], None, Some, Result, IfErr, OnErr, MatchResult, length, ap, slice_get, sym, subst, arith}
+use Rattle.std.proofs.Common.{rules, ◌≡◌, ◌≤◌, ◌∙◌, ◌⊎◌, inl, inr, ℕ, List, [], None, Some, Result, IfErr, OnErr, MatchResult, length, ap, slice_get, sym, subst, arith}
 use Rattle.std.proofs.lemmas.Option.{get_or_from_slice_get}
 use Rattle.std.specs.Result.{IsErrAnd}
 use Rattle.ub_index.specs.Fitting.{IsNotTaken, IsUnfit}

@@ -1,7 +1,6 @@
-use Rattle.std.proofs.Common.{◌-◌, ◌∙◌, ◌++◌, [], ◌∷◌, ap, arith, refl, subst, sym}
+use Rattle.std.proofs.Common.{◌-◌, ◌∙◌, ◌++◌, [], ◌∷◌, ap, arith, refl, subst, sym, List}
 use Rattle.std.proofs.lemmas.List.{length-append}
 use Rattle.ub_region.specs.declared.entry.Entry.{Entry}
-use Rattle.std.proofs.Common.{List}
 use Rattle.ub_page.specs.Index.{index_page}
 use Rattle.ub_store.specs.Facts.{StoreFacts, IsPage, page_count}
 use Rattle.ub_upgrade.specs.Reading.{HeadingView, IsReadUpTo, AreBelow}

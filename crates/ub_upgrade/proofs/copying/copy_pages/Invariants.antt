@@ -1,5 +1,4 @@
-use Rattle.std.proofs.Common.{◌≡◌, ◌≤◌, ◌<◌, max}
-use Rattle.std.proofs.Common.{ℕ, slice_get}
+use Rattle.std.proofs.Common.{◌≡◌, ◌≤◌, ◌<◌, max, ℕ, slice_get}
 use Rattle.ub_store.specs.Facts.{IsHonest, page_count}
 use Rattle.ub_upgrade.specs.Effects.{AddsPages, HasNotFailed}
 use Rattle.ub_upgrade.proofs.copying.copy_pages.Given as goal

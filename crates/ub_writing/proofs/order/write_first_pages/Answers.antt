@@ -1,8 +1,7 @@
 use Rattle.std.proofs.Common.{arith, inr, ap, ◌∙◌}
 use Rattle.std.proofs.lemmas.Grind.{common_steps}
 use Rattle.ub_store.specs.Facts.{StoreFacts}
-use Rattle.ub_writing.proofs.CloseFacts.{on_err}
-use Rattle.ub_writing.proofs.MarkFacts.{laid_first, laid_second, mark_extended, mark_kept}
+use Rattle.ub_writing.proofs.MarkFacts.{laid_first, laid_second, mark_extended, mark_kept, on_err}
 use Rattle.ub_writing.proofs.order.write_first_pages.Goals as goal
 
 pub returns-in_err-put-clause-first : goal.returns-in_err-put-clause-first

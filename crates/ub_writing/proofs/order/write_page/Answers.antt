@@ -1,24 +1,10 @@
-use Rattle.std.proofs.Common.{arith, rules, ◌∷◌, [], sym, subst}
-use Rattle.std.proofs.lemmas.Grind.{elements}
+use Rattle.std.proofs.Common.{◌∷◌, [], sym, subst}
 use Rattle.ub_store.specs.Cache.{Renews}
 use Rattle.ub_store.specs.View.{PagerView}
 use Rattle.ub_writing.specs.Puts.{IsPutPage}
 use Rattle.ub_writing.proofs.HeldFacts.{put_first, put_held, put_none, renews_more, renews_none, renews_then}
 use Rattle.ub_writing.proofs.order.write_page.Goals.{in-Due+in_ok-put_header, in_default}
 use Rattle.ub_writing.proofs.order.write_page.Goals as goal
-
-pub returns-in_err-put_header-clause-marks : goal.returns-in_err-put_header-clause-marks
-returns-in_err-put_header-clause-marks g c = search rules
-
-pub returns-clause-put : goal.returns-clause-put
-returns-clause-put g c = grind (arith, elements) steps 2000000
-
-pub returns-clause-marks : goal.returns-clause-marks
-returns-clause-marks g c = grind (arith, elements) steps 2000000
-
-pub returns-in_err-put_header-clause-held : goal.returns-in_err-put_header-clause-held
-returns-in_err-put_header-clause-held g c =
-    renews_more (IsPutPage []) (IsPutPage (c.args.page.now ∷ [])) c.args.pager.now.cached _ (put_none (c.args.page.now ∷ [])) c.put_header.ensures.held
 
 pub returns-clause-held : goal.returns-clause-held
 returns-clause-held g c =
