@@ -4,7 +4,7 @@ use crate::marks::Asked;
 use crate::narrow::Narrow;
 use std::alloc::{AllocError, Global};
 use ub_journal::{TornPlace, is_journal};
-use ub_journal_page::{page_total, spell_page};
+use ub_journal_page::write_journal;
 use ub_memory_files::MemFiles;
 use ub_shell::{Files, run_program};
 use ub_store::Page;
@@ -72,13 +72,11 @@ impl Bench {
         if !is_journal(&journal) {
             return Ok(None);
         }
-        let mut pages = Vec::new(self.alloc);
-        let mut page = [0; 4096];
-        for n in 0..page_total(&journal) {
-            spell_page(&journal, n, &mut page);
-            pages.push(page)?;
+        let mut bytes = Vec::new(self.alloc);
+        match write_journal(&mut bytes, &journal) {
+            Ok(()) => Ok(Some(bytes)),
+            Err(_) => Err(AllocError),
         }
-        Ok(Some(bytes_in(self.alloc, pages.as_slice())?))
     }
 
     /// Runs a command line.

@@ -15,7 +15,7 @@ use std::{fs, rt};
 use ub_file::host::open_store;
 use ub_file::{FileStore, HostFile, PAGE_BYTES, RawFile};
 use ub_journal::{Failed, Journal, JournalFault, Place, Tells};
-use ub_journal_page::{page_total, read_journal, spell_page};
+use ub_journal_page::{read_journal, write_journal};
 use ub_store::Page;
 
 /// What became of the changes that were put last.
@@ -307,27 +307,15 @@ fn filled<F: OpenFile + AsFd + Write + Drop, J: Tells>(
     Ok(file)
 }
 
-// Writes the pages of a journal, many at a time, or one by one where memory is refused for that.
+// Writes the pages of a journal, many at a time, or part by part where memory is refused for that.
 fn write_buffered<F: Write, J: Tells>(alloc: Global, file: &mut F, journal: &J) -> io::Result<()>
     requires { IsJournal (J.told journal.now) }
 {
     if let Ok(mut many) = BufWriter::with_capacity(alloc, DRAFT_BYTES, &mut *file) {
-        write_pages(&mut many, journal)?;
+        write_journal(&mut many, journal)?;
         return many.flush();
     }
-    write_pages(file, journal)
-}
-
-// Writes the pages of a journal, one after the other.
-fn write_pages<W: Write, J: Tells>(out: &mut W, journal: &J) -> io::Result<()>
-    requires { IsJournal (J.told journal.now) }
-{
-    let mut page = [0; 4096];
-    for n in 0..page_total(journal) {
-        spell_page(journal, n, &mut page);
-        out.write_all(&page)?;
-    }
-    Ok(())
+    write_journal(file, journal)
 }
 
 impl<R: rt::Files> Reasons for HostPlace<'_, R> {
