@@ -1,5 +1,5 @@
 -- What the searches of the index answer, as answers of the tree.
-use Rattle.std.proofs.Common.{◌≡◌, ◌<◌, ◌≤◌, ◌*◌, ◌^◌, map, inl, inr, Result, Ok, Err, MatchResult, ℕ, List, Option, Some, None, IfSome, ◌∙◌, ap, subst, sym, refl, arith}
+use Rattle.std.proofs.Common.{◌≡◌, ◌<◌, ◌≤◌, ◌*◌, ◌^◌, map, inl, inr, Result, Ok, Err, MatchResult, ℕ, List, Option, Some, None, IfSome, ◌∙◌, ap, subst, refl, arith}
 use Rattle.std.specs.Result.{IsErrAnd}
 use Rattle.std.proofs.Math.Pow.{pow-lt}
 use Rattle.std.proofs.lemmas.Bool.{cases_Bool, cases_lt}
@@ -20,7 +20,7 @@ use Rattle.ub_table.specs.declared.fault.PageFault.{PageFault}
 use Rattle.ub_table.specs.declared.row.Key.{Key}
 use Rattle.ub_tree.proofs.AnswerFacts.{at_least_z, begins_up_to, up_to}
 use Rattle.ub_tree.proofs.IndexedFacts.{index_on}
-use Rattle.ub_tree.proofs.WayFacts.{KeepsIndexKinds, led_not_stopped, still_led}
+use Rattle.ub_tree.proofs.WayFacts.{led_not_stopped}
 use Rattle.ub_tree.specs.Faults.{index_fault}
 use Rattle.ub_tree.specs.Opened.{IsPassing}
 use Rattle.ub_tree.specs.Placed.{entry_of}

@@ -9,16 +9,13 @@ use Rattle.ub_index.specs.Index.{pages_under, top}
 use Rattle.ub_index.specs.View.{IndexView, index_view}
 use Rattle.ub_region.proofs.Laws.{all_left, all_right}
 use Rattle.ub_store.specs.Facts.{StoreFacts, IsHonest, page_count}
-use Rattle.ub_store.specs.declared.fault.StoreFault.{StoreFault}
-use Rattle.ub_store.specs.declared.fault.StoreFault.TheVariants as store
 use Rattle.ub_tree.proofs.StoredFacts.{IsSpelled}
-use Rattle.ub_tree.specs.Closing.{IsCloseFault, header_of}
-use Rattle.ub_tree.specs.Faults.{tree_fault}
+use Rattle.ub_tree.specs.Closing.{header_of}
 use Rattle.ub_tree.specs.Indexed.{HasIndex, reserved}
 use Rattle.ub_tree.specs.Placed.{Placed, ArePlaced, entry_of}
 use Rattle.ub_tree.specs.Stored.{AreSoundPages, index_of}
 use Rattle.ub_tree.specs.View.{TreeView, IsSound}
-use Rattle.ub_writing.specs.Closing.{IsClosed, IsSaveFault}
+use Rattle.ub_writing.specs.Closing.{IsClosed}
 
 -- a tree that wasn't changed has the pages of a closed table
 pub unchanged_pages : (t : TreeView) (new : StoreFacts) → new ≡ t.store → t.is_changed ≡ false → IsSound t → IsHonest new × AreSoundPages new.pages t.schema t.placed t.next

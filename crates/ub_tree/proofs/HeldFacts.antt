@@ -4,7 +4,7 @@ use Rattle.std.specs.Prelude.{Contains}
 use Rattle.std.specs.List.{AllByRecursion}
 use Rattle.ub_index.proofs.HeldFacts.{keeps_but, keeps_gone}
 use Rattle.ub_index.proofs.StepFacts.{held_once, honest_back, same_honest}
-use Rattle.ub_index.specs.Held.{AreChecked, KeepsChecked}
+use Rattle.ub_index.specs.Held.{KeepsChecked}
 use Rattle.ub_index.specs.View.{IndexView}
 use Rattle.ub_page.specs.Index.{IsIndexKind}
 use Rattle.ub_bytes.specs.Bytes.{number_at, number_bytes}

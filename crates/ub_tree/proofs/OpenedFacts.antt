@@ -5,7 +5,7 @@ use Rattle.std.proofs.lemmas.Option.{slice_get_within}
 use Rattle.std.specs.List.{AllByRecursion}
 use Rattle.ub_index.specs.Index.{IsUnder, NamesFitting, top}
 use Rattle.ub_index.specs.View.{IndexView, index_view}
-use Rattle.ub_page.proofs.PageLaws.{HasParts, header_not_refused, header_parts, region_parts, same_header, unclean_refused}
+use Rattle.ub_page.proofs.PageLaws.{HasParts, header_parts, region_parts, same_header, unclean_refused}
 use Rattle.ub_bytes.specs.Bytes.{number_at}
 use Rattle.ub_page.specs.Header.{AreSame, IsHeader, IsHeaderFault, header_page}
 use Rattle.ub_region.specs.RegionPage.{region_page}

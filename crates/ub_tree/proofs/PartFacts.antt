@@ -8,7 +8,7 @@ use Rattle.ub_index.specs.Standing.{IsOutside}
 use Rattle.ub_index_change.specs.Changing.{IsUnspelled}
 use Rattle.ub_index.specs.Index.{pages_under, top}
 use Rattle.ub_index_change.specs.Making.{IsPutFault, PutsSheets}
-use Rattle.ub_index_change.specs.Preparing.{ChangeView, HasFullWay, NeedsPages}
+use Rattle.ub_index_change.specs.Preparing.{ChangeView, NeedsPages}
 use Rattle.ub_region.specs.declared.region.Region.{Region}
 use Rattle.ub_index_change.specs.declared.sheet.Sheet.{Sheet}
 use Rattle.ub_page.specs.declared.header.TheConstants.{MAX_LEVEL}

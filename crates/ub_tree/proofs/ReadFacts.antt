@@ -1,5 +1,5 @@
 -- What a tree keeps over several calls that read it.
-use Rattle.std.proofs.Common.{◌≡◌, ◌≢◌, ◌≤◌, ◌∙◌, inl, inr, ℕ, IsTrue, List, Option, None, Result, Ok, Err, IfErr, subst, sym, ap, refl}
+use Rattle.std.proofs.Common.{◌≡◌, ◌≤◌, ◌∙◌, inl, inr, ℕ, IsTrue, List, Option, None, Result, Ok, Err, IfErr, subst, sym, ap, refl}
 use Rattle.std.specs.Result.{IsErrAnd}
 use Rattle.ub_bigmin.specs.Box.{Corners}
 use Rattle.ub_check.specs.Standing.{IsRegionRefused}

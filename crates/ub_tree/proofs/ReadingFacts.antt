@@ -1,5 +1,5 @@
 -- What a call that reads a region answers, and why it is refused.
-use Rattle.std.proofs.Common.{◌⊎◌, inl, inr, ◌≡◌, ℕ, suc, Bool, IsTrue, List, Option, Some, IfSome, Result, Ok, Err, IfErr, IsOk, MatchResult, OnOk, ap, sym, subst, refl, slice_get, map, ◌≤◌, ◌<◌, ◌∙◌, arith}
+use Rattle.std.proofs.Common.{◌⊎◌, inl, inr, ◌≡◌, ℕ, suc, Bool, IsTrue, List, Option, Some, IfSome, Result, Ok, Err, IfErr, IsOk, OnOk, ap, sym, subst, refl, slice_get, map, ◌≤◌, ◌<◌, ◌∙◌, arith}
 use Rattle.std.specs.List.{AllByRecursion}
 use Rattle.std.specs.Result.{IsErrAnd, IsErrOf}
 use Rattle.ub_check.proofs.StandingFacts.{each_get}
@@ -20,9 +20,8 @@ use Rattle.ub_table.specs.declared.row.Key.{Key}
 use Rattle.ub_table.specs.declared.schema.Schema.{Schema}
 use Rattle.ub_tree.proofs.IndexedFacts.{at_of_key}
 use Rattle.ub_tree.proofs.TreeFacts.{all_get, apart_next, firsts_placed, region_get, placed_there}
-use Rattle.ub_tree.specs.Effects.{IsPageMissing, IsPageRefused, IsReadFault, IsSpanFault, IsTakenIn, Searches, read_store}
+use Rattle.ub_tree.specs.Effects.{IsPageMissing, IsPageRefused, IsReadFault, IsSpanFault, IsTakenIn, read_store}
 use Rattle.ub_tree.specs.Faults.{index_fault, tree_fault}
-use Rattle.ub_tree.specs.Opened.{IsPassing}
 use Rattle.ub_tree.specs.Placed.{entry_of}
 use Rattle.ub_tree.specs.Spans.{first_keys, Region}
 use Rattle.ub_tree.specs.Told.{IsRegionOf}

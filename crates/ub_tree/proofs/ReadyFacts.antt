@@ -4,7 +4,6 @@ use Rattle.std.proofs.lemmas.List.{append-nil, length-map}
 use Rattle.std.specs.List.{AllByRecursion, flat_map}
 use Rattle.std.specs.Result.{IsErrAnd}
 use Rattle.ub_index_change.proofs.FullFacts.{mended_few}
-use Rattle.ub_index.proofs.KeyFacts.{le_before}
 use Rattle.ub_index_change.specs.Changing.{IsAtMostOne, Mends, Spelled, Spreads, Turns, named_as, so_far}
 use Rattle.ub_index.specs.Index.{entries_of, pages_under, top, under}
 use Rattle.ub_index_change.specs.Lowering.{IsDropFault, IsDropped, IsLowerFault, IsRootRefused}
@@ -22,19 +21,15 @@ use Rattle.ub_region.proofs.Laws.{all_append, all_more}
 use Rattle.ub_store.specs.Facts.{StoreFacts, IsHonest, page_count}
 use Rattle.ub_store.specs.View.{PagerView}
 use Rattle.ub_store.specs.declared.fault.StoreFault.TheVariants as store
-use Rattle.ub_table.proofs.Laws.{not_before_origin}
-use Rattle.ub_table.specs.Keys.{IsBefore, origin}
 use Rattle.ub_table.specs.declared.fault.PageFault.{PageFault}
 use Rattle.ub_table.specs.declared.row.Key.{Key}
 use Rattle.ub_table.specs.declared.schema.Schema.{Schema}
-use Rattle.ub_tree.proofs.RoomFacts.{begins_before}
 use Rattle.ub_tree.proofs.SearchFacts.{index_not_refused, no_stop, stores_alike}
 use Rattle.ub_tree.proofs.WayFacts.{IsSpelledOf, Spells, led_not_stopped, never_gone, spells}
 use Rattle.ub_tree.specs.Effects.{IsIndexRefused}
 use Rattle.ub_tree.specs.Faults.{index_fault}
 use Rattle.ub_tree.specs.Holding.{HasNoRoom, IsRoomFault}
 use Rattle.ub_tree.specs.Placed.{entry_of}
-use Rattle.ub_tree.specs.Told.{FallsTo}
 use Rattle.ub_tree.specs.Tree.{tree_view}
 use Rattle.ub_tree.specs.View.{TreeView, IsSound, region_count}
 use Rattle.ub_tree.specs.declared.fault.TreeFault.{TreeFault}

@@ -1,6 +1,5 @@
 -- A row taken out of a tree: what becomes of the regions where the one that had it is left with few rows.
-use Rattle.std.proofs.Common.{◌≤◌, ◌≡◌, ◌≢◌, ◌<◌, ◌+◌, ◌-◌, ◌/◌, ◌^◌, ◌⊎◌, inl, inr, ℕ, suc, Bool, true, false, List, [], ◌∷◌, ◌++◌, Some, Ok, Err, Result, IfErr, OnOk, length, map, nat_le, nat_lt, ◌∙◌, sym, ap, subst, refl, arith, slice_get, if◌then◌else◌}
-use Rattle.std.proofs.lemmas.Bool.{ltb-true}
+use Rattle.std.proofs.Common.{◌≡◌, ◌≢◌, ◌<◌, ◌+◌, ◌-◌, ◌/◌, ◌^◌, ◌⊎◌, inl, inr, ℕ, suc, Bool, true, false, List, [], ◌∷◌, ◌++◌, Some, Ok, Err, Result, IfErr, OnOk, length, map, nat_le, nat_lt, ◌∙◌, sym, ap, subst, refl, arith, slice_get, if◌then◌else◌}
 use Rattle.std.proofs.lemmas.List.Sorted.{length_permutation}
 use Rattle.std.specs.List.{AllByRecursion}
 use Rattle.std.specs.Result.{IsErrAnd}

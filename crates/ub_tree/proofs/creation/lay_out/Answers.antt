@@ -8,8 +8,6 @@ use Rattle.ub_tree.proofs.HeldFacts.{written_checked}
 use Rattle.ub_tree.proofs.WayFacts.{region_no_kind}
 use Rattle.ub_writing.specs.Creation.{empty_region}
 use Rattle.ub_zaddr.specs.Address.{last_address}
-use Rattle.ub_tree.proofs.EffectFacts.{refused_none}
-use Rattle.ub_tree.proofs.UpgradeFacts.{on_err_by}
 use Rattle.ub_tree.proofs.creation.lay_out.Goals as goal
 
 pub returns-clause-checked : goal.returns-clause-checked

@@ -1,12 +1,8 @@
-use Rattle.std.proofs.Common.{◌<◌, Bool, List, inl, ℕ, arith, refl, subst, sym}
+use Rattle.std.proofs.Common.{List, inl, ℕ, refl, subst, sym}
 use Rattle.ub_check.proofs.StandingFacts.{page_still}
 use Rattle.ub_index.proofs.StepFacts.{pager_so}
 use Rattle.ub_page.specs.Index.{IsIndexKind}
 use Rattle.ub_tree.proofs.HeldFacts.{header_no_kind, kind_checked}
-use Rattle.std.proofs.lemmas.Option.{slice_get_within}
-use Rattle.ub_page.specs.Header.{header_page}
-use Rattle.ub_store.specs.Facts.{page_count}
-use Rattle.ub_tree.proofs.EffectFacts.{refused_none}
 use Rattle.ub_tree.proofs.opening.read_first.Goals as goal
 
 pub returns-in-Ok-clause-checked : goal.returns-in-Ok-clause-checked

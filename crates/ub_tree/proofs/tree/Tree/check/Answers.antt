@@ -1,4 +1,4 @@
-use Rattle.std.proofs.Common.{◌≡◌, ◌<◌, ◌^◌, ◌∙◌, ℕ, true, false, ap, refl, subst, sym}
+use Rattle.std.proofs.Common.{◌<◌, ◌^◌, ℕ, ap, subst, sym}
 use Rattle.ub_check.specs.declared.checking.Told.{Told}
 use Rattle.ub_tree.proofs.CallFacts.{last_small}
 use Rattle.ub_tree.proofs.CheckFacts.{checked_done, checked_refused}

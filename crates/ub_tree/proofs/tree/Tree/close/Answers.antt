@@ -1,8 +1,7 @@
-use Rattle.std.proofs.Common.{◌≡◌, ◌∙◌, ℕ, ap, false, refl, subst, sym, true}
+use Rattle.std.proofs.Common.{◌∙◌, ℕ, ap, false, subst, sym}
 use Rattle.ub_store.specs.Facts.{StoreFacts}
 use Rattle.ub_tree.proofs.ClosingFacts.{sound_pages, unchanged_pages}
 use Rattle.ub_tree.specs.Tree.{tree_view}
-use Rattle.ub_tree.specs.View.{TreeView}
 use Rattle.ub_writing.specs.Closing.{IsClosed}
 use Rattle.ub_writing.specs.Marks.{is_written}
 use Rattle.ub_tree.proofs.tree.Tree.close.Goals as goal

@@ -1,12 +1,5 @@
-use Rattle.std.proofs.Common.{◌≡◌, ◌∙◌, ℕ, None, ap, refl, rules, subst, sym}
-use Rattle.ub_index.specs.Held.{AreChecked}
-use Rattle.ub_index.specs.View.{IndexView}
-use Rattle.ub_store.specs.Cache.{page_at}
-use Rattle.ub_zaddr.specs.Address.{last_address}
-use Rattle.ub_store.specs.Facts.{StoreFacts}
+use Rattle.std.proofs.Common.{◌∙◌, ap}
 use Rattle.ub_store.specs.View.{PagerView}
-use Rattle.ub_writing.specs.Creation.{IsUncreated}
-use Rattle.ub_tree.specs.Calls.{IsCreateFault}
 use Rattle.ub_tree.proofs.CreationFacts.{created}
 use Rattle.ub_tree.proofs.tree.Tree.create.Goals as goal
 

@@ -1,5 +1,5 @@
-use Rattle.std.proofs.Common.{◌++◌, ◌∷◌, ◌∙◌, []}
-use Rattle.ub_tree.proofs.MeetFacts.{still_began, takes_more, takes_none, walks_down, walks_ended, walks_on}
+use Rattle.std.proofs.Common.{◌++◌, ◌∷◌, []}
+use Rattle.ub_tree.proofs.MeetFacts.{takes_more, walks_down, walks_ended, walks_on}
 use Rattle.ub_tree.proofs.AnswerFacts.{next_later}
 use Rattle.ub_tree.proofs.tree.Tree.for_each_meeting.Goals as goal
 

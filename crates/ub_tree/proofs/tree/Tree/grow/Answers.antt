@@ -1,6 +1,6 @@
 use Rattle.std.proofs.Common.{◌-◌, ◌∙◌, Err, ap}
 use Rattle.ub_store.specs.declared.fault.StoreFault.{StoreFault}
-use Rattle.ub_tree.proofs.GrownFacts.{grow_device, grow_memory, grow_no_page, grow_size}
+use Rattle.ub_tree.proofs.GrownFacts.{grow_device, grow_memory, grow_size}
 use Rattle.ub_writing.specs.Marks.{is_written}
 use Rattle.ub_tree.proofs.tree.Tree.grow.Goals as goal
 

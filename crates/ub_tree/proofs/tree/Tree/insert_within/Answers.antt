@@ -1,10 +1,10 @@
 use Rattle.std.proofs.Common.{◌≡◌, ◌<◌, ◌+◌, ◌^◌, ◌∙◌, ℕ, Ok, Err, sym, ap, subst, length, arith, inr, refl, true, false}
 use Rattle.ub_region.specs.Rows.{has_key, insert_row}
-use Rattle.ub_store.specs.Facts.{page_count, IsHonest}
+use Rattle.ub_store.specs.Facts.{IsHonest}
 use Rattle.ub_table.specs.Region.{IsRow, key_of, measures_of}
 use Rattle.ub_table.specs.declared.fault.PageFault.TheVariants.{BadOrder}
 use Rattle.ub_table.specs.declared.row.Key.{Key}
-use Rattle.ub_tree.proofs.EffectFacts.{counted_anew, left_by, marked_sound, refused_none, searched_by, then_changed, unchanged}
+use Rattle.ub_tree.proofs.EffectFacts.{counted_anew, left_by, marked_sound, refused_none, then_changed, unchanged}
 use Rattle.ub_tree.proofs.GrowFacts.{added_answers, grown, grows_by, key_there, passing_answers_key, answers_err_at, answers_ok_at}
 use Rattle.ub_tree.proofs.HoldingFacts.{has_told, key_is_there, next_key}
 use Rattle.ub_tree.proofs.NewFacts.{numbered_row}
@@ -12,11 +12,10 @@ use Rattle.ub_tree.proofs.RemovalFacts.{holder}
 use Rattle.ub_tree.proofs.RoomFacts.{can_stand, rows_on}
 use Rattle.ub_tree.specs.Effects.{Changes}
 use Rattle.ub_tree.specs.Holding.{FallsInto}
-use Rattle.ub_tree.specs.Told.{IsRegionOf}
 use Rattle.ub_tree.specs.Tree.{tree_view}
 use Rattle.ub_tree.specs.View.{TreeView}
 use Rattle.ub_tree.specs.declared.fault.TreeFault.TheVariants.{Page}
-use Rattle.ub_tree.specs.inner.Change.{CanStand, HasReadAt, IsReadAt, StandAt, StoresAt}
+use Rattle.ub_tree.specs.inner.Change.{CanStand, HasReadAt, StandAt, StoresAt}
 use Rattle.ub_writing.specs.Marks.{is_written}
 use Rattle.ub_zaddr.specs.Address.{last_address}
 use Rattle.ub_tree.proofs.StandFacts.{puts_row}

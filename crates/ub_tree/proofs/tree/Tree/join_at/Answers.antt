@@ -8,7 +8,7 @@ use Rattle.ub_tree.specs.declared.fault.TreeFault.TheVariants.{Page}
 use Rattle.ub_tree.specs.inner.Change.{IsDropReady, IsRegionIn, IsRegionThere, IsStored, JoinsAt}
 use Rattle.ub_tree.specs.Told.{IsRegionOf}
 use Rattle.ub_tree.proofs.EffectFacts.{changes_by, ready_by, refused_none, then_changed, unchanged}
-use Rattle.ub_tree.proofs.JoinFacts.{alone_not_sound, behind_first, index_failed, joined_at, joined_effect, joined_written}
+use Rattle.ub_tree.proofs.JoinFacts.{alone_not_sound, index_failed, joined_at, joined_effect, joined_written}
 use Rattle.ub_writing.specs.Marks.{is_written}
 use Rattle.ub_tree.specs.declared.fault.TreeFault.{TreeFault}
 use Rattle.ub_store.specs.Facts.{IsHonest}

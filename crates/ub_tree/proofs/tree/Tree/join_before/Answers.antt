@@ -1,15 +1,11 @@
-use Rattle.std.proofs.Common.{◌≡◌, ◌+◌, ◌++◌, ◌∙◌, if◌then◌else◌, ℕ, false, ap, arith, length, refl, subst, sym, ◌≤◌}
+use Rattle.std.proofs.Common.{◌≡◌, ◌+◌, ◌++◌, ◌∙◌, if◌then◌else◌, ap, arith, length, refl, subst, sym, ◌≤◌}
 use Rattle.std.proofs.lemmas.Bool.{leb-true}
 use Rattle.ub_tree.proofs.RoomFacts.{next_region, rows_on}
-use Rattle.ub_tree.proofs.RemovalFacts.{joins_one, read_there}
+use Rattle.ub_tree.proofs.RemovalFacts.{joins_one}
 use Rattle.ub_tree.proofs.HoldingFacts.{no_answer, passing_fault}
-use Rattle.ub_tree.proofs.RefusedFacts.{searched}
-use Rattle.ub_region.specs.Joins.{JoinsBefore}
 use Rattle.ub_region.specs.RegionPage.{RegionView}
 use Rattle.ub_writing.specs.declared.room.Room.{Room}
-use Rattle.ub_tree.specs.View.{TreeView, regions}
-use Rattle.ub_tree.specs.inner.Change.{IsRegionThere}
-use Rattle.ub_tree.specs.Told.{IsRegionOf}
+use Rattle.ub_tree.specs.View.{TreeView}
 use Rattle.ub_tree.specs.Effects.{IsTakenIn}
 use Rattle.ub_store.specs.Facts.{IsHonest}
 use Rattle.ub_index.specs.Searching.{key_before}

@@ -4,12 +4,10 @@ use Rattle.std.proofs.lemmas.List.{length-map}
 use Rattle.ub_tree.proofs.RoomFacts.{next_region, rows_on}
 use Rattle.ub_tree.proofs.RemovalFacts.{joins_next}
 use Rattle.ub_tree.proofs.HoldingFacts.{no_answer, passing_fault}
-use Rattle.ub_tree.proofs.RefusedFacts.{searched}
 use Rattle.ub_tree.proofs.ShrinkFacts.{join_last, length-regions}
 use Rattle.ub_region.specs.RegionPage.{RegionView}
 use Rattle.ub_tree.specs.Placed.{entry_of}
 use Rattle.ub_tree.specs.View.{TreeView, regions}
-use Rattle.ub_tree.specs.Told.{IsRegionOf}
 use Rattle.ub_tree.specs.Effects.{IsTakenIn}
 use Rattle.ub_store.specs.Facts.{IsHonest}
 use Rattle.ub_tree.proofs.AloneFacts.{no_fit, room_some, room_taken, told_any, told_taken}

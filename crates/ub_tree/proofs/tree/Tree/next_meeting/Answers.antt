@@ -1,13 +1,10 @@
-use Rattle.std.proofs.Common.{◌<◌, ◌^◌, ◌∙◌, List, Option, option_copied, ap, subst, sym}
+use Rattle.std.proofs.Common.{◌<◌, ◌^◌, Option, option_copied, subst, sym}
 use Rattle.ub_bigmin.specs.Box.{HoldsAny}
 use Rattle.ub_bigmin.specs.Extremes.{LeastFrom}
-use Rattle.ub_index.specs.Spans.{regions_of}
 use Rattle.ub_index.specs.Searching.{GivesAfter}
-use Rattle.ub_index.specs.View.{IsIndexOn, entries_in}
 use Rattle.ub_tree.proofs.CallFacts.{gives_next, last_small}
-use Rattle.ub_tree.proofs.IndexedFacts.{sound_index, spans_told}
-use Rattle.ub_tree.proofs.SearchFacts.{search_refused, searched_there}
-use Rattle.ub_tree.specs.Spans.{First, IsLater, Meets, Region}
+use Rattle.ub_tree.proofs.SearchFacts.{search_refused}
+use Rattle.ub_tree.specs.Spans.{Region}
 use Rattle.ub_tree.specs.View.{TreeView}
 use Rattle.ub_writing.specs.Marks.{is_written}
 use Rattle.ub_tree.proofs.tree.Tree.next_meeting.Goals as goal

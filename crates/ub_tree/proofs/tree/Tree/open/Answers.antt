@@ -1,5 +1,4 @@
-use Rattle.std.proofs.Common.{◌≡◌, ◌∙◌, None, ap, refl, rules, subst, sym}
-use Rattle.ub_store.specs.Cache.{page_at}
+use Rattle.std.proofs.Common.{◌≡◌, ◌∙◌, ap, subst, sym}
 use Rattle.ub_store.specs.Facts.{StoreFacts, IsHonest}
 use Rattle.ub_store.specs.View.{PagerView}
 use Rattle.ub_tree.proofs.OpenedFacts.{mark_refused, never_clean, opened, opened_sound}

@@ -1,21 +1,18 @@
-use Rattle.std.proofs.Common.{◌≡◌, ◌<◌, ℕ, Bool, List, Ok, Some, ap, subst, sym, arith, slice_get, ◌∙◌}
+use Rattle.std.proofs.Common.{◌≡◌, ◌<◌, Bool, Some, ap, subst, sym, arith, slice_get, ◌∙◌}
 use Rattle.std.proofs.lemmas.Option.{slice_get_within}
 use Rattle.ub_check.proofs.StandingFacts.{page_still}
 use Rattle.ub_check.specs.Standing.{IsRegionRefused}
 use Rattle.ub_index.specs.Held.{KeepsChecked}
-use Rattle.ub_region.specs.RegionPage.{RegionView, region_page}
-use Rattle.ub_store.specs.Facts.{IsHonest, IsPage, page_count}
-use Rattle.ub_tree.proofs.EffectFacts.{refused_none}
+use Rattle.ub_region.specs.RegionPage.{region_page}
+use Rattle.ub_store.specs.Facts.{page_count}
 use Rattle.ub_tree.proofs.ReadingFacts.{missing_there, page_refused_by, read_page_by, read_there, refused_there, searched_tree, sound_span, store_refused, told_above}
 use Rattle.ub_tree.proofs.ThereFacts.{rows_there}
 use Rattle.ub_tree.specs.Faults.{index_fault}
 use Rattle.ub_store.specs.View.{PagerView}
 use Rattle.ub_tree.specs.Tree.{tree_view}
 use Rattle.ub_tree.specs.View.{TreeView}
-use Rattle.ub_tree.specs.inner.Change.{IsReadAt}
 use Rattle.ub_tree.specs.Told.{IsRegionOf}
-use Rattle.ub_tree.specs.Effects.{IsTakenIn}
-use Rattle.ub_tree.proofs.HeldFacts.{region_checked, region_gone, tree_kept}
+use Rattle.ub_tree.proofs.HeldFacts.{region_checked, tree_kept}
 use Rattle.ub_writing.specs.Marks.{is_written}
 use Rattle.ub_tree.proofs.tree.Tree.read_at.Goals as goal
 

@@ -1,4 +1,4 @@
-use Rattle.std.proofs.Common.{◌≡◌, ◌<◌, Ok, Some, inr, refl, rules, arith, slice_get, ◌∙◌, ap, subst, sym}
+use Rattle.std.proofs.Common.{◌≡◌, ◌<◌, Some, inr, refl, rules, arith, slice_get, ◌∙◌, ap, subst, sym}
 use Rattle.std.proofs.lemmas.Option.{slice_get_within}
 use Rattle.ub_check.proofs.StandingFacts.{page_still}
 use Rattle.ub_check.specs.Standing.{IsRegionRefused}
@@ -11,7 +11,7 @@ use Rattle.ub_tree.proofs.ThereFacts.{tree_known}
 use Rattle.ub_store.specs.View.{PagerView}
 use Rattle.ub_tree.specs.Tree.{tree_view}
 use Rattle.ub_tree.specs.View.{TreeView}
-use Rattle.ub_tree.proofs.HeldFacts.{region_checked, region_gone, tree_kept}
+use Rattle.ub_tree.proofs.HeldFacts.{region_checked, tree_kept}
 use Rattle.ub_writing.specs.Marks.{is_written}
 use Rattle.ub_tree.proofs.tree.Tree.read_region.Goals as goal
 

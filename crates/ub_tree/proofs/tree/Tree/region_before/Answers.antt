@@ -1,15 +1,11 @@
-use Rattle.std.proofs.Common.{◌≡◌, ◌<◌, ◌^◌, inl, inr, ℕ, List, Option, Some, subst, sym, None}
+use Rattle.std.proofs.Common.{◌≡◌, ◌<◌, ◌^◌, inl, inr, Option, Some, subst, sym, None}
 use Rattle.ub_index.specs.Searching.{key_before, GivesAny, IsWayFault}
 use Rattle.ub_region.specs.declared.region.Region.{Region}
 use Rattle.ub_table.specs.declared.row.Key.{Key}
-use Rattle.ub_index.specs.View.{IsIndexOn, IsPreviousRegion, IsRegionAt, entries_in}
-use Rattle.ub_region.specs.declared.entry.Entry.{Entry}
-use Rattle.ub_tree.proofs.CallFacts.{last_small, stored_on}
-use Rattle.ub_tree.proofs.HoldingFacts.{no_answer}
+use Rattle.ub_tree.proofs.CallFacts.{last_small}
 use Rattle.ub_tree.proofs.NeighbourFacts.{before_ends, few_of, given_next, search_apart}
-use Rattle.ub_tree.proofs.SearchFacts.{search_refused, searched_there}
-use Rattle.ub_tree.specs.Faults.{index_fault}
-use Rattle.ub_tree.specs.Told.{FallsTo, IsRegionOf}
+use Rattle.ub_tree.proofs.SearchFacts.{search_refused}
+use Rattle.ub_tree.specs.Told.{IsRegionOf}
 use Rattle.ub_store.specs.Facts.{IsHonest}
 use Rattle.ub_tree.specs.Tree.{tree_view}
 use Rattle.ub_tree.specs.View.{TreeView}

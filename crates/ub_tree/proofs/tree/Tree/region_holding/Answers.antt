@@ -1,13 +1,8 @@
-use Rattle.std.proofs.Common.{◌≡◌, ◌<◌, ◌^◌, List, subst, sym}
+use Rattle.std.proofs.Common.{◌≡◌, ◌<◌, ◌^◌, subst, sym}
 use Rattle.ub_index.specs.Searching.{Gives, IsWayFault}
-use Rattle.ub_index.specs.View.{IsIndexOn, IsRegionAt, entries_in}
 use Rattle.ub_region.specs.declared.region.Region.{Region}
-use Rattle.ub_region.specs.declared.entry.Entry.{Entry}
-use Rattle.ub_region.specs.Regions.{index_holding}
-use Rattle.ub_tree.proofs.CallFacts.{holding_refused, last_small, one_falls, stored_on}
-use Rattle.ub_tree.proofs.SearchFacts.{search_refused, searched_there}
-use Rattle.ub_tree.specs.Spans.{first_keys}
-use Rattle.ub_tree.specs.Told.{FallsTo}
+use Rattle.ub_tree.proofs.CallFacts.{holding_refused, last_small, one_falls}
+use Rattle.ub_tree.proofs.SearchFacts.{search_refused}
 use Rattle.ub_tree.specs.View.{TreeView}
 use Rattle.ub_writing.specs.Marks.{is_written}
 use Rattle.ub_tree.proofs.tree.Tree.region_holding.Goals as goal

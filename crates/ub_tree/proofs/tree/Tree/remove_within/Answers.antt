@@ -2,16 +2,16 @@ use Rattle.std.proofs.Common.{◌≡◌, ◌<◌, ◌-◌, ◌^◌, ◌∙◌, a
 use Rattle.ub_region.specs.RegionPage.{RegionView}
 use Rattle.ub_region.specs.Rows.{has_key, remove_row}
 use Rattle.ub_table.specs.declared.fault.PageFault.TheVariants.{BadCount}
-use Rattle.ub_tree.proofs.EffectFacts.{counted_anew, left_by, marked_sound, searched_by, then_changed, unchanged}
+use Rattle.ub_tree.proofs.EffectFacts.{counted_anew, left_by, marked_sound, then_changed, unchanged}
 use Rattle.ub_tree.proofs.HoldingFacts.{has_told, no_answer, passing_fault, passing_removal, removal_answers, fault_told}
-use Rattle.ub_tree.proofs.RemovalFacts.{holder, none_removed, read_there, searched_removal, shrinks_by, shrunk, some_counted}
+use Rattle.ub_tree.proofs.RemovalFacts.{holder, none_removed, shrinks_by, shrunk, some_counted}
 use Rattle.ub_tree.proofs.RoomFacts.{rows_on, rows_without}
 use Rattle.ub_tree.proofs.tree.Tree.remove_within.Goals as goal
 use Rattle.ub_tree.specs.Effects.{Changes}
 use Rattle.ub_tree.specs.Tree.{tree_view}
 use Rattle.ub_tree.specs.View.{TreeView, region_count}
 use Rattle.ub_tree.specs.declared.fault.TreeFault.TheVariants.{Page}
-use Rattle.ub_tree.specs.inner.Change.{IsMadeOf, IsRegionThere}
+use Rattle.ub_tree.specs.inner.Change.{IsMadeOf}
 use Rattle.ub_writing.specs.Marks.{is_written}
 use Rattle.ub_zaddr.specs.Address.{last_address}
 use Rattle.ub_store.specs.Facts.{IsHonest}

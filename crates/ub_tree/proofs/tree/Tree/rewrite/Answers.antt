@@ -5,7 +5,6 @@ use Rattle.ub_store.specs.declared.fault.StoreFault.{StoreFault}
 use Rattle.ub_table.specs.Region.{IsRegion}
 use Rattle.ub_table.specs.declared.row.Key.{Key}
 use Rattle.ub_tree.proofs.CallFacts.{last_small}
-use Rattle.ub_tree.proofs.EffectFacts.{mark_stays}
 use Rattle.ub_tree.proofs.PutFacts.{own_page, put_rows, told_there}
 use Rattle.ub_tree.proofs.ReadingFacts.{only_device, past_page}
 use Rattle.ub_tree.proofs.WriteFacts.{ended_by, marks_first, others_written, put_is, write_refused, wrote_tree}

@@ -1,11 +1,8 @@
-use Rattle.std.proofs.Common.{◌≡◌, ◌<◌, ◌≤◌, ◌^◌, ◌∙◌, List, Option, Some, option_copied, ap, subst, sym}
-use Rattle.ub_index.specs.Spans.{regions_of}
+use Rattle.std.proofs.Common.{◌≡◌, ◌<◌, ◌^◌, Option, Some, option_copied, subst, sym}
 use Rattle.ub_index.specs.Searching.{GivesAfter}
-use Rattle.ub_index.specs.View.{IsIndexOn, entries_in}
 use Rattle.ub_tree.proofs.CallFacts.{last_small, seek_told}
-use Rattle.ub_tree.proofs.IndexedFacts.{sound_index, spans_told}
-use Rattle.ub_tree.proofs.SearchFacts.{search_refused, searched_there}
-use Rattle.ub_tree.specs.Spans.{First, IsLater, Region}
+use Rattle.ub_tree.proofs.SearchFacts.{search_refused}
+use Rattle.ub_tree.specs.Spans.{Region}
 use Rattle.ub_tree.specs.View.{TreeView}
 use Rattle.ub_writing.specs.Marks.{is_written}
 use Rattle.ub_tree.proofs.tree.Tree.seek.Goals as goal

@@ -1,12 +1,10 @@
-use Rattle.std.proofs.Common.{◌≡◌, ◌/◌, ◌∙◌, IfErr, inl, inr, refl, ap, sym, subst, length, nat_lt, true, false, ◌++◌, OnOk, Some}
-use Rattle.ub_tree.specs.Holding.{IsThatOrBefore, CanFallInto, HasRoomAt}
+use Rattle.std.proofs.Common.{◌≡◌, ◌/◌, ◌∙◌, refl, ap, sym, subst, length, nat_lt, true, false, ◌++◌, OnOk, Some}
+use Rattle.ub_tree.specs.Holding.{CanFallInto, HasRoomAt}
 use Rattle.ub_tree.specs.View.{TreeView, region_count}
-use Rattle.ub_table.specs.Region.{IsRegion, RegionRows}
-use Rattle.ub_tree.specs.Removal.{IsRemovalFault}
-use Rattle.ub_tree.specs.inner.Change.{IsMadeOf, IsRegionThere}
+use Rattle.ub_table.specs.Region.{RegionRows}
 use Rattle.ub_tree.specs.Told.{IsRegionOf, FallsTo}
 use Rattle.ub_tree.proofs.EffectFacts.{changed_by, refused_none, searched_by, then_changed}
-use Rattle.ub_tree.proofs.RemovalFacts.{searched_removal, settled_alone, settled_before, settled_large, settled_next, taken_alone, taken_joined}
+use Rattle.ub_tree.proofs.RemovalFacts.{searched_removal, settled_alone, settled_before, settled_large, settled_next}
 use Rattle.ub_store.specs.Facts.{IsHonest}
 use Rattle.ub_index.specs.Searching.{key_before}
 use Rattle.ub_region.specs.RegionPage.{RegionView}

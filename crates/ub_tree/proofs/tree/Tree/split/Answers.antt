@@ -1,4 +1,4 @@
-use Rattle.std.proofs.Common.{◌≡◌, ◌≤◌, ◌+◌, ◌-◌, ◌∙◌, ℕ, Err, Ok, ap, arith, inl, inr, subst, sym, refl, ◌<◌, ◌^◌}
+use Rattle.std.proofs.Common.{◌≡◌, ◌≤◌, ◌+◌, ◌-◌, ◌∙◌, ℕ, Ok, ap, subst, sym, refl, ◌<◌, ◌^◌}
 use Rattle.ub_store.specs.Facts.{StoreFacts, IsHonest, page_count}
 use Rattle.ub_index_change.specs.Making.{changed}
 use Rattle.ub_index.specs.View.{IndexView}
@@ -8,17 +8,13 @@ use Rattle.ub_table.specs.declared.row.Key.{Key}
 use Rattle.ub_table.specs.declared.schema.Schema.{Schema}
 use Rattle.ub_tree.proofs.AddFacts.{parts_stored}
 use Rattle.ub_tree.proofs.RoomFacts.{ready_for}
-use Rattle.ub_tree.proofs.EffectFacts.{ready_by, refused_none, unchanged}
-use Rattle.ub_tree.proofs.PartFacts.{growth_refused, growth_short, halves_refused, index_refused, parts_at, parts_effect, unready_answers}
+use Rattle.ub_tree.proofs.EffectFacts.{ready_by, refused_none}
+use Rattle.ub_tree.proofs.PartFacts.{halves_refused, index_refused, parts_at, parts_effect, unready_answers}
 use Rattle.ub_tree.specs.Tree.{placed_in, tree_view}
-use Rattle.ub_table.specs.declared.fault.PageFault.TheVariants.{BadCount}
-use Rattle.ub_tree.specs.View.{TreeView, region_count}
-use Rattle.ub_tree.specs.declared.fault.TreeFault.{TreeFault}
-use Rattle.ub_tree.specs.declared.fault.TreeFault.TheVariants.{Page}
-use Rattle.ub_tree.specs.inner.Change.{GrowsTo, IsGrowthLeft, IsIndexFault, IsWriteFault}
+use Rattle.ub_tree.specs.View.{TreeView}
+use Rattle.ub_tree.specs.inner.Change.{GrowsTo}
 use Rattle.ub_index.proofs.LeadFacts.{ways_hold}
 use Rattle.ub_index_change.specs.Changing.{AreIndexPages}
-use Rattle.ub_table.specs.Region.{IsRegion}
 use Rattle.ub_writing.specs.Marks.{is_written}
 use Rattle.ub_tree.proofs.CallFacts.{last_small}
 use Rattle.ub_tree.proofs.StandFacts.{halves_stand}

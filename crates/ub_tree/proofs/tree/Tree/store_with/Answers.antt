@@ -1,23 +1,21 @@
 use Rattle.std.proofs.Common.{◌≡◌, ◌<◌, ◌≤◌, ◌∙◌, [], ◌∷◌, ℕ, List, OnOk, true, nat_le, ap, subst, sym, length, arith, false, refl, ◌+◌}
 use Rattle.std.proofs.lemmas.Bool.{le-leb, lt-leb}
 use Rattle.std.proofs.lemmas.List.Edits.{length-insert}
-use Rattle.ub_index_change.specs.Preparing.{IsWithinRegion}
 use Rattle.ub_region.specs.Rows.{Halves, split}
 use Rattle.std.proofs.lemmas.List.{length-map}
 use Rattle.std.specs.List.{insert}
 use Rattle.ub_region.specs.RegionPage.{RegionView}
 use Rattle.ub_region.proofs.Laws.{length-insert_row}
 use Rattle.ub_region.specs.Rows.{insert_row}
-use Rattle.ub_table.specs.Keys.{AreKeysAscending}
 use Rattle.ub_table.specs.Region.{IsRegion, RegionRows, key_of, keys_of}
 use Rattle.ub_table.specs.declared.row.Key.{Key}
 use Rattle.ub_table.specs.declared.row.Row.{Row}
 use Rattle.ub_tree.proofs.EffectFacts.{changed_by}
 use Rattle.ub_tree.proofs.FilledFacts.{writes_grown}
-use Rattle.ub_tree.proofs.GrowFacts.{one_stored, put_at, same_split, two_stored}
+use Rattle.ub_tree.proofs.GrowFacts.{one_stored, same_split, two_stored}
 use Rattle.ub_tree.proofs.RoomFacts.{one_stands, two_stand}
 use Rattle.ub_tree.specs.View.{TreeView}
-use Rattle.ub_tree.specs.inner.Change.{CanStand, IsStored, StoresAt, StoresRows, placed_with}
+use Rattle.ub_tree.specs.inner.Change.{CanStand, IsStored, StoresRows, placed_with}
 use Rattle.ub_store.specs.Facts.{IsHonest, page_count}
 use Rattle.ub_tree.proofs.StandFacts.{stand_alone, stand_halved}
 use Rattle.ub_tree.specs.Pages.{Spells, SpellsHalves}

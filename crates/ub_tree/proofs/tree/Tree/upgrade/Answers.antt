@@ -1,5 +1,4 @@
-use Rattle.std.proofs.Common.{◌∙◌, inr, ap, map, subst, sym, ◌≡◌, None, refl, rules}
-use Rattle.ub_store.specs.Cache.{page_at}
+use Rattle.std.proofs.Common.{◌∙◌, inr, ap, map, subst, sym, refl}
 use Rattle.ub_store.specs.Facts.{StoreFacts, IsHonest}
 use Rattle.ub_store.specs.View.{PagerView}
 use Rattle.ub_tree.proofs.BroughtFacts.{pages_pass, table_fault, table_refused}
