@@ -2,13 +2,24 @@
 
 use std::alloc::{AllocError, Global};
 use std::test::Fail;
-use ub_journal::{Journal, JournalFault, TornPlace};
-use ub_journal_page::{page_total, read_journal, spell_page};
+use ub_journal::{Journal, JournalFault, TornPlace, is_journal};
+use ub_journal_page::{read_journal, write_journal};
 use ub_keeping::ask;
 use ub_store::{MemStore, Page, PageStore, StoreFault};
 
-// The pages of a journal by hand: the table is to have 10 pages, of which 3 and 9 change besides the first.
+// The pages of a journal by hand: the table is to have 10 pages, of which 3 and 9 change besides the first. Both take all of their
+// bytes, so the first one goes on on the second page, behind which stands the other, which goes on on the third.
 const PAGES: [([u8; 16], u8); 6] = [
+    (*b"UBTJ\0\0\0\x02\0\0\0\x0a\0\0\0\x02", 0),
+    ([1; 16], 1),
+    ([2; 16], 2),
+    (*b"\0\0\0\x03\0\0\x10\0\x03\x03\x03\x03\x03\x03\x03\x03", 3),
+    (*b"\x03\x03\x03\x03\x03\x03\x03\x03\0\0\0\x09\0\0\x10\0", 9),
+    ([9; 16], 0),
+];
+
+// The same journal in version 1.
+const OLD_PAGES: [([u8; 16], u8); 6] = [
     (*b"UBTJ\0\0\0\x01\0\0\0\x0a\0\0\0\x02", 0),
     ([1; 16], 1),
     ([2; 16], 2),
@@ -19,6 +30,35 @@ const PAGES: [([u8; 16], u8); 6] = [
 
 // Bytes with which these pages spell no journal: the page, the offset, and the byte.
 const DAMAGES: &[(u32, usize, u8)] = &[
+    (0, 0, b'V'),
+    (0, 3, b'R'),
+    (0, 7, 3),
+    (0, 7, 1),
+    (0, 11, 9),
+    (0, 11, 0),
+    (0, 15, 1),
+    (0, 15, 3),
+    (0, 16, 1),
+    (0, 4095, 1),
+    // The first number, and how many bytes the first page holds: 4097, and none.
+    (3, 3, 0),
+    (3, 3, 9),
+    (3, 0, 1),
+    (3, 7, 1),
+    (3, 6, 0),
+    // The second number, and how many bytes the second page holds: 4097, and fewer than stand there.
+    (4, 11, 10),
+    (4, 11, 3),
+    (4, 15, 1),
+    (4, 14, 15),
+    // Its last byte, and those behind it.
+    (5, 15, 0),
+    (5, 16, 1),
+    (5, 4095, 1),
+];
+
+// The same of the pages of version 1.
+const OLD_DAMAGES: &[(u32, usize, u8)] = &[
     (0, 0, b'V'),
     (0, 3, b'R'),
     (0, 7, 2),
@@ -52,11 +92,11 @@ fn add(store: &mut MemStore, page: &Page) -> bool {
     }
 }
 
-// A store of the journal's first so many pages, or none where memory is refused.
-fn store_of(alloc: Global, count: usize) -> Option<MemStore> {
+// A store of the first so many of a journal's pages, or none where memory is refused.
+fn store_of(alloc: Global, pages: &[([u8; 16], u8); 6], count: usize) -> Option<MemStore> {
     let mut store = MemStore::new(alloc);
     for i in 0..count.min(6) {
-        let (front, rest) = PAGES[i];
+        let (front, rest) = pages[i];
         if !add(&mut store, &page_of(&front, rest)) {
             return None;
         }
@@ -101,16 +141,147 @@ fn is_whole(journal: &Journal, store: &mut MemStore) -> bool {
         & (store.pages() == 6)
 }
 
+// Whether a journal is written as the pages of a store.
+fn is_written(alloc: Global, journal: &Journal, store: &mut MemStore) -> bool {
+    let mut bytes = Vec::new(alloc);
+    if !is_journal(journal) || write_journal(&mut bytes, journal).is_err() {
+        return false;
+    }
+    let count = store.pages() as usize;
+    let bytes = bytes.as_slice();
+    let mut right = bytes.len() == 4096 * count;
+    for n in 0..count {
+        let page = store.read_page(n as u32);
+        right &= 4096 * n + 4096 <= bytes.len() && is_page(page, &bytes[4096 * n..4096 * n + 4096]);
+    }
+    right
+}
+
+// Whether a page was read, and has these bytes.
+fn is_page(read: Result<Page, StoreFault>, bytes: &[u8]) -> bool {
+    match read {
+        Ok(page) => &page[..] == bytes,
+        Err(_) => false,
+    }
+}
+
 #[test]
 fn a_journal_is_read_and_written_as_it_stands(rt: HostRuntime) -> Result<(), Fail> {
-    let mut store = store_of(rt.alloc(), 6).expect(&rt, "a store");
+    let mut store = store_of(rt.alloc(), &PAGES, 6).expect(&rt, "a store");
     let journal = read_journal(rt.alloc(), &mut store).expect(&rt, "a journal");
     assert!(&rt; is_whole(&journal, &mut store));
-    assert!(&rt; page_total(&journal) == 6);
-    let mut page = [7; 4096];
-    for (i, (front, rest)) in PAGES.iter().enumerate() {
-        spell_page(&journal, i as u64, &mut page);
-        assert!(&rt; page == page_of(front, *rest));
+    assert!(&rt; is_written(rt.alloc(), &journal, &mut store));
+    Ok(())
+}
+
+#[test]
+fn one_of_version_1_is_read(rt: HostRuntime) -> Result<(), Fail> {
+    let mut store = store_of(rt.alloc(), &OLD_PAGES, 6).expect(&rt, "a store");
+    let journal = read_journal(rt.alloc(), &mut store).expect(&rt, "a journal");
+    assert!(&rt; is_whole(&journal, &mut store));
+    Ok(())
+}
+
+// Changes, each told by its number, how many bytes its page holds, and their byte; and whether a table of 10 pages can have them.
+const CHANGES: &[(&[(u32, u32, u8)], bool)] = &[
+    (&[], true),
+    // A page of zeros, one of 4096 bytes, and one of 100.
+    (&[(3, 0, 7), (5, 4096, 7), (9, 100, 8)], true),
+    // The last page is full; the numbers before a page's bytes, and its last byte, stand on two.
+    (&[(1, 4088, 7)], true),
+    (&[(1, 4086, 7), (2, 1, 8)], true),
+    (&[(1, 4087, 7), (2, 1, 8), (3, 4089, 9)], true),
+    // One byte too many, and a last byte that is zero.
+    (&[(1, 4097, 7)], false),
+    (&[(1, 4096, 0)], false),
+    (&[(1, 1, 0)], false),
+    // Numbers out of their range, and not in their order.
+    (&[(0, 1, 7)], false),
+    (&[(10, 1, 7)], false),
+    (&[(4, 1, 7), (4, 1, 7)], false),
+    (&[(4, 1, 7), (3, 1, 7)], false),
+];
+
+// Puts the bytes of a number behind others.
+fn put_number(bytes: &mut Vec<u8>, number: u32) -> bool {
+    let mut right = true;
+    for byte in number.to_be_bytes() {
+        right &= bytes.push(byte).is_ok();
+    }
+    right
+}
+
+// The bytes of changes, one behind the other.
+fn bytes_of(alloc: Global, changes: &[(u32, u32, u8)]) -> Option<Vec<u8>> {
+    let mut bytes = Vec::new(alloc);
+    let mut right = true;
+    for (number, held, byte) in changes {
+        right &= put_number(&mut bytes, *number) & put_number(&mut bytes, *held);
+        for _ in 0..*held {
+            right &= bytes.push(*byte).is_ok();
+        }
+    }
+    right.then_some(bytes)
+}
+
+// A store of a journal with so many changes, of which these are the bytes.
+fn packed_store(alloc: Global, count: u8, bytes: &[u8]) -> Option<MemStore> {
+    let mut store = MemStore::new(alloc);
+    let mut head = page_of(b"UBTJ\0\0\0\x02\0\0\0\x0a\0\0\0\0", 0);
+    head[15] = count;
+    let mut right = add(&mut store, &head)
+        & add(&mut store, &[1; 4096])
+        & add(&mut store, &[2; 4096]);
+    for n in 0..bytes.len().div_ceil(4096) {
+        let mut page = [0; 4096];
+        for i in 0..4096 {
+            if let Some(byte) = bytes.get(4096 * n + i) {
+                page[i] = *byte;
+            }
+        }
+        right &= add(&mut store, &page);
+    }
+    right.then_some(store)
+}
+
+// Whether a journal has these changes.
+fn has_changes(journal: &Journal, changes: &[(u32, u32, u8)]) -> bool {
+    let read = journal.changes.as_slice();
+    let mut right = read.len() == changes.len();
+    for (change, (number, held, byte)) in read.iter().zip(changes) {
+        let mut page = [0; 4096];
+        for i in 0..4096 {
+            if i < *held as usize {
+                page[i] = *byte;
+            }
+        }
+        right &= (change.number == *number) & (change.page == page);
+    }
+    right
+}
+
+// Whether the journal with these changes is read and written where a table can have them, and is told to be damaged otherwise; and
+// whether it is damaged with a page of zeros more.
+fn is_told(alloc: Global, changes: &[(u32, u32, u8)], can_have: bool) -> bool {
+    let Some(bytes) = bytes_of(alloc, changes) else {
+        return false;
+    };
+    let Some(mut store) = packed_store(alloc, changes.len().min(255) as u8, bytes.as_slice()) else {
+        return false;
+    };
+    let right = match read_journal(alloc, &mut store) {
+        Ok(journal) => {
+            can_have && has_changes(&journal, changes) && is_written(alloc, &journal, &mut store)
+        }
+        Err(fault) => !can_have && fault == JournalFault::Damaged,
+    };
+    right && add(&mut store, &[0; 4096]) && is_damaged(alloc, &mut store)
+}
+
+#[test]
+fn pages_stand_without_the_zeros_behind_them(rt: HostRuntime) -> Result<(), Fail> {
+    for (changes, can_have) in CHANGES {
+        assert!(&rt; is_told(rt.alloc(), changes, *can_have));
     }
     Ok(())
 }
@@ -182,7 +353,7 @@ fn numbers_page(from: u16, count: usize) -> Page {
     page
 }
 
-// A store of a journal of 1025 changes, of the pages 1 to 1025 of 2048.
+// A store of a journal of version 1 with 1025 changes, of the pages 1 to 1025 of 2048.
 fn long_store(alloc: Global) -> Option<MemStore> {
     let mut store = MemStore::new(alloc);
     let head = page_of(b"UBTJ\0\0\0\x01\0\0\x08\0\0\0\x04\x01", 0);
@@ -213,10 +384,6 @@ fn numbers_go_on_on_a_second_page(rt: HostRuntime) -> Result<(), Fail> {
     let mut store = long_store(rt.alloc()).expect(&rt, "a store");
     let journal = read_journal(rt.alloc(), &mut store).expect(&rt, "a journal");
     assert!(&rt; is_long(&journal));
-    assert!(&rt; page_total(&journal) == 1030);
-    let mut page = [7; 4096];
-    spell_page(&journal, 4, &mut page);
-    assert!(&rt; page == numbers_page(1025, 1));
     assert!(&rt; is_damaged_with(rt.alloc(), &mut store, (3, 4095, 1)));
     assert!(&rt; is_damaged_with(rt.alloc(), &mut store, (4, 3, 0)));
     assert!(&rt; is_damaged_with(rt.alloc(), &mut store, (4, 7, 1)));
@@ -225,7 +392,7 @@ fn numbers_go_on_on_a_second_page(rt: HostRuntime) -> Result<(), Fail> {
 
 #[test]
 fn a_journal_fits_its_table(rt: HostRuntime) -> Result<(), Fail> {
-    let mut store = store_of(rt.alloc(), 6).expect(&rt, "a store");
+    let mut store = store_of(rt.alloc(), &PAGES, 6).expect(&rt, "a store");
     for (pages, mark, rest, told) in TABLES {
         let journal = read_journal(rt.alloc(), &mut store).expect(&rt, "a journal");
         assert!(&rt; told_fit(rt.alloc(), pages, *mark, *rest, journal) == *told);
@@ -233,18 +400,29 @@ fn a_journal_fits_its_table(rt: HostRuntime) -> Result<(), Fail> {
     Ok(())
 }
 
+// Whether these pages are damaged with each of these bytes, with a page more, and with fewer, and spell a journal without that.
+fn are_refused(alloc: Global, pages: &[([u8; 16], u8); 6], damages: &[(u32, usize, u8)]) -> bool {
+    let Some(mut store) = store_of(alloc, pages, 6) else {
+        return false;
+    };
+    let mut right = true;
+    for damage in damages {
+        right &= is_damaged_with(alloc, &mut store, *damage);
+    }
+    right &= read_journal(alloc, &mut store).is_ok();
+    right &= add(&mut store, &[0; 4096]) && is_damaged(alloc, &mut store);
+    for count in 0..6 {
+        right &= match store_of(alloc, pages, count) {
+            Some(mut store) => is_damaged(alloc, &mut store),
+            None => false,
+        };
+    }
+    right
+}
+
 #[test]
 fn damaged_pages_are_refused(rt: HostRuntime) -> Result<(), Fail> {
-    let mut store = store_of(rt.alloc(), 6).expect(&rt, "a store");
-    for damage in DAMAGES {
-        assert!(&rt; is_damaged_with(rt.alloc(), &mut store, *damage));
-    }
-    assert!(&rt; read_journal(rt.alloc(), &mut store).is_ok());
-    assert!(&rt; add(&mut store, &[0; 4096]));
-    assert!(&rt; is_damaged(rt.alloc(), &mut store));
-    for count in 0..6 {
-        let mut store = store_of(rt.alloc(), count).expect(&rt, "a store");
-        assert!(&rt; is_damaged(rt.alloc(), &mut store));
-    }
+    assert!(&rt; are_refused(rt.alloc(), &PAGES, DAMAGES));
+    assert!(&rt; are_refused(rt.alloc(), &OLD_PAGES, OLD_DAMAGES));
     Ok(())
 }
