@@ -65,7 +65,8 @@ pub fn read_packed<S: PageStore>(
 // Whether there is no page but those of which bytes were read, and nothing but zeros behind these bytes.
 fn is_end(pages: u32, cursor: &Cursor) -> bool
     requires few { cursor.now.place < 2 ^ 63 }
-    ensures { (ps : List (List ℕ)) → length ps ≡ pages → 3 ≤ pages → IsRead ps cursor.now.place cursor.now.page
+    ensures { (ps : List (List ℕ)) → length ps ≡ pages → 3 ≤ pages
+        → IsRead ps cursor.now.place cursor.now.page
         → IsTrue result ↔ ((pages ≡ 3 + byte_parts cursor.now.place)
         × (drop cursor.now.place (stream ps)
         ≡ replicate (length (stream ps) - cursor.now.place) 0)) }

@@ -77,7 +77,8 @@ pub fn read_page<S: PageStore>(store: &mut S, n: u32, page: &mut Page) -> Result
 fn read_head<S: PageStore>(store: &mut S) -> Result<Head, JournalFault>
     ensures head { IfOk result (λ h. IsHonest (S.facts store.old)
         → IsHead h.version h.count h.changes (S.facts store.old).pages) }
-    ensures there { IfOk result (λ h. BearsOut (page_count (S.facts store.old)) h.version h.changes) }
+    ensures there { IfOk result (λ h.
+        BearsOut (page_count (S.facts store.old)) h.version h.changes) }
     ensures few { IfOk result (λ h. h.changes < 2 ^ 32) }
     ensures pages { page_count (S.facts store.old) < 2 ^ 32 }
     ensures damaged { IsErrOf result JournalFault.Damaged → IsHonest (S.facts store.old)

@@ -27,7 +27,8 @@ pub fn write_journal<W: Write, J: Tells>(out: &mut W, journal: &J) -> io::Result
 fn write_head<W: Write, J: Tells>(out: &mut W, journal: &J) -> io::Result<()>
     requires { IsJournal (J.told journal.now) }
     ensures { OnOk result (Appends (W.contents out.old) (W.contents out.new)
-        (number_page (head_of 2 (J.told journal.now).count (length (J.told journal.now).changes)))) }
+        (number_page
+        (head_of 2 (J.told journal.now).count (length (J.told journal.now).changes)))) }
 {
     let mut page = [0; 4096];
     spell_head(PACKED, journal.count(), changed(journal), &mut page);
