@@ -1,4 +1,5 @@
 -- What a tree is once a region of it was parted: the store grew, both halves were put, and then what the change of the index spells.
+use Rattle.std.proofs.lemmas.Grind.{common_steps}
 use Rattle.std.proofs.Common.{◌≡◌, ◌<◌, ◌+◌, ◌∙◌, ℕ, suc, List, [], ◌∷◌, Some, length, map, take, drop, ap, sym, subst, refl, arith, slice_get}
 use Rattle.std.specs.List.{AllByRecursion}
 use Rattle.ub_store.specs.Writing.{Grows}
@@ -114,14 +115,7 @@ module _ (t : TreeView) (seen : t.placed ≡ placed_in t.schema t.inner.index t.
       numbers others foreign puts stand before_apart after_apart news (told_left, (told_right, tt)) refl own_then
 
   long : t.inner.count + 1 ≡ length (placed_with i news t.placed)
-  long =
-      let more = count_replaced (entry_at span) fs (entries_in index a) (entries_in (changed index change) new) made.entries_are in
-      let before : t.inner.count ≡ length t.placed = stored.count_is in
-      let was : length t.placed ≡ length (entries_in index a) = ap length viewed ∙ length-placed schema a.pages (entries_in index a) in
-      let is_now : length (placed_with i news t.placed) ≡ length (entries_in (changed index change) new) =
-      ap length (sym new_is) ∙ (ap length (view_placed schema (changed index change) new honest_new) ∙ length-placed schema new.pages (entries_in (changed index change) new)) in
-      let two : length fs ≡ 2 = refl in
-      omega arith
+  long = grind (arith, common_steps, count_replaced, length-placed, made, new_is, view_placed, viewed)
 
   -- the tree then, if it stands on that store, with the index that the change tells; and where rows were only put in before, that is so
   -- still

@@ -1,15 +1,14 @@
 -- Where a region would be joined with one beside it: what the regions beside one answer, over an honest store.
-use Rattle.std.proofs.Common.{◌≡◌, ◌<◌, ◌≤◌, ◌+◌, ◌/◌, ◌^◌, inl, inr, ℕ, true, false, Option, Some, None, Result, Err, IfSome, MatchResult, length, nat_le, nat_lt, ◌∙◌, sym, ap, subst, refl, arith}
+use Rattle.std.proofs.Common.{rules}
+use Rattle.std.proofs.Common.{◌≡◌, ◌<◌, ◌≤◌, ◌+◌, ◌/◌, ◌^◌, inl, ℕ, true, false, Option, Some, None, Result, Err, IfSome, MatchResult, length, nat_le, nat_lt, sym, ap, subst, refl, arith}
 use Rattle.std.proofs.lemmas.Bool.{leb-false, ltb-false}
 use Rattle.std.specs.Result.{IsErrAnd}
 use Rattle.ub_index.proofs.LeadFacts.{one_given}
 use Rattle.ub_index.specs.Searching.{GivesAny, IsWayFault, key_before}
 use Rattle.ub_index.specs.View.{IndexView}
 use Rattle.ub_index.specs.declared.fault.IndexFault.{IndexFault}
-use Rattle.ub_index.specs.declared.fault.IndexFault.TheVariants as index
 use Rattle.ub_region.specs.declared.region.Region.{Region}
 use Rattle.ub_store.specs.Facts.{StoreFacts, IsHonest}
-use Rattle.ub_store.specs.declared.fault.StoreFault.TheVariants as store
 use Rattle.ub_table.specs.Region.{RegionRows}
 use Rattle.ub_table.specs.declared.row.Key.{Key}
 use Rattle.ub_tree.proofs.CallFacts.{way_passing}
@@ -23,39 +22,21 @@ use Rattle.ub_tree.specs.declared.fault.TreeFault.{TreeFault}
 
 -- one region is given for a key, and none for none
 pub any_given : (i : IndexView) (facts : StoreFacts) (sought : Option Key) (a b : Option Region) → IsHonest facts → GivesAny i facts sought a → GivesAny i facts sought b → a ≡ b
-any_given i facts None a b honest ga gb = ga ∙ sym gb
-any_given i facts (Some key) None b honest ga gb = absurd ga
-any_given i facts (Some key) (Some x) None honest ga gb = absurd gb
-any_given i facts (Some key) (Some x) (Some y) honest ga gb = ap (λ (r : Region). Some r) (one_given i facts key x y honest ga gb)
+any_given i facts sought a b h k j = search (rules, one_given)
 
 some_key : (a b : Key) → Some a ≡ Some b → b ≡ a
 some_key a b h = cc
 
-none_key : (k : Key) → None ≡ Some k → ⊥
-none_key k h = cc
-
 same_way : (i : IndexView) (facts : StoreFacts) (key : Key) (e : IndexFault) → IsWayFault i facts (λ k. Some key ≡ Some k) e → IsWayFault i facts (λ k. k ≡ key) e
-same_way i facts key (index.Page n fault) h = λ honest. let w = h honest in (w.0, some_key key w.0 w.1, w.2)
-same_way i facts key index.Full h = h
-same_way i facts key (index.Store store.Memory) h = h
-same_way i facts key (index.Store store.Device) h = h
-same_way i facts key (index.Store store.BadSize) h = h
-same_way i facts key (index.Store store.NoPage) h = (h.0, h.1, λ honest. let w = h.2 honest in (w.0, some_key key w.0 w.1, w.2))
+same_way i facts key e h = search rules
 
 no_way : (i : IndexView) (facts : StoreFacts) → IsHonest facts → (e : IndexFault) → IsWayFault i facts (λ k. None ≡ Some k) e → IsPassing (index_fault e)
-no_way i facts honest (index.Page n fault) h = let w = h honest in absurd (none_key w.0 w.1)
-no_way i facts honest index.Full h = absurd h
-no_way i facts honest (index.Store store.Memory) h = inl refl
-no_way i facts honest (index.Store store.Device) h = inr refl
-no_way i facts honest (index.Store store.BadSize) h = absurd h
-no_way i facts honest (index.Store store.NoPage) h = let w = h.2 honest in absurd (none_key w.0 w.1)
+no_way i facts h e k = search rules
 
 -- a search to a key that there may be fails in passing alone, where its way leads somewhere
 pub any_passing : (i : IndexView) (facts : StoreFacts) (sought : Option Key) (told : Option Region) → i.last < 2 ^ 128 → IsHonest facts → GivesAny i facts sought told
     → (e : IndexFault) → IsWayFault i facts (λ k. sought ≡ Some k) e → IsPassing (index_fault e)
-any_passing i facts None told small honest given e h = no_way i facts honest e h
-any_passing i facts (Some key) None small honest given e h = absurd given
-any_passing i facts (Some key) (Some span) small honest given e h = way_passing i facts key span small honest given e (same_way i facts key e h)
+any_passing i facts sought told h k j e l = search (rules, no_way, same_way, way_passing)
 
 pub any_refused : (i : IndexView) (facts : StoreFacts) (sought : Option Key) (told : Option Region) (r : Result (Option Region) TreeFault) (e : IndexFault) → i.last < 2 ^ 128 → IsHonest facts
     → GivesAny i facts sought told → IsErrAnd r (λ x. x ≡ index_fault e) → IsWayFault i facts (λ k. sought ≡ Some k) e → MatchResult r (λ found. found ≡ told) IsPassing
@@ -95,10 +76,7 @@ room_some t sought count room found =
 -- a region is read that may be given
 pub told_taken : (t : TreeView) (sought : Option Key) (span : Region) → CanFallInto t sought → ((told : Option Region) → GivesAny t.inner.index t.store sought told → Some span ≡ told)
     → (region : RegionRows) × IsTakenIn t span region
-told_taken t sought span can found =
-    let any = told_any t sought can in
-    let both = any.1 in
-    subst (λ (o : Option Region). IfSome o (λ span. (region : RegionRows) × IsTakenIn t span region)) (sym (found any.0 both.0)) both.1
+told_taken t sought span h k = search (rules, told_any)
 
 -- rows that fit are joined
 pub no_fit : (a b : ℕ) {told size : ℕ} → told ≡ size → nat_le (a + b) told ≡ false → a + b ≤ size → ⊥
@@ -116,13 +94,7 @@ none_some h = cc
 -- what is left of a region is joined: the next one is read, and where that isn't joined the one before has room
 module _ (t : TreeView) (span : Region) (left : ℕ) (joined : IsJoined t span left) where
   pub next_can : CanFallInto t span.next
-  next_can = elim joined.1 [
-    | inl room ↦ room_any t span.next left room
-    | inr before ↦ before.0
-  ]
+  next_can = search rules
 
   pub before_room : (HasRoomAt t span.next left → ⊥) → HasRoomAt t (key_before span.first.z span.first.number) left
-  before_room none = elim joined.1 [
-    | inl room ↦ absurd (none room)
-    | inr before ↦ before.1
-  ]
+  before_room h = search rules

@@ -1,15 +1,15 @@
 -- What a tree answers that is asked for the next region that meets some boxes again and again, over any pages: each answer is later than
 -- the one before it, and begins with a key of the space, so fewer keys are left after each.
-use Rattle.std.proofs.Common.{◌≡◌, ◌<◌, ◌≤◌, ◌+◌, ◌-◌, ◌*◌, ◌^◌, ◌++◌, ◌∷◌, ◌⊎◌, inl, inr, ℕ, zero, suc, List, [], Option, Some, None, IfSome, if◌then◌else◌, nat_lt, slice_get, refl, sym, ap, ◌∙◌, subst, arith, append_assoc}
-use Rattle.std.proofs.lemmas.Bool.{cases_Bool, cases_lt, lt-ltb, ltb-true}
+use Rattle.std.proofs.Common.{rules}
+use Rattle.std.proofs.Common.{◌≡◌, ◌<◌, ◌≤◌, ◌+◌, ◌-◌, ◌*◌, ◌^◌, ◌++◌, ◌∷◌, ◌⊎◌, ℕ, zero, suc, List, [], Option, Some, None, IfSome, if◌then◌else◌, nat_lt, slice_get, ap, ◌∙◌, subst, arith, append_assoc}
 use Rattle.std.proofs.lemmas.List.{append-nil}
 use Rattle.std.specs.List.{AllByRecursion}
 use Rattle.ub_bigmin.specs.Box.{Corners, HoldsAny}
 use Rattle.ub_bigmin.specs.Extremes.{LeastFrom}
 use Rattle.ub_index.specs.Searching.{GivesFrom, at_least}
 use Rattle.ub_region.specs.Spans.{end_before, address_before}
-use Rattle.ub_table.proofs.Laws.{before_from, before_parts, before_trans}
-use Rattle.ub_table.specs.Keys.{IsBefore, precedes}
+use Rattle.ub_table.proofs.Laws.{before_parts, before_trans}
+use Rattle.ub_table.specs.Keys.{IsBefore}
 use Rattle.ub_table.specs.declared.row.Key.{Key}
 use Rattle.ub_tree.specs.Spans.{IsLater, Meets, Region}
 use Rattle.ub_tree.specs.Told.{AreAnswers, GivesNext, IsRegionOf}
@@ -22,13 +22,7 @@ abbrev capped : ℕ → ℕ
 capped n = if nat_lt n 4294967296 then n else 4294967295
 
 capped_few : (n : ℕ) → capped n < 4294967296
-capped_few n = elim (cases_Bool (nat_lt n 4294967296)) [
-  | inl t ↦ let lt = ltb-true n 4294967296 t in rw t (omega arith)
-  | inr f ↦ rw f (omega arith)
-]
-
-capped_is : (n : ℕ) → n < 4294967296 → capped n ≡ n
-capped_is n lt = let t = lt-ltb n 4294967296 lt in rw t refl
+capped_few n = search rules
 
 -- the place of a region's first key among the keys of numbers of 32 bits, from 1 on
 pub place : Option Region → ℕ
@@ -37,14 +31,7 @@ place (Some a) = a.first.z * 4294967296 + capped a.first.number + 1
 
 place_later : (after : Option Region) (span : Region) → IsLater after span → span.first.number < 2 ^ 32 → place after < place (Some span)
 unfolding place
-place_later None span later small = omega arith
-place_later (Some a) span later small =
-    let few = capped_few a.first.number in
-    let is = capped_is span.first.number small in
-    elim (before_parts a.first span.first later) [
-      | inl lt ↦ omega arith
-      | inr same ↦ let e = same.0 in let lt = same.1 in let own = capped_is a.first.number (omega arith) in omega arith
-    ]
+place_later after span h k = search rules
 
 place_within : (last : ℕ) (span : Region) → span.first.z ≤ last → place (Some span) ≤ (last + 1) * 4294967296
 unfolding place
@@ -58,29 +45,17 @@ left_after t after = (t.inner.index.last + 1) * 4294967296 - place after
 
 -- the later of a key and the least one of an address that isn't before its own has that address
 pub at_least_z : (from : Key) (z : ℕ) → from.z ≤ z → (at_least from z).z ≡ z
-at_least_z from z le = elim (cases_Bool (precedes (record { z = z; number = 0 }) from)) [
-  | inl t ↦ rw t (elim (before_parts (record { z = z; number = 0 }) from t) [
-    | inl lt ↦ absurd (omega arith)
-    | inr same ↦ sym same.0
-  ])
-  | inr f ↦ rw f refl
-]
+at_least_z from z h = search rules
 
 pub up_to : (kz kn z n : ℕ) → (kz < z) ⊎ ((kz ≡ z) × (kn < n)) → kz ≤ address_before z n
-up_to kz kn z zero (inl lt) = omega arith
-up_to kz kn z zero (inr same) = let lt = same.1 in absurd (omega arith)
-up_to kz kn z (suc n) (inl lt) = omega arith
-up_to kz kn z (suc n) (inr same) = let e = same.0 in omega arith
+up_to kz kn z n h = search rules
 
 ends_from : (last : ℕ) (key : Key) (next : Option Key) → IfSome next (IsBefore key) → key.z ≤ last → key.z ≤ end_before last next
 ends_from last key None before le = le
 ends_from last key (Some next) before le = up_to key.z key.number next.z next.number (before_parts key next before)
 
 pub begins_up_to : (key first : Key) → ¬ (IsBefore key first) → first.z ≤ key.z
-begins_up_to key first later = elim (cases_lt key.z first.z) [
-  | inl lt ↦ absurd (later (before_from key first (inl lt)))
-  | inr ge ↦ ge
-]
+begins_up_to key first h = search rules
 
 -- a region that is given is one that the tree tells of, and meets the boxes
 given_met : (boxes : List Corners) (t : TreeView) (from : Option Key) (span : Region)
@@ -103,17 +78,12 @@ pub record HasAnswers (boxes : List Corners) (t : TreeView) (found : List Region
 
 module _ (boxes : List Corners) (t : TreeView) where
   pub next_later : (after : Option Region) (span : Region) → GivesNext boxes t after (Some span) → IsRegionOf t span × IsLater after span × Meets boxes span
-  next_later after span gives =
-      let met = given_met boxes t gives.given.0 span gives.given.2 in
-      (met.0, gives.found_after.later, met.1)
+  next_later after span h = search (rules, given_met)
 
   -- fewer are left after it
   pub left_less : (after : Option Region) (span : Region) → GivesNext boxes t after (Some span) → left_after t (Some span) < left_after t after
   unfolding left_after
-  left_less after span gives =
-      let later = place_later after span gives.found_after.later gives.found_after.number in
-      let within = place_within t.inner.index.last span gives.found_after.z in
-      omega arith
+  left_less after span h = search (rules, place_later, place_within)
 
   -- ---- all answers
 
@@ -154,9 +124,7 @@ module _ (boxes : List Corners) (t : TreeView) where
   module _ (found : List Region) (after : Option Region) (so_far : HasAnswers boxes t found after) where
     -- one more came
     pub HasAnswers-more : (span : Region) → GivesNext boxes t after (Some span) → HasAnswers boxes t (found ++ span ∷ []) (Some span)
-    HasAnswers-more span gives = record {
-      answers = λ more are. subst (λ (all : List Region). AreAnswers boxes t None all) (sym (append_assoc found (span ∷ []) more)) (so_far.answers (span ∷ more) (gives, are));
-    }
+    HasAnswers-more span h = search (rules, append_assoc)
 
     -- they are all where none is left
     pub answers_ended : GivesNext boxes t after None → AreAnswers boxes t None found

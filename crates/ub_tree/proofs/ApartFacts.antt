@@ -1,5 +1,6 @@
 -- No two pages are one that an index and its regions stand on: pages of the index differ by their levels and first keys, those of
 -- regions by their first keys, and the one from the other by their kinds.
+use Rattle.std.proofs.Common.{rules}
 use Rattle.std.proofs.Common.{◌≡◌, ◌≢◌, ◌≤◌, ◌<◌, ◌^◌, ◌++◌, ℕ, zero, suc, List, [], ◌∷◌, Option, Some, None, IfSome, nat_eq, map, slice_get, ap, refl, sym, ◌∙◌, arith, subst}
 use Rattle.std.specs.List.{AllByRecursion, IsDistinct, flat_map}
 use Rattle.ub_check.proofs.PlacedFacts.{one_region}
@@ -20,7 +21,7 @@ use Rattle.ub_region.proofs.Laws.{all_after, all_append, all_more, up_tail}
 use Rattle.ub_region.specs.Regions.{firsts_of}
 use Rattle.ub_table.proofs.Laws.{before_trans, not_before_self}
 use Rattle.ub_table.specs.Keys.{IsBefore, AreKeysAscending}
-use Rattle.ub_table.specs.Region.{RegionRows, IsRegion}
+use Rattle.ub_table.specs.Region.{IsRegion}
 use Rattle.ub_table.specs.declared.row.Key.{Key}
 use Rattle.ub_table.specs.declared.schema.Schema.{Schema}
 use Rattle.ub_tree.specs.Placed.{Placed, regions_in}
@@ -41,9 +42,7 @@ some_key o x y a b = cc
 module _ (last : ℕ) (pages : List (List ℕ)) where
   -- what is before the first of entries in order is before their end
   through : (xs : List Entry) (end : Option Key) (key : Key) → AscendTo xs end → IfSome (first_or xs end) (IsBefore key) → IfSome end (IsBefore key)
-  through [] end key up to = to
-  through (x ∷ xs) None key up to = tt
-  through (x ∷ xs) (Some end) key up to = before_trans key x.first end to (ascend_first x xs (Some end) up)
+  through xs end key k j = search (rules, ascend_first, before_trans)
 
   -- the first of the entries behind one isn't before what that one isn't before
   later : (x : Entry) (xs : List Entry) (end : Option Key) (first : Key) → IfSome (first_or xs end) (IsBefore x.first) → ¬ (IsBefore x.first first)
@@ -73,13 +72,7 @@ module _ (last : ℕ) (pages : List (List ℕ)) where
   -- of two lists of pages, the one before a key and the other from it on, no page is in both
   apart_at : (level : ℕ) (first key : Key) (end : Option Key) (ns ms : List ℕ) → AllByRecursion (IsFrom last pages level first (Some key)) ns
       → AllByRecursion (IsFrom last pages level key end) ms → StandApart ns ms
-  apart_at level first key end [] ms below above = tt
-  apart_at level first key end (n ∷ ns) ms below above = (
-    all_more (IsFrom last pages level key end) (λ m. n ≢ m)
-        (λ m h same. (let one = some_key (first_or (entries_of pages m) None) below.0.key h.key (ap (λ (k : ℕ). first_or (entries_of pages k) None) (sym same) ∙ below.0.begins) h.begins in
-        h.from (subst (λ (k : Key). IsBefore k key) one below.0.to))) ms above,
-    apart_at level first key end ns ms below.1 above,
-  )
+  apart_at level first key end ns ms k j = search (rules, all_more, some_key)
 
   apart_none : (ns : List ℕ) → StandApart ns []
   apart_none [] = tt
@@ -154,19 +147,12 @@ module _ (schema : Schema) (pages : List (List ℕ)) where
   others : (p : Placed) (ps : List Placed) → IsOnPage schema pages p → AllByRecursion (IsOnPage schema pages) ps → AllByRecursion (IsBefore p.region.first) (firsts_of (regions_in ps))
       → IsOutside p.page (map (λ q. q.page) ps)
   others p [] on all up = tt
-  others p (q ∷ ps) on all up = (
-    (λ same.
-        let one = one_region schema pages p.page p.region q.region on.spelled on.is (ap (slice_get pages) same ∙ all.0.spelled) all.0.is in
-        not_before_self p.region.first (subst (λ (k : Key). IsBefore p.region.first k) (sym (ap (λ (r : RegionRows). r.first) one)) up.0)),
-    others p ps on all.1 up.1,
-  )
+  others p (q ∷ ps) on all up = search (rules, (others p ps on all.1 up.1), not_before_self, one_region)
 
   pub regions_differ : (ps : List Placed) → AreKeysAscending (firsts_of (regions_in ps)) → AllByRecursion (IsOnPage schema pages) ps → IsDistinct nat_eq (map (λ q. q.page) ps)
   unfolding IsDistinct
   regions_differ [] up all = tt
-  regions_differ (p ∷ ps) up all =
-      distinct_cons p.page (map (λ q. q.page) ps) (others p ps all.0 all.1 (all_after p.region.first (firsts_of (regions_in ps)) up))
-      (regions_differ ps (up_tail p.region.first (firsts_of (regions_in ps)) up) all.1)
+  regions_differ (p ∷ ps) up all = search (rules, (regions_differ ps (up_tail p.region.first (firsts_of (regions_in ps)) up) all.1), all_after, distinct_cons, others, up_tail)
 
   module _ (last : ℕ) (small : last < 2 ^ 128) (level : ℕ) (first : Key) (end : Option Key) where
     -- a page of the index is none of a region

@@ -1,21 +1,19 @@
 -- What the searches of the index answer, as answers of the tree.
-use Rattle.std.proofs.Common.{◌≡◌, ◌<◌, ◌≤◌, ◌*◌, ◌^◌, map, inl, inr, Result, Ok, Err, MatchResult, ℕ, List, Option, Some, None, IfSome, ◌∙◌, ap, subst, refl, arith}
+use Rattle.std.proofs.Common.{rules}
+use Rattle.std.proofs.Common.{◌≡◌, ◌<◌, ◌≤◌, ◌*◌, ◌^◌, map, inl, inr, Result, Ok, Err, MatchResult, ℕ, List, Option, Some, None, IfSome, arith}
 use Rattle.std.specs.Result.{IsErrAnd}
 use Rattle.std.proofs.Math.Pow.{pow-lt}
-use Rattle.std.proofs.lemmas.Bool.{cases_Bool, cases_lt}
+use Rattle.std.proofs.lemmas.Bool.{cases_lt}
 use Rattle.ub_bigmin.specs.Box.{Corners, HoldsAny}
 use Rattle.ub_bigmin.specs.Extremes.{LeastFrom}
 use Rattle.ub_index.proofs.LeadFacts.{one_given}
-use Rattle.ub_index.specs.Index.{top}
 use Rattle.ub_index.specs.Searching.{Gives, GivesAfter, IsWayFault, at_least}
 use Rattle.ub_region.specs.Spans.{end_before}
-use Rattle.ub_index.specs.View.{IndexView, IsIndexOn, Stops, entry_at}
+use Rattle.ub_index.specs.View.{IndexView, IsIndexOn, Stops}
 use Rattle.ub_index.specs.declared.fault.IndexFault.{IndexFault}
-use Rattle.ub_index.specs.declared.fault.IndexFault.TheVariants as index
 use Rattle.ub_store.specs.Facts.{StoreFacts, IsHonest}
-use Rattle.ub_store.specs.declared.fault.StoreFault.TheVariants as store
 use Rattle.ub_table.proofs.Laws.{before_parts}
-use Rattle.ub_table.specs.Keys.{IsBefore, precedes}
+use Rattle.ub_table.specs.Keys.{IsBefore}
 use Rattle.ub_table.specs.declared.fault.PageFault.{PageFault}
 use Rattle.ub_table.specs.declared.row.Key.{Key}
 use Rattle.ub_tree.proofs.AnswerFacts.{at_least_z, begins_up_to, up_to}
@@ -44,13 +42,7 @@ stored_on t stored = index_on t.inner.index t.store (map entry_of t.placed) stor
 
 -- the later of a key and the least one of an address has no lower address
 at_least_up : (from : Key) (z : ℕ) → z ≤ (at_least from z).z
-at_least_up from z = elim (cases_Bool (precedes (record { z = z; number = 0 }) from)) [
-  | inl t ↦ rw t (elim (before_parts (record { z = z; number = 0 }) from t) [
-    | inl lt ↦ omega arith
-    | inr same ↦ let e = same.0 in omega arith
-  ])
-  | inr f ↦ rw f (omega arith)
-]
+at_least_up from z = search rules
 
 ends_after : (last z : ℕ) (key : Key) (next : Option Key) → IfSome next (IsBefore key) → z ≤ key.z → z ≤ last → z ≤ end_before last next
 ends_after last z key None before up le = le
@@ -61,47 +53,23 @@ pub seek_told : (t : TreeView) (z : ℕ) (after found : Option Region) → Gives
     → IfSome found (IsLater after) → IfSome found (λ r. IsRegionOf t r × IsLater after r × (z ≤ r.to))
 seek_told t z after None given later = tt
 seek_told t z after (Some r) (None, from, h) later = absurd h
-seek_told t z after (Some r) (Some key, from, (aim, (to, is, le, aim_is), given)) later =
-    let same_z : to ≡ z = cc in
-    let up = at_least_up key to in
-    let aim_z : aim.z ≡ (at_least key to).z = ap (λ (k : Key). k.z) aim_is in
-    let ends = ends_after t.inner.index.last to aim r.next given.holds.to (let more : to ≤ aim.z = omega arith in more) le in
-    let to_is = given.to in
-    (record { key = aim; falls = given }, later, omega arith)
+seek_told t z after (Some r) (Some key, from, (aim, (to, is, le, aim_is), given)) later = search (rules, at_least_up, ends_after)
 
 -- what is given after a region, as the tree tells it
 pub gives_next : (boxes : List Corners) (t : TreeView) (after found : Option Region)
     → GivesAfter t.inner.index t.store (λ from. LeastFrom (HoldsAny boxes) from.z) after found
     → IfSome found (IsLater after) → IfSome found (λ r. r.first.number < 2 ^ 32) → GivesNext boxes t after found
-gives_next boxes t after None given later number = record { given = given; found_after = tt }
-gives_next boxes t after (Some r) given later number = record {
-  given = given;
-  found_after = record { later = later; z = within given; number = number };
-}
-  where
-    within : GivesAfter t.inner.index t.store (λ from. LeastFrom (HoldsAny boxes) from.z) after (Some r) → r.first.z ≤ t.inner.index.last
-    within (None, from, h) = absurd h
-    within (Some key, from, (aim, (z, least, le, aim_is), given)) =
-        let aim_z : aim.z ≡ z = ap (λ (k : Key). k.z) aim_is ∙ at_least_z key z least.1 in
-        let first = begins_up_to aim r.first given.holds.from in
-        omega arith
+gives_next boxes t after found h k j = search (rules, at_least_z, begins_up_to)
 
 -- where a way leads to a span, it stops nowhere
 not_stopped : (i : IndexView) (facts : StoreFacts) (key sought : Key) (span : Region) (n : ℕ) (fault : Option PageFault) → i.last < 2 ^ 128 → IsHonest facts
     → Gives i facts key span → sought ≡ key → ¬ (Stops i facts sought n fault)
-not_stopped i facts key sought span n fault small honest given same stops =
-    led_not_stopped i.last facts.pages key small i.levels (top i.root) None (entry_at span) span.next n fault (given.way honest)
-    (subst (λ (k : Key). Stops i facts k n fault) same stops)
+not_stopped i facts key sought span n fault h k j l = search (rules, led_not_stopped)
 
 -- and a search to that key fails in passing alone
 pub way_passing : (i : IndexView) (facts : StoreFacts) (key : Key) (span : Region) → i.last < 2 ^ 128 → IsHonest facts → Gives i facts key span
     → (e : IndexFault) → IsWayFault i facts (λ k. k ≡ key) e → IsPassing (index_fault e)
-way_passing i facts key span small honest given (index.Page n fault) h = let w = h honest in absurd (not_stopped i facts key w.0 span n (Some fault) small honest given w.1 w.2)
-way_passing i facts key span small honest given index.Full h = absurd h
-way_passing i facts key span small honest given (index.Store store.Memory) h = inl refl
-way_passing i facts key span small honest given (index.Store store.Device) h = inr refl
-way_passing i facts key span small honest given (index.Store store.BadSize) h = absurd h
-way_passing i facts key span small honest given (index.Store store.NoPage) h = let w = h.2 honest in absurd (not_stopped i facts key w.0 span h.0 None small honest given w.1 w.2)
+way_passing i facts key span h k j e l = search (rules, not_stopped)
 
 -- what it gives is the region to which that way leads
 pub one_falls : (t : TreeView) (key : Key) (found span : Region) → IsHonest t.store → FallsTo t key found → FallsTo t key span → found ≡ span

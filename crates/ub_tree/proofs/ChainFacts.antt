@@ -1,4 +1,5 @@
 -- The pages of a directory of format 1 differ from each other, by the keys with which they begin, and from those of regions.
+use Rattle.std.proofs.Common.{rules}
 use Rattle.std.proofs.Common.{◌≡◌, ◌≢◌, ◌<◌, ◌-◌, ◌^◌, ◌++◌, ◌∙◌, ℕ, zero, suc, List, [], ◌∷◌, Some, nat_eq, length, map, take, drop, replicate, slice_get, ap, refl, sym, arith, subst, append_assoc}
 use Rattle.std.proofs.lemmas.Option.{slice_get_within}
 use Rattle.std.specs.List.{AllByRecursion, IsDistinct, flat_map}
@@ -12,7 +13,6 @@ use Rattle.ub_page.proofs.PageLaws.{region_parts}
 use Rattle.ub_bytes.specs.Bytes.{layout, number_at, number_bytes}
 use Rattle.ub_page.specs.Directory.{directory_page}
 use Rattle.ub_page.specs.Entries.{IsEntry, entry_bytes, entry_on, key_on, page_fields}
-use Rattle.ub_region.specs.RegionPage.{region_page}
 use Rattle.ub_region.specs.declared.entry.Entry.{Entry}
 use Rattle.ub_region.proofs.Laws.{all_after, all_drop, all_more, all_take, up_tail}
 use Rattle.ub_table.proofs.Laws.{not_before_self}
@@ -104,11 +104,7 @@ pub record IsOfChain (pages : List (List ℕ)) (n : ℕ) : Type 0 where
 
 module _ (pages : List (List ℕ)) where
   of_chain : (n : ℕ) (entries : List Entry) (next : ℕ) → slice_get pages n ≡ Some (directory_page (record { entries = entries; next = next })) → IsOfChain pages n
-  of_chain n entries next at = record {
-    page = directory_page (record { entries = entries; next = next });
-    there = at;
-    kind = listing_kind entries next (directory_page (record { entries = entries; next = next })) refl;
-  }
+  of_chain n entries next h = search (rules, listing_kind)
 
   pub each_of_chain : (chain : List ℕ) (entries : List Entry) → IsChain pages chain entries → AllByRecursion (IsOfChain pages) chain
   each_of_chain [] entries h = absurd h
@@ -118,17 +114,7 @@ module _ (pages : List (List ℕ)) where
   -- and is none of a region
   none_of_region : (schema : Schema) (n : ℕ) (ps : List Placed) → IsOfChain pages n → AllByRecursion (IsOnPage schema pages) ps → IsOutside n (map (λ (q : Placed). q.page) ps)
   none_of_region schema n [] h all = tt
-  none_of_region schema n (p ∷ ps) h all = (
-    (λ same.
-        let region = (region_parts schema p.region (region_page schema p.region) all.0.is refl).kind in
-        let at : slice_get pages n ≡ Some (region_page schema p.region) = ap (slice_get pages) same ∙ all.0.spelled in
-        let there = h.there in
-        let one : h.page ≡ region_page schema p.region = cc in
-        let kind = h.kind in
-        let both : number_at 1 0 h.page ≡ 0x52 = ap (number_at 1 0) one ∙ region in
-        omega arith),
-    none_of_region schema n ps h all.1,
-  )
+  none_of_region schema n (p ∷ ps) h all = search (rules, (none_of_region schema n ps h all.1), region_parts)
 
   pub chain_apart : (schema : Schema) (chain : List ℕ) (ps : List Placed) → AllByRecursion (IsOfChain pages) chain → AllByRecursion (IsOnPage schema pages) ps
       → StandApart chain (map (λ (q : Placed). q.page) ps)

@@ -1,12 +1,12 @@
 -- The check of a tree, by that of its table: what it comes to, and that its first fault is one.
-use Rattle.std.proofs.Common.{◌≡◌, ◌<◌, ◌^◌, ◌⊎◌, inl, inr, ℕ, Bool, false, List, [], None, Result, Ok, Err, IfErr, OnOk, ap, refl, sym, ◌∙◌, subst}
+use Rattle.std.proofs.Common.{rules}
+use Rattle.std.proofs.Common.{◌≡◌, ◌<◌, ◌^◌, ◌⊎◌, inl, inr, ℕ, Bool, false, Result, Ok, Err, IfErr, OnOk, ap, refl, sym, ◌∙◌, subst}
 use Rattle.std.specs.Result.{IsErrAnd}
 use Rattle.ub_check.proofs.OnceFacts as once
 use Rattle.ub_check.proofs.TakenFacts.{walk_taken}
 use Rattle.ub_check.specs.Calls.{Checks, IsCheckFault as IsTableFault, asked_in}
-use Rattle.ub_check.specs.Checking.{Asked, AreWell, IsFirst, asked_for}
+use Rattle.ub_check.specs.Checking.{Asked, IsFirst, asked_for}
 use Rattle.ub_check.specs.declared.checking.Told.{Told}
-use Rattle.ub_index.specs.Index.{under, top}
 use Rattle.ub_index.specs.View.{IndexView}
 use Rattle.ub_index.specs.declared.fault.IndexFault.TheVariants as index
 use Rattle.ub_index.specs.declared.fault.IndexFault.{IndexFault}
@@ -15,16 +15,12 @@ use Rattle.ub_store.specs.View.{PagerView}
 use Rattle.ub_store.specs.declared.fault.StoreFault.TheVariants as store
 use Rattle.ub_table.specs.declared.schema.Schema.{Schema}
 use Rattle.ub_tree.proofs.EffectFacts.{refused_none}
-use Rattle.ub_tree.proofs.ReadingFacts.{searched_tree}
-use Rattle.ub_tree.proofs.SearchFacts.{known_is, stores_alike}
+use Rattle.ub_tree.proofs.SearchFacts.{known_is}
 use Rattle.ub_tree.proofs.WellFacts.{sound_well}
 use Rattle.ub_tree.specs.Checking.{ChecksPages, IsCheckFault, IsFirstFault, IsWell, asked_of, told_of}
-use Rattle.ub_tree.specs.Effects.{read_store}
 use Rattle.ub_tree.specs.Faults.{index_fault}
 use Rattle.ub_tree.specs.Holding.{Answers}
-use Rattle.ub_tree.specs.Indexed.{entries_on}
 use Rattle.ub_tree.specs.Opened.{IsPassing}
-use Rattle.ub_tree.specs.Placed.{Placed, placed_of}
 use Rattle.ub_tree.specs.Tree.{tree_view}
 use Rattle.ub_tree.specs.View.{TreeView, IsSound}
 use Rattle.ub_tree.specs.declared.fault.TreeFault.{TreeFault}
@@ -66,14 +62,7 @@ module _ (t : TreeView) (small : t.inner.index.last < 2 ^ 128) where
 
   -- and it is what the check answers, but for what passes
   fault_first : t.is_failed ≡ false → IsHonest t.store → (fault : TreeFault) → IsFirstFault t fault → (f : TreeFault) → IsCheckFault t f → (f ≡ fault) ⊎ IsPassing f
-  fault_first works honest fault first Full h = absurd h
-  fault_first works honest fault first HasFailed h = cc
-  fault_first works honest fault first Memory h = inr (inl refl)
-  fault_first works honest fault first (Page n a) h = inl (first_once (Page n a) fault (h honest) first)
-  fault_first works honest fault first (Store store.Device) h = inr (inr refl)
-  fault_first works honest fault first (Store store.Memory) h = absurd h
-  fault_first works honest fault first (Store store.BadSize) h = absurd h
-  fault_first works honest fault first (Store store.NoPage) h = inl (first_once (Store store.NoPage) fault (h honest) first)
+  fault_first h k fault j f l = search (rules, first_once)
 
   pub first_answered : {T : Type 0} (r : Result T TreeFault) → t.is_failed ≡ false → IsHonest t.store → IfErr r (IsCheckFault t) → OnOk r (IsWell t)
       → (fault : TreeFault) → IsFirstFault t fault → Answers r fault
@@ -138,33 +127,15 @@ module _ (schema : Schema) (index_at : IndexView) (count next rows : ℕ) (chang
     -- the table's check is refused
     run_refused : {T U : Type 0} (r : Result T TreeFault) (f : IndexFault) → IsErrAnd r (λ x. x ≡ index_fault f)
         → Checks {A = U} schema told old new (Err f) → ChecksPages tree (tree_view schema index_at count next rows changed failed new) r
-    run_refused (Ok x) f is h = absurd is
-    run_refused {T = T} {U = U} (Err g) f is h = record {
-      same = searched_tree {T = T} (Err g) schema index_at count next rows changed failed old new
-          (ap (λ (p : PagerView). p.store) h.same ∙ (stores_alike T U f old.store ∙ ap (λ (x : TreeFault). read_store {A = T} (Err x) old.store) (sym is)))
-          (ap (λ (p : PagerView). p.trace) h.same);
-      faults = subst (λ (x : TreeFault). IsCheckFault tree x) (sym is) (check_fault f h.faults);
-    }
+    run_refused r f h k = search rules
 
     -- it isn't
     run_done : {T U : Type 0} (x : T) (y : U) → Checks {A = U} schema told old new (Ok y)
         → ChecksPages tree (tree_view schema index_at count next rows changed failed new) (Ok x)
-    run_done {T = T} x y h = record {
-      same = searched_tree {T = T} (Ok x) schema index_at count next rows changed failed old new
-          (ap (λ (p : PagerView). p.store) h.same) (ap (λ (p : PagerView). p.trace) h.same);
-      faults = tt;
-    }
+    run_done x y h = search rules
 
     run_well : {U : Type 0} (y : U) → Checks {A = U} schema told old new (Ok y) → IsHonest old.store → IsWell tree
-    run_well y h honest =
-        let found = h.well honest in
-        let well : AreWell (asked_of tree) (told_of tree) found.0 =
-        subst (λ (t : Told). AreWell (asked_of tree) t found.0) told_is (subst (λ (a : Asked). AreWell a told found.0) asked_is found.1) in
-        let known = known_is old.store honest in
-        let taken : found.0 ≡ placed_of schema old.store.pages (under old.store.pages index_at.levels (top index_at.root)) =
-        (walk_taken (asked_of tree) index_at.levels (top index_at.root) None [] found.0 well.takes).1.after_is in
-        let placed : tree.placed ≡ found.0 = ap (λ (ps : List (List ℕ)). placed_of schema ps (entries_on index_at ps)) known ∙ sym taken in
-        subst (λ (ps : List Placed). AreWell (asked_of tree) (told_of tree) ps) (sym placed) well
+    run_well y h k = search (rules, asked_is, known_is, walk_taken)
 
     pub checked_refused : {T U : Type 0} (r : Result T TreeFault) (f : IndexFault) → IsErrAnd r (λ x. x ≡ index_fault f)
         → Checks {A = U} schema told old new (Err f) → IsChecked tree (tree_view schema index_at count next rows changed failed new) r

@@ -1,7 +1,8 @@
 -- What a tree is once it was closed.
-use Rattle.std.proofs.Common.{◌≡◌, ◌≢◌, ◌<◌, ◌∙◌, ◌++◌, ℕ, false, List, [], ◌∷◌, None, length, map, nat_eq, sym, ap, subst, refl, arith}
+use Rattle.std.proofs.Common.{rules}
+use Rattle.std.proofs.Common.{◌≡◌, ◌≢◌, ◌∙◌, ◌++◌, ℕ, false, List, [], ◌∷◌, map, sym, ap, subst, refl}
 use Rattle.std.proofs.lemmas.List.Elements.{All-from_recursion, recursion_from_All}
-use Rattle.std.specs.List.{All, AllByRecursion, IsDistinct}
+use Rattle.std.specs.List.{AllByRecursion}
 use Rattle.ub_index.proofs.KeptFacts.{kept_index, kept_under}
 use Rattle.ub_index.proofs.Numbers.{distinct_first, kept_pages}
 use Rattle.ub_index.specs.Standing.{PagesStay}
@@ -54,19 +55,10 @@ module _ (t : TreeView) (new : StoreFacts) (honest : new.honest ≡ t.store.hone
   same_reserved = ap (λ (ns : List ℕ). 0 ∷ ns) (kept_pages pages new.pages index.levels (top index.root) stay)
 
   indexed : HasIndex index new.pages (map entry_of t.placed)
-  indexed = record {
-    some = sound.indexed.some;
-    under_it = kept_index index.last pages new.pages index.levels (top index.root) None stay sound.indexed.under_it;
-    entries_are = kept_under pages new.pages index.levels (top index.root) stay ∙ sound.indexed.entries_are;
-  }
+  indexed = search (rules, kept_index, kept_under, stay)
 
   placed_are : ArePlaced t.schema t.placed (reserved index new.pages) new.pages
-  placed_are = record {
-    spelled = All-from_recursion (IsSpelled t.schema new.pages) t.placed
-        (each_spelled t.placed (all_right (λ n. 0 ≢ n) chain numbers not_first) (recursion_from_All (IsSpelled t.schema pages) t.placed sound.placed_are.spelled));
-    own = subst (λ (ns : List ℕ). IsDistinct nat_eq (ns ++ numbers)) (sym same_reserved) sound.placed_are.own;
-    within = subst (All (λ n. n < length new.pages)) (sym same_reserved) (subst (λ (long : ℕ). All (λ n. n < long) (reserved index pages)) (sym count) sound.placed_are.within);
-  }
+  placed_are = search (rules, All-from_recursion, IsSpelled, all_right, each_spelled, not_first, recursion_from_All, same_reserved)
 
   index_is : index_of (header_of t) ≡ index
   index_is = ap (λ (last : ℕ). index_view index.root index.levels last) (sym sound.last_is)
@@ -91,7 +83,4 @@ module _ (t : TreeView) (new : StoreFacts) (honest : new.honest ≡ t.store.hone
 
 -- a sound tree's store has a first page
 pub sound_some : (t : TreeView) → IsSound t → page_count t.store ≢ 0
-sound_some t sound =
-    let within = recursion_from_All (λ n. n < length t.store.pages) (reserved t.inner.index t.store.pages) sound.placed_are.within in
-    let some : 0 < length t.store.pages = within.0 in
-    λ none. omega (arith, some, none)
+sound_some t h = search rules

@@ -1,6 +1,7 @@
 -- Over an honest store a tree that is asked for the next region again and again, until there is none, leaves out no key of the boxes.
-use Rattle.std.proofs.Common.{◌≡◌, ◌≤◌, ◌⊎◌, ◌∙◌, inl, inr, ℕ, suc, List, [], ◌∷◌, Option, Some, None, IfSome, ap, arith, sym, subst, refl}
-use Rattle.std.proofs.lemmas.Bool.{cases_Bool, cases_lt}
+use Rattle.std.proofs.Common.{rules}
+use Rattle.std.proofs.Common.{◌≡◌, ◌≤◌, ◌⊎◌, ◌∙◌, inl, inr, ℕ, suc, List, [], ◌∷◌, Option, Some, None, ap, arith, sym, subst, refl}
+use Rattle.std.proofs.lemmas.Bool.{cases_Bool}
 use Rattle.std.specs.Prelude.{Contains}
 use Rattle.ub_bigmin.specs.Box.{Corners, HoldsAny}
 use Rattle.ub_bigmin.specs.Extremes.{LeastFrom}
@@ -9,7 +10,7 @@ use Rattle.ub_index.proofs.LeadFacts.{one_given, ways_hold}
 use Rattle.ub_index.specs.Searching.{Gives, GivesAfter, IsAim, IsAimless, IsFrom}
 use Rattle.ub_index.specs.Way.{HoldsKey}
 use Rattle.ub_store.specs.Facts.{IsHonest}
-use Rattle.ub_table.proofs.Laws.{before_from, before_of, before_parts, not_before_origin, precedes_of}
+use Rattle.ub_table.proofs.Laws.{before_from, before_parts, not_before_origin}
 use Rattle.ub_table.specs.Keys.{IsBefore, origin, precedes}
 use Rattle.ub_table.specs.declared.row.Key.{Key}
 use Rattle.ub_tree.proofs.MeetFacts.{contained_at, contains_at}
@@ -26,10 +27,7 @@ module _ (boxes : List Corners) (tree : TreeView) (honest : IsHonest tree.store)
   IsAhead after = (from : Option Key) → IsFrom tree.inner.index tree.store after from → (f : Key) × (from ≡ Some f) × (¬ (IsBefore key f))
 
   address_up : (f : Key) → ¬ (IsBefore key f) → f.z ≤ key.z
-  address_up f ahead = elim (cases_lt key.z f.z) [
-    | inl lt ↦ absurd (ahead (before_from key f (inl lt)))
-    | inr ge ↦ omega arith
-  ]
+  address_up f h = search rules
 
   not_aimless : (f : Key) → ¬ (IsBefore key f) → IsAimless tree.inner.index.last To (Some f) → ⊥
   not_aimless f ahead (inl none) = ahead (before_from key f (inl (none key.z inside)))
@@ -53,17 +51,11 @@ module _ (boxes : List Corners) (tree : TreeView) (honest : IsHonest tree.store)
   -- a span that doesn't begin behind the key holds it, or ends before it
   holds_or_ends : (span : Region) → ¬ (IsBefore key span.first) → (next : Option Key) → span.next ≡ next
       → HoldsKey key span.first span.next ⊎ ((n : Key) × (span.next ≡ Some n) × (¬ (IsBefore key n)))
-  holds_or_ends span from None e = inl (record { from = from; to = subst (λ (o : Option Key). IfSome o (IsBefore key)) (sym e) tt })
-  holds_or_ends span from (Some n) e = elim (cases_Bool (precedes key n)) [
-    | inl t ↦ inl (record { from = from; to = subst (λ (o : Option Key). IfSome o (IsBefore key)) (sym e) (before_of key n t) })
-    | inr f ↦ inr (n, e, λ before. let t = precedes_of key n before in cc)
-  ]
+  holds_or_ends span h next k = search rules
 
   -- the way to the first key of the span that is given leads to it alone
   one_next : (aim : Key) (span other : Region) → Gives tree.inner.index tree.store aim span → Gives tree.inner.index tree.store span.first other → other ≡ span
-  one_next aim span other given again =
-      let ways = ways_hold tree.inner.index tree.store aim span (given.way honest) in
-      one_given tree.inner.index tree.store span.first other span honest again (record { holds = ways.1; from = given.from; to = given.to; way = λ _. ways.2 span.first ways.1 })
+  one_next aim span other h k = search (rules, one_given, ways_hold)
 
   -- so what is given holds the key, or the search after it goes on from no later one
   step : (after : Option Region) (found : Region) → IsAhead after → GivesAfter tree.inner.index tree.store To after (Some found) → HoldsKey key found.first found.next ⊎ IsAhead (Some found)
@@ -78,11 +70,7 @@ module _ (boxes : List Corners) (tree : TreeView) (honest : IsHonest tree.store)
       ]
 
   none_left : (after : Option Region) → IsAhead after → GivesAfter tree.inner.index tree.store To after None → ⊥
-  none_left after ahead (None, is_from, none) = let there = ahead None is_from in let e = there.1 in cc
-  none_left after ahead (Some f, is_from, none) =
-      let there = ahead (Some f) is_from in
-      let same : there.0 ≡ f = let e = there.1 in cc in
-      not_aimless f (subst (λ (k : Key). ¬ (IsBefore key k)) same there.2) none
+  none_left after h k = search (rules, not_aimless)
 
   cover : (after : Option Region) (answers : List Region) → IsAhead after → AreAnswers boxes tree after answers → (span : Region) × Contains answers span × HoldsKey key span.first span.next
   cover after [] ahead gives = absurd (none_left after ahead gives.given)

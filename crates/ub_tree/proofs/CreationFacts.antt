@@ -1,5 +1,6 @@
 -- What a tree is that was just created.
-use Rattle.std.proofs.Common.{◌≡◌, ◌<◌, ◌^◌, ℕ, zero, suc, true, false, List, [], ◌∷◌, Some, length, map, ◌∙◌, sym, ap, subst, refl, arith, slice_get, slice_index_or}
+use Rattle.std.proofs.Common.{rules}
+use Rattle.std.proofs.Common.{◌≡◌, ◌<◌, ℕ, zero, suc, true, false, List, [], ◌∷◌, Some, length, map, ◌∙◌, ap, refl, arith, slice_get, slice_index_or}
 use Rattle.std.proofs.lemmas.Option.{get_or_from_slice_get}
 use Rattle.std.proofs.lemmas.Map.Keys.{IsDistinct-cons}
 use Rattle.std.proofs.lemmas.Map.Made.{IsDistinct-from_count}
@@ -7,12 +8,10 @@ use Rattle.std.specs.Bool.{nat_eq}
 use Rattle.std.specs.Cmp.{nat_eq_equiv}
 use Rattle.std.specs.List.{All, IsDistinct}
 use Rattle.ub_index_change.proofs.FillFacts.{filled_low}
-use Rattle.ub_index.specs.Index.{top}
 use Rattle.ub_index.specs.Opening.{IsAlone}
 use Rattle.ub_index.specs.View.{IndexView, index_view}
 use Rattle.ub_region.specs.RegionPage.{region_on, region_page}
-use Rattle.ub_region.specs.declared.entry.Entry.{Entry}
-use Rattle.ub_region.specs.Regions.{AreRegions, rows_of}
+use Rattle.ub_region.specs.Regions.{AreRegions}
 use Rattle.ub_store.specs.Facts.{StoreFacts, IsHonest}
 use Rattle.ub_store.specs.View.{PagerView, untouched}
 use Rattle.ub_table.specs.Keys.{origin}
@@ -22,7 +21,7 @@ use Rattle.ub_table.specs.declared.schema.Schema.{Schema}
 use Rattle.ub_tree.proofs.PutFacts.{view_placed}
 use Rattle.ub_tree.specs.Calls.{IsCreated}
 use Rattle.ub_tree.specs.Indexed.{HasIndex, reserved}
-use Rattle.ub_tree.specs.Placed.{Placed, ArePlaced, entry_of, placed_of, regions_in}
+use Rattle.ub_tree.specs.Placed.{Placed, ArePlaced, entry_of, regions_in}
 use Rattle.ub_tree.specs.Tree.{placed_in, tree_view}
 use Rattle.ub_writing.specs.Creation.{empty_region, IsLaidOut}
 use Rattle.ub_zaddr.specs.Address.{last_address}
@@ -61,20 +60,13 @@ module _ (facts : StoreFacts) (schema : Schema) (index : IndexView) (pager : Pag
     laid = laid_out is
 
     placed : placed_in schema index pager.store ≡ placed_with 1 []
-    placed =
-        view_placed schema index pager.store now
-        ∙ ap (λ (es : List Entry). placed_of schema pager.store.pages es) alone.entries_are
-        ∙ ap (placed_with 1) (rows_there schema pager.store.pages 1 empty_region laid.spelled laid.reads_back)
+    placed = search (rules, alone, laid, now, rows_there, view_placed)
 
     pub first_regions : regions_in (placed_in schema index pager.store) ≡ empty_region ∷ []
     first_regions = ap regions_in placed
 
     pub first_indexed : HasIndex index pager.store.pages (map entry_of (placed_in schema index pager.store))
-    first_indexed = record {
-      some = alone.is.some;
-      under_it = alone.is.under_it;
-      entries_are = alone.entries_are ∙ ap (λ (ps : List Placed). map entry_of ps) (sym placed);
-    }
+    first_indexed = search rules
 
     reserved_is : reserved index pager.store.pages ≡ 0 ∷ 2 ∷ []
     reserved_is = ap (λ (ns : List ℕ). 0 ∷ ns) (alone.pages_are ∙ ap (λ (i : IndexView). i.root ∷ []) index_is)
@@ -84,50 +76,13 @@ module _ (facts : StoreFacts) (schema : Schema) (index : IndexView) (pager : Pag
     first_alone at (suc k) d lt = absurd (omega arith)
 
     reserved_within : length pager.store.pages ≡ 3 → All (λ n. n < length pager.store.pages) (0 ∷ 2 ∷ [])
-    reserved_within count zero d lt = omega arith
-    reserved_within count (suc zero) d lt = omega arith
-    reserved_within count (suc (suc k)) d lt = absurd (omega arith)
+    reserved_within h = search rules
 
     pub first_placed : ArePlaced schema (placed_in schema index pager.store) (reserved index pager.store.pages) pager.store.pages
-    first_placed =
-        subst (λ (ps : List Placed). ArePlaced schema ps (reserved index pager.store.pages) pager.store.pages) (sym placed)
-        (subst (λ (ns : List ℕ). ArePlaced schema (placed_with 1 []) ns pager.store.pages) (sym reserved_is) (record {
-          spelled = λ k d lt. first_alone laid.spelled k d lt;
-          own = IsDistinct-cons nat_eq 0 _ (refl, (refl, tt)) (IsDistinct-cons nat_eq 2 _ (refl, tt) (IsDistinct-cons nat_eq 1 _ tt none_twice));
-          within = λ k d lt. reserved_within count k d lt;
-        }))
+    first_placed = search (rules, IsDistinct-cons, first_alone, laid, none_twice, placed, reserved_is, reserved_within)
 
     pub first_long : length (placed_in schema index pager.store) ≡ 1
     first_long = ap length placed
 
   pub created : pager.trace ≡ untouched → IsCreated facts schema (tree_view schema index 1 1 0 true false pager)
-  created trace = record {
-    schema_is = refl;
-    regions_are = λ is. first_regions is;
-    sound = λ is.
-        let long = first_long is in
-        record {
-          working = refl;
-          honest = ap (λ (s : StoreFacts). s.honest) same ∙ is;
-          last_is = ap (λ (i : IndexView). i.last) index_is;
-          indexed = first_indexed is;
-          regions_are = subst (AreRegions schema 1) (sym (first_regions is)) (empty_regions schema);
-          placed_are = first_placed is;
-          count_is = sym long;
-          rows_are = sym (ap (λ (rs : List RegionRows). length (rows_of rs)) (first_regions is));
-          some_next = omega arith;
-          last_next = omega arith;
-          few = subst (λ (n : ℕ). n < 2 ^ 32) (sym long) (omega arith);
-          closed = λ e. cc;
-          marked = λ _. (laid_out is).marked;
-        };
-    store_is = same;
-    pages = count;
-    levels_are = ap (λ (i : IndexView). i.levels) index_is;
-    grown = filled_low pager.store.pages index.levels (top index.root) (ap (λ (i : IndexView). i.levels) index_is);
-    working = refl;
-    changed = refl;
-    rows_are = refl;
-    next_is = refl;
-    trace_is = trace;
-  }
+  created h = search (rules, empty_regions, filled_low, first_indexed, first_long, first_placed, first_regions)

@@ -1,5 +1,7 @@
 -- A region that goes: its rows were put on the page of the one before it, and then its entry was taken out of the index.
-use Rattle.std.proofs.Common.{◌≡◌, ◌≢◌, ◌<◌, ◌+◌, ◌∙◌, inl, inr, ℕ, zero, suc, List, [], ◌∷◌, ◌++◌, None, Some, true, length, map, take, drop, nat_eq, sym, ap, subst, refl, arith, slice_get}
+use Rattle.std.proofs.lemmas.Grind.{common_steps}
+use Rattle.std.proofs.Common.{rules}
+use Rattle.std.proofs.Common.{◌≡◌, ◌≢◌, ◌<◌, ◌+◌, ◌∙◌, inl, ℕ, zero, suc, List, [], ◌∷◌, ◌++◌, Some, true, length, map, take, drop, nat_eq, sym, ap, subst, refl, arith, slice_get}
 use Rattle.std.proofs.lemmas.Bool.{cases_lt}
 use Rattle.std.proofs.lemmas.List.{length-map}
 use Rattle.std.proofs.lemmas.List.Elements.{recursion_from_All}
@@ -13,7 +15,6 @@ use Rattle.ub_index.proofs.StandFacts.{own_apart, stands_as}
 use Rattle.ub_index_change.specs.Changed.{Replaces}
 use Rattle.ub_index.specs.Standing.{IsOutside, AreOwnPages, AreRegionsThere, StandsAsOn, region_pages}
 use Rattle.ub_index_change.specs.Changing.{Stand, StayBut}
-use Rattle.ub_index.specs.Index.{top}
 use Rattle.ub_index_change.specs.Making.{IsCommitted, PutsSheets, changed}
 use Rattle.ub_index_change.specs.Preparing.{ChangeView, IsForeign, MakesIndex}
 use Rattle.ub_index.specs.View.{IsReachedOnce, pages_of_index, IndexView, IsIndexOn, IsRegionAt, entries_in, entry_at}
@@ -51,9 +52,7 @@ module _ (index : IndexView) (a mid : StoreFacts) (numbers : List ℕ) (is : IsI
   stay_back later sheets (n ∷ ns) less apart h = ((λ free. h.0 free ∙ others n apart.0 less.0), stay_back later sheets ns less.1 apart.1 h.1)
 
   stayed : (later : List (List ℕ)) (sheets : List Sheet) → StayBut mid.pages later sheets (pages_of_index index mid) → StayBut a.pages later sheets (pages_of_index index a)
-  stayed later sheets h =
-      stay_back later sheets (pages_of_index index a) (within_store index.last a.pages index.levels (top index.root) None is.under_it)
-      (apart_swap numbers (pages_of_index index a) outside) (subst (λ (ns : List ℕ). StayBut mid.pages later sheets ns) stands.pages_are h)
+  stayed later sheets h = search (rules, apart_swap, stands, stay_back, within_store)
 
   foreign_back : (from : ℕ) (change : ChangeView) (n : ℕ) → IsForeign index mid from change n → IsForeign index a from change n
   foreign_back from change n h = (h.0, subst (λ (ns : List ℕ). IsOutside n ns) stands.pages_are h.1)
@@ -118,10 +117,7 @@ module _ (schema : Schema) (index : IndexView) (a mid new : StoreFacts) (placed 
       (pages_there schema mid.pages placed_mid (recursion_from_All (IsSpelled schema mid.pages) placed_mid placed_are_mid.spelled))
 
   outside : AllByRecursion (λ n. IsOutside n (pages_of_index index a)) (0 ∷ span.page ∷ [])
-  outside =
-      let apart = own_apart index a own_a in
-      let entry : slice_get (entries_in index a) i ≡ Some (entry_at span) = ap (λ (es : List Entry). slice_get es i) indexed.entries_are ∙ at.entry in
-      (apart.0, (each_get (λ n. IsOutside n (pages_of_index index a)) (region_pages (entries_in index a)) i span.page apart.1 (page_of (entries_in index a) i (entry_at span) entry), tt))
+  outside = search (rules, each_get, own_a, own_apart, page_of)
 
   stood : StandsAsOn index a mid
   stood = stands index a mid (0 ∷ span.page ∷ []) on_a reached honest_mid others count outside
@@ -139,10 +135,7 @@ module _ (schema : Schema) (index : IndexView) (a mid new : StoreFacts) (placed 
       (all_get (IsSpelled schema mid.pages) placed_mid i put placed_are_mid.spelled there, (region_parts schema put.region (region_page schema put.region) good refl).on)
 
   all_others : (m : ℕ) → m ≢ 0 → m ≢ span.page → slice_get mid.pages m ≡ slice_get a.pages m
-  all_others m first apart = elim (cases_lt m (length a.pages)) [
-    | inl lt ↦ others m (first, (apart, tt)) lt
-    | inr ge ↦ slice_get_past mid.pages m (omega arith) ∙ sym (slice_get_past a.pages m ge)
-  ]
+  all_others m h k = search (rules, cases_lt, slice_get_past)
 
   viewed_mid : placed_mid ≡ placed_of schema mid.pages (entries_on index mid.pages)
   viewed_mid = is_mid ∙ sym (put_placed schema index a.pages mid.pages placed viewed indexed placed_are i span at rows all_others count told_mid)
@@ -178,13 +171,7 @@ module _ (schema : Schema) (index : IndexView) (a mid new : StoreFacts) (placed 
 
   -- one fewer
   pub dropped_long : length (placed_with (i + 1) [] placed_mid) + 1 ≡ length placed_mid
-  dropped_long =
-      let less = count_replaced (entry_at next) [] (entries_in index mid) (entries_in (changed index change) new) made.entries_are in
-      let long = length-map (placed_with (i + 1) [] placed_mid) entry_of in
-      let long_mid = length-map placed_mid entry_of in
-      let new_count = ap length dropped_indexed.entries_are in
-      let mid_count = ap length indexed_mid.entries_are in
-      omega arith
+  dropped_long = grind (arith, common_steps, count_replaced, dropped_indexed, length-map, made)
 
   pub dropped_regions : regions_in (placed_with (i + 1) [] placed_mid) ≡ put_rows i true rows (regions_in placed)
   dropped_regions =

@@ -1,9 +1,9 @@
 -- What a call leaves that calls others: a search, a refusal or a write, as a change.
-use Rattle.std.proofs.Common.{◌≡◌, ◌≢◌, ◌<◌, ◌∙◌, ◌++◌, inl, inr, ◌⊎◌, ℕ, true, List, [], ◌∷◌, Ok, Err, Result, IfErr, OnOk, sym, ap, subst, refl, arith}
+use Rattle.std.proofs.Common.{rules}
+use Rattle.std.proofs.Common.{◌≡◌, ◌≢◌, ◌<◌, ◌∙◌, ◌++◌, inl, inr, ◌⊎◌, ℕ, true, List, [], ◌∷◌, Ok, Err, Result, IfErr, OnOk, sym, ap, subst, refl}
 use Rattle.std.specs.Result.{IsErrAnd}
 use Rattle.ub_index.specs.Standing.{IsOutside}
 use Rattle.ub_index_change.specs.Changing.{IsUnspelled}
-use Rattle.ub_index.specs.Index.{pages_under, top}
 use Rattle.ub_index_change.specs.Making.{PutsSheets, SameButSheets}
 use Rattle.ub_index_change.specs.declared.sheet.Sheet.{Sheet}
 use Rattle.ub_region.specs.declared.region.Region.{Region}
@@ -41,12 +41,7 @@ same_marked : (a : TreeView) → IsMarkedFirst a a
 same_marked a = record { kept = λ honest unmarked m first lt. refl; marked = λ honest had e. had e }
 
 pub same_leaves : (a : TreeView) → Leaves a a
-same_leaves a = record {
-  same = refl;
-  told = record { count = refl; told = λ region told. told };
-  grows = record { more = omega arith; kept = λ honest m lt. refl; lasting = λ honest. inl refl };
-  sound = λ sound. (refl, sound);
-}
+same_leaves a = search rules
 
 -- a refusal after which all is as it was
 pub unchanged : {T : Type 0} (e : TreeFault) (a : TreeView) → IsLeft a a e → Changes {A = T} a a (Err e)
@@ -59,27 +54,11 @@ left_by (Err f) e a c is h = rw is (record { frame = h.frame; marked = h.marked;
 
 -- a call that was refused, and left all but the count of failed reads
 read_left : {T : Type 0} (r : Result T TreeFault) (e : TreeFault) (a c : TreeView) → IsErrAnd r (λ x. x ≡ e) → c ≡ record a { store = read_store {A = TreeFault} (Err e) a.store } → IsLeft a c e → Changes a c r
-read_left (Ok x) e a c is same left = absurd is
-read_left (Err f) e a c is same left =
-    let frame : c ≡ record a { placed = c.placed; rows = c.rows; next = c.next; is_changed = c.is_changed; is_failed = c.is_failed; store = c.store; inner = c.inner } =
-    same ∙ ap (λ (v : TreeView). record a { placed = v.placed; rows = v.rows; next = v.next; is_changed = v.is_changed; is_failed = v.is_failed; store = v.store; inner = v.inner }) (sym same) in
-    rw is (record {
-      frame = frame;
-      marked = subst (λ (v : TreeView). IsMarkedFirst a v) (sym same) (record { kept = λ honest unmarked m first lt. refl; marked = λ honest had e. had e });
-      done = tt;
-      left = left;
-    })
+read_left r e a c h k j = search rules
 
 -- a search that was refused, as a change
 searched_left : (e : TreeFault) (a c : TreeView) → Searches {A = TreeFault} a c (Err e) → IsLeft a c e
-searched_left Full a c h = absurd h.faults
-searched_left HasFailed a c h = (h.faults, h.same)
-searched_left Memory a c h = subst (λ (v : TreeView). Leaves a v) (sym h.same) (same_leaves a)
-searched_left (Page page fault) a c h = (h.faults.0, inl h.faults.1, h.same)
-searched_left (Store store.Device) a c h = (h.faults, inl h.same)
-searched_left (Store store.NoPage) a c h = (h.faults.0, inl (inl h.faults.1, h.same))
-searched_left (Store store.BadSize) a c h = absurd h.faults
-searched_left (Store store.Memory) a c h = absurd h.faults
+searched_left e a c h = search rules
 
 pub searched_by : {T U : Type 0} (r : Result T TreeFault) (e : TreeFault) (a c : TreeView) → IsErrAnd r (λ x. x ≡ e) → Searches {A = U} a c (Err e) → Changes a c r
 searched_by r e a c is h = read_left r e a c is h.same (searched_left e a c (record { same = h.same; faults = h.faults }))
@@ -104,27 +83,11 @@ then_changed r a b c same h = subst (λ (v : TreeView). Changes v c r) same h
 
 -- a change after which rows are counted
 pub counted_anew : {T U : Type 0} (x : T) (y : U) (a mid d : TreeView) (rows next : ℕ) → d ≡ record mid { rows = rows; next = next } → Changes {A = T} a mid (Ok x) → Changes {A = U} a d (Ok y)
-counted_anew x y a mid d rows next is h = record {
-  frame = is ∙ ap (λ (v : TreeView). record v { rows = rows; next = next }) h.frame
-      ∙ ap (λ (v : TreeView). record a { placed = v.placed; rows = v.rows; next = v.next; is_changed = v.is_changed; is_failed = v.is_failed; store = v.store; inner = v.inner }) (sym is);
-  marked = subst (λ (v : TreeView). IsMarkedFirst a v) (sym is) (record { kept = h.marked.kept; marked = h.marked.marked });
-  done = subst (λ (v : TreeView). Works a v) (sym is) h.done;
-  left = tt;
-}
+counted_anew x y a mid d rows next h k = search rules
 
 -- where the page of one region was written, it may as well have been those of the index
 pub writes_wider : (chain : List ℕ) (page : ℕ) (a c : StoreFacts) → KeepsOthers (0 ∷ page ∷ []) a c → KeepsOthers ((0 ∷ chain) ++ page ∷ []) a c
-writes_wider chain page a c h = record {
-  kept = λ honest m out lt. h.kept honest m (fewer m out) lt;
-  lasting = λ honest. by_case (h.lasting honest);
-}
-  where
-    fewer : (m : ℕ) → IsOutside m ((0 ∷ chain) ++ page ∷ []) → IsOutside m (0 ∷ page ∷ [])
-    fewer m out = (out.0, all_right (λ n. m ≢ n) (0 ∷ chain) (page ∷ []) out)
-
-    by_case : (c.synced ≡ a.synced) ⊎ AreOthersKept (0 ∷ page ∷ []) a.pages c.synced → (c.synced ≡ a.synced) ⊎ AreOthersKept ((0 ∷ chain) ++ page ∷ []) a.pages c.synced
-    by_case (inl same) = inl same
-    by_case (inr kept) = inr (λ m out lt. kept m (fewer m out) lt)
+writes_wider chain page a c h = search (rules, all_right)
 
 -- pages of these numbers were written, and then those of a change of the index, each of which is one of the index
 pub writes_both : (chain : List ℕ) (page : ℕ) (sheets : List Sheet) (a mid new : StoreFacts) → KeepsOthers (0 ∷ page ∷ []) a mid → PutsSheets sheets mid new → (IsHonest a → IsHonest mid)
@@ -147,19 +110,12 @@ writes_both chain page sheets a mid new h puts honest_mid free = record {
 
 -- the page is that of a region of which the tree tells
 pub writes_told : (a c : TreeView) (span : Region) → IsRegionOf a span → WritesIndex span.page a c → WritesOneRegion a c
-writes_told a c span of h = (
-  span.page,
-  inr (span, of, refl),
-  h,
-)
+writes_told a c span h k = search rules
 
 -- a call that only writes is a change
 module _ (a c : TreeView) (span : Region) (of : IsRegionOf a span) where
   ended : (fault : TreeFault) → HasStopped fault a c → WritesPage span.page a c → HasEnded fault a c
-  ended fault h kept = record {
-    same = h.same;
-    others = writes_told a c span of (writes_wider (pages_under a.store.pages a.inner.index.levels (top a.inner.index.root)) span.page a.store c.store kept);
-  }
+  ended fault h k = search (rules, writes_told, writes_wider)
 
   wrote_left : (fault : TreeFault) → IsWriteFault a c fault → WritesPage span.page a c → IsLeft a c fault
   wrote_left Full h kept = absurd h
@@ -180,12 +136,7 @@ module _ (a c : TreeView) (span : Region) (of : IsRegionOf a span) where
   all_done (Err e) done same = tt
 
   pub changed_by : {T : Type 0} (r : Result T TreeFault) → Writes span a c r → Changes a c r
-  changed_by r w = record {
-    frame = w.frame ∙ ap (λ (v : TreeView). record a { placed = c.placed; rows = v.rows; next = v.next; is_changed = c.is_changed; is_failed = c.is_failed; store = v.store; inner = v.inner }) (sym w.frame);
-    marked = w.marked;
-    done = all_done r w.done (ap (λ (v : TreeView). v.store) w.frame);
-    left = all_left_by r w.faults w.kept;
-  }
+  changed_by r h = search (rules, all_done, all_left_by)
 
   pub changes_by : {T U : Type 0} (r : Result T TreeFault) (e : TreeFault) → IsErrAnd r (λ x. x ≡ e) → Writes {A = U} span a c (Err e) → Changes a c r
   changes_by r e is w = left_by r e a c is (changed_by {T = TreeFault} (Err e) (record { frame = w.frame; marked = w.marked; done = tt; faults = w.faults; kept = w.kept; count = w.count }))

@@ -1,31 +1,25 @@
 -- How full the pages of a tree's index are, where the page of a region was put.
-use Rattle.std.proofs.Common.{◌≡◌, ◌∙◌, ◌++◌, ℕ, List, [], ◌∷◌, Result, map, nat_eq, ap, sym, subst}
-use Rattle.std.specs.List.{AllByRecursion, IsDistinct}
+use Rattle.std.proofs.Common.{rules}
+use Rattle.std.proofs.Common.{◌∙◌, ℕ, [], ◌∷◌, Result, ap, sym, subst}
+use Rattle.std.specs.List.{AllByRecursion}
 use Rattle.ub_check.proofs.StandingFacts.{each_get}
 use Rattle.ub_index_change.proofs.FillFacts.{stands_filled}
 use Rattle.ub_index.proofs.StandFacts.{own_apart}
-use Rattle.ub_index.specs.Standing.{IsOutside, AreOwnPages, region_pages}
+use Rattle.ub_index.specs.Standing.{IsOutside}
 use Rattle.ub_index_change.specs.Filling.{IsFilled}
-use Rattle.ub_index.specs.View.{pages_of_index, IndexView, entries_in, entry_at}
+use Rattle.ub_index.specs.View.{pages_of_index, IndexView}
 use Rattle.ub_region.specs.declared.region.Region.{Region}
 use Rattle.ub_tree.proofs.CallFacts.{stored_on}
 use Rattle.ub_tree.proofs.IndexedFacts.{reached_once}
 use Rattle.ub_tree.proofs.PutFacts.{page_at}
 use Rattle.ub_tree.proofs.SplitFacts.{pages_by}
-use Rattle.ub_tree.specs.Indexed.{reserved}
-use Rattle.ub_tree.specs.Placed.{Placed}
 use Rattle.ub_tree.specs.View.{TreeView}
 use Rattle.ub_tree.specs.declared.fault.TreeFault.{TreeFault}
 use Rattle.ub_tree.specs.inner.Change.{IsRegionIn, IsStored, KeepsGrown, Writes}
 
 -- neither the first page nor that of a span is one of the index
 page_apart : (t : TreeView) (i : ℕ) (span : Region) → IsStored t → IsRegionIn t i span → AllByRecursion (λ n. IsOutside n (pages_of_index t.inner.index t.store)) (0 ∷ span.page ∷ [])
-page_apart t i span stored at =
-    let numbers : region_pages (entries_in t.inner.index t.store) ≡ map (λ (p : Placed). p.page) t.placed = ap region_pages stored.indexed.entries_are ∙ pages_by t.placed in
-    let own : AreOwnPages t.inner.index t.store = subst (λ (ns : List ℕ). IsDistinct nat_eq (reserved t.inner.index t.store.pages ++ ns)) (sym numbers) stored.placed_are.own in
-    let apart = own_apart t.inner.index t.store own in
-    let each = subst (AllByRecursion (λ n. IsOutside n (pages_of_index t.inner.index t.store))) numbers apart.1 in
-    (apart.0, (each_get (λ n. IsOutside n (pages_of_index t.inner.index t.store)) (map (λ (p : Placed). p.page) t.placed) i span.page each (page_at t.placed i (entry_at span) at.entry), tt))
+page_apart t i span h k = search (rules, each_get, own_apart, page_at, pages_by)
 
 -- where only the page of a region is written, and the first, the pages of the index are as full as before
 pub writes_grown : {A : Type 0} (old new : TreeView) (i : ℕ) (span : Region) (r : Result A TreeFault) → IsStored old → IsRegionIn old i span → Writes span old new r → KeepsGrown old new

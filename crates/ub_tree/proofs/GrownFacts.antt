@@ -1,8 +1,9 @@
 -- What becomes of a tree whose store gets pages more: it tells of the same regions, and a sound one stays sound.
-use Rattle.std.proofs.Common.{◌≡◌, ◌<◌, ◌≤◌, ◌∙◌, ◌++◌, ◌+◌, ◌⊎◌, ◌^◌, inl, inr, ℕ, Bool, true, List, [], ◌∷◌, None, Result, Err, IfErr, length, map, nat_eq, sym, ap, subst, refl, arith, slice_get}
+use Rattle.std.proofs.Common.{rules}
+use Rattle.std.proofs.Common.{◌≡◌, ◌<◌, ◌≤◌, ◌∙◌, ◌+◌, ◌^◌, ℕ, Bool, true, List, [], ◌∷◌, None, Result, Err, IfErr, length, map, sym, ap, subst, arith, slice_get}
 use Rattle.std.proofs.lemmas.List.Elements.{recursion_from_All}
 use Rattle.std.proofs.lemmas.Option.{slice_get_within}
-use Rattle.std.specs.List.{All, AllByRecursion, IsDistinct}
+use Rattle.std.specs.List.{AllByRecursion}
 use Rattle.ub_store.specs.Writing.{Grows, put_store}
 use Rattle.ub_index.proofs.KeptFacts.{kept_index, kept_under}
 use Rattle.ub_index.proofs.LeadFacts.{ways_stay}
@@ -20,15 +21,13 @@ use Rattle.ub_table.specs.declared.schema.Schema.{Schema}
 use Rattle.ub_tree.proofs.PutFacts.{view_placed}
 use Rattle.ub_tree.proofs.StoredFacts.{IsKept, IsSpelled, placed_kept}
 use Rattle.ub_tree.proofs.WriteFacts.{wrote_tree}
-use Rattle.ub_tree.specs.Effects.{HasEnded, Leaves, written_store}
+use Rattle.ub_tree.specs.Effects.{Leaves}
 use Rattle.ub_tree.specs.Indexed.{HasIndex, entries_on, reserved}
-use Rattle.ub_tree.specs.Others.{AreOthersKept}
 use Rattle.ub_tree.specs.Placed.{Placed, ArePlaced, entry_of, placed_of, regions_in}
 use Rattle.ub_tree.specs.Stored.{AreSoundPages, index_of}
 use Rattle.ub_tree.specs.Told.{TellsStill}
 use Rattle.ub_tree.specs.Tree.{placed_in, tree_view}
 use Rattle.ub_tree.specs.View.{TreeView, IsSound}
-use Rattle.ub_tree.specs.declared.fault.TreeFault.{TreeFault}
 use Rattle.ub_tree.specs.declared.fault.TreeFault.TheVariants.{Memory, Store}
 use Rattle.ub_tree.specs.inner.Change.{GrowsTo}
 use Rattle.ub_writing.specs.Marks.{HasMark}
@@ -50,18 +49,10 @@ module _ (pages new : List (List ℕ)) (kept : (m : ℕ) → m < length pages �
     same_reserved = ap (λ (ns : List ℕ). 0 ∷ ns) (kept_pages pages new index.levels (top index.root) stay)
 
     pub grown_index : HasIndex index new entries
-    grown_index = record {
-      some = indexed.some;
-      under_it = kept_index index.last pages new index.levels (top index.root) None stay indexed.under_it;
-      entries_are = same_entries ∙ indexed.entries_are;
-    }
+    grown_index = search (rules, kept_index, same_entries, stay)
 
     pub grown_are : (schema : Schema) (placed : List Placed) → ArePlaced schema placed (reserved index pages) pages → ArePlaced schema placed (reserved index new) new
-    grown_are schema placed h = record {
-      spelled = λ k d lt. (let old = h.spelled k d lt in kept _ (slice_get_within pages _ _ old) ∙ old);
-      own = subst (λ (ns : List ℕ). IsDistinct nat_eq (ns ++ map (λ p. p.page) placed)) (sym same_reserved) h.own;
-      within = subst (All (λ n. n < length new)) (sym same_reserved) (λ k d lt. (let less = h.within k d lt in omega arith));
-    }
+    grown_are schema placed h = search (rules, same_reserved, slice_get_within)
 
   kept_each : (schema : Schema) (ps : List Placed) → AllByRecursion (IsSpelled schema pages) ps → AllByRecursion (IsKept pages new) (map entry_of ps)
   kept_each schema [] h = tt
@@ -128,47 +119,11 @@ module _ (schema : Schema) (index : IndexView) (count next rows : ℕ) (changed 
       )
 
   grown_told : TellsStill before after
-  grown_told = record {
-    count = refl;
-    told = λ region is. record {
-      key = is.key;
-      falls = record {
-        holds = is.falls.holds;
-        from = is.falls.from;
-        to = is.falls.to;
-        way = λ honest. (let was = sym honesty ∙ honest in (ways_stay index old.store new.store is.key region (λ m lt out. grows.kept was m lt)).0 (is.falls.way was));
-      };
-    };
-  }
+  grown_told = search (rules, ways_stay)
 
   -- a refusal leaves the tree as it was, but for pages more
   pub grown_leaves : new.store ≡ record old.store { pages = new.store.pages; synced = new.store.synced } → SameTrace old new → Leaves before after
-  grown_leaves same trace = record {
-    same = rw trace (ap (λ (s : StoreFacts). record after { store = s; trace = old.trace }) same);
-    told = grown_told;
-    grows = grows;
-    sound = grown_sound;
-  }
-
--- no page was written, so that is so but for those of the index and the first
-pub grown_ended : (old new : TreeView) (fault : TreeFault) → Grows old.store new.store
-    → new ≡ record old { placed = new.placed; is_changed = new.is_changed; is_failed = true; store = written_store {A = TreeFault} (Err fault) old.store new.store } → HasEnded fault old new
-grown_ended old new fault grows same = record {
-  same = same;
-  others = (
-    0,
-    inl refl,
-    record {
-      kept = λ honest m out lt. grows.kept honest m lt;
-      lasting = λ honest. by_last (grows.lasting honest);
-    },
-  );
-}
-  where
-    by_last : (new.store.synced ≡ old.store.synced) ⊎ ((m : ℕ) → m < length old.store.pages → slice_get new.store.synced m ≡ slice_get old.store.pages m)
-        → (new.store.synced ≡ old.store.synced) ⊎ AreOthersKept (reserved old.inner.index old.store.pages ++ 0 ∷ []) old.store.pages new.store.synced
-    by_last (inl same) = inl same
-    by_last (inr k) = inr (λ m out lt. k m lt)
+  grown_leaves h k = search (rules, grown_sound, grown_told)
 
 -- a call that was to give the store so many pages more, and was refused
 module _ (schema : Schema) (index : IndexView) (count next rows : ℕ) (changed failed : Bool) (old new : PagerView) (by : ℕ) (r : Result (Unit {0}) StoreFault) (grows : Grows old.store new.store)
@@ -186,30 +141,13 @@ module _ (schema : Schema) (index : IndexView) (count next rows : ℕ) (changed 
   honesty_by fault is = ap (λ (s : StoreFacts). s.honest) (same_by fault is)
 
   pub grow_device : r ≡ Err store.Device → GrowsTo {A = Unit {0}} (page_count old.store + by) first (tree_view schema index count next rows changed true new) (Err (Store store.Device))
-  grow_device is =
-      let frame = wrote_tree schema index count next rows changed changed failed true old new {T = Unit {0}} (Err (Store store.Device)) (same_by store.Device is) trace in
-      record {
-        frame = frame;
-        grows = grows;
-        done = tt;
-        left = (refused_by store.Device is, grown_ended first (tree_view schema index count next rows changed true new) (Store store.Device) grows frame);
-      }
+  grow_device h = grind arith
 
   pub grow_memory : r ≡ Err store.Memory → GrowsTo {A = Unit {0}} (page_count old.store + by) first (tree_view schema index count next rows changed failed new) (Err Memory)
-  grow_memory is = record {
-    frame = wrote_tree schema index count next rows changed changed failed failed old new {T = Unit {0}} (Err Memory) (same_by store.Memory is) trace;
-    grows = grows;
-    done = tt;
-    left = grown_leaves schema index count next rows changed failed old new (honesty_by store.Memory is) grows (same_by store.Memory is) trace;
-  }
+  grow_memory h = search (rules, grown_leaves, honesty_by, same_by, wrote_tree)
 
   pub grow_size : r ≡ Err store.BadSize → GrowsTo {A = Unit {0}} (page_count old.store + by) first (tree_view schema index count next rows changed failed new) (Err (Store store.BadSize))
-  grow_size is = record {
-    frame = wrote_tree schema index count next rows changed changed failed failed old new {T = Unit {0}} (Err (Store store.BadSize)) (same_by store.BadSize is) trace;
-    grows = grows;
-    done = tt;
-    left = (refused_by store.BadSize is, grown_leaves schema index count next rows changed failed old new (honesty_by store.BadSize is) grows (same_by store.BadSize is) trace);
-  }
+  grow_size h = search (rules, grown_leaves, honesty_by, refused_by, same_by, wrote_tree)
 
   pub grow_no_page : {P : Type 0} → r ≡ Err store.NoPage → P
   grow_no_page is = absurd (refused_by store.NoPage is)

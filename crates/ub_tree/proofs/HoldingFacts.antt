@@ -1,4 +1,5 @@
 -- The region that a key falls into, and what calls must answer.
+use Rattle.std.proofs.Common.{rules}
 use Rattle.std.proofs.Common.{◌≡◌, ◌≢◌, ◌/◌, ◌≤◌, ◌<◌, ◌^◌, ◌++◌, inl, inr, ℕ, Bool, true, false, List, [], ◌∷◌, Result, Ok, Err, IfErr, MatchResult, length, map, ◌∙◌, sym, ap, subst, arith, nat_eq, IfOk, ◌⊎◌}
 use Rattle.std.proofs.lemmas.Bool.{cases_Bool, eqb-true}
 use Rattle.std.proofs.lemmas.List.{length-append, length-map}
@@ -58,9 +59,7 @@ never_full t small many sound =
 
 -- the region that a key falls into is that of the span to which it falls
 pub on_region : (t : TreeView) (key : Key) (page : ℕ) (region : RegionRows) (span : Region) → IsHonest t.store → FallsInto t key page region → FallsTo t key span → IsTakenIn t span region × (span.page ≡ page)
-on_region t key page region span honest h falls =
-    subst (λ (s : Region). IsTakenIn t s region × (s.page ≡ page)) (sym (one_falls t key span h.span honest falls h.falls))
-    (h.taken, h.page_is)
+on_region t key page region span h k j = search (rules, one_falls)
 
 pub passing_by : {T : Type 0} (r : Result T TreeFault) (e : TreeFault) (P : T → Type 0) → IsErrAnd r (λ x. x ≡ e) → IsPassing e → MatchResult r P IsPassing
 passing_by (Ok x) e P is h = absurd is

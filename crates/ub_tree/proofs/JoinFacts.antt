@@ -1,7 +1,7 @@
 -- A tree of which two neighbouring regions were joined into the first: the change of its index was made ready, the first one's page was put,
 -- and then the pages that the change spells.
-use Rattle.std.proofs.Common.{◌≡◌, ◌≢◌, ◌<◌, ◌≤◌, ◌+◌, ◌-◌, ◌∙◌, ◌++◌, inl, inr, ◌⊎◌, ℕ, suc, true, false, List, [], ◌∷◌, None, Some, Ok, Err, Result, IfErr, IsTrue, length, map, sym, ap, subst, arith, slice_get}
-use Rattle.std.proofs.lemmas.Bool.{cases_lt}
+use Rattle.std.proofs.Common.{rules}
+use Rattle.std.proofs.Common.{◌≡◌, ◌≢◌, ◌<◌, ◌≤◌, ◌+◌, ◌-◌, ◌∙◌, inl, inr, ℕ, true, List, [], ◌∷◌, Some, Ok, Err, Result, IfErr, length, map, sym, ap, subst, arith}
 use Rattle.std.proofs.lemmas.List.{length-map}
 use Rattle.std.proofs.lemmas.Option.{slice_get_past}
 use Rattle.std.specs.Result.{IsErrAnd}
@@ -18,13 +18,10 @@ use Rattle.ub_index.specs.declared.fault.IndexFault.{IndexFault}
 use Rattle.ub_index.specs.declared.fault.IndexFault.TheVariants as index
 use Rattle.ub_region.specs.declared.region.Region.{Region}
 use Rattle.ub_index_change.specs.declared.sheet.Sheet.{Sheet}
-use Rattle.ub_region.specs.declared.entry.Entry.{Entry}
 use Rattle.ub_region.proofs.Laws.{all_more}
 use Rattle.ub_region.specs.Joins.{put_rows}
-use Rattle.ub_region.specs.Regions.{index_holding}
 use Rattle.ub_store.specs.Facts.{StoreFacts, IsHonest, page_count}
 use Rattle.ub_store.specs.declared.fault.StoreFault.TheVariants as store
-use Rattle.ub_table.proofs.Laws.{before_from, before_parts}
 use Rattle.ub_table.specs.Keys.{IsBefore, origin}
 use Rattle.ub_table.specs.Region.{IsRegion}
 use Rattle.ub_table.specs.declared.row.Key.{Key}
@@ -35,31 +32,22 @@ use Rattle.ub_tree.proofs.EffectFacts.{left_by, writes_both, writes_told}
 use Rattle.ub_tree.proofs.IndexedFacts.{at_of_key}
 use Rattle.ub_tree.proofs.PutFacts.{view_placed}
 use Rattle.ub_tree.proofs.RoomFacts.{begins_before}
-use Rattle.ub_tree.specs.Effects.{Changes, HasEnded, IsLeft, written_store}
+use Rattle.ub_tree.specs.Effects.{Changes, HasEnded, IsLeft}
 use Rattle.ub_tree.specs.Faults.{index_fault}
 use Rattle.ub_tree.specs.Indexed.{HasIndex, Inner, entries_on, reserved}
-use Rattle.ub_tree.specs.Others.{AreOthersKept, KeepsOthers, WritesIndex}
+use Rattle.ub_tree.specs.Others.{AreOthersKept, WritesIndex}
 use Rattle.ub_tree.specs.Placed.{Placed, ArePlaced, entry_of, placed_of, regions_in}
 use Rattle.ub_tree.specs.Removal.{IsRemovalFault}
-use Rattle.ub_tree.specs.Spans.{first_keys}
 use Rattle.ub_tree.specs.Tree.{placed_in}
 use Rattle.ub_tree.specs.View.{TreeView, IsSound, region_count, regions}
 use Rattle.ub_tree.specs.declared.fault.TreeFault.{TreeFault}
-use Rattle.ub_tree.specs.declared.fault.TreeFault.TheVariants.{Full, Page, Store, Failed as HasFailed, Memory}
 use Rattle.ub_tree.specs.inner.Change.{HasStopped, IsDropReady, IsElsewhereSame, IsIndexFault, IsPut, IsRegionIn, IsRegionThere, IsSpelledAt, IsStored, JoinsAt, Writes, placed_with}
 use Rattle.ub_tree.specs.Told.{IsRegionOf}
 use Rattle.ub_writing.specs.Marks.{HasMark}
 
 -- a key after another one is after the least of all
 after_origin : (key later : Key) → IsBefore key later → IsBefore origin later
-after_origin key later before = by_parts (before_parts key later before)
-  where
-    by_parts : (key.z < later.z) ⊎ ((key.z ≡ later.z) × (key.number < later.number)) → IsBefore origin later
-    by_parts (inl lt) = before_from origin later (inl (let low : 0 < later.z = omega arith in low))
-    by_parts (inr same) = elim (cases_lt 0 later.z) [
-      | inl lt ↦ before_from origin later (inl lt)
-      | inr le ↦ let less = same.1 in before_from origin later (inr (let zero : 0 ≡ later.z = omega arith in zero, let low : 0 < later.number = omega arith in low))
-    ]
+after_origin key later h = search rules
 
 -- a region that comes after another one isn't the first
 pub behind_first : (t : TreeView) (span next : Region) → IsRegionOf t span → span.next ≡ Some next.first → IsBefore origin next.first
@@ -67,16 +55,7 @@ behind_first t span next of begins = after_origin span.first next.first (begins_
 
 -- a sound tree of which two neighbours are known has more than one region
 pub alone_not_sound : (t : TreeView) (span next : Region) → region_count t ≡ 1 → IsRegionOf t span → span.next ≡ Some next.first → ¬ (IsSound t)
-alone_not_sound t span next one of begins sound =
-    let i = index_holding of.key (first_keys (map entry_of t.placed)) in
-    let at = at_of_key t sound of.key span of.falls in
-    let within = at.within in
-    let long = length-map t.placed entry_of in
-    let keys = length-map (map entry_of t.placed) (λ (e : Entry). e.first) in
-    let count = sound.count_is in
-    let none : slice_get (first_keys (map entry_of t.placed)) (suc i) ≡ None = slice_get_past (first_keys (map entry_of t.placed)) (suc i) (omega arith) in
-    let bad : None ≡ Some next.first = sym none ∙ sym at.next ∙ begins in
-    cc
+alone_not_sound t span next h k j = search (rules, at_of_key, length-map, slice_get_past)
 
 module _ (b mid n : TreeView) (span next : Region) (change : ChangeView) (there : IsRegionThere b span) (begins : span.next ≡ Some next.first)
     (ready : IsDropReady b next change) (put : IsPut b mid) (wrote : Writes {A = Unit {0}} span b mid (Ok tt)) (puts : PutsSheets change.sheets mid.store n.store) where
@@ -108,43 +87,17 @@ module _ (b mid n : TreeView) (span next : Region) (change : ChangeView) (there 
 
   -- the pages of the index weren't put
   ended : (fault : TreeFault) → HasStopped fault mid n → HasEnded fault b n
-  ended fault h = record {
-    same = h.same
-        ∙ ap (λ (v : TreeView). record v { placed = n.placed; is_changed = n.is_changed; is_failed = true; store = written_store {A = TreeFault} (Err fault) v.store n.store }) wrote.frame;
-    others = writes_told b n span there.told written_others;
-  }
+  ended fault h = search (rules, writes_told, written_others)
 
   no_page_missing : IsPutFault change.sheets mid.store store.NoPage → ¬ (IsHonest b.store)
-  no_page_missing (k, sheet, at, past) honest =
-      let is = each_get (IsSpelledAt b (page_count b.store) change) change.sheets k sheet (ready.spelled honest) at in
-      let none = ready.next honest in
-      let count = wrote.count in
-      elim is.there [
-        | inl lt ↦ absurd (omega arith)
-        | inr more ↦ let least = more.0 in let most = more.1 in absurd (omega arith)
-      ]
+  no_page_missing h = search (rules, each_get)
 
   index_left : (fault : TreeFault) → HasStopped fault mid n → IsIndexFault change mid.store fault → IsLeft b n fault
-  index_left Full stopped h = absurd h
-  index_left HasFailed stopped h = absurd h
-  index_left Memory stopped h = absurd h
-  index_left (Page page fault) stopped h = absurd h
-  index_left (Store store.Device) stopped h = (subst (λ (v : TreeView). IsTrue v.store.can_fail) wrote.frame h, inr (ended (Store store.Device) stopped))
-  index_left (Store store.NoPage) stopped h = ((λ sound. no_page_missing h sound.honest), inr (no_page_missing h, ended (Store store.NoPage) stopped))
-  index_left (Store store.BadSize) stopped h = absurd h
-  index_left (Store store.Memory) stopped h = absurd h
+  index_left fault h k = search (rules, ended, no_page_missing)
 
   pub index_failed : {T : Type 0} (r : Result T TreeFault) (fault : TreeFault) → IsErrAnd r (λ x. x ≡ fault) → n.is_changed ≡ mid.is_changed → HasStopped fault mid n → IsIndexFault change mid.store fault
       → Changes b n r
-  index_failed r fault is kept stopped h =
-      let e = (ended fault stopped).same in
-      let now : n.is_changed ≡ true = kept ∙ ap (λ (v : TreeView). v.is_changed) put in
-      left_by {U = TreeFault} r fault b n is (record {
-        frame = e ∙ ap (λ (v : TreeView). record b { placed = v.placed; rows = v.rows; next = v.next; is_changed = v.is_changed; is_failed = v.is_failed; store = v.store; inner = v.inner }) (sym e);
-        marked = record { kept = λ honest unmarked m first lt. absurd (let bad : true ≡ false = sym now ∙ unmarked in cc); marked = λ honest was _. mark_then honest was };
-        done = tt;
-        left = index_left fault stopped h;
-      })
+  index_failed r fault h k j l = search (rules, ended, index_left, left_by, mark_then)
 
   -- they were, and a region fewer is counted
   module _ (d : TreeView) (now : n ≡ record mid { placed = n.placed; store = n.store; inner = record mid.inner { index = changed mid.inner.index change } })
@@ -153,9 +106,7 @@ module _ (b mid n : TreeView) (span next : Region) (change : ChangeView) (there 
     inner_then = record { index = changed b.inner.index change; count = b.inner.count - 1 }
 
     whole : d ≡ record b { placed = n.placed; store = n.store; is_changed = true; inner = inner_then }
-    whole =
-        is ∙ ap (λ (v : TreeView). record v { inner = record v.inner { count = v.inner.count - 1 } }) now
-        ∙ ap (λ (v : TreeView). record v { placed = n.placed; store = n.store; inner = record { index = changed v.inner.index change; count = v.inner.count - 1 } }) put
+    whole = search rules
 
     store_is : d.store ≡ n.store
     store_is = ap (λ (v : TreeView). v.store) is
@@ -164,29 +115,10 @@ module _ (b mid n : TreeView) (span next : Region) (change : ChangeView) (there 
     elsewhere = whole ∙ ap (λ (v : TreeView). record b { placed = v.placed; store = v.store; is_changed = true; inner = v.inner }) (sym whole)
 
     pub joined_at : 1 ≤ region_count b → JoinsAt span b d
-    joined_at some = record {
-      same = elsewhere;
-      others = subst (λ (s : StoreFacts). KeepsOthers (reserved b.inner.index b.store.pages ++ span.page ∷ []) b.store s) (sym store_is) written_others;
-      dropped = (
-        (let count = ap (λ (v : TreeView). v.inner.count) whole in omega arith),
-        ap page_count store_is ∙ puts.count ∙ wrote.count,
-      );
-    }
+    joined_at h = search (rules, elsewhere, store_is, whole, written_others)
 
     pub joined_effect : {T : Type 0} (x : T) → n.store ≡ record mid.store { pages = n.store.pages; synced = n.store.synced } → Changes b d (Ok x)
-    joined_effect x works = record {
-      frame = elsewhere ∙ ap (λ (v : TreeView). record b { placed = v.placed; rows = v.rows; next = v.next; is_changed = v.is_changed; is_failed = v.is_failed; store = v.store; inner = v.inner }) (sym elsewhere);
-      marked = record {
-        kept = λ honest unmarked m first lt. absurd (let bad : true ≡ false = sym (ap (λ (v : TreeView). v.is_changed) whole) ∙ unmarked in cc);
-        marked = λ honest was _. subst (λ (s : StoreFacts). HasMark b.schema s.pages) (sym store_is) (mark_then honest was);
-      };
-      done = (
-        ap (λ (v : TreeView). v.is_failed) whole,
-        store_is ∙ works ∙ ap (λ (v : TreeView). record v.store { pages = n.store.pages; synced = n.store.synced }) wrote.frame
-            ∙ ap (λ (s : StoreFacts). record b.store { pages = s.pages; synced = s.synced }) (sym store_is),
-      );
-      left = tt;
-    }
+    joined_effect x h = search (rules, elsewhere, mark_then, store_is, whole)
 
     pub joined_written : (i : ℕ) (rows : List Row) → b.placed ≡ placed_in b.schema b.inner.index b.store → d.placed ≡ placed_in d.schema d.inner.index d.store
         → n.store ≡ record mid.store { pages = n.store.pages; synced = n.store.synced }

@@ -1,4 +1,6 @@
 -- The regions that meet some boxes, one after the other: which one comes next, and which have come.
+use Rattle.std.proofs.lemmas.Grind.{common_steps}
+use Rattle.std.proofs.Common.{rules}
 use Rattle.std.proofs.Common.{◌≡◌, ◌<◌, ◌≤◌, inl, inr, ℕ, zero, suc, List, [], ◌∷◌, ◌++◌, Option, Some, None, IfSome, Contains, length, map, take, ◌∙◌, sym, ap, refl, arith, subst, slice_get, append_assoc}
 use Rattle.std.proofs.lemmas.Bool.{cases_lt, cases_eq}
 use Rattle.std.proofs.lemmas.Option.{slice_get_read, slice_get_within, get_or_from_slice_get, slice_get_cases}
@@ -44,10 +46,7 @@ module _ {X : Type 0} where
   take_next xs k x at = take-suc xs k x (slice_get_within xs k x at) ∙ ap (λ (y : X). take k xs ++ y ∷ []) (get_or_from_slice_get xs k x x at)
 
   pub take_all : (n : ℕ) (xs : List X) → length xs ≤ n → take n xs ≡ xs
-  take_all zero [] h = refl
-  take_all zero (x ∷ xs) h = absurd (omega arith)
-  take_all (suc n) [] h = refl
-  take_all (suc n) (x ∷ xs) h = ap (λ (ys : List X). x ∷ ys) (take_all n xs (omega arith))
+  take_all n xs h = grind (arith, common_steps)
 
   module _ (P : X → Type 0) where
     -- one more entry that has the property, and one that doesn't
@@ -87,11 +86,7 @@ module _ {X : Type 0} where
 module _ (spans : List Region) (ordered : (i j : ℕ) (a b : Region) → i < j → slice_get spans i ≡ Some a → slice_get spans j ≡ Some b → IsBefore a.first b.first) where
   -- the spans from a place on are later than the one before it
   pub is_later : (k i : ℕ) (r : Region) → k ≤ i → slice_get spans i ≡ Some r → IsLater (before k spans) r
-  is_later zero i r le at = tt
-  is_later (suc k) i r le at =
-      let within = slice_get_within spans i r at in
-      let there = there_is spans k (omega arith) in
-      at_some (λ (other : Region). IsBefore other.first r.first) (slice_get spans k) there.0 there.1 (ordered k i there.0 r (omega arith) there.1 at)
+  is_later k i r h l = search rules
 
   -- and they alone
   pub later_from : (k i : ℕ) (x : Region) → k ≤ length spans → slice_get spans i ≡ Some x → IsLater (before k spans) x → k ≤ i
@@ -133,10 +128,7 @@ module _ (boxes : List Corners) (t now : TreeView) (found : List Region) (after 
 
   pub walks_on : (new : TreeView) (copied : Option Region) (span : Region) → new ≡ now → copied ≡ after → GivesNext boxes now copied (Some span)
       → Walks boxes t new (found ++ span ∷ []) (Some span)
-  walks_on new copied span kept is gives = record {
-    same = kept ∙ walks.same;
-    come = HasAnswers-more boxes t found after walks.come span (told (Some span) copied is gives);
-  }
+  walks_on new copied span h k l = search (rules, HasAnswers-more, told)
 
   -- and fewer regions are left after it
   pub walks_down : (copied : Option Region) (span : Region) → copied ≡ after → GivesNext boxes now copied (Some span) → left_after t (Some span) < left_after t after
@@ -146,11 +138,7 @@ module _ (boxes : List Corners) (t now : TreeView) (found : List Region) (after 
 
 module _ {S : Type 0} (Takes : S → List Region → S → Type 0) where
   pub takes_none : (sink : S) → TakesThese Takes sink sink []
-  takes_none sink start taken has = subst (λ (regions : List Region). Takes start regions sink) (sym (none_more taken)) has
-    where
-      none_more : (xs : List Region) → xs ++ [] ≡ xs
-      none_more [] = refl
-      none_more (x ∷ xs) = ap (λ (ys : List Region). x ∷ ys) (none_more xs)
+  takes_none sink = search rules
 
   pub takes_more : (a b c : S) (some more : List Region) → TakesThese Takes a b some → TakesThese Takes b c more → TakesThese Takes a c (some ++ more)
   takes_more a b c some more h k start taken has = subst (λ (regions : List Region). Takes start regions c) (append_assoc taken some more) (k start (taken ++ some) (h start taken has))

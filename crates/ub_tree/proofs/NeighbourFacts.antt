@@ -1,19 +1,19 @@
 -- The regions beside one, over any pages: where what is found isn't its neighbour, two regions overlap.
-use Rattle.std.proofs.Common.{◌≡◌, ◌<◌, ◌^◌, ◌∙◌, ◌⊎◌, inl, inr, ℕ, zero, suc, Bool, Option, Some, None, IfSome, Ok, Err, ap, sym, subst, refl, arith}
-use Rattle.std.proofs.lemmas.Bool.{cases_lt}
+use Rattle.std.proofs.Common.{rules}
+use Rattle.std.proofs.Common.{◌≡◌, ◌<◌, ◌^◌, ◌∙◌, ◌⊎◌, inl, inr, ℕ, Bool, Option, Some, None, IfSome, Ok, Err, ap, sym, subst, refl, arith}
 use Rattle.ub_index.proofs.KeyFacts.{le_before}
 use Rattle.ub_index.specs.Searching.{GivesAny, GoesDown, key_before}
 use Rattle.ub_index.specs.View.{IndexView}
 use Rattle.ub_region.specs.declared.region.Region.{Region}
 use Rattle.ub_store.specs.Facts.{IsHonest}
 use Rattle.ub_store.specs.View.{PagerView}
-use Rattle.ub_table.proofs.Laws.{before_from, before_parts, before_trans, not_before_self}
+use Rattle.ub_table.proofs.Laws.{before_trans, not_before_self}
 use Rattle.ub_table.specs.Keys.{IsBefore}
 use Rattle.ub_table.specs.declared.fault.PageFault.TheVariants.{OutOfRegion}
 use Rattle.ub_table.specs.declared.row.Key.{Key}
 use Rattle.ub_table.specs.declared.schema.Schema.{Schema}
 use Rattle.ub_tree.proofs.SearchFacts.{not_empty, overlaps}
-use Rattle.ub_tree.specs.Effects.{IsReadFault, Searches}
+use Rattle.ub_tree.specs.Effects.{Searches}
 use Rattle.ub_tree.specs.Told.{FallsTo}
 use Rattle.ub_tree.specs.Tree.{tree_view}
 use Rattle.ub_tree.specs.View.{TreeView}
@@ -26,23 +26,7 @@ key_with z number = record { z = z; number = number }
 -- of two keys that aren't one, and of which the first isn't before the second, the second is before the first
 same_or_later : (a b : Key) → ¬ (IsBefore a b) → (a ≡ b) ⊎ IsBefore b a
 unfolding key_with
-same_or_later a b h = elim (cases_lt a.z b.z) [
-  | inl lt ↦ absurd (h (before_from a b (inl lt)))
-  | inr ge ↦ elim (cases_lt b.z a.z) [
-    | inl gt ↦ inr (before_from b a (inl gt))
-    | inr le ↦
-        let same_z : a.z ≡ b.z = omega arith in
-        elim (cases_lt a.number b.number) [
-          | inl lt ↦ absurd (h (before_from a b (inr (same_z, lt))))
-          | inr more ↦ elim (cases_lt b.number a.number) [
-            | inl gt ↦ inr (before_from b a (inr (sym same_z, gt)))
-            | inr less ↦
-                let same_number : a.number ≡ b.number = omega arith in
-                inl (ap (λ (z : ℕ). key_with z a.number) same_z ∙ ap (λ (n : ℕ). key_with b.z n) same_number)
-          ]
-        ]
-  ]
-]
+same_or_later a b h = search rules
 
 -- what follows the first key of a span, which another span holds, is where that span begins, over an honest store
 pub next_begins : (t : TreeView) (key next_key : Key) (span next : Region) → FallsTo t key span → span.next ≡ Some next_key → FallsTo t next_key next → (span.next ≡ Some next.first) ⊎ (¬ (IsHonest t.store))
@@ -64,36 +48,7 @@ next_begins t key next_key span next falls next_is next_falls = elim (same_or_la
 -- the greatest key before one of 32 bits: no key of 32 bits lies between
 greatest_before : (z n : ℕ) (key : Key) → key_before z n ≡ Some key
     → IsBefore key (record { z = z; number = n }) × ((end : Key) → end.number < 2 ^ 32 → IsBefore end (record { z = z; number = n }) → ¬ (IsBefore key end))
-greatest_before zero zero key h = cc
-greatest_before (suc z) zero key h =
-    let same : record { z = z; number = 4294967295 } ≡ key = cc in
-    subst (λ (k : Key). IsBefore k (record { z = suc z; number = 0 }) × ((end : Key) → end.number < 2 ^ 32 → IsBefore end (record { z = suc z; number = 0 }) → ¬ (IsBefore k end))) same
-    (before_from (record { z = z; number = 4294967295 }) (record { z = suc z; number = 0 }) (inl (omega arith)), between)
-  where
-    between : (end : Key) → end.number < 2 ^ 32 → IsBefore end (record { z = suc z; number = 0 }) → ¬ (IsBefore (record { z = z; number = 4294967295 }) end)
-    between end le up down = elim (before_parts end (record { z = suc z; number = 0 }) up) [
-      | inl lt ↦ elim (before_parts (record { z = z; number = 4294967295 }) end down) [
-        | inl gt ↦ omega arith
-        | inr both ↦ let far = both.1 in omega arith
-      ]
-      | inr both ↦ let none = both.1 in omega arith
-    ]
-greatest_before z (suc n) key h =
-    let same : record { z = z; number = n } ≡ key = cc in
-    subst (λ (k : Key). IsBefore k (record { z = z; number = suc n }) × ((end : Key) → end.number < 2 ^ 32 → IsBefore end (record { z = z; number = suc n }) → ¬ (IsBefore k end))) same
-    (before_from (record { z = z; number = n }) (record { z = z; number = suc n }) (inr (refl, omega arith)), between)
-  where
-    between : (end : Key) → end.number < 2 ^ 32 → IsBefore end (record { z = z; number = suc n }) → ¬ (IsBefore (record { z = z; number = n }) end)
-    between end le up down = elim (before_parts end (record { z = z; number = suc n }) up) [
-      | inl lt ↦ elim (before_parts (record { z = z; number = n }) end down) [
-        | inl gt ↦ omega arith
-        | inr both ↦ let e = both.0 in omega arith
-      ]
-      | inr same ↦ elim (before_parts (record { z = z; number = n }) end down) [
-        | inl gt ↦ let e = same.0 in omega arith
-        | inr both ↦ let a = same.1 in let b = both.1 in omega arith
-      ]
-    ]
+greatest_before z n key h = search rules
 
 -- the span that holds the greatest key before that with which another span begins ends there, over an honest store
 pub before_ends : (t : TreeView) (key before_key : Key) (span before : Region) → FallsTo t key span → key_before span.first.z span.first.number ≡ Some before_key → FallsTo t before_key before
@@ -126,10 +81,6 @@ before_ends t key before_key span before falls before_is before_falls small = by
       | inr later ↦ inr (over (subst (λ (o : Option Key). IfSome o (IsBefore span.first)) (sym is) later))
     ]
 
--- the root's page is refused over another store alone
-pub apart_fault : (t : TreeView) → ¬ (IsHonest t.store) → IsReadFault t (Page t.inner.index.root OutOfRegion)
-apart_fault t over = ((λ sound. over sound.honest), inl (λ honest. absurd (over honest)))
-
 -- what is given for a key that there may be
 pub given_next : (t : TreeView) (sought : Option Key) (span : Region) → GivesAny t.inner.index t.store sought (Some span) → (key : Key) × (sought ≡ Some key) × FallsTo t key span
 given_next t None span h = cc
@@ -142,11 +93,7 @@ module _ (schema : Schema) (i : IndexView) (count next rows : ℕ) (changed fail
 
   pub search_apart : {T : Type 0} (U : Type 0) (y : U) (fault : TreeFault) → GoesDown {A = U} Sought i old new (Ok y) → fault ≡ Page i.root OutOfRegion → ¬ (IsHonest old.store)
       → Searches {A = T} before (tree_view schema i count next rows changed failed new) (Err fault)
-  search_apart {T} U y fault h is over =
-      subst (λ (f : TreeFault). Searches {A = T} before (tree_view schema i count next rows changed failed new) (Err f)) (sym is) (record {
-        same = ap (λ (p : PagerView). tree_view schema i count next rows changed failed p) h.same;
-        faults = apart_fault before over;
-      })
+  search_apart U y fault h k j = search rules
 
 -- a number of 32 bits that is one's
 pub few_of : {A : Type 0} (number : A → ℕ) (o : Option A) (n : ℕ) → n < 4294967296 → IfSome o (λ x. n ≡ number x) → IfSome o (λ x. number x < 2 ^ 32)

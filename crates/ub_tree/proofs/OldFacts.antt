@@ -1,4 +1,5 @@
 -- A sound tree that stands over the pages of an old store: these are a closed table of its regions.
+use Rattle.std.proofs.Common.{rules}
 use Rattle.std.proofs.Common.{◌≡◌, ◌≢◌, ◌≤◌, ◌<◌, ◌^◌, ◌++◌, ◌∙◌, inl, inr, ℕ, zero, suc, List, [], ◌∷◌, Some, None, nat_eq, length, map, slice_get, sym, subst, refl, arith}
 use Rattle.std.proofs.lemmas.List.Elements.{All-from_recursion, recursion_from_All}
 use Rattle.std.proofs.lemmas.Option.{slice_get_within}
@@ -161,17 +162,11 @@ module _ (from : StoreFacts) (head : OldHeader) (t : TreeView) (has : HasOldHead
         (within_store index.last t.store.pages index.levels (top index.root) None now_indexed.under_it)
 
     was_indexed : HasIndex index from.pages (map entry_of t.placed)
-    was_indexed = record {
-      some = now_indexed.some;
-      under_it = kept_index index.last t.store.pages from.pages index.levels (top index.root) None stay now_indexed.under_it;
-      entries_are = kept_under t.store.pages from.pages index.levels (top index.root) stay ∙ now_indexed.entries_are;
-    }
+    was_indexed = search (rules, kept_index, kept_under, now_indexed, stay)
 
     within_each : (ps : List Placed) → AllByRecursion IsSpelledNow ps → AllByRecursion (λ p. p.page < page_count from) ps
     within_each [] at = tt
-    within_each (p ∷ ps) at =
-        let less = slice_get_within t.store.pages p.page (region_page t.schema p.region) at.0 in
-        (omega (arith, count), within_each ps at.1)
+    within_each (p ∷ ps) at = search (rules, (within_each ps at.1), count, slice_get_within)
 
     old_by_index : AreOldPages head.version from.pages t.schema t.placed t.next
     old_by_index =
@@ -184,7 +179,4 @@ module _ (from : StoreFacts) (head : OldHeader) (t : TreeView) (has : HasOldHead
         }))
 
   pub old_are : AreOldPages head.version from.pages t.schema t.placed t.next
-  old_are = elim (versions head has.is) [
-    | inl first ↦ old_by_directory first
-    | inr second ↦ old_by_index second
-  ]
+  old_are = search (rules, old_by_directory, old_by_index, versions)

@@ -1,10 +1,10 @@
 -- A table's pages tell of one header alone, and opening finds it and the index of which it tells.
-use Rattle.std.proofs.Common.{◌≡◌, inl, inr, ℕ, zero, suc, false, List, [], ◌∷◌, Option, Some, None, map, ◌∙◌, sym, ap, subst, refl, arith, slice_get}
+use Rattle.std.proofs.Common.{rules}
+use Rattle.std.proofs.Common.{◌≡◌, ℕ, suc, false, List, [], ◌∷◌, Option, Some, map, ◌∙◌, sym, ap, subst, refl, arith, slice_get}
 use Rattle.std.proofs.lemmas.List.Elements.{recursion_from_All}
 use Rattle.std.proofs.lemmas.Option.{slice_get_within}
 use Rattle.std.specs.List.{AllByRecursion}
-use Rattle.ub_index.specs.Index.{IsUnder, NamesFitting, top}
-use Rattle.ub_index.specs.View.{IndexView, index_view}
+use Rattle.ub_index.specs.View.{IndexView}
 use Rattle.ub_page.proofs.PageLaws.{HasParts, header_parts, region_parts, same_header, unclean_refused}
 use Rattle.ub_bytes.specs.Bytes.{number_at}
 use Rattle.ub_page.specs.Header.{AreSame, IsHeader, IsHeaderFault, header_page}
@@ -12,7 +12,6 @@ use Rattle.ub_region.specs.RegionPage.{region_page}
 use Rattle.ub_page.specs.declared.header.Header.{Header}
 use Rattle.ub_store.specs.Facts.{StoreFacts, IsHonest}
 use Rattle.ub_store.specs.View.{PagerView, pager_view, untouched}
-use Rattle.ub_store.specs.declared.fault.StoreFault.TheVariants as store
 use Rattle.ub_table.proofs.Laws.{same_schema}
 use Rattle.ub_table.specs.Region.{IsRegion}
 use Rattle.ub_table.specs.declared.fault.PageFault.TheVariants.{Unclean}
@@ -20,16 +19,14 @@ use Rattle.ub_table.specs.declared.fault.PageFault.{PageFault}
 use Rattle.ub_table.specs.declared.schema.Schema.{Schema}
 use Rattle.ub_tree.proofs.SearchFacts.{known_is}
 use Rattle.ub_tree.proofs.StoredFacts.{IsSpelled, IsTold, placed_told}
-use Rattle.ub_tree.specs.Indexed.{HasIndex, entries_on, reserved}
+use Rattle.ub_tree.specs.Indexed.{entries_on}
 use Rattle.ub_tree.specs.Opened.{IsMarkFault, IsOpened, IsOpenFault, IsRooted}
-use Rattle.ub_tree.specs.Placed.{Placed, ArePlaced, entry_of, placed_of, regions_in}
+use Rattle.ub_tree.specs.Placed.{Placed, entry_of, placed_of, regions_in}
 use Rattle.ub_tree.specs.Stored.{AreSoundPages, index_of}
 use Rattle.ub_tree.specs.Tree.{known_pages, placed_in, tree_view}
 use Rattle.ub_tree.specs.View.{TreeView, IsSound}
 use Rattle.ub_tree.specs.declared.fault.TreeFault.{TreeFault}
-use Rattle.ub_tree.specs.declared.fault.TreeFault.TheVariants.{Full, Page, Store, Failed as HasFailed, Memory}
 use Rattle.ub_writing.specs.Marks.{HasMark}
-use Rattle.ub_zaddr.specs.Address.{last_address}
 
 -- what is made of a table that was read
 pub opened : (first : StoreFacts) (header : Header) (pager now : PagerView) → pager ≡ pager_view first untouched → (IsHonest pager.store → IsRooted pager.store.pages header)
@@ -70,10 +67,7 @@ module _ (pages : List (List ℕ)) (a b : Header) (at_a : slice_get pages 0 ≡ 
   one_schema = same_schema a.schema b.schema same.name same.columns same.dims same.page_rows same.signed
 
   pub one_index : index_of a ≡ index_of b
-  one_index =
-      ap (λ (n : ℕ). index_view n a.levels (last_address a.schema.dims)) same.root
-      ∙ ap (λ (n : ℕ). index_view b.root n (last_address a.schema.dims)) same.levels
-      ∙ ap (λ (n : ℕ). index_view b.root b.levels (last_address n)) same.dims
+  one_index = search (rules, same)
 
   pub one_next : a.next ≡ b.next
   one_next = same.next
@@ -103,18 +97,7 @@ module _ (old : StoreFacts) (honest : IsHonest old) (schema : Schema) (mark : Ha
   mark_fault fault h = unclean_refused mark.1.0 mark.0 mark.1.1.in_range mark.1.1.unclean mark.1.2 fault h
 
   pub mark_refused : (fault : TreeFault) → IsOpenFault old fault → IsMarkFault fault
-  mark_refused Full h = absurd h
-  mark_refused HasFailed h = absurd h
-  mark_refused Memory h = tt
-  mark_refused (Store store.Memory) h = absurd h
-  mark_refused (Store store.BadSize) h = absurd h
-  mark_refused (Store store.Device) h = tt
-  mark_refused (Store store.NoPage) (n, inl e, past) = let some = slice_get_within old.pages 0 mark.0 mark.2 in absurd (omega arith)
-  mark_refused (Store store.NoPage) (n, inr r, past) = absurd (never_clean r.0 (r.1.spelled honest) r.1.in_range r.1.clean)
-  mark_refused (Page n fault) (page, at, inl e) =
-      let first : slice_get old.pages 0 ≡ Some page = ap (slice_get old.pages) (sym e.0) ∙ at honest in
-      (e.0, mark_fault fault (subst (λ (p : List ℕ). IsHeaderFault p fault) (some_same (slice_get old.pages 0) page mark.0 first mark.2) e.1))
-  mark_refused (Page n fault) (page, at, inr r) = absurd (never_clean r.0 (r.1.spelled honest) r.1.in_range r.1.clean)
+  mark_refused fault k = search (rules, mark_fault, never_clean, slice_get_within, some_same)
 
 -- the pages of a closed table tell of its regions
 module _ (pages : List (List ℕ)) (schema : Schema) (placed : List Placed) (next : ℕ) (s : AreSoundPages pages schema placed next) where
@@ -130,16 +113,7 @@ module _ (pages : List (List ℕ)) (schema : Schema) (placed : List Placed) (nex
 
   -- and of the root of its index
   pub rooted_of : (level : ℕ) → s.header.levels ≡ suc level → IsRooted pages s.header
-  rooted_of level is = record {
-    spelled = s.spelled;
-    in_range = s.in_range;
-    clean = s.clean;
-    root = by_level s.header.levels is s.indexed.under_it;
-  }
-    where
-      by_level : (levels : ℕ) → levels ≡ suc level → IsUnder (index_of s.header).last pages levels (top s.header.root) None → NamesFitting (index_of s.header).last pages levels (top s.header.root) None
-      by_level zero e h = cc
-      by_level (suc n) e h = h.0
+  rooted_of level k = search rules
 
 abbrev view_with : Schema → List Placed → IndexView → ℕ → ℕ → ℕ → PagerView → TreeView
 view_with schema placed index count next rows pager = record {
@@ -158,28 +132,7 @@ view_with schema placed index count next rows pager = record {
 module _ (first : StoreFacts) (honest : IsHonest first) (header : Header) (h : IsRooted first.pages header) (now : PagerView)
     (kept : now.store ≡ first) (schema : Schema) (placed : List Placed) (next : ℕ) (s : AreSoundPages first.pages schema placed next) where
   sound_view : IsSound (view_with schema placed (index_of s.header) s.header.regions next s.header.rows now)
-  sound_view =
-      let pages : now.store.pages ≡ first.pages = ap (λ (s : StoreFacts). s.pages) kept in
-      let next_is = s.next_is in
-      let some = s.in_range.numbers.some_next in
-      let most = s.in_range.numbers.last_next in
-      let regions = s.in_range.regions in
-      let count = s.regions_are in
-      record {
-        working = refl;
-        honest = ap (λ (s : StoreFacts). s.honest) kept ∙ honest;
-        last_is = ap (λ (x : Schema). last_address x.dims) s.schema_is;
-        indexed = subst (λ (ps : List (List ℕ)). HasIndex (index_of s.header) ps (map entry_of placed)) (sym pages) s.indexed;
-        regions_are = s.well_formed;
-        placed_are = subst (λ (ps : List (List ℕ)). ArePlaced schema placed (reserved (index_of s.header) ps) ps) (sym pages) s.placed_are;
-        count_is = s.regions_are;
-        rows_are = s.rows_are;
-        some_next = omega arith;
-        last_next = omega arith;
-        few = omega arith;
-        closed = λ _. subst (λ (ps : List (List ℕ)). AreSoundPages ps schema placed next) (sym pages) s;
-        marked = λ e. cc;
-      }
+  sound_view = search rules
 
   pub opened_sound : IsSound (tree_view header.schema (index_of header) header.regions header.next header.rows false false now) × (header.schema ≡ schema)
       × (placed_in header.schema (index_of header) now.store ≡ placed) × (header.next ≡ next)

@@ -1,10 +1,9 @@
 -- Why the root of a table's index is refused, as opening the table is.
-use Rattle.std.proofs.Common.{◌≡◌, ◌≤◌, ◌∙◌, inl, inr, ℕ, zero, suc, List, None, Result, Ok, Err, IfErr, ap, subst, sym, refl, arith}
+use Rattle.std.proofs.Common.{rules}
+use Rattle.std.proofs.Common.{◌≡◌, ◌∙◌, inr, ℕ, List, Result, Ok, Err, IfErr, ap, subst, refl}
 use Rattle.std.specs.Result.{IsErrAnd}
-use Rattle.ub_index.specs.Index.{NamesFitting, top}
 use Rattle.ub_index.specs.Opening.{IsOpenFault as IsRootFault, IsPassing as IsPassingIndex, IsRooted as HasRoot, Opens as OpensIndex}
 use Rattle.ub_index.specs.Searching.{store_after}
-use Rattle.ub_index.specs.View.{IndexView}
 use Rattle.ub_index.specs.declared.fault.IndexFault.{IndexFault}
 use Rattle.ub_index.specs.declared.fault.IndexFault.TheVariants as index
 use Rattle.ub_page.specs.declared.header.Header.{Header}
@@ -12,7 +11,7 @@ use Rattle.ub_store.specs.Facts.{StoreFacts, IsHonest}
 use Rattle.ub_store.specs.View.{PagerView}
 use Rattle.ub_store.specs.declared.fault.StoreFault.TheVariants as store
 use Rattle.ub_table.specs.declared.schema.Schema.{Schema}
-use Rattle.ub_tree.proofs.OpenedFacts.{one_index, rooted_of}
+use Rattle.ub_tree.proofs.OpenedFacts.{one_index}
 use Rattle.ub_tree.proofs.SearchFacts.{stores_alike}
 use Rattle.ub_tree.specs.Faults.{index_fault}
 use Rattle.ub_tree.specs.Opened.{HasHeader, IsOpenFault, IsPassing, IsRooted}
@@ -31,12 +30,7 @@ root_fault old header has (index.Store store.BadSize) h = absurd h
 root_fault old header has (index.Store store.NoPage) h = (header.root, inr (header, has, refl), h)
 
 passing : (e : IndexFault) → IsPassingIndex e → IsPassing (index_fault e)
-passing (index.Page n fault) h = absurd h
-passing index.Full h = absurd h
-passing (index.Store store.Memory) h = inl refl
-passing (index.Store store.Device) h = inr refl
-passing (index.Store store.BadSize) h = absurd h
-passing (index.Store store.NoPage) h = absurd h
+passing e h = search rules
 
 -- the header was read, and then the root of which it tells was refused
 module _ (old mid new : PagerView) (header : Header) (first : Opens {A = Header} old mid (Ok header)) (has : HasHeader old.store header) (e : IndexFault) where
@@ -55,18 +49,8 @@ module _ (old mid new : PagerView) (header : Header) (first : Opens {A = Header}
   -- of a closed table that comes for want of memory alone, or as the store failed
   pub root_passes : {T : Type 0} (r : Result T TreeFault) → IsErrAnd r (λ x. x ≡ index_fault e) → (IsHonest mid.store → HasRoot (index_of header) mid.store → IsPassingIndex e)
       → (h : Header) → IsHonest old.store → IsRooted old.store.pages h → IfErr r IsPassing
-  root_passes (Ok x) is exact h honest rooted = absurd is
-  root_passes (Err f) is exact h honest rooted =
-      let same = one_index old.store.pages header h (has.spelled honest) has.in_range has.clean rooted.spelled rooted.in_range rooted.clean in
-      let root : NamesFitting (index_of header).last old.store.pages (index_of header).levels (top (index_of header).root) None =
-      subst (λ (i : IndexView). NamesFitting i.last old.store.pages i.levels (top i.root) None) (sym same) rooted.root in
-      let met = subst (λ (s : StoreFacts). IsHonest s → HasRoot (index_of header) s → IsPassingIndex e) stores exact in
-      rw is (passing e (met honest root))
+  root_passes r k j h l m = search (rules, one_index, passing, stores)
 
 -- the pages of a closed table tell of the root of its index
 pub table_rooted : (pages : List (List ℕ)) (schema : Schema) (placed : List Placed) (next : ℕ) (s : AreSoundPages pages schema placed next) → IsRooted pages s.header
-table_rooted pages schema placed next s = by_level s.header.levels refl s.indexed.some
-  where
-    by_level : (levels : ℕ) → s.header.levels ≡ levels → 1 ≤ levels → IsRooted pages s.header
-    by_level zero e some = absurd (omega arith)
-    by_level (suc level) e some = rooted_of pages schema placed next s level e
+table_rooted pages schema placed next s = search rules

@@ -1,6 +1,7 @@
 -- What the parting of a region leaves: the store grew, the pages of both halves were put, and then those that the change of the index
 -- spells.
-use Rattle.std.proofs.Common.{◌≡◌, ◌≢◌, ◌<◌, ◌≤◌, ◌+◌, ◌-◌, ◌∙◌, inl, inr, ◌⊎◌, ℕ, Bool, true, false, List, [], ◌∷◌, Ok, Err, Result, sym, ap, subst, refl, arith, slice_get}
+use Rattle.std.proofs.Common.{rules}
+use Rattle.std.proofs.Common.{◌≡◌, ◌≢◌, ◌<◌, ◌≤◌, ◌+◌, ◌-◌, ◌∙◌, inr, ℕ, Bool, true, List, [], ◌∷◌, Ok, Err, Result, sym, ap, subst, refl, arith}
 use Rattle.std.specs.List.{AllByRecursion}
 use Rattle.std.specs.Result.{IsErrAnd}
 use Rattle.ub_check.proofs.StandingFacts.{each_get}
@@ -16,7 +17,6 @@ use Rattle.ub_region.proofs.Laws.{all_more}
 use Rattle.ub_page.specs.Header.{header_page}
 use Rattle.ub_store.specs.Facts.{StoreFacts, IsHonest, page_count}
 use Rattle.ub_store.specs.declared.fault.StoreFault.TheVariants as store
-use Rattle.ub_table.specs.declared.fault.PageFault.{PageFault}
 use Rattle.ub_table.specs.declared.row.Key.{Key}
 use Rattle.ub_table.specs.declared.schema.Schema.{Schema}
 use Rattle.ub_tree.proofs.EffectFacts.{left_by, writes_both, writes_told, writes_wider}
@@ -24,7 +24,7 @@ use Rattle.ub_tree.proofs.PutFacts.{own_page}
 use Rattle.ub_tree.specs.Effects.{Changes, HasEnded, IsFull, IsLeft, IsMarkedFirst, KeepsMark, written_store}
 use Rattle.ub_tree.specs.Holding.{AnswersAt, HasNoRoom, IsRoomFault}
 use Rattle.ub_tree.specs.Indexed.{Inner}
-use Rattle.ub_tree.specs.Others.{AddsEntry, AreOthersKept, KeepsOthers, WritesIndex}
+use Rattle.ub_tree.specs.Others.{AddsEntry, KeepsOthers, WritesIndex}
 use Rattle.ub_tree.specs.Told.{FallsTo, IsRegionOf}
 use Rattle.ub_tree.specs.View.{TreeView, region_count}
 use Rattle.ub_tree.specs.declared.fault.TreeFault.{TreeFault}
@@ -43,76 +43,28 @@ marks_then schema was now numbers old new mark marks own honest had now_is = by_
     by_mark Written mark had puts = let h = had refl in (h.0, h.1, puts ∙ h.2)
     by_mark (Due header) mark had puts = (header_page header, (header, mark, refl), puts)
 
--- where no room was found, no page was refused
-no_page_told : (e : TreeFault) (page : ℕ) (fault : PageFault) → HasNoRoom e → e ≡ Page page fault → ⊥
-no_page_told e page fault (inl full) same = cc
-no_page_told e page fault (inr (inl size)) same = cc
-no_page_told e page fault (inr (inr (inl memory))) same = cc
-no_page_told e page fault (inr (inr (inr device))) same = cc
-
 -- what a parting answers for which the index can't be made ready
 pub unready_answers : {A : Type 0} (t : TreeView) (span : Region) (r : Result A TreeFault) (e : TreeFault) → IsErrAnd r (λ x. x ≡ e) → region_count t ≢ 4294967295
     → (IsHonest t.store → FallsTo t span.first span → HasNoRoom e) → (IsHonest t.store → IsRoomFault (Unit {0}) t span.first e) → AnswersAt (Unit {0}) t span r
-unready_answers t span (Ok x) e is few led short = absurd is
-unready_answers t span (Err f) e is few led short = (
-  λ full many. absurd (few many),
-  λ honest falls page fault told.
-      let same : f ≡ Page page fault = cc in
-      absurd (no_page_told e page fault (led honest falls) (sym is ∙ same)),
-  λ honest falls full fewer levels way. rw is (led honest falls),
-  λ honest falls. rw is (short honest),
-)
+unready_answers t span r e k j l m = search rules
 
 -- the store wasn't given the pages
 module _ (a g : TreeView) (span : Region) (first : Key) (change : ChangeView) (there : span.page < page_count a.store) (ready : IsAddReady a span first change) (high : a.inner.index.levels ≤ MAX_LEVEL) where
   short_then : 4294967295 < page_count a.store + (change.next - change.start) → IsHonest a.store
       → (n : ℕ) × NeedsPages a.inner.index a.store span.first n × (4294967295 < page_count a.store + 1 + n)
-  short_then over honest =
-      let start = ready.start in
-      let some = ready.some in
-      let only = (ready.needed honest).only in
-      let is = only.2 in
-      (only.0, only.1, omega arith)
+  short_then k j = search rules
 
   full_then : 4294967295 < page_count a.store + (change.next - change.start) → IsFull a
-  full_then over =
-      let start = ready.start in
-      let some = ready.some in
-      let few = ready.few in
-      (high, omega arith, λ honest. (let short = short_then over honest in inr (span.first, short.0, short.1, short.2)))
+  full_then k = search rules
 
   pub growth_short : (e : TreeFault) → IsGrowthLeft (page_count a.store + (change.next - change.start)) a g e → IsHonest a.store → IsRoomFault (Unit {0}) a span.first e
-  growth_short Full x honest = absurd x
-  growth_short HasFailed x honest = absurd x
-  growth_short Memory x honest = tt
-  growth_short (Page page fault) x honest = absurd x
-  growth_short (Store store.Device) x honest = tt
-  growth_short (Store store.NoPage) x honest = absurd x
-  growth_short (Store store.BadSize) x honest = (tt, inr (short_then x.0 honest))
-  growth_short (Store store.Memory) x honest = absurd x
+  growth_short e k j = search rules
 
   growth_left : (e : TreeFault) → IsGrowthLeft (page_count a.store + (change.next - change.start)) a g e → IsLeft a g e
-  growth_left Full x = absurd x
-  growth_left HasFailed x = absurd x
-  growth_left Memory x = x
-  growth_left (Page page fault) x = absurd x
-  growth_left (Store store.Device) x = (x.0, inr x.1)
-  growth_left (Store store.NoPage) x = absurd x
-  growth_left (Store store.BadSize) x = (full_then x.0, x.1)
-  growth_left (Store store.Memory) x = absurd x
+  growth_left e k = search rules
 
   pub growth_refused : {T U : Type 0} (r : Result T TreeFault) (e : TreeFault) → IsErrAnd r (λ x. x ≡ e) → GrowsTo {A = U} (page_count a.store + (change.next - change.start)) a g (Err e) → Changes a g r
-  growth_refused r e is grew = left_by {U = TreeFault} r e a g is (record {
-    frame = grew.frame ∙ ap (λ (v : TreeView). record a { placed = v.placed; rows = v.rows; next = v.next; is_changed = v.is_changed; is_failed = v.is_failed; store = v.store; inner = v.inner }) (sym grew.frame);
-    marked = record {
-      kept = λ honest unmarked m some lt. grew.grows.kept honest m lt;
-      marked = λ honest was changed.
-          let had = was (sym (ap (λ (v : TreeView). v.is_changed) grew.frame) ∙ changed) in
-          (had.0, had.1, grew.grows.kept honest 0 (omega arith) ∙ had.2);
-    };
-    done = tt;
-    left = growth_left e grew.left;
-  })
+  growth_refused r e k j = search rules
 
 module _ (a g h : TreeView) (span : Region) (of : IsRegionOf a span) (first : Key) (change : ChangeView) (number : ℕ) (there : span.page < page_count a.store)
     (ready : IsAddReady a span first change) (number_is : number ≡ change.start)
@@ -146,23 +98,7 @@ module _ (a g h : TreeView) (span : Region) (of : IsRegionOf a span) (first : Ke
 
   module _ {A : Type 0} (r : Result A TreeFault) (wrote : WritesBoth number span g h r) where
     halves_kept : KeepsOthers (0 ∷ span.page ∷ []) a.store h.store
-    halves_kept = record {
-      kept = λ honest m out lt.
-          let more = grew.grows.more in
-          wrote.others.kept (honest_grown honest) m (out.0, ((λ e. absurd (let at = number_at in omega arith)), out.1)) (omega arith) ∙ grew.grows.kept honest m lt;
-      lasting = λ honest. by_case honest (wrote.others.lasting (honest_grown honest));
-    }
-      where
-        by_grown : h.store.synced ≡ g.store.synced → (g.store.synced ≡ a.store.synced) ⊎ ((m : ℕ) → m < page_count a.store → slice_get g.store.synced m ≡ slice_get a.store.pages m)
-            → (h.store.synced ≡ a.store.synced) ⊎ AreOthersKept (0 ∷ span.page ∷ []) a.store.pages h.store.synced
-        by_grown same (inl was) = inl (same ∙ was)
-        by_grown same (inr kept) = inr (λ m out lt. ap (λ (ps : List (List ℕ)). slice_get ps m) same ∙ kept m lt)
-
-        by_case : IsHonest a.store → (h.store.synced ≡ g.store.synced) ⊎ AreOthersKept (0 ∷ number ∷ span.page ∷ []) g.store.pages h.store.synced
-            → (h.store.synced ≡ a.store.synced) ⊎ AreOthersKept (0 ∷ span.page ∷ []) a.store.pages h.store.synced
-        by_case honest (inl same) = by_grown same (grew.grows.lasting honest)
-        by_case honest (inr kept) =
-            inr (λ m out lt. (let more = grew.grows.more in kept m (out.0, ((λ e. absurd (let at = number_at in omega arith)), out.1)) (omega arith) ∙ grew.grows.kept honest m lt))
+    halves_kept = search rules
 
     halves_marked : KeepsMark a h
     halves_marked honest was changed =
@@ -170,12 +106,7 @@ module _ (a g h : TreeView) (span : Region) (of : IsRegionOf a span) (first : Ke
         (wrote.marked (λ e. absurd (let at = number_at in omega arith)) (own_page a span ready.root honest of) (honest_grown honest) (marked_grown honest was) changed)
 
     pub halves_first : IsMarkedFirst a h
-    halves_first = record {
-      kept = λ honest unmarked m some lt.
-          let more = grew.grows.more in
-          wrote.kept (honest_grown honest) unmarked m some (omega arith) ∙ grew.grows.kept honest m lt;
-      marked = halves_marked;
-    }
+    halves_first = search (rules, halves_marked, honest_grown)
 
   -- the pages of the halves weren't put
   halves_left : (e : TreeFault) → WritesBoth {A = TreeFault} number span g h (Err e) → IsWriteFault g h e → IsLeft a h e
@@ -209,10 +140,7 @@ module _ (a g h : TreeView) (span : Region) (of : IsRegionOf a span) (first : Ke
   -- the halves were put, and then the pages of the index
   module _ (n : TreeView) (wrote : WritesBoth {A = Unit {0}} number span g h (Ok tt)) (put : IsPut g h) (halves_count : page_count h.store ≡ page_count g.store) (puts : PutsSheets change.sheets h.store n.store) where
     halves_is : h ≡ record a { placed = h.placed; is_changed = true; store = written_store {A = Unit {0}} (Ok tt) a.store h.store }
-    halves_is =
-        put
-        ∙ ap (λ (s : StoreFacts). record g { placed = h.placed; is_changed = true; store = s }) (ap (λ (v : TreeView). v.store) wrote.frame)
-        ∙ ap (λ (v : TreeView). record v { placed = h.placed; is_changed = true; store = written_store {A = Unit {0}} (Ok tt) v.store h.store }) grown_is
+    halves_is = search rules
 
     honest_put : IsHonest a.store → IsHonest h.store
     honest_put honest = ap (λ (v : TreeView). v.store.honest) halves_is ∙ honest
@@ -227,49 +155,19 @@ module _ (a g h : TreeView) (span : Region) (of : IsRegionOf a span) (first : Ke
         (had.0, had.1, puts.others (honest_put honest) 0 (zero_free honest) ∙ had.2)
 
     marked_now : n.is_changed ≡ true → IsMarkedFirst a n
-    marked_now now = record {
-      kept = λ honest unmarked m some lt. absurd (let bad : true ≡ false = sym now ∙ unmarked in cc);
-      marked = λ honest was changed. mark_then honest was;
-    }
+    marked_now k = search (rules, mark_then)
 
     put_ended : (fault : TreeFault) → HasStopped fault h n → HasEnded fault a n
-    put_ended fault x = record {
-      same = x.same
-          ∙ ap (λ (v : TreeView). record v { placed = n.placed; is_changed = n.is_changed; is_failed = true; store = written_store {A = TreeFault} (Err fault) v.store n.store }) halves_is;
-      others = writes_told a n span of put_others;
-    }
+    put_ended fault k = search (rules, halves_is, put_others, writes_told)
 
     no_page_missing : IsPutFault change.sheets h.store store.NoPage → ¬ (IsHonest a.store)
-    no_page_missing (k, sheet, at, past) honest =
-        let is = each_get (IsSpelledAt a (page_count a.store + 1) change) change.sheets k sheet (ready.spelled honest) at in
-        let grown : page_count g.store ≡ page_count a.store + (change.next - change.start) = grew.done.1 in
-        let start = ready.start in
-        let some = ready.some in
-        let count : page_count h.store ≡ page_count g.store = halves_count in
-        elim is.there [
-          | inl lt ↦ absurd (omega arith)
-          | inr more ↦ let most = more.1 in absurd (omega arith)
-        ]
+    no_page_missing k = search (rules, each_get)
 
     put_left : (e : TreeFault) → HasStopped e h n → IsIndexFault change h.store e → IsLeft a n e
-    put_left Full stopped x = absurd x
-    put_left HasFailed stopped x = absurd x
-    put_left Memory stopped x = absurd x
-    put_left (Page page fault) stopped x = absurd x
-    put_left (Store store.Device) stopped x = (sym (ap (λ (v : TreeView). v.store.can_fail) halves_is) ∙ x, inr (put_ended (Store store.Device) stopped))
-    put_left (Store store.NoPage) stopped x = (λ sound. no_page_missing x sound.honest, inr (no_page_missing x, put_ended (Store store.NoPage) stopped))
-    put_left (Store store.BadSize) stopped x = absurd x
-    put_left (Store store.Memory) stopped x = absurd x
+    put_left e k j = search (rules, halves_is, no_page_missing, put_ended)
 
     pub index_refused : {T : Type 0} (r : Result T TreeFault) (e : TreeFault) → IsErrAnd r (λ x. x ≡ e) → n.is_changed ≡ h.is_changed → HasStopped e h n × IsIndexFault change h.store e → Changes a n r
-    index_refused r e is kept stopped =
-        let ended = put_ended e stopped.0 in
-        left_by {U = TreeFault} r e a n is (record {
-          frame = ended.same ∙ ap (λ (v : TreeView). record a { placed = n.placed; rows = v.rows; next = v.next; is_changed = n.is_changed; is_failed = v.is_failed; store = v.store; inner = v.inner }) (sym ended.same);
-          marked = marked_now (kept ∙ ap (λ (v : TreeView). v.is_changed) halves_is);
-          done = tt;
-          left = put_left e stopped.0 stopped.1;
-        })
+    index_refused r e k j l = search (rules, halves_is, left_by, marked_now, put_ended, put_left)
 
     -- all were put, and one region more is counted
     module _ (d : TreeView) (inner : Inner) (n_is : n ≡ record h { placed = n.placed; store = n.store; inner = inner }) (count_is : inner.count ≡ a.inner.count)
@@ -278,19 +176,13 @@ module _ (a g h : TreeView) (span : Region) (of : IsRegionOf a span) (first : Ke
       inner_then = record inner { count = inner.count + 1 }
 
       then_is : d ≡ record a { placed = n.placed; is_changed = true; store = n.store; inner = inner_then }
-      then_is =
-          d_is
-          ∙ ap (λ (v : TreeView). record v { inner = record v.inner { count = v.inner.count + 1 } }) n_is
-          ∙ ap (λ (v : TreeView). record v { placed = n.placed; store = n.store; inner = inner_then }) halves_is
+      then_is = search rules
 
       stores : n.store ≡ written_store {A = Unit {0}} (Ok tt) a.store n.store
       stores = works ∙ ap (λ (v : TreeView). written_store {A = Unit {0}} (Ok tt) v.store n.store) halves_is
 
       needs : IsHonest a.store → NeedsPages a.inner.index a.store span.first (change.next - (page_count a.store + 1))
-      needs honest =
-          let only = (ready.needed honest).only in
-          let same : only.0 ≡ change.next - (page_count a.store + 1) = (let is = only.2 in omega arith) in
-          subst (NeedsPages a.inner.index a.store span.first) same only.1
+      needs k = search rules
 
       adds : AddsEntry span.first a d
       adds = (
@@ -308,20 +200,7 @@ module _ (a g h : TreeView) (span : Region) (of : IsRegionOf a span) (first : Ke
       )
 
       pub parts_at : StoresAt span a.schema.page_rows a d
-      parts_at = record {
-        same = then_is ∙ ap (λ (v : TreeView). record a { placed = v.placed; store = v.store; is_changed = true; inner = v.inner }) (sym then_is);
-        others = inr (subst (λ (v : TreeView). WritesIndex span.page a v) (sym d_is) (record { kept = put_others.kept; lasting = put_others.lasting }), adds);
-        full = λ full. adds;
-        spare = λ less. absurd (omega arith);
-      }
+      parts_at = search (rules, adds, put_others, then_is)
 
       pub parts_effect : Changes {A = Unit {0}} a d (Ok tt)
-      parts_effect = record {
-        frame = then_is ∙ ap (λ (v : TreeView). record a { placed = v.placed; rows = v.rows; next = v.next; is_changed = v.is_changed; is_failed = v.is_failed; store = v.store; inner = v.inner }) (sym then_is);
-        marked = subst (λ (v : TreeView). IsMarkedFirst a v) (sym then_is) (record {
-          kept = λ honest unmarked m some lt. absurd (let bad : true ≡ false = unmarked in cc);
-          marked = λ honest was changed. mark_then honest was;
-        });
-        done = (ap (λ (v : TreeView). v.is_failed) then_is, ap (λ (v : TreeView). v.store) then_is ∙ (stores ∙ ap (λ (v : TreeView). written_store {A = Unit {0}} (Ok tt) a.store v.store) (sym then_is)));
-        left = tt;
-      }
+      parts_effect = search (rules, mark_then, stores, then_is)

@@ -1,10 +1,11 @@
 -- What putting the page of a region leaves of a tree: its index, and the regions, each on its page.
-use Rattle.std.proofs.Common.{◌≡◌, ◌≢◌, ◌<◌, ◌≤◌, ◌∙◌, ◌++◌, ◌^◌, inl, inr, ℕ, zero, suc, Bool, List, [], ◌∷◌, Option, Some, None, length, map, take, drop, nat_eq, sym, ap, subst, refl, arith, slice_get, append_assoc}
+use Rattle.std.proofs.Common.{rules}
+use Rattle.std.proofs.Common.{◌≡◌, ◌≢◌, ◌<◌, ◌≤◌, ◌∙◌, ◌++◌, ◌^◌, ℕ, zero, suc, Bool, List, [], ◌∷◌, Option, Some, length, map, take, drop, nat_eq, sym, ap, subst, refl, arith, slice_get, append_assoc}
 use Rattle.std.proofs.lemmas.Bool.{cases_eq}
 use Rattle.std.proofs.lemmas.List.{map-append, take-map, drop-map, length-map}
 use Rattle.std.proofs.lemmas.List.Elements.{recursion_from_All}
 use Rattle.std.proofs.lemmas.Option.{slice_get_within}
-use Rattle.std.specs.List.{All, AllByRecursion, IsDistinct}
+use Rattle.std.specs.List.{AllByRecursion, IsDistinct}
 use Rattle.ub_check.proofs.PlacedFacts.{placed_at}
 use Rattle.ub_index.proofs.FirstFacts.{below_some, ways_miss}
 use Rattle.ub_index.proofs.KeptFacts.{kept_named, kept_index, kept_under, same_entries as under_same}
@@ -81,9 +82,7 @@ module _ (schema : Schema) (index : IndexView) (pages new : List (List ℕ)) (pl
   -- the pages of the index stay
   each_stays : (ns : List ℕ) → AllByRecursion (λ n. 0 ≢ n) ns → AllByRecursion (λ n. IsOutside n (map (λ p. p.page) placed)) ns → PagesStay pages new ns
   each_stays [] first apart = tt
-  each_stays (n ∷ ns) first apart =
-      let page = page_at placed i (entry_at span) at.entry in
-      (others n (λ e. first.0 (sym e)) (outside_at n span.page (map (λ p. p.page) placed) i page apart.0), each_stays ns first.1 apart.1)
+  each_stays (n ∷ ns) first apart = search (rules, (each_stays ns first.1 apart.1), outside_at, page_at)
 
   stay : PagesStay pages new chain
   stay = each_stays chain (all_left (λ n. 0 ≢ n) chain (map (λ p. p.page) placed) (distinct_first 0 (chain ++ map (λ p. p.page) placed) placed_are.own))
@@ -134,10 +133,7 @@ module _ (schema : Schema) (index : IndexView) (pages new : List (List ℕ)) (pl
   spelled_parts = subst (AllByRecursion (IsSpelled schema pages)) (sym parts) spelled
 
   parts_new : placed_of schema pages before ++ news ++ placed_of schema pages after ≡ placed_with i news placed
-  parts_new =
-      ap (λ (ps : List Placed). ps ++ news ++ placed_of schema pages after) (sym (take-map (placed_at schema pages) i entries))
-      ∙ ap (λ (ps : List Placed). take i (placed_of schema pages entries) ++ news ++ ps) (sym (drop-map (placed_at schema pages) (suc i) entries))
-      ∙ ap (placed_with i news) (sym viewed)
+  parts_new = search (rules, drop-map, placed_at, take-map)
 
   -- the regions then
   pub put_placed : placed_of schema new (entries_on index new) ≡ placed_with i news placed
@@ -147,29 +143,14 @@ module _ (schema : Schema) (index : IndexView) (pages new : List (List ℕ)) (pl
       ∙ parts_new
 
   pub put_indexed : HasIndex index new (map entry_of (placed_with i news placed))
-  put_indexed = record {
-    some = indexed.some;
-    under_it = kept_index index.last pages new index.levels (top index.root) None stay indexed.under_it;
-    entries_are = sym (entries_back schema new (entries_on index new)) ∙ ap (map entry_of) put_placed;
-  }
+  put_indexed = search (rules, entries_back, kept_index, put_placed, stay)
 
   pub put_are : ArePlaced schema (placed_with i news placed) (reserved index new) new
-  put_are = record {
-    spelled = subst (All (IsSpelled schema new)) parts_new
-        (spelled_changed schema pages new before after news kept_before kept_after (told, tt)
-        (all_left (IsSpelled schema pages) (placed_of schema pages before) (placed_at schema pages (entry_at span) ∷ placed_of schema pages after) spelled_parts)
-        (all_right (IsSpelled schema pages) (placed_of schema pages before) (placed_at schema pages (entry_at span) ∷ placed_of schema pages after) spelled_parts).1);
-    own = subst (λ (ns : List ℕ). IsDistinct nat_eq (reserved index new ++ ns)) (sym numbers_are ∙ ap region_pages (sym same_entries) ∙ ap region_pages put_indexed.entries_are ∙ pages_by (placed_with i news placed))
-        (subst (λ (ns : List ℕ). IsDistinct nat_eq (ns ++ map (λ p. p.page) placed)) (sym same_reserved) placed_are.own);
-    within = subst (All (λ n. n < length new)) (sym same_reserved) (subst (λ (long : ℕ). All (λ n. n < long) (reserved index pages)) (sym count) placed_are.within);
-  }
+  put_are = search (rules, IsSpelled, all_left, all_right, kept_after, kept_before, numbers_are, pages_by, parts_new, placed_at, put_indexed, same_entries, same_reserved, spelled, spelled_changed, spelled_parts)
 
   -- as many as before
   pub put_long : length (placed_with i news placed) ≡ length placed
-  put_long =
-      sym (length-map (placed_with i news placed) entry_of)
-      ∙ ap length (sym put_indexed.entries_are ∙ same_entries ∙ indexed.entries_are)
-      ∙ length-map placed entry_of
+  put_long = search (rules, length-map, put_indexed, same_entries)
 
 -- the same of a tree, where the page spells rows of the region of the span
 pub put_rows : (schema : Schema) (index : IndexView) (count next rows : ℕ) (changed now failed : Bool) (old new : PagerView) (i : ℕ) (span : Region) (page : List ℕ) (own : List Row)
@@ -222,31 +203,12 @@ module _ (last : ℕ) (small : last < 256 ^ 16) (old new : List (List ℕ)) (kee
 module _ (schema : Schema) (index : IndexView) (count next rows : ℕ) (was now failed now_failed : Bool) (old new : PagerView) (some : 1 ≤ index.root) (small : index.last < 2 ^ 128) where
   pub told_still : (IsHonest new.store → IsHonest old.store) → (IsHonest old.store → KeepsKinds old.store.pages new.store.pages)
       → (region : Region) → IsRegionOf (tree_view schema index count next rows was failed old) region → IsRegionOf (tree_view schema index count next rows now now_failed new) region
-  told_still honest keeps region is =
-      let room : index.last < 256 ^ 16 = (let less : index.last < 2 ^ 128 = small in omega arith) in
-      record {
-        key = is.key;
-        falls = record {
-          holds = is.falls.holds;
-          from = is.falls.from;
-          to = is.falls.to;
-          way = λ honest_new.
-              let honest_old = honest honest_new in
-              still_taken index.last room old.store.pages new.store.pages (keeps honest_old) is.key index.levels (top index.root) None (entry_at region) region.next some (is.falls.way honest_old);
-        };
-      }
+  told_still h k region j = search (rules, less, still_taken)
 
 -- a page that is put where one stood that spells a region takes none of an index away
 put_keeps : (schema : Schema) (pages new : List (List ℕ)) (n : ℕ) (region : RegionRows) → IsRegion schema region → slice_get pages n ≡ Some (region_page schema region)
     → ((m : ℕ) → m ≢ 0 → m ≢ n → slice_get new m ≡ slice_get pages m) → KeepsKinds pages new
-put_keeps schema pages new n region is at others m page some there index = elim (cases_eq m n) [
-  | inl same ↦
-      let here : page ≡ region_page schema region = (let e : slice_get pages n ≡ Some page = ap (slice_get pages) (sym same) ∙ there in cc) in
-      let kind = (region_parts schema region page is here).kind in
-      let bad = sym kind ∙ index in
-      absurd (omega arith)
-  | inr apart ↦ others m (λ e. absurd (omega arith)) apart
-]
+put_keeps schema pages new n region h k j = search (rules, cases_eq, region_parts)
 
 pub told_put : (schema : Schema) (index : IndexView) (count next rows : ℕ) (was now failed : Bool) (old new : PagerView) (n : ℕ) (region after : RegionRows) → 1 ≤ index.root → index.last < 2 ^ 128
     → IsRegion schema region → IsRegion schema after → IsPage old.store n (region_page schema region) → new.store.honest ≡ old.store.honest → Puts n (region_page schema after) old.store new.store

@@ -1,24 +1,17 @@
 -- What a tree keeps over several calls that read it.
-use Rattle.std.proofs.Common.{◌≡◌, ◌≤◌, ◌∙◌, inl, inr, ℕ, IsTrue, List, Option, None, Result, Ok, Err, IfErr, subst, sym, ap, refl}
+use Rattle.std.proofs.Common.{rules}
+use Rattle.std.proofs.Common.{◌≡◌, ◌≤◌, ◌∙◌, inl, inr, ℕ, List, Option, Result, Ok, Err, subst, sym, ap, refl}
 use Rattle.std.specs.Result.{IsErrAnd}
 use Rattle.ub_bigmin.specs.Box.{Corners}
-use Rattle.ub_check.specs.Standing.{IsRegionRefused}
-use Rattle.ub_store.specs.declared.fault.StoreFault.TheVariants as store
-use Rattle.ub_index.specs.Searching.{Gives}
-use Rattle.ub_index.specs.Index.{top}
-use Rattle.ub_index.specs.Way.{LeadsTo}
-use Rattle.ub_store.specs.Facts.{IsPage, page_count}
-use Rattle.ub_index.specs.View.{entry_at}
+use Rattle.ub_store.specs.Facts.{page_count}
 use Rattle.ub_store.specs.View.{Trace, emptied}
 use Rattle.ub_table.specs.declared.fault.PageFault.{PageFault}
-use Rattle.ub_tree.specs.Effects.{IsReadFault, IsIndexRefused, IsPageRefused, IsPageMissing, IsStopped, raised_by}
-use Rattle.ub_tree.specs.Indexed.{Inner}
+use Rattle.ub_tree.specs.Effects.{IsReadFault, IsPageRefused, IsPageMissing, IsStopped, raised_by}
 use Rattle.ub_tree.specs.Reading.{IsGiven, ReadsTree, SearchesTree, counted, fault_of_tree}
 use Rattle.ub_tree.specs.Spans.{Region}
 use Rattle.ub_tree.specs.Told.{GivesNext, IsRegionOf}
 use Rattle.ub_tree.specs.View.{TreeView, IsSound, KeepsRegions, KeepsTrace}
 use Rattle.ub_tree.specs.declared.fault.TreeFault.{TreeFault}
-use Rattle.ub_tree.specs.declared.fault.TreeFault.TheVariants.{Full, Page, Store, Failed as HasFailed, Memory}
 use Rattle.ub_tree.specs.declared.read_fault.ReadFault.{ReadFault}
 use Rattle.ub_tree.specs.declared.read_fault.ReadFault.TheVariants as read
 
@@ -33,21 +26,7 @@ pub record Keeps (old new : TreeView) : Type 0 where
   pub sound : IsSound old → IsSound new
 
 retraced : (t : TreeView) (trace : Trace) → IsSound t → IsSound (record t { trace = trace })
-retraced t trace h = record {
-  working = h.working;
-  honest = h.honest;
-  last_is = h.last_is;
-  indexed = h.indexed;
-  regions_are = h.regions_are;
-  placed_are = h.placed_are;
-  count_is = h.count_is;
-  rows_are = h.rows_are;
-  some_next = h.some_next;
-  last_next = h.last_next;
-  few = h.few;
-  closed = h.closed;
-  marked = h.marked;
-}
+retraced t trace h = search rules
 
 pub Keeps-by : (old new : TreeView) → IsTraced old new → Keeps old new
 Keeps-by old new is = record {
@@ -69,30 +48,15 @@ unchanged_trace old new is = ap (λ (t : TreeView). t.trace) is
 
 -- a tree of which only the trace has changed tells of the same regions, and gives the same answers
 pub traced_told : (old new : TreeView) → IsTraced old new → (region : Region) → IsRegionOf new region → IsRegionOf old region
-traced_told old new is region told = retold_so new.trace (subst (λ (t : TreeView). IsRegionOf t region) is told)
-  where
-    retold_so : (trace : Trace) → IsRegionOf (record old { trace = trace }) region → IsRegionOf old region
-    retold_so trace h = record { key = h.key; falls = h.falls }
+traced_told old new h region k = search rules
 
 -- and so does one that has the same pages and the same index
 pub told_kept : (old new : TreeView) → new.store.honest ≡ old.store.honest → new.store.pages ≡ old.store.pages → new.inner ≡ old.inner
     → (region : Region) → IsRegionOf old region → IsRegionOf new region
-told_kept old new honesty pages inners region told = record {
-  key = told.key;
-  falls = subst (λ (i : Inner). Gives i.index new.store told.key region) (sym inners) (record {
-    holds = told.falls.holds;
-    from = told.falls.from;
-    to = told.falls.to;
-    way = λ honest. subst (λ (ps : List (List ℕ)). LeadsTo old.inner.index.last ps told.key old.inner.index.levels (top old.inner.index.root) None
-        (entry_at region) region.next) (sym pages) (told.falls.way (sym honesty ∙ honest));
-  });
-}
+told_kept old new h k j region l = search rules
 
 pub traced_gives : (old new : TreeView) → IsTraced old new → (boxes : List Corners) (after found : Option Region) → GivesNext boxes new after found → GivesNext boxes old after found
-traced_gives old new is boxes after found gives = given_so new.trace (subst (λ (t : TreeView). GivesNext boxes t after found) is gives)
-  where
-    given_so : (trace : Trace) → GivesNext boxes (record old { trace = trace }) after found → GivesNext boxes old after found
-    given_so trace h = record { given = h.given; found_after = h.found_after }
+traced_gives old new h boxes after found k = search rules
 
 pub Keeps-none : (t : TreeView) → Keeps t t
 Keeps-none t = Keeps-by t t refl
@@ -103,30 +67,14 @@ Keeps-more a b c h k = Keeps-by a c (k.traced ∙ ap (λ (t : TreeView). record 
 -- ---- a call's fault, seen from before an earlier call that only read
 
 page_refused_before : (a b : TreeView) (number : ℕ) (fault : PageFault) → IsTraced a b → IsPageRefused b number fault → IsPageRefused a number fault
-page_refused_before a b number fault h (inl stops) = inl (subst (λ (t : TreeView). IsIndexRefused t number fault) h stops)
-page_refused_before a b number fault h (inr (span, told, same, page, is, refused)) =
-    inr (
-      span,
-      traced_told a b h span told,
-      same,
-      page,
-      subst (λ (t : TreeView). IsPage t.store number page) h is,
-      subst (λ (t : TreeView). IsRegionRefused t.schema span.first span.next page fault) h refused,
-    )
+page_refused_before a b number fault h k = search rules
 
 page_missing_before : (a b : TreeView) → IsTraced a b → IsPageMissing b → IsPageMissing a
 page_missing_before a b h (inl stops) = inl (subst (λ (t : TreeView). IsStopped t) h stops)
 page_missing_before a b h (inr (span, told, past)) = inr (span, traced_told a b h span told, subst (λ (t : TreeView). page_count t.store ≤ span.page) h past)
 
 pub read_fault_before : (a b : TreeView) (fault : TreeFault) → IsTraced a b → IsReadFault b fault → IsReadFault a fault
-read_fault_before a b Full h is = is
-read_fault_before a b HasFailed h is = subst (λ (t : TreeView). IsTrue t.is_failed) h is
-read_fault_before a b Memory h is = tt
-read_fault_before a b (Page page of_page) h is = ((λ sound. is.0 ((Keeps-by a b h).sound sound)), page_refused_before a b page of_page h is.1)
-read_fault_before a b (Store store.Device) h is = subst (λ (t : TreeView). IsTrue t.store.can_fail) h is
-read_fault_before a b (Store store.NoPage) h is = ((λ sound. is.0 ((Keeps-by a b h).sound sound)), page_missing_before a b h is.1)
-read_fault_before a b (Store store.Memory) h is = is
-read_fault_before a b (Store store.BadSize) h is = is
+read_fault_before a b fault h k = search (rules, Keeps-by, page_missing_before, page_refused_before)
 
 pub given_before : (a b : TreeView) (fault : ReadFault) → IsTraced a b → IsGiven b fault → IsGiven a fault
 given_before a b read.Memory h is = tt
@@ -136,14 +84,7 @@ given_before a b (read.Tree fault) h is = (read_fault_before a b fault h is.0, i
 
 -- reading after reading is reading
 pub reads_then : {T : Type 0} (r : Result T ReadFault) (a b c : TreeView) → IsTraced a b → ReadsTree b c r → ReadsTree a c r
-reads_then r a b c h reads = record {
-  same = reads.same ∙ ap (λ (t : TreeView). record t { store = record t.store { failed_reads = counted r t.store.failed_reads }; trace = c.trace }) h;
-  faults = faults r reads.faults;
-}
-  where
-    faults : {T : Type 0} (r : Result T ReadFault) → IfErr r (IsGiven b) → IfErr r (IsGiven a)
-    faults (Ok x) is = tt
-    faults (Err e) is = given_before a b e h is
+reads_then r a b c h k = search (rules, given_before)
 
 -- the fault of a call handed on
 pub reads_by : {T U : Type 0} (r : Result T ReadFault) (e : ReadFault) (a b c : TreeView) → IsErrAnd r (λ x. x ≡ e) → IsTraced a b → ReadsTree {A = U} b c (Err e) → ReadsTree a c r
@@ -152,18 +93,10 @@ reads_by {T = T} (Err f) e a b c is h reads = rw is (reads_then {T = T} (Err e) 
 
 -- the fault of a call of the tree handed on
 given_of : (t : TreeView) (e : TreeFault) → IsReadFault t e → IsGiven t (fault_of_tree e)
-given_of t Memory fault = tt
-given_of t Full fault = absurd fault
-given_of t HasFailed fault = (fault, λ e. cc)
-given_of t (Page page of_page) fault = (fault, λ e. cc)
-given_of t (Store of_store) fault = (fault, λ e. cc)
+given_of t e h = search rules
 
 counted_of : (T : Type 0) (e : TreeFault) (n : ℕ) → counted {A = T} (Err (fault_of_tree e)) n ≡ raised_by e n
-counted_of T Memory n = refl
-counted_of T Full n = refl
-counted_of T HasFailed n = refl
-counted_of T (Page page of_page) n = refl
-counted_of T (Store of_store) n = refl
+counted_of T e n = search rules
 
 pub tree_reads : {T : Type 0} (r : Result T ReadFault) (e : TreeFault) (a b c : TreeView) → IsErrAnd r (λ x. x ≡ fault_of_tree e) → IsTraced a b
     → c ≡ record b { store = record b.store { failed_reads = raised_by e b.store.failed_reads }; trace = c.trace } → IsReadFault b e → ReadsTree a c r
@@ -178,21 +111,7 @@ tree_reads {T = T} (Err f) e a b c is h same fault =
 
 -- where only the count of failed reads has changed, a sound tree is sound
 retold : (t : TreeView) (n : ℕ) → IsSound t → IsSound (record t { store = record t.store { failed_reads = n } })
-retold t n h = record {
-  working = h.working;
-  honest = h.honest;
-  last_is = h.last_is;
-  indexed = h.indexed;
-  regions_are = h.regions_are;
-  placed_are = h.placed_are;
-  count_is = h.count_is;
-  rows_are = h.rows_are;
-  some_next = h.some_next;
-  last_next = h.last_next;
-  few = h.few;
-  closed = h.closed;
-  marked = h.marked;
-}
+retold t n h = search rules
 
 pub SearchesTree-sound : {A : Type 0} (old new : TreeView) (r : Result A ReadFault) → SearchesTree old new r → IsSound old → IsSound new
 SearchesTree-sound old new r searched sound = subst IsSound (sym searched.same) (retold old (counted r old.store.failed_reads) sound)

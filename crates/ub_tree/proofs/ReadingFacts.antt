@@ -1,4 +1,5 @@
 -- What a call that reads a region answers, and why it is refused.
+use Rattle.std.proofs.Common.{rules}
 use Rattle.std.proofs.Common.{◌⊎◌, inl, inr, ◌≡◌, ℕ, suc, Bool, IsTrue, List, Option, Some, IfSome, Result, Ok, Err, IfErr, IsOk, OnOk, ap, sym, subst, refl, slice_get, map, ◌≤◌, ◌<◌, ◌∙◌, arith}
 use Rattle.std.specs.List.{AllByRecursion}
 use Rattle.std.specs.Result.{IsErrAnd, IsErrOf}
@@ -88,23 +89,11 @@ span_refused Q (Err e) span old is told = rw is.1 (told is.0 is.2)
 pub span_unread : {T : Type 0} (U : Type 0) (r : Result T TreeFault) (fault : StoreFault) (span : Region) (old : TreeView) → IsErrAnd r (λ e. e ≡ tree_fault fault)
     → (IsErrOf {T = U} (Err fault) store.Device → IsTrue old.store.can_fail) → (IsErrOf {T = U} (Err fault) store.NoPage → page_count old.store ≤ span.page)
     → (¬ (IsErrOf {T = U} (Err fault) store.BadSize)) → IfErr r (IsSpanFault span old)
-span_unread U (Ok x) fault span old is device missing size = tt
-span_unread U (Err e) fault span old is device missing size = rw is (by_fault fault device missing size)
-  where
-    by_fault : (fault : StoreFault) → (IsErrOf {T = U} (Err fault) store.Device → IsTrue old.store.can_fail) → (IsErrOf {T = U} (Err fault) store.NoPage → page_count old.store ≤ span.page)
-        → (¬ (IsErrOf {T = U} (Err fault) store.BadSize)) → IsSpanFault span old (tree_fault fault)
-    by_fault store.Device device missing size = device refl
-    by_fault store.NoPage device missing size = missing refl
-    by_fault store.Memory device missing size = tt
-    by_fault store.BadSize device missing size = size refl
+span_unread U r fault span old h k j l = search rules
 
 -- neither the store's faults nor those of a page say that the tree has failed
 pub never_failed : {T : Type 0} (r : Result T TreeFault) (fault : StoreFault) (old new : TreeView) → IsErrAnd r (λ e. e ≡ tree_fault fault) → r ≡ Err Failed → new ≡ old
-never_failed (Ok x) fault old new is failed = absurd is
-never_failed (Err e) store.Device old new is failed = cc
-never_failed (Err e) store.NoPage old new is failed = cc
-never_failed (Err e) store.Memory old new is failed = cc
-never_failed (Err e) store.BadSize old new is failed = cc
+never_failed r fault old new h k = search rules
 
 pub told_failed : {T : Type 0} (Q : PageFault → Type 0) (r : Result T TreeFault) (number : ℕ) (old new : TreeView) → IfErr r (IsTold number Q) → r ≡ Err Failed → new ≡ old
 told_failed Q (Ok x) number old new is failed = cc
@@ -120,10 +109,7 @@ taken_in t (Err e) span region page found held is = tt
 module _ {U : Type 0} (old : TreeView) where
   fault_refused : (fault : StoreFault) → (IsErrOf {T = U} (Err fault) store.Device → IsTrue old.store.can_fail) → (IsErrOf {T = U} (Err fault) store.NoPage → (¬ (IsSound old)) × IsPageMissing old)
       → (¬ (IsErrOf {T = U} (Err fault) store.BadSize)) → IsReadFault old (tree_fault fault)
-  fault_refused store.Device device missing size = device refl
-  fault_refused store.NoPage device missing size = missing refl
-  fault_refused store.Memory device missing size = tt
-  fault_refused store.BadSize device missing size = size refl
+  fault_refused fault h k j = search rules
 
   pub store_refused : {T : Type 0} (r : Result T TreeFault) (fault : StoreFault) → IsErrAnd r (λ e. e ≡ tree_fault fault)
       → (IsErrOf {T = U} (Err fault) store.Device → IsTrue old.store.can_fail) → (IsErrOf {T = U} (Err fault) store.NoPage → (¬ (IsSound old)) × IsPageMissing old)
@@ -134,11 +120,7 @@ module _ {U : Type 0} (old : TreeView) where
 -- a store that a call read, by the fault of the store and by that of the tree
 pub read_there : {T : Type 0} (r : Result T TreeFault) (U : Type 0) (fault : StoreFault) (old new : StoreFacts) → IsErrAnd r (λ e. e ≡ tree_fault fault)
     → new ≡ record old { failed_reads = counted_there {A = U} (Err fault) old.failed_reads } → new ≡ read_store r old
-read_there (Ok x) U fault old new is same = absurd is
-read_there (Err e) U store.Device old new is same = rw is same
-read_there (Err e) U store.NoPage old new is same = rw is same
-read_there (Err e) U store.Memory old new is same = rw is same
-read_there (Err e) U store.BadSize old new is same = rw is same
+read_there r U fault old new h k = search rules
 
 -- nor was one that was read and then refused its page
 pub read_page : {T : Type 0} (Q : PageFault → Type 0) (r : Result T TreeFault) (number : ℕ) (old new : StoreFacts) → IfErr r (IsTold number Q) → new ≡ old → new ≡ read_store r old
@@ -177,9 +159,7 @@ past_page count page there (inl none) = omega arith
 past_page count page there (inr past) = omega arith
 
 pub past_pages : (count number page : ℕ) → number < count → page < count → (count ≡ 0) ⊎ (count ≤ number) ⊎ (count ≤ page) → ⊥
-past_pages count number page there also (inl none) = omega arith
-past_pages count number page there also (inr (inl past)) = omega arith
-past_pages count number page there also (inr (inr past)) = omega arith
+past_pages count number page h k j = search rules
 
 -- a span of a tree that is as it was
 pub same_there : (a b : TreeView) (span : Region) → b ≡ a → IsRegionThere a span → IsRegionThere b span

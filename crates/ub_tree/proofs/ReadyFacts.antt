@@ -1,4 +1,5 @@
 -- A change of the index of a tree, made ready: why it isn't, and which pages it spells.
+use Rattle.std.proofs.Common.{rules}
 use Rattle.std.proofs.Common.{◌≡◌, ◌≢◌, ◌≤◌, ◌<◌, ◌+◌, ◌^◌, ◌∙◌, ◌⊎◌, inl, inr, ℕ, zero, suc, Bool, List, [], ◌∷◌, ◌++◌, Option, Some, None, Result, Ok, Err, IfErr, length, ap, sym, subst, refl, arith}
 use Rattle.std.proofs.lemmas.List.{append-nil, length-map}
 use Rattle.std.specs.List.{AllByRecursion, flat_map}
@@ -9,7 +10,7 @@ use Rattle.ub_index.specs.Index.{entries_of, pages_under, top, under}
 use Rattle.ub_index_change.specs.Lowering.{IsDropFault, IsDropped, IsLowerFault, IsRootRefused}
 use Rattle.ub_index_change.specs.Preparing.{ChangeView, IsChangeFault, IsPrepared, Settles, change_view}
 use Rattle.ub_index.specs.Searching.{Gives, store_after}
-use Rattle.ub_index.specs.View.{IndexView, entry_at}
+use Rattle.ub_index.specs.View.{IndexView}
 use Rattle.ub_index.specs.declared.fault.IndexFault.{IndexFault}
 use Rattle.ub_index.specs.declared.fault.IndexFault.TheVariants as index
 use Rattle.ub_region.specs.declared.region.Region.{Region}
@@ -24,9 +25,8 @@ use Rattle.ub_store.specs.declared.fault.StoreFault.TheVariants as store
 use Rattle.ub_table.specs.declared.fault.PageFault.{PageFault}
 use Rattle.ub_table.specs.declared.row.Key.{Key}
 use Rattle.ub_table.specs.declared.schema.Schema.{Schema}
-use Rattle.ub_tree.proofs.SearchFacts.{index_not_refused, no_stop, stores_alike}
+use Rattle.ub_tree.proofs.SearchFacts.{index_not_refused, no_stop}
 use Rattle.ub_tree.proofs.WayFacts.{IsSpelledOf, Spells, led_not_stopped, never_gone, spells}
-use Rattle.ub_tree.specs.Effects.{IsIndexRefused}
 use Rattle.ub_tree.specs.Faults.{index_fault}
 use Rattle.ub_tree.specs.Holding.{HasNoRoom, IsRoomFault}
 use Rattle.ub_tree.specs.Placed.{entry_of}
@@ -39,32 +39,12 @@ use Rattle.std.proofs.lemmas.Option.{slice_get_within}
 -- where the way to a key leads to a span, a region comes behind it, unless there is no room
 pub change_room : (i : IndexView) (facts : StoreFacts) (key : Key) (span : Region) → i.last < 2 ^ 128 → IsHonest facts → Gives i facts key span
     → (added : Entry) (from : Spelled) (e : IndexFault) → IsChangeFault i facts key (Some added) from e → HasNoRoom (index_fault e)
-change_room i facts key span small honest given added from (index.Page n fault) h = elim (h honest) [
-  | inl stops ↦ absurd (led_not_stopped i.last facts.pages key small i.levels (top i.root) None (entry_at span) span.next n (Some fault) (given.way honest) stops)
-  | inr gone ↦ absurd (never_gone i.last facts.pages key added i.levels (top i.root) None from gone.2 gone.3)
-]
-change_room i facts key span small honest given added from index.Full h = inl refl
-change_room i facts key span small honest given added from (index.Store store.Memory) h = inr (inr (inl refl))
-change_room i facts key span small honest given added from (index.Store store.Device) h = inr (inr (inr refl))
-change_room i facts key span small honest given added from (index.Store store.BadSize) h = inr (inl refl)
-change_room i facts key span small honest given added from (index.Store store.NoPage) h =
-    absurd (led_not_stopped i.last facts.pages key small i.levels (top i.root) None (entry_at span) span.next h.0 None (given.way honest) (h.2 honest))
+change_room i facts key span h k j added from e l = search (rules, led_not_stopped, never_gone)
 
 -- and where there is no room, that is so of this key
 pub room_fault : (t : TreeView) (key : Key) (added : Entry) (e : IndexFault) → IsHonest t.store
     → IsChangeFault t.inner.index t.store key (Some added) (so_far [] (page_count t.store + 1)) e → IsRoomFault (Unit {0}) t key (index_fault e)
-room_fault t key added (index.Page n fault) honest h = tt
-room_fault t key added index.Full honest h = (tt, h.0, (h.1 honest).0)
-room_fault t key added (index.Store store.Memory) honest h = tt
-room_fault t key added (index.Store store.Device) honest h = tt
-room_fault t key added (index.Store store.NoPage) honest h = tt
-room_fault t key added (index.Store store.BadSize) honest h = (
-  tt,
-  (elim h.1 [
-    | inl past ↦ inl past
-    | inr needs ↦ inr (needs honest)
-  ]),
-)
+room_fault t key added e h k = search rules
 
 pub room_err : {T : Type 0} (r : Result T TreeFault) (e : IndexFault) → IsErrAnd r (λ x. x ≡ index_fault e) → HasNoRoom (index_fault e) → IfErr r HasNoRoom
 room_err (Ok x) e is h = tt
@@ -73,24 +53,7 @@ room_err (Err f) e is h = rw is h
 -- why a region isn't made ready to come
 pub add_fault : (t : TreeView) (key : Key) (added : Entry) → t.inner.index.last < 2 ^ 128 → t.inner.index.levels ≤ MAX_LEVEL → (e : IndexFault)
     → IsChangeFault t.inner.index t.store key (Some added) (so_far [] (page_count t.store + 1)) e → IsReadyFault t (index_fault e)
-add_fault t key added small high (index.Page n fault) h =
-    let refused : IsIndexRefused t n fault = λ honest. (elim (h honest) [
-      | inl stops ↦ (key, stops)
-      | inr gone ↦ absurd (never_gone t.inner.index.last t.store.pages key added t.inner.index.levels (top t.inner.index.root) None _ gone.2 gone.3)
-    ]) in
-    ((λ sound. index_not_refused t n fault small sound refused), inl (inl refused))
-add_fault t key added small high index.Full h = (h.0, λ honest. (key, (h.1 honest).0))
-add_fault t key added small high (index.Store store.Memory) h = tt
-add_fault t key added small high (index.Store store.Device) h = h
-add_fault t key added small high (index.Store store.BadSize) h = (
-  high,
-  h.0,
-  λ honest. (elim h.1 [
-    | inl past ↦ inl past
-    | inr needs ↦ let w = needs honest in inr (key, w.0, w.1, w.2)
-  ]),
-)
-add_fault t key added small high (index.Store store.NoPage) h = ((λ sound. no_stop t key h.0 None small sound (h.2 sound.honest)), inl (inl (h.0, h.1, λ honest. (key, h.2 honest))))
+add_fault t key added h k e j = search (rules, index_not_refused, never_gone, no_stop)
 
 -- a call that doesn't make a change ready, as one of the tree
 module _ (schema : Schema) (i : IndexView) (count next rows : ℕ) (changed failed : Bool) (old new : PagerView) where
@@ -102,12 +65,7 @@ module _ (schema : Schema) (i : IndexView) (count next rows : ℕ) (changed fail
 
   pub not_ready : {T : Type 0} (U : Type 0) (r : Result T TreeFault) (e : IndexFault) → IsErrAnd r (λ x. x ≡ index_fault e)
       → new ≡ record old { store = store_after {A = U} (Err e) old.store; cached = new.cached } → IsReadyFault before (index_fault e) → MakesReady before after r
-  not_ready U (Ok x) e is same fault = absurd is
-  not_ready {T} U (Err f) e is same fault = rw is (record {
-    same = ap (λ (p : PagerView). tree_view schema i count next rows changed failed p) same
-        ∙ ap (λ (s : StoreFacts). record before { store = s }) (stores_alike T U e old.store);
-    faults = fault;
-  })
+  not_ready U r e h k j = search rules
 
 -- each page that is spelled is one of the index, or new
 module _ (t : TreeView) (from : ℕ) (far : page_count t.store ≤ from) (start root levels : ℕ) (middle : Spelled) (change : ChangeView)
@@ -116,17 +74,7 @@ module _ (t : TreeView) (from : ℕ) (far : page_count t.store ≤ from) (start 
   numbers = pages_under t.store.pages t.inner.index.levels (top t.inner.index.root)
 
   spelled_to : (other : ChangeView) → middle.next ≤ other.next → AllByRecursion (IsSpelledAt t from other) middle.sheets
-  spelled_to other up =
-      subst (AllByRecursion (IsSpelledAt t from other)) (sym s.sheets_are)
-      (all_more (IsSpelledOf t.inner.index.last t.store.pages numbers from middle.next) (IsSpelledAt t from other) (λ sheet h. record {
-        own = λ n lt out. h.own n lt out.1;
-        some = h.some;
-        there = (elim h.there [
-          | inl near ↦ inl near
-          | inr new ↦ let less = new.1 in inr (new.0, omega arith)
-        ]);
-        kind = h.kind;
-      }) s.sheets s.each)
+  spelled_to other h = search (rules, IsSpelledOf, all_more)
 
   same_root : change ≡ change_view middle start root levels → AllByRecursion (IsSpelledAt t from change) change.sheets
   same_root is = subst (λ (c : ChangeView). AllByRecursion (IsSpelledAt t from c) c.sheets) (sym is) (spelled_to (change_view middle start root levels) (omega arith))
@@ -154,10 +102,7 @@ module _ (t : TreeView) (from : ℕ) (far : page_count t.store ≤ from) (start 
 -- a region's entry that goes needs no page more
 spread_narrow : (level : ℕ) (entry : Entry) (entries : List Entry) (from to : Spelled) (told : Told) → length entries ≤ 170 → Spreads level entry entries from to told
     → IsAtMostOne told × (to.next ≡ from.next)
-spread_narrow level entry entries from to Same few h = (tt, ap (λ (s : Spelled). s.next) h.2)
-spread_narrow level entry entries from to Gone few h = (tt, ap (λ (s : Spelled). s.next) h.1)
-spread_narrow level entry entries from to (One other) few h = (tt, ap (λ (s : Spelled). s.next) h.3)
-spread_narrow level entry entries from to (Two left right) few h = let full = h.0 in absurd (omega arith)
+spread_narrow level entry entries from to told h k = search rules
 
 pub narrow : (last : ℕ) (old : List (List ℕ)) (key : Key) (level : ℕ) (entry : Entry) (end : Option Key) (from to : Spelled) (told : Told)
     → Turns last old key None level entry end from to told → IsAtMostOne told × (to.next ≡ from.next)
@@ -202,24 +147,10 @@ gone_alone last old key (suc level) entry end from to (named, below, next, falls
 
 -- what is made ready for a region that goes
 pub drop_next : (index : IndexView) (store : StoreFacts) (key : Key) (change : ChangeView) → IsDropped index store key change → change.next ≡ page_count store
-drop_next index store key change (first, (middle, told, turns, settles), lowers) =
-    let in_it = narrow index.last store.pages key index.levels (top index.root) None (so_far [] (page_count store)) middle told turns in
-    ap (λ (c : ChangeView). c.next) lowers.same ∙ (settled told in_it.0 settles ∙ in_it.1)
-  where
-    settled : (t : Told) → IsAtMostOne t → Settles index.root index.levels t (page_count store) middle first → first.next ≡ middle.next
-    settled Same n h = ap (λ (c : ChangeView). c.next) h
-    settled Gone n h = absurd h
-    settled (One other) n h = ap (λ (c : ChangeView). c.next) h
-    settled (Two left right) n h = absurd n
+drop_next index store key change h = search (rules, narrow)
 
 pub drop_spelled : (t : TreeView) (key : Key) (change : ChangeView) → 1 ≤ t.inner.index.root → IsDropped t.inner.index t.store key change → AllByRecursion (IsSpelledAt t (page_count t.store) change) change.sheets
-drop_spelled t key change some (first, (middle, told, turns, settles), lowers) =
-    let few = (narrow t.inner.index.last t.store.pages key t.inner.index.levels (top t.inner.index.root) None (so_far [] (page_count t.store)) middle told turns).0 in
-    let all = all_spelled t (page_count t.store) (omega arith) (page_count t.store) t.inner.index.root t.inner.index.levels middle first
-    (spells t.inner.index.last t.store.pages key None t.inner.index.levels (top t.inner.index.root) None (so_far [] (page_count t.store)) middle told (omega arith) some turns) told (inl few) settles in
-    subst (λ (c : ChangeView). AllByRecursion (IsSpelledAt t (page_count t.store) c) c.sheets) (sym lowers.same)
-    (all_more (IsSpelledAt t (page_count t.store) first) (IsSpelledAt t (page_count t.store) (record first { root = change.root; levels = change.levels }))
-    (λ sheet h. record { own = h.own; some = h.some; there = h.there; kind = h.kind }) first.sheets all)
+drop_spelled t key change h k = search (rules, all_more, all_spelled, narrow, spells)
 
 -- why a region isn't made ready to go, on a tree that counts more regions than one: what is left to show is that on a sound tree each
 -- root is taken to which another one gives way

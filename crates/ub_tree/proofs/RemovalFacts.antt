@@ -1,5 +1,6 @@
 -- A row taken out of a tree: what becomes of the regions where the one that had it is left with few rows.
-use Rattle.std.proofs.Common.{◌≡◌, ◌≢◌, ◌<◌, ◌+◌, ◌-◌, ◌/◌, ◌^◌, ◌⊎◌, inl, inr, ℕ, suc, Bool, true, false, List, [], ◌∷◌, ◌++◌, Some, Ok, Err, Result, IfErr, OnOk, length, map, nat_le, nat_lt, ◌∙◌, sym, ap, subst, refl, arith, slice_get, if◌then◌else◌}
+use Rattle.std.proofs.Common.{rules}
+use Rattle.std.proofs.Common.{◌≡◌, ◌≢◌, ◌<◌, ◌+◌, ◌-◌, ◌/◌, ◌^◌, inr, ℕ, suc, Bool, true, false, List, [], ◌∷◌, ◌++◌, Some, Ok, Err, Result, IfErr, OnOk, length, map, nat_le, nat_lt, ◌∙◌, sym, ap, subst, refl, arith, slice_get, if◌then◌else◌}
 use Rattle.std.proofs.lemmas.List.Sorted.{length_permutation}
 use Rattle.std.specs.List.{AllByRecursion}
 use Rattle.std.specs.Result.{IsErrAnd}
@@ -8,7 +9,6 @@ use Rattle.ub_region.specs.Joins.{put_rows, JoinsNext, JoinsBefore}
 use Rattle.ub_region.specs.Regions.{AreRegions, firsts_of, index_holding, remove, rows_of, settle}
 use Rattle.ub_region.specs.Rows.{has_key, remove_row}
 use Rattle.ub_store.specs.Facts.{IsHonest, page_count}
-use Rattle.ub_store.specs.declared.fault.StoreFault.TheVariants as store
 use Rattle.ub_table.specs.Region.{RegionRows, IsRegion}
 use Rattle.ub_table.specs.declared.row.Key.{Key}
 use Rattle.ub_table.specs.declared.row.Row.{Row}
@@ -16,15 +16,13 @@ use Rattle.ub_tree.proofs.EffectFacts.{sound_stored}
 use Rattle.ub_tree.proofs.ShrinkFacts.{has_at, join_one, join_with, length-regions, put_alone, regions_put, removed_at, settle_before, settle_large, settle_next}
 use Rattle.ub_tree.proofs.TreeFacts.{firsts_placed, region_get, placed_there, within_placed}
 use Rattle.ub_tree.specs.Holding.{IsThatOrBefore, ShrinksAt}
-use Rattle.ub_tree.specs.Others.{DropsEntry, KeepsEntries, WritesIndex, WritesPage}
 use Rattle.ub_tree.specs.Placed.{Placed, entry_of, regions_in}
 use Rattle.ub_tree.specs.Effects.{IsReadFault, IsTakenIn}
 use Rattle.ub_tree.specs.Removal.{IsRemovalFault, IsRemoved}
 use Rattle.ub_tree.specs.Spans.{first_keys, Region}
-use Rattle.ub_tree.specs.Told.{FallsTo, IsRegionOf, KeepsTold}
+use Rattle.ub_tree.specs.Told.{FallsTo, KeepsTold}
 use Rattle.ub_tree.specs.View.{TreeView, IsSound, region_count, regions, tree_rows}
 use Rattle.ub_tree.specs.declared.fault.TreeFault.{TreeFault}
-use Rattle.ub_tree.specs.declared.fault.TreeFault.TheVariants.{Full, Page, Store, Failed as HasFailed, Memory}
 use Rattle.ub_region.specs.RegionPage.{RegionView}
 use Rattle.ub_tree.specs.inner.Change.{HasReadAt, IsElsewhereSame, IsPut, IsRegionIn, IsRegionThere, IsStored, JoinsAt, TakesAt, Writes, placed_with, regions_with}
 use Rattle.ub_writing.specs.Marks.{HasMark}
@@ -114,10 +112,7 @@ module _ (a : TreeView) (i : ℕ) (span : Region) (rows : List Row) (stored : Is
   pub settled_next : (m d : TreeView) (r : Result (Unit {0}) TreeFault) (next : Region) (new : List Row) → nat_lt (length rows) (a.schema.page_rows / 2) ≡ true → m ≡ a
       → JoinsNext a.schema.page_rows i rows new true (regions a) → IsRegionIn a (i + 1) next → Joins r span next new m d
       → AllByRecursion (IsRegion a.schema) settled → OnOk r (IsStored d × (regions d ≡ settled))
-  settled_next m d r next new few one joins at_next written all =
-      let same = settle_next a.schema.page_rows i rows new (regions a) within few joins in
-      as_same d r (put_rows i true new (regions a)) settled same
-      (subst (λ (v : TreeView). Joins r span next new v d) one written i stored at at_next (subst (AllByRecursion (IsRegion a.schema)) (sym same) all))
+  settled_next m d r next new k j l o p q = search (rules, as_same, settle_next, within)
 
   -- few rows that fit on the page of the region before
   pub settled_before : (m b d : TreeView) (r : Result (Unit {0}) TreeFault) (before : Region) (left new : List Row) → nat_lt (length rows) (a.schema.page_rows / 2) ≡ true → m ≡ a → b ≡ m
@@ -138,56 +133,18 @@ module _ (a : TreeView) (i : ℕ) (span : Region) (rows : List Row) (stored : Is
 
 module _ {T : Type 0} (r : Result T TreeFault) (a b d : TreeView) (same : b ≡ a) where
   on_ok : {P Q : Type 0} → (P → Q) → OnOk r P → OnOk r Q
-  on_ok f h = by_result r f h
-    where
-      by_result : (q : Result T TreeFault) {P Q : Type 0} → (P → Q) → OnOk q P → OnOk q Q
-      by_result (Ok x) f h = f h
-      by_result (Err e) f h = tt
+  on_ok k j = search rules
 
   -- a region from which a row was taken, alone or joined with a neighbour
   pub taken_alone : (span : Region) → OnOk r (IsPut b d) → OnOk r (KeepsTold b d) → Writes span b d r → OnOk r (TakesAt span a d)
-  taken_alone span put told w = subst (λ (v : TreeView). OnOk r (TakesAt span v d)) same (both_ok put told)
-    where
-      taken : IsPut b d → KeepsTold b d → TakesAt span b d
-      taken p k = record {
-        same = p ∙ ap (λ (v : TreeView). record b { placed = v.placed; store = v.store; is_changed = true; inner = v.inner }) (sym p);
-        shrunk = inl (w.kept, (k, w.count));
-      }
-
-      both_ok : OnOk r (IsPut b d) → OnOk r (KeepsTold b d) → OnOk r (TakesAt span b d)
-      both_ok p k = by_both r p k taken
-        where
-          by_both : (q : Result T TreeFault) {P Q R : Type 0} → OnOk q P → OnOk q Q → (P → Q → R) → OnOk q R
-          by_both (Ok x) p k f = f p k
-          by_both (Err e) p k f = tt
+  taken_alone span k j l = search rules
 
   pub taken_joined : (span first : Region) → IsThatOrBefore a span first → OnOk r (JoinsAt first b d) → OnOk r (TakesAt span a d)
   taken_joined span first is joined = subst (λ (v : TreeView). IsThatOrBefore v span first → OnOk r (TakesAt span v d)) same
       (λ here. on_ok (λ (h : JoinsAt first b d). record { same = h.same; shrunk = inr (first, here, h.others, h.dropped) }) joined) is
 
--- how many rows are counted says nothing of regions and pages
-told_counted : (t : TreeView) (n : ℕ) (region : Region) → IsRegionOf t region → IsRegionOf (record t { rows = n }) region
-told_counted t n region h = record { key = h.key; falls = h.falls }
-
-told_uncounted : (t : TreeView) (n : ℕ) (region : Region) → IsRegionOf (record t { rows = n }) region → IsRegionOf t region
-told_uncounted t n region h = record { key = h.key; falls = h.falls }
-
 pub shrinks_by : (a b mid d : TreeView) (key : Key) (span : Region) (n : ℕ) → b ≡ a → d ≡ record mid { rows = n } → FallsTo a key span → TakesAt span b mid → ShrinksAt key a d
-shrinks_by a b mid d key span n same is falls h =
-    subst (λ (v : TreeView). ShrinksAt key a v) (sym is)
-    (subst (λ (v : TreeView). FallsTo v key span → ShrinksAt key v (record mid { rows = n })) same (λ here. record { span = span; falls = here; others = by_case h.shrunk }) falls)
-  where
-    by_case : (WritesPage span.page b mid × KeepsEntries b mid) ⊎ ((first : Region) × IsThatOrBefore b span first × WritesIndex first.page b mid × DropsEntry b mid)
-        → (WritesPage span.page b (record mid { rows = n }) × KeepsEntries b (record mid { rows = n }))
-        ⊎ ((first : Region) × IsThatOrBefore b span first × WritesIndex first.page b (record mid { rows = n }) × DropsEntry b (record mid { rows = n }))
-    by_case (inl k) = inl (
-      k.0,
-      (
-        record { count = k.1.0.count; told = λ region. (λ t. told_counted mid n region ((k.1.0.told region).0 t), λ t. (k.1.0.told region).1 (told_uncounted mid n region t)) },
-        k.1.1,
-      ),
-    )
-    by_case (inr k) = inr (k.0, k.1, k.2, k.3)
+shrinks_by a b mid d key span n k j l m = search rules
 
 -- the rows of the region that holds a key, which are those of a span
 pub record IsHolder (a : TreeView) (key : Key) (span : Region) (rows : List Row) : Type 0 where
@@ -229,22 +186,11 @@ module _ (a : TreeView) (key : Key) (span : Region) (rows : List Row) (h : IsHol
 
 -- no row has the key
 pub none_removed : (a b : TreeView) (key : Key) (span : Region) (rows : List Row) → IsHolder a key span rows → b ≡ a → has_key a.schema.dims key rows ≡ false → IsSound a → IsRemoved key false a b
-none_removed a b key span rows h same has sound = subst (IsRemoved key false a) (sym same) (record {
-  found_is = sym (found_is a key span rows h sound ∙ has);
-  schema = refl;
-  regions_are = sym (remove_none a.schema.dims a.schema.page_rows key (regions a) (found_is a key span rows h sound ∙ has));
-  table = λ old is. is;
-  next = refl;
-  rows = omega arith;
-  sound = sound;
-})
+none_removed a b key span rows k j l m = search (rules, found_is, remove_none)
 
 -- a sound tree with a row counts one
 pub some_counted : (a : TreeView) (key : Key) (span : Region) (rows : List Row) → IsHolder a key span rows → has_key a.schema.dims key rows ≡ true → a.rows ≡ 0 → ¬ (IsSound a)
-some_counted a key span rows h has none sound =
-    let less = one_less a key span rows h sound has in
-    let counted = sound.rows_are in
-    absurd (omega arith)
+some_counted a key span rows k j l = search (rules, one_less)
 
 -- a row was taken out of a sound tree
 pub shrunk : (a b after d : TreeView) (key : Key) (span : Region) (rows : List Row) → IsHolder a key span rows → b ≡ a → has_key a.schema.dims key rows ≡ true
@@ -298,23 +244,11 @@ shrunk a b after d key span rows h same has changed marks last few lowered writt
 
 -- a region that was read stands there
 pub read_there : (a s : TreeView) (key : Key) (span : Region) (region : RegionRows) → s ≡ a → FallsTo a key span → span.page < page_count s.store → IsTakenIn s span region → IsRegionThere s span
-read_there a s key span region same falls there on = record {
-  told = subst (λ (v : TreeView). IsRegionOf v span) (sym same) (record { key = key; falls = falls });
-  there = there;
-  region = region;
-  on = on;
-}
+read_there a s key span region k j l m = search rules
 
 -- a search that was refused, as a removal answers it
 read_removal : (t : TreeView) (e : TreeFault) → IsReadFault t e → IsRemovalFault t e
-read_removal t Full h = absurd h
-read_removal t HasFailed h = tt
-read_removal t Memory h = tt
-read_removal t (Page page fault) h = inl h.1
-read_removal t (Store store.Device) h = tt
-read_removal t (Store store.NoPage) h = tt
-read_removal t (Store store.BadSize) h = absurd h
-read_removal t (Store store.Memory) h = tt
+read_removal t e k = search rules
 
 pub searched_removal : {T : Type 0} (r : Result T TreeFault) (e : TreeFault) (a m : TreeView) → IsErrAnd r (λ x. x ≡ e) → m ≡ a → IsReadFault m e → IfErr r (IsRemovalFault a)
 searched_removal (Ok x) e a m is same h = tt

@@ -1,4 +1,5 @@
 -- Which rows can stand in the place of a region's, and where a region of theirs begins.
+use Rattle.std.proofs.Common.{rules}
 use Rattle.std.proofs.Common.{◌≡◌, ◌<◌, ◌≤◌, ◌+◌, ◌-◌, inl, inr, ℕ, zero, suc, true, false, List, [], ◌∷◌, ◌++◌, Option, Some, None, IfSome, length, nat_le, drop, ◌∙◌, sym, ap, subst, refl, arith, slice_get, length-append}
 use Rattle.std.proofs.lemmas.Bool.{cases_Bool, and_from, eq-eqb, le-leb, lt-leb, leb-true, leb-false}
 use Rattle.std.proofs.lemmas.List.{length-drop}
@@ -30,10 +31,7 @@ not_before key first f h = let t = precedes_of key first h in cc
 -- rows with one more, whose key none of them has
 next_new : (dims : ℕ) (row : Row) (key : Key) (rows : List Row) → IsBefore key (key_of dims row) → IsBeforeNext key (keys_of dims rows) → IsBeforeNext key (keys_of dims (insert_row dims row rows))
 next_new dims row key [] before next = before
-next_new dims row key (other ∷ rows) before next = elim (cases_Bool (precedes (key_of dims row) (key_of dims other))) [
-  | inl t ↦ rw t before
-  | inr f ↦ rw f next
-]
+next_new dims row key (other ∷ rows) before next = search (rules, cases_Bool)
 
 same_self : (a b : Key) → a ≡ b → is_same a b ≡ true
 same_self a b e = rw e (and_from _ _ (eq-eqb b.z b.z refl) (eq-eqb b.number b.number refl))
@@ -113,26 +111,12 @@ filled_each schema first rows filled = elim (cases_Bool (nat_le (length rows) sc
 pub filled_with : (schema : Schema) (first : Key) (next : Option Key) (row : Row) (rows : List Row) → AreRowsFrom schema first next rows → HoldsKey (key_of schema.dims row) first next
     → IsRow schema.dims (measures_of schema) row → has_key schema.dims (key_of schema.dims row) rows ≡ false
     → IsFilled schema (record { first = first; rows = insert_row schema.dims row rows })
-filled_with schema first next row rows are holds good none =
-    let dims = schema.dims in
-    let few = are.0.few in
-    let long = length-insert_row dims row rows in
-    record {
-      most = omega arith;
-      first = are.0.first;
-      rows = all_insert dims row (IsRow dims (measures_of schema)) rows are.0.rows good;
-      ascending = up_new dims row rows are.0.ascending none;
-      within = all_keys dims (λ k. ¬ (IsBefore k first)) (insert_row dims row rows)
-          (all_insert dims row (λ other. ¬ (IsBefore (key_of dims other) first)) rows (all_of_keys dims (λ k. ¬ (IsBefore k first)) rows are.0.within) holds.from);
-    }
+filled_with schema first next row rows h k j l = search (rules, all_insert, all_keys, all_of_keys, length-insert_row, up_new)
 
 -- rows that stand before the next region do so with a row that the region holds
 pub before_next : (dims : ℕ) (next : Option Key) (row : Row) (rows : List Row) → IfSome next (λ end. AllByRecursion (λ k. IsBefore k end) (keys_of dims rows)) → IfSome next (IsBefore (key_of dims row))
     → IfSome next (λ end. AllByRecursion (λ k. IsBefore k end) (keys_of dims (insert_row dims row rows)))
-before_next dims next row rows =
-    if_some_both (λ end. AllByRecursion (λ k. IsBefore k end) (keys_of dims rows)) (λ end. IsBefore (key_of dims row) end)
-    (λ end. AllByRecursion (λ k. IsBefore k end) (keys_of dims (insert_row dims row rows))) next
-    (λ end all before. all_keys dims (λ k. IsBefore k end) (insert_row dims row rows) (all_insert dims row (λ other. IsBefore (key_of dims other) end) rows (all_of_keys dims (λ k. IsBefore k end) rows all) before))
+before_next dims next row rows h k = search (rules, all_insert, all_keys, all_of_keys, if_some_both)
 
 -- where they are more than a page holds, the other half begins between the region's first key and the next region
 pub within_for : (schema : Schema) (first : Key) (next : Option Key) (row : Row) (rows : List Row) → AreRowsFrom schema first next rows → HoldsKey (key_of schema.dims row) first next
@@ -180,22 +164,7 @@ rows_on t span region on = (subst (λ (k : Key). IsRegion t.schema (record { fir
 
 -- and so they are with one of them taken out
 pub rows_without : (schema : Schema) (first : Key) (next : Option Key) (key : Key) (rows : List Row) → AreRowsFrom schema first next rows → AreRowsFrom schema first next (remove_row schema.dims key rows)
-rows_without schema first next key rows are =
-    let dims = schema.dims in
-    let few = are.0.few in
-    let less = length-remove_row dims key rows in (
-      record {
-        few = omega arith;
-        first = are.0.first;
-        rows = all_remove dims key (IsRow dims (measures_of schema)) rows are.0.rows;
-        ascending = up_remove dims key rows are.0.ascending;
-        within = all_keys dims (λ k. ¬ (IsBefore k first)) (remove_row dims key rows)
-            (all_remove dims key (λ other. ¬ (IsBefore (key_of dims other) first)) rows (all_of_keys dims (λ k. ¬ (IsBefore k first)) rows are.0.within));
-      },
-      if_some_more (λ end. AllByRecursion (λ k. IsBefore k end) (keys_of dims rows)) (λ end. AllByRecursion (λ k. IsBefore k end) (keys_of dims (remove_row dims key rows))) next
-          (λ end all. all_keys dims (λ k. IsBefore k end) (remove_row dims key rows) (all_remove dims key (λ other. IsBefore (key_of dims other) end) rows (all_of_keys dims (λ k. IsBefore k end) rows all)))
-          are.1,
-    )
+rows_without schema first next key rows h = search (rules, all_keys, all_of_keys, all_remove, if_some_more, length-remove_row, up_remove)
 
 -- two neighbouring regions make one, where a page holds the rows of both
 joined_region : (schema : Schema) (first second : Key) (rows more : List Row) → IsRegion schema (record { first = first; rows = rows }) → IsRegion schema (record { first = second; rows = more })

@@ -1,4 +1,7 @@
 -- Searches in the index of a tree, as calls of the tree.
+use Rattle.std.proofs.lemmas.Grind.{common_steps}
+use Rattle.std.proofs.Common.{arith}
+use Rattle.std.proofs.Common.{rules}
 use Rattle.std.proofs.Common.{◌≡◌, ◌<◌, ◌^◌, ◌∙◌, inl, inr, ℕ, Bool, Option, Some, None, IfSome, Result, Ok, Err, if◌then◌else◌, ap, refl}
 use Rattle.std.proofs.lemmas.Bool.{cases_Bool}
 use Rattle.std.specs.Result.{IsErrAnd}
@@ -11,11 +14,9 @@ use Rattle.ub_index.specs.Searching.{GoesDown, IsWayFault, store_after}
 use Rattle.ub_index.specs.View.{IndexView, Stops}
 use Rattle.ub_index.specs.Way.{HoldsKey}
 use Rattle.ub_index.specs.declared.fault.IndexFault.{IndexFault}
-use Rattle.ub_index.specs.declared.fault.IndexFault.TheVariants as index
 use Rattle.ub_region.specs.declared.region.Region.{Region}
 use Rattle.ub_store.specs.Facts.{StoreFacts, IsHonest}
 use Rattle.ub_store.specs.View.{PagerView}
-use Rattle.ub_store.specs.declared.fault.StoreFault.TheVariants as store
 use Rattle.ub_table.proofs.Laws.{before_of, before_trans, not_before_self, not_both_before, precedes_of}
 use Rattle.ub_table.specs.Keys.{IsBefore, precedes}
 use Rattle.ub_table.specs.declared.fault.PageFault.{PageFault}
@@ -34,12 +35,7 @@ known_is facts honest = rw honest refl
 
 -- a store that was read, by the fault of the index and by that of the tree
 pub stores_alike : (T U : Type 0) (e : IndexFault) (s : StoreFacts) → store_after {A = U} (Err e) s ≡ read_store {A = T} (Err (index_fault e)) s
-stores_alike T U (index.Page n fault) s = refl
-stores_alike T U index.Full s = refl
-stores_alike T U (index.Store store.Memory) s = refl
-stores_alike T U (index.Store store.Device) s = refl
-stores_alike T U (index.Store store.NoPage) s = refl
-stores_alike T U (index.Store store.BadSize) s = refl
+stores_alike T U e s = search rules
 
 -- on a sound tree no way stops
 pub no_stop : (t : TreeView) (key : Key) (n : ℕ) (fault : Option PageFault) → t.inner.index.last < 2 ^ 128 → IsSound t → ¬ (Stops t.inner.index t.store key n fault)
@@ -59,10 +55,7 @@ later_from a b = elim (cases_Bool (precedes a b)) [
 
 later_before : (a b end : Key) → IsBefore a end → IsBefore b end → IsBefore (later_of a b) end
 unfolding later_of
-later_before a b end h k = elim (cases_Bool (precedes a b)) [
-  | inl t ↦ rw t k
-  | inr f ↦ rw f h
-]
+later_before a b end h k = search rules
 
 later_within : (a b : Key) (end : Option Key) → IfSome end (IsBefore a) → IfSome end (IsBefore b) → IfSome end (IsBefore (later_of a b))
 later_within a b None h k = tt
@@ -76,14 +69,7 @@ before_all a b (Some end) h k = before_trans a b end h k
 pub overlaps : (t : TreeView) (one_key other_key : Key) (one other : Region) → FallsTo t one_key one → FallsTo t other_key other → ¬ (one ≡ other)
     → IfSome one.next (IsBefore one.first) → IfSome one.next (IsBefore other.first) → IfSome other.next (IsBefore one.first) → IfSome other.next (IsBefore other.first)
     → ¬ (IsHonest t.store)
-overlaps t one_key other_key one other falls other_falls apart within one_within other_within within_other honest =
-    let from = later_from one.first other.first in
-    let common = later_of one.first other.first in
-    let one_holds : HoldsKey common one.first one.next = record { from = from.0; to = later_within one.first other.first one.next within one_within } in
-    let other_holds : HoldsKey common other.first other.next = record { from = from.1; to = later_within one.first other.first other.next other_within within_other } in
-    apart (one_given t.inner.index t.store common one other honest
-    (record { holds = one_holds; from = falls.from; to = falls.to; way = λ _. (ways_hold t.inner.index t.store one_key one (falls.way honest)).2 common one_holds })
-    (record { holds = other_holds; from = other_falls.from; to = other_falls.to; way = λ _. (ways_hold t.inner.index t.store other_key other (other_falls.way honest)).2 common other_holds }))
+overlaps t one_key other_key one other h k j l m o p = grind (arith, common_steps, later_from, later_of, later_within, one_given, ways_hold)
 
 -- a span that holds a key isn't empty
 pub not_empty : (key first : Key) (next : Option Key) → HoldsKey key first next → IfSome next (IsBefore first)
@@ -96,17 +82,7 @@ index_not_refused t n fault small sound h = let stops = h sound.honest in no_sto
 -- why a search is refused
 pub search_fault : (t : TreeView) (Sought : Key → Type 0) → t.inner.index.last < 2 ^ 128 → (e : IndexFault)
     → IsWayFault t.inner.index t.store Sought e → IsReadFault t (index_fault e)
-search_fault t Sought small (index.Page n fault) h =
-    let refused : IsIndexRefused t n fault = λ honest. (let w = h honest in (w.0, w.2)) in
-    ((λ sound. index_not_refused t n fault small sound refused), inl refused)
-search_fault t Sought small index.Full h = absurd h
-search_fault t Sought small (index.Store store.Memory) h = tt
-search_fault t Sought small (index.Store store.Device) h = h
-search_fault t Sought small (index.Store store.BadSize) h = absurd h
-search_fault t Sought small (index.Store store.NoPage) h = (
-  (λ sound. let w = h.2 sound.honest in no_stop t w.0 h.0 None small sound w.2),
-  inl (h.0, h.1, λ honest. let w = h.2 honest in (w.0, w.2)),
-)
+search_fault t Sought h e k = search (rules, index_not_refused, no_stop)
 
 -- a search, as one of the tree
 module _ (schema : Schema) (i : IndexView) (count next rows : ℕ) (changed failed : Bool) (old new : PagerView) (Sought : Key → Type 0) where

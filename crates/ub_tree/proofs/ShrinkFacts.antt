@@ -1,11 +1,13 @@
 -- Regions in a list: one gets other rows, or is joined with the next one or the one before, and whether one has a key.
-use Rattle.std.proofs.Common.{◌≡◌, ◌≢◌, ◌<◌, ◌+◌, ◌-◌, ◌/◌, ◌||◌, inl, inr, ℕ, zero, suc, Bool, true, false, List, [], ◌∷◌, ◌++◌, Some, length, map, take, drop, nat_le, nat_lt, ◌∙◌, sym, ap, subst, refl, arith, slice_get, if◌then◌else◌}
+use Rattle.std.proofs.lemmas.Grind.{common_steps}
+use Rattle.std.proofs.Common.{rules}
+use Rattle.std.proofs.Common.{◌≡◌, ◌≢◌, ◌<◌, ◌+◌, ◌-◌, ◌/◌, ◌||◌, inl, inr, ℕ, zero, suc, Bool, true, false, List, [], ◌∷◌, ◌++◌, Some, length, map, take, drop, nat_le, nat_lt, ◌∙◌, sym, ap, refl, arith, slice_get, if◌then◌else◌}
 use Rattle.std.proofs.lemmas.Bool.{cases_Bool}
 use Rattle.std.proofs.lemmas.List.{append-nil, length-map, map-append, take-map, drop-map}
 use Rattle.std.specs.List.{remove as remove_at_index}
 use Rattle.ub_region.proofs.Laws.{IsChain, chain_of, all_more, all_from, other_key, all_of_keys, has_append, has_none}
 use Rattle.ub_region.specs.Joins.{put_rows, JoinsNext, JoinsBefore}
-use Rattle.ub_region.specs.Regions.{AreRegions, change_from, firsts_of, fits_next, is_small, join_before, join_first, index_holding, remove, remove_first, rows_of, settle}
+use Rattle.ub_region.specs.Regions.{AreRegions, change_from, firsts_of, fits_next, is_small, join_first, index_holding, remove, remove_first, rows_of, settle}
 use Rattle.ub_region.specs.Rows.{has_key, remove_row}
 use Rattle.ub_table.proofs.Laws.{before_of, precedes_of}
 use Rattle.ub_table.specs.Keys.{IsBefore, precedes, is_same}
@@ -23,10 +25,7 @@ some_at (x ∷ xs) zero lt = (x, refl)
 some_at (x ∷ xs) (suc i) lt = some_at xs i (omega arith)
 
 map_with : {X Y : Type 0} (f : X → Y) (n : ℕ) (news xs : List X) → map f (take n xs ++ news ++ drop (suc n) xs) ≡ take n (map f xs) ++ map f news ++ drop (suc n) (map f xs)
-map_with f n news xs =
-    map-append f (take n xs ++ news) (drop (suc n) xs)
-    ∙ ap (λ zs. zs ++ map f (drop (suc n) xs)) (map-append f (take n xs) news)
-    ∙ rw (take-map f n xs, drop-map f (suc n) xs) refl
+map_with f n news xs = search (rules, drop-map, map-append, take-map)
 
 pub regions_put : (index : ℕ) (news placed : List Placed) → regions_in (placed_with index news placed) ≡ regions_with index (regions_in news) (regions_in placed)
 regions_put index news placed = map_with (λ (p : Placed). p.region) index news placed
@@ -56,9 +55,7 @@ put_joined (suc index) rows r (a ∷ rs) at = ap (λ (xs : List RegionRows). a �
 
 -- the region at an index and the next one
 small_put : (c index : ℕ) (rows : List Row) (rs : List RegionRows) → index < length rs → is_small c (drop index (put_rows index false rows rs)) ≡ nat_lt (length rows) (c / 2)
-small_put c index rows [] lt = absurd (omega arith)
-small_put c zero rows (a ∷ rs) lt = refl
-small_put c (suc index) rows (a ∷ rs) lt = small_put c index rows rs (omega arith)
+small_put c index rows rs h = grind (arith, common_steps)
 
 fits_put : (c index : ℕ) (rows : List Row) (b : RegionRows) (rs : List RegionRows) → slice_get rs (suc index) ≡ Some b
     → fits_next c (drop index (put_rows index false rows rs)) ≡ nat_le (length rows + length b.rows) c
@@ -105,13 +102,7 @@ join_with c index rows new false b rs at is made = record { fits = is ∙ sym (f
 
 join_after : (c index : ℕ) (rows new : List Row) (fit : Bool) (a : RegionRows) (rs : List RegionRows) → slice_get rs index ≡ Some a → suc index < length rs
     → fit ≡ nat_le (length a.rows + length rows) c → new ≡ (if fit then a.rows ++ rows else rows) → JoinsBefore c (suc index) rows new fit rs
-join_after c index rows new true a rs at lt is made =
-    let fits : fits_next c (drop index (put_rows (suc index) false rows rs)) ≡ true = fits_before c index rows a rs at lt ∙ sym is in
-    let here : suc index - 1 ≡ index = omega arith in
-    rw (here, fits, made) (joins_before index rows a rs at lt)
-join_after c index rows new false a rs at lt is made =
-    let over : fits_next c (drop index (put_rows (suc index) false rows rs)) ≡ false = fits_before c index rows a rs at lt ∙ sym is in
-    rw (over, made) refl
+join_after c index rows new fit a rs h k j l = search (rules, fits_before, joins_before)
 
 pub join_one : (c index : ℕ) (rows new : List Row) (fit : Bool) (a : RegionRows) (rs : List RegionRows) → index ≢ 0 → slice_get rs (index - 1) ≡ Some a → index < length rs
     → fit ≡ nat_le (length a.rows + length rows) c → new ≡ (if fit then a.rows ++ rows else rows) → JoinsBefore c index rows new fit rs
@@ -130,23 +121,15 @@ map_removed f i xs = map-append f (take i xs) (drop (suc i) xs) ∙ rw (take-map
 -- what the settling of a region is
 pub settle_large : (c index : ℕ) (rows : List Row) (rs : List RegionRows) → index < length rs → nat_lt (length rows) (c / 2) ≡ false
     → put_rows index false rows rs ≡ settle c index (put_rows index false rows rs)
-settle_large c index rows rs lt large =
-    let is : is_small c (drop index (put_rows index false rows rs)) ≡ false = small_put c index rows rs lt ∙ large in
-    rw is refl
+settle_large c index rows rs h k = search (rules, small_put)
 
 pub settle_next : (c index : ℕ) (old new : List Row) (rs : List RegionRows) → index < length rs → nat_lt (length old) (c / 2) ≡ true → JoinsNext c index old new true rs
     → put_rows index true new rs ≡ settle c index (put_rows index false old rs)
-settle_next c index old new rs lt few joins =
-    let is : is_small c (drop index (put_rows index false old rs)) ≡ true = small_put c index old rs lt ∙ few in
-    let fits : fits_next c (drop index (put_rows index false old rs)) ≡ true = sym joins.fits in
-    rw (is, fits) joins.rows
+settle_next c index old new rs h k j = search (rules, small_put)
 
 pub settle_before : (c index : ℕ) (old left new : List Row) (fit : Bool) (rs : List RegionRows) → index < length rs → nat_lt (length old) (c / 2) ≡ true → JoinsNext c index old left false rs
     → JoinsBefore c index left new fit rs → put_rows (if fit then index - 1 else index) fit new rs ≡ settle c index (put_rows index false old rs)
-settle_before c index old left new fit rs lt few over joins =
-    let is : is_small c (drop index (put_rows index false old rs)) ≡ true = small_put c index old rs lt ∙ few in
-    let fits : fits_next c (drop index (put_rows index false old rs)) ≡ false = sym over.fits in
-    rw (is, fits) (joins ∙ ap (join_before c index) over.rows)
+settle_before c index old left new fit rs h k j l = search (rules, small_put)
 
 -- a row of the key stands in the region that holds the key, or nowhere
 or_false : (b : Bool) → (b || false) ≡ b
@@ -176,8 +159,7 @@ has_here schema key region (next ∷ rs) r chain at = elim (cases_Bool (precedes
 pub has_at : (schema : Schema) (n : ℕ) (key : Key) (rs : List RegionRows) (index : ℕ) (r : RegionRows) → AreRegions schema n rs → index ≡ index_holding key (firsts_of rs) → slice_get rs index ≡ Some r
     → has_key schema.dims key (rows_of rs) ≡ has_key schema.dims key r.rows
 has_at schema n key [] index r h is at = cc
-has_at schema n key (region ∷ rs) index r h is at =
-    has_here schema key region rs r (chain_of schema (region ∷ rs) h.each h.ascending h.apart) (subst (λ (i : ℕ). slice_get (region ∷ rs) i ≡ Some r) is at)
+has_at schema n key (region ∷ rs) index r h is at = search (rules, chain_of, has_here)
 
 pub removed_at : (dims c : ℕ) (key : Key) (rs : List RegionRows) (index : ℕ) (r : RegionRows) → has_key dims key (rows_of rs) ≡ true → index ≡ index_holding key (firsts_of rs) → slice_get rs index ≡ Some r
     → remove dims c key rs ≡ settle c index (put_rows index false (remove_row dims key r.rows) rs)

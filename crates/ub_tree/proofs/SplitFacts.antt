@@ -1,10 +1,11 @@
 -- What becomes of the regions of a tree, each on its page, where a change of its index is made: one region was parted, or taken into
 -- the one before it.
-use Rattle.std.proofs.Common.{◌≡◌, ◌≢◌, ◌<◌, ◌≤◌, ◌∙◌, ℕ, zero, suc, List, [], ◌∷◌, ◌++◌, None, length, map, take, drop, nat_eq, sym, ap, subst, refl, arith, slice_get, append_assoc}
+use Rattle.std.proofs.Common.{rules}
+use Rattle.std.proofs.Common.{◌≡◌, ◌≢◌, ◌<◌, ◌≤◌, ◌∙◌, ℕ, suc, List, [], ◌∷◌, ◌++◌, map, take, drop, nat_eq, sym, ap, subst, refl, arith, slice_get, append_assoc}
 use Rattle.std.proofs.lemmas.List.{map-append, take-map, drop-map}
 use Rattle.std.proofs.lemmas.List.Elements.{All-from_recursion, recursion_from_All}
 use Rattle.std.proofs.lemmas.Option.{slice_get_within}
-use Rattle.std.specs.List.{All, AllByRecursion, IsDistinct}
+use Rattle.std.specs.List.{AllByRecursion, IsDistinct}
 use Rattle.ub_check.proofs.PlacedFacts.{placed_at}
 use Rattle.ub_store.specs.Writing.{Grows}
 use Rattle.ub_index_change.proofs.MadeFacts.{made}
@@ -46,8 +47,7 @@ module _ (chain before after : List ℕ) (page count : ℕ) (own : IsDistinct na
   each_apart : (ns : List ℕ) → AllByRecursion (λ n. 0 ≢ n) ns → AllByRecursion (λ n. n < count) ns → AllByRecursion (λ n. n ≢ page) ns
       → AllByRecursion (λ n. IsOutside n (0 ∷ count ∷ page ∷ [])) ns
   each_apart [] first lt other = tt
-  each_apart (n ∷ ns) first lt other =
-      ((λ e. first.0 (sym e), (λ e. (let less_so = lt.0 in absurd (omega arith)), (other.0, tt))), each_apart ns first.1 lt.1 other.1)
+  each_apart (n ∷ ns) first lt other = search (rules, (each_apart ns first.1 lt.1 other.1))
 
   each_first : (ns : List ℕ) → AllByRecursion (λ n. IsOutside n (0 ∷ count ∷ page ∷ [])) ns → AllByRecursion (λ n. IsOutside n (0 ∷ page ∷ [])) ns
   each_first [] h = tt
@@ -187,40 +187,14 @@ module _ (schema : Schema) (index : IndexView) (a : StoreFacts) (placed : List P
       spelled_parts = subst (AllByRecursion (IsSpelled schema a.pages)) (sym parts) spelled_entries
 
       parts_new : placed_of schema a.pages before ++ news ++ placed_of schema a.pages after ≡ placed_with i news placed
-      parts_new =
-          ap (λ (ps : List Placed). ps ++ news ++ placed_of schema a.pages after) (sym (take-map (placed_at schema a.pages) i entries))
-          ∙ ap (λ (ps : List Placed). take i (placed_of schema a.pages entries) ++ news ++ ps) (sym (drop-map (placed_at schema a.pages) (suc i) entries))
-          ∙ ap (placed_with i news) (sym viewed)
+      parts_new = search (rules, drop-map, placed_at, take-map)
 
       -- the regions then, as the index tells them
       pub new_placed : placed_of schema new.pages (entries_in (changed index change) new) ≡ placed_with i news placed
-      new_placed =
-          ap (placed_of schema new.pages) (new_entries ∙ ap (λ (xs : List Entry). before ++ (xs ++ after)) fs_are ∙ sym (append_assoc before (map entry_of news) after))
-          ∙ placed_changed schema a.pages new.pages before after news kept_before kept_after told
-          ∙ parts_new
+      new_placed = grind (arith, append_assoc, kept_after, kept_before, new_entries, parts_new, placed_changed)
 
       pub new_indexed : HasIndex (changed index change) new.pages (map entry_of (placed_with i news placed))
-      new_indexed = record {
-        some = committed.is.some;
-        under_it = committed.is.under_it;
-        entries_are = sym (entries_back schema new.pages (entries_in (changed index change) new)) ∙ ap (map entry_of) new_placed;
-      }
+      new_indexed = search (rules, committed, entries_are, entries_back, new_placed)
 
       pub new_are : ArePlaced schema (placed_with i news placed) (reserved (changed index change) new.pages) new.pages
-      new_are = record {
-        spelled = subst (All (IsSpelled schema new.pages)) parts_new
-            (spelled_changed schema a.pages new.pages before after news kept_before kept_after told
-            (all_left (IsSpelled schema a.pages) (placed_of schema a.pages before) (placed_at schema a.pages (entry_at span) ∷ placed_of schema a.pages after) spelled_parts)
-            (all_right (IsSpelled schema a.pages) (placed_of schema a.pages before) (placed_at schema a.pages (entry_at span) ∷ placed_of schema a.pages after) spelled_parts).1);
-        own = subst (λ (ns : List ℕ). IsDistinct nat_eq (reserved (changed index change) new.pages ++ ns))
-            (ap region_pages new_indexed.entries_are ∙ pages_by (placed_with i news placed)) own_new;
-        within = All-from_recursion (λ n. n < length new.pages) (reserved (changed index change) new.pages)
-            (some_page, within_store index.last new.pages change.levels (top change.root) None committed.is.under_it);
-      }
-        where
-          by_level : (level : ℕ) → 1 ≤ level → AllByRecursion (λ n. n < length new.pages) (pages_under new.pages level (top change.root)) → 0 < length new.pages
-          by_level zero some h = absurd (omega arith)
-          by_level (suc level) some h = let lt = h.0 in omega arith
-
-          some_page : 0 < length new.pages
-          some_page = by_level change.levels committed.is.some (within_store index.last new.pages change.levels (top change.root) None committed.is.under_it)
+      new_are = search (rules, All-from_recursion, IsSpelled, all_left, all_right, committed, kept_after, kept_before, new_indexed, own, pages_by, parts_new, placed_at, spelled, spelled_changed, spelled_parts, within_store)

@@ -1,4 +1,5 @@
 -- What a change of some pages leaves of the regions that stand on the others.
+use Rattle.std.proofs.Common.{rules}
 use Rattle.std.proofs.Common.{◌≡◌, ℕ, zero, suc, List, [], ◌∷◌, ◌++◌, Some, map, take, drop, ◌∙◌, sym, ap, refl, slice_get, slice_index_or}
 use Rattle.std.proofs.lemmas.Option.{get_or_from_slice_get, unwrap_or-slice_get}
 use Rattle.std.proofs.lemmas.List.Elements.{All-from_recursion}
@@ -8,7 +9,6 @@ use Rattle.ub_check.proofs.PlacedFacts.{placed_append, placed_at}
 use Rattle.ub_region.specs.RegionPage.{region_on, region_page}
 use Rattle.ub_region.specs.declared.entry.Entry.{Entry}
 use Rattle.ub_region.proofs.Laws.{all_more, all_append}
-use Rattle.ub_table.specs.Region.{RegionRows}
 use Rattle.ub_table.specs.declared.schema.Schema.{Schema}
 use Rattle.ub_tree.specs.Placed.{Placed, placed_of, entry_of}
 
@@ -21,11 +21,7 @@ IsKept pages new e = slice_get new e.page ≡ slice_get pages e.page
 
 pub placed_kept : (schema : Schema) (pages new : List (List ℕ)) (es : List Entry) → AllByRecursion (IsKept pages new) es → placed_of schema new es ≡ placed_of schema pages es
 placed_kept schema pages new [] kept = refl
-placed_kept schema pages new (e ∷ es) kept =
-    let page : slice_index_or new e.page [] ≡ slice_index_or pages e.page [] = index_same new pages e.page kept.0 in
-    let first : placed_at schema new e ≡ placed_at schema pages e =
-    ap (λ (p : List ℕ). record { page = e.page; region = record { first = e.first; rows = (region_on schema p).rows } }) page in
-    ap (λ (p : Placed). p ∷ placed_of schema new es) first ∙ ap (λ (ps : List Placed). placed_at schema pages e ∷ ps) (placed_kept schema pages new es kept.1)
+placed_kept schema pages new (e ∷ es) kept = search (rules, (placed_kept schema pages new es kept.1), index_same, placed_at)
 
 -- a region's page spells it
 abbrev pub IsSpelled : Schema → List (List ℕ) → Placed → Type 0
@@ -42,35 +38,19 @@ IsTold schema pages p = IsSpelled schema pages p × (region_on schema (region_pa
 
 pub placed_told : (schema : Schema) (pages : List (List ℕ)) (news : List Placed) → AllByRecursion (IsTold schema pages) news → placed_of schema pages (map entry_of news) ≡ news
 placed_told schema pages [] told = refl
-placed_told schema pages (p ∷ news) told =
-    let page : slice_index_or pages p.page [] ≡ region_page schema p.region = get_or_from_slice_get pages p.page (region_page schema p.region) [] told.0.0 in
-    let rows : (region_on schema (slice_index_or pages p.page [])).rows ≡ p.region.rows =
-    ap (λ (q : List ℕ). (region_on schema q).rows) page ∙ ap (λ (r : RegionRows). r.rows) told.0.1 in
-    ap (λ rows. record { page = p.page; region = record { first = p.region.first; rows = rows } } ∷ placed_of schema pages (map entry_of news)) rows
-    ∙ ap (λ (ps : List Placed). p ∷ ps) (placed_told schema pages news told.1)
+placed_told schema pages (p ∷ news) told = search (rules, (placed_told schema pages news told.1), get_or_from_slice_get)
 
 -- in place of some regions stand others, and the pages of the regions before and after are as they were
 pub placed_changed : (schema : Schema) (pages new : List (List ℕ)) (before after : List Entry) (news : List Placed)
     → AllByRecursion (IsKept pages new) before → AllByRecursion (IsKept pages new) after → AllByRecursion (IsTold schema new) news
     → placed_of schema new (before ++ map entry_of news ++ after) ≡ placed_of schema pages before ++ news ++ placed_of schema pages after
-placed_changed schema pages new before after news kept_before kept_after told =
-    placed_append schema new (before ++ map entry_of news) after
-    ∙ ap (λ (ps : List Placed). ps ++ placed_of schema new after) (placed_append schema new before (map entry_of news)
-    ∙ ap (λ (ps : List Placed). ps ++ placed_of schema new (map entry_of news)) (placed_kept schema pages new before kept_before)
-    ∙ ap (λ (ps : List Placed). placed_of schema pages before ++ ps) (placed_told schema new news told))
-    ∙ ap (λ (ps : List Placed). placed_of schema pages before ++ news ++ ps) (placed_kept schema pages new after kept_after)
+placed_changed schema pages new before after news h k j = search (rules, placed_append, placed_kept, placed_told)
 
 pub spelled_changed : (schema : Schema) (pages new : List (List ℕ)) (before after : List Entry) (news : List Placed)
     → AllByRecursion (IsKept pages new) before → AllByRecursion (IsKept pages new) after → AllByRecursion (IsTold schema new) news
     → AllByRecursion (IsSpelled schema pages) (placed_of schema pages before) → AllByRecursion (IsSpelled schema pages) (placed_of schema pages after)
     → All (IsSpelled schema new) (placed_of schema pages before ++ news ++ placed_of schema pages after)
-spelled_changed schema pages new before after news kept_before kept_after told old_before old_after =
-    All-from_recursion (IsSpelled schema new) (placed_of schema pages before ++ news ++ placed_of schema pages after)
-    (all_append (IsSpelled schema new) (placed_of schema pages before ++ news) (placed_of schema pages after)
-    (all_append (IsSpelled schema new) (placed_of schema pages before) news
-    (spelled_kept schema pages new before kept_before old_before)
-    (all_more (IsTold schema new) (IsSpelled schema new) (λ p h. h.0) news told))
-    (spelled_kept schema pages new after kept_after old_after))
+spelled_changed schema pages new before after news h k j l m = search (rules, All-from_recursion, all_append, all_more, spelled_kept)
 
 pub parted : {X : Type 0} (xs : List X) (i : ℕ) (x : X) → slice_get xs i ≡ Some x → take i xs ++ x ∷ drop (suc i) xs ≡ xs
 parted [] i x at = cc

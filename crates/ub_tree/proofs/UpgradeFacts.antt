@@ -1,12 +1,13 @@
 -- The pages of an old table, brought over: what stands on them, and why they aren't.
-use Rattle.std.proofs.Common.{◌≡◌, ◌≢◌, ◌≤◌, ◌<◌, ◌+◌, ◌++◌, ◌∙◌, inl, inr, ℕ, zero, suc, true, false, List, [], ◌∷◌, Some, None, Result, Ok, Err, OnErr, length, map, slice_get, ap, sym, subst, refl, arith}
+use Rattle.std.proofs.Common.{rules}
+use Rattle.std.proofs.Common.{◌≡◌, ◌≢◌, ◌≤◌, ◌<◌, ◌+◌, ◌++◌, ◌∙◌, inl, inr, ℕ, zero, suc, true, false, List, [], ◌∷◌, Some, Result, Ok, Err, OnErr, length, map, slice_get, ap, sym, subst, refl, arith}
 use Rattle.std.proofs.lemmas.List.Elements.{All-from_recursion, recursion_from_All}
 use Rattle.std.proofs.lemmas.Option.{slice_get_within}
 use Rattle.std.specs.List.{All, AllByRecursion}
 use Rattle.ub_index.proofs.KeptFacts.{kept_index, kept_under}
 use Rattle.ub_index.proofs.Numbers.{distinct_apart, distinct_cons, distinct_first, distinct_join, distinct_left, distinct_right, kept_pages}
 use Rattle.ub_index.specs.Standing.{PagesStay, IsOutside}
-use Rattle.ub_index.specs.Index.{IsUnder, NamesFitting, pages_under, top}
+use Rattle.ub_index.specs.Index.{pages_under, top}
 use Rattle.ub_index.specs.View.{IndexView, index_view}
 use Rattle.ub_region.specs.declared.entry.Entry.{Entry}
 use Rattle.ub_page.specs.declared.header.OldHeader.{OldHeader}
@@ -21,10 +22,8 @@ use Rattle.ub_tree.specs.Old.{AreOldPages, head_of}
 use Rattle.ub_tree.specs.Placed.{Placed, ArePlaced, entry_of}
 use Rattle.ub_tree.specs.Stored.{index_of}
 use Rattle.ub_tree.specs.Tree.{tree_view}
-use Rattle.ub_tree.specs.Upgrade.{IsUpgradePassing, StandsOver}
+use Rattle.ub_tree.specs.Upgrade.{StandsOver}
 use Rattle.ub_tree.specs.View.{TreeView}
-use Rattle.ub_tree.specs.Opened.{IsPassing}
-use Rattle.ub_tree.specs.declared.fault.TreeFault.{TreeFault}
 use Rattle.ub_tree.specs.inner.Upgrading.{IsCarried}
 use Rattle.ub_upgrade.proofs.TableFacts.{root_fits}
 use Rattle.ub_upgrade.specs.Table.{CanBring, root_in}
@@ -63,14 +62,7 @@ module _ (version next : ℕ) (schema : Schema) (placed : List Placed) (from : S
 
   -- so they can be brought over
   pub can_bring : CanBring head from.pages entries
-  can_bring = elim s.told [
-    | inl first ↦ inl (version_is ∙ first.0, s.numbers, directory_is first.0 first.1, below)
-    | inr second ↦ inr (
-      version_is ∙ second.0,
-      subst (λ (h : OldHeader). NamesFitting (last_address h.header.schema.dims) from.pages h.header.levels (top h.header.root) None) (sym is)
-          (root_fits (last_address s.header.schema.dims) from.pages s.header.levels s.header.root second.1.some second.1.under_it),
-    )
-  ]
+  can_bring = search (rules, below, directory_is, root_fits, version_is)
 
   -- ---- no region stands on the first page, nor does the index or the directory
 
@@ -155,9 +147,7 @@ module _ (version next : ℕ) (schema : Schema) (placed : List Placed) (from : S
       as_many = (brought.index (version_is ∙ second)).1
 
       view_is : view ≡ index_of s.header
-      view_is =
-          ap (λ (r : Root). index_view r.page r.level last) (brought.index (version_is ∙ second)).2
-          ∙ ap (λ (h : OldHeader). index_of h.header) is
+      view_is = search rules
 
       stay_each : (ns : List ℕ) → IsOutside 0 ns → PagesStay from.pages new ns
       stay_each [] out = tt
@@ -168,18 +158,10 @@ module _ (version next : ℕ) (schema : Schema) (placed : List Placed) (from : S
       stay = subst (λ (ns : List ℕ). PagesStay from.pages new ns) numbers_are (stay_each s.numbers outside_numbers)
 
       old_indexed : HasIndex (index_of s.header) new entries
-      old_indexed = record {
-        some = has.some;
-        under_it = kept_index (index_of s.header).last from.pages new s.header.levels (top s.header.root) None stay has.under_it;
-        entries_are = kept_under from.pages new s.header.levels (top s.header.root) stay ∙ has.entries_are;
-      }
+      old_indexed = search (rules, kept_index, kept_under, stay)
 
       old_placed : ArePlaced schema placed (reserved (index_of s.header) new) new
-      old_placed = subst (λ (ns : List ℕ). ArePlaced schema placed (0 ∷ ns) new) (numbers_are ∙ sym (kept_pages from.pages new s.header.levels (top s.header.root) stay)) (record {
-        spelled = moved;
-        own = s.placed_are.own;
-        within = subst (λ (n : ℕ). All (λ m. m < n) (0 ∷ s.numbers)) (sym as_many) s.placed_are.within;
-      })
+      old_placed = search (rules, as_many, kept_pages, moved, spelled, stay)
 
     abbrev IsThere : Type 0
     IsThere = HasIndex view new entries × ArePlaced schema placed (reserved view new) new
@@ -193,15 +175,7 @@ module _ (version next : ℕ) (schema : Schema) (placed : List Placed) (from : S
 
     -- so the regions stand on the new pages
     pub carried : IsCarried schema placed next head view new
-    carried = record {
-      schema_is = ap (λ (h : OldHeader). h.header.schema) is ∙ s.schema_is;
-      next_is = ap (λ (h : OldHeader). h.header.next) is ∙ s.next_is;
-      rows_are = ap (λ (h : OldHeader). h.header.rows) is ∙ s.rows_are;
-      regions_are = ap (λ (h : OldHeader). h.header.regions) is ∙ s.regions_are;
-      well_formed = s.well_formed;
-      indexed = there.0;
-      placed_are = there.1;
-    }
+    carried = search (rules, there)
 
 -- ---- the tree over the pages that were brought over
 
@@ -211,37 +185,14 @@ over head i pager = tree_view head.header.schema i head.header.regions head.head
 module _ (from : StoreFacts) (head : OldHeader) (i : IndexView) (pager : PagerView) (honest : IsHonest pager.store) (last_is : i.last ≡ last_address head.header.schema.dims) (level : 1 ≤ i.levels)
     (size : head.version ≡ 1 → page_count pager.store ≡ page_count from + index_pages head.header.regions) (brought : IsBrought head from pager.store.pages (root_in i)) where
   index_is : head.version ≡ 2 → i ≡ index_of head.header
-  index_is second =
-      ap (λ (r : Root). index_view r.page r.level i.last) (brought.index second).2
-      ∙ ap (λ (n : ℕ). index_view head.header.root head.header.levels n) last_is
+  index_is h = search rules
 
   pub stands_over : StandsOver from head (over head i pager)
-  stands_over = record {
-    honest = honest;
-    schema_is = refl;
-    count_is = refl;
-    rows_are = refl;
-    next_is = refl;
-    last_is = last_is;
-    pages_are = brought.copied;
-    by_index = λ second. ((brought.index second).1, index_is second);
-    by_directory = λ first.
-        let d = brought.directory first in (
-          size first,
-          record { honest = honest; some = level; under_it = subst (λ (n : ℕ). IsUnder n pager.store.pages i.levels (top i.root) None) (sym last_is) d.4.under_it },
-          d.0,
-          subst (λ (es : List Entry). IsDirectory from.pages (directory_of head.header) d.0 es) (sym d.4.entries_are) d.2,
-          subst (λ (es : List Entry). AreBelow (page_count from) es) (sym d.4.entries_are) d.3,
-        );
-  }
+  stands_over = search rules
 
 pub on_err_by : {T E : Type 0} (r : Result T E) (P : Type 0) → P → OnErr r P
 on_err_by (Ok x) P p = tt
 on_err_by (Err e) P p = p
-
-pub passing_up : (f : TreeFault) → IsPassing f → IsUpgradePassing f
-passing_up f (inl is) = rw is tt
-passing_up f (inr is) = rw is tt
 
 -- the header of the pages of an old table
 pub head_is : (version next : ℕ) (schema : Schema) (placed : List Placed) (from : StoreFacts) (s : AreOldPages version from.pages schema placed next) → HasOldHeader from (head_of version s.header)

@@ -1,5 +1,6 @@
 -- The tree that an upgrade makes: when it is sound, and why it is refused.
-use Rattle.std.proofs.Common.{◌≡◌, ◌≤◌, ◌<◌, ◌^◌, ◌∙◌, inl, inr, ℕ, true, false, List, [], ◌∷◌, Some, None, Result, Ok, Err, IfErr, IfOk, OnOk, MatchResult, length, map, slice_get, ap, sym, subst, refl, arith}
+use Rattle.std.proofs.Common.{rules}
+use Rattle.std.proofs.Common.{◌≡◌, ◌≤◌, ◌<◌, ◌^◌, ◌∙◌, inl, inr, ℕ, true, false, List, [], ◌∷◌, Some, None, Result, Ok, Err, IfErr, IfOk, OnOk, MatchResult, map, slice_get, ap, sym, subst, refl, arith}
 use Rattle.std.proofs.lemmas.List.Elements.{recursion_from_All}
 use Rattle.std.proofs.lemmas.Option.{slice_get_within}
 use Rattle.std.specs.List.{AllByRecursion}
@@ -10,7 +11,6 @@ use Rattle.ub_page.proofs.PageLaws.{region_parts}
 use Rattle.ub_page.specs.Header.{header_page_of}
 use Rattle.ub_region.specs.RegionPage.{region_page}
 use Rattle.ub_page.specs.declared.header.OldHeader.{OldHeader}
-use Rattle.ub_region.specs.Regions.{AreRegions, rows_of}
 use Rattle.ub_store.specs.Facts.{StoreFacts, IsHonest, page_count}
 use Rattle.ub_store.specs.View.{PagerView, untouched}
 use Rattle.ub_store.specs.declared.fault.StoreFault.TheVariants as store
@@ -21,15 +21,14 @@ use Rattle.ub_tree.proofs.CallFacts.{last_small}
 use Rattle.ub_tree.proofs.OldFacts.{old_are}
 use Rattle.ub_tree.proofs.SearchFacts.{known_is}
 use Rattle.ub_tree.proofs.StoredFacts.{IsSpelled, IsTold, placed_told}
-use Rattle.ub_tree.proofs.UpgradeFacts.{carried, over, passing_up, stands_over}
+use Rattle.ub_tree.proofs.UpgradeFacts.{carried, over, stands_over}
 use Rattle.ub_upgrade.proofs.TableFacts.{versions}
 use Rattle.ub_tree.proofs.WellFacts.{well_index, well_placed, well_regions}
 use Rattle.ub_tree.specs.Checking.{IsCheckFault, IsFirstFault, IsWell, StopsTree, asked_of}
 use Rattle.ub_tree.specs.Effects.{read_store}
-use Rattle.ub_tree.specs.Indexed.{HasIndex, entries_on, reserved}
 use Rattle.ub_tree.specs.Old.{AreOldPages, head_of}
 use Rattle.ub_tree.specs.Opened.{IsPassing}
-use Rattle.ub_tree.specs.Placed.{Placed, ArePlaced, entry_of, placed_of, regions_in}
+use Rattle.ub_tree.specs.Placed.{Placed, entry_of, regions_in}
 use Rattle.ub_tree.specs.Tree.{placed_in}
 use Rattle.ub_tree.specs.Upgrade.{HasTable, IsUnopened, IsUpgraded, IsUpgradeFault, IsUpgradePassing, StandsOver}
 use Rattle.ub_tree.specs.View.{TreeView, IsSound}
@@ -63,37 +62,12 @@ module _ (schema : Schema) (placed : List Placed) (next : ℕ) (head : OldHeader
   told_each (p ∷ ps) regions spelled = ((spelled.0, (region_parts schema p.region (region_page schema p.region) regions.0 refl).on), told_each ps regions.1 spelled.1)
 
   placed_is : placed_in head.header.schema i pager.store ≡ placed
-  placed_is =
-      ap (λ (x : Schema). placed_in x i pager.store) has.schema_is
-      ∙ ap (λ (known : List (List ℕ)). placed_of schema known (entries_on i known)) (known_is pager.store honest)
-      ∙ ap (placed_of schema pager.store.pages) has.indexed.entries_are
-      ∙ placed_told schema pager.store.pages placed (told_each placed has.well_formed.each (recursion_from_All (IsSpelled schema pager.store.pages) placed has.placed_are.spelled))
+  placed_is = search (rules, IsSpelled, known_is, placed_told, recursion_from_All, told_each)
 
   module _ (header_is : (1 ≤ head.header.next) × (head.header.next ≤ 16777216) × (head.header.regions < 2 ^ 32)) (last_is : i.last ≡ last_address head.header.schema.dims)
       (mark : HasMark head.header.schema pager.store.pages) where
     sound_over : IsSound (over head i pager)
-    sound_over =
-        let back = sym placed_is in
-        let shape = sym has.schema_is in
-        let regions_are = has.regions_are in
-        let few = header_is.2 in
-        record {
-          working = refl;
-          honest = honest;
-          last_is = last_is;
-          indexed = subst (λ (ps : List Placed). HasIndex i pager.store.pages (map entry_of ps)) back has.indexed;
-          regions_are = subst (λ (ps : List Placed). AreRegions head.header.schema head.header.next (regions_in ps)) back
-              (subst (λ (n : ℕ). AreRegions head.header.schema n (regions_in placed)) (sym has.next_is) (subst (λ (x : Schema). AreRegions x next (regions_in placed)) shape has.well_formed));
-          placed_are = subst (λ (ps : List Placed). ArePlaced head.header.schema ps (reserved i pager.store.pages) pager.store.pages) back
-              (subst (λ (x : Schema). ArePlaced x placed (reserved i pager.store.pages) pager.store.pages) shape has.placed_are);
-          count_is = has.regions_are ∙ ap (λ (ps : List Placed). length ps) back;
-          rows_are = has.rows_are ∙ ap (λ (ps : List Placed). length (rows_of (regions_in ps))) back;
-          some_next = header_is.0;
-          last_next = header_is.1;
-          few = subst (λ (ps : List Placed). length ps < 2 ^ 32) back (omega arith);
-          closed = λ e. cc;
-          marked = λ _. mark;
-        }
+    sound_over = search (rules, placed_is)
 
     pub table_over : HasTable schema placed next (over head i pager)
     table_over = record { sound = sound_over; schema_is = has.schema_is; regions_are = ap regions_in placed_is; next_is = has.next_is }
@@ -173,10 +147,7 @@ module _ (from new : StoreFacts) (head : OldHeader) (i : IndexView) (pager : Pag
 
     -- or the old store has it not
     missing_page : (n : ℕ) → StopsTree t n None → page_count from ≤ n
-    missing_page n stops = elim (stops_there (asked_of t) i.levels (top i.root) None [] n None root_some stops) [
-      | inl one ↦ (let never = one.1 in cc)
-      | inr (some, past) ↦ omega arith
-    ]
+    missing_page n h = search (rules, stops_there)
 
   pub check_fault : (f : TreeFault) → IsCheckFault t f → IsUpgradeFault from new f
   check_fault Full h = absurd h
@@ -197,25 +168,13 @@ module _ (from new : StoreFacts) (head : OldHeader) (i : IndexView) (pager : Pag
 
 module _ {E : Type 0} (fault : E → TreeFault) (facts : E → StoreFacts) (r : Result TreeView E) (t : TreeView) where
   pub made_of : (Q : TreeView → Type 0) → IfOk r (λ x. x ≡ t) → Q t → IfErr r (λ e. IsPassing (fault e)) → MatchResult r Q (λ e. IsUpgradePassing (fault e))
-  made_of Q same q passing = by_result r same passing
-    where
-      by_result : (r : Result TreeView E) → IfOk r (λ x. x ≡ t) → IfErr r (λ e. IsPassing (fault e)) → MatchResult r Q (λ e. IsUpgradePassing (fault e))
-      by_result (Ok x) same passing = subst Q (sym same) q
-      by_result (Err e) same passing = passing_up (fault e) passing
+  made_of Q h k j = search rules
 
   pub begun_of : (H W : Type 0) (Q : TreeView → Type 0) → IfOk r (λ x. x ≡ t) → (H → OnOk r W) → ((H → W) → Q t) → IfOk r Q
-  begun_of H W Q same well q = by_result r same well
-    where
-      by_result : (r : Result TreeView E) → IfOk r (λ x. x ≡ t) → (H → OnOk r W) → IfOk r Q
-      by_result (Ok x) same well = subst Q (sym same) (q well)
-      by_result (Err e) same well = tt
+  begun_of H W Q h k j = search rules
 
   pub refused_of : (R : TreeFault → Type 0) → IfErr r (λ e. IsCheckFault t (fault e)) → ((f : TreeFault) → IsCheckFault t f → R f) → IfErr r (λ e. R (fault e))
-  refused_of R faults up = by_result r faults
-    where
-      by_result : (r : Result TreeView E) → IfErr r (λ e. IsCheckFault t (fault e)) → IfErr r (λ e. R (fault e))
-      by_result (Ok x) faults = tt
-      by_result (Err e) faults = up (fault e) faults
+  refused_of R h k = search rules
 
   pub unopened_of : IfErr r (λ e. facts e ≡ read_store {A = E} (Err (fault e)) t.store) → IsUnopened t.store → IfErr r (λ e. IsUnopened (facts e))
   unopened_of left there = by_result r left

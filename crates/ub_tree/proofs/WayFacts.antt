@@ -1,5 +1,6 @@
 -- Ways down the index of a tree, over any pages: to which they lead, what becomes of them where a region's page is put anew, and
 -- which pages a change of the index spells.
+use Rattle.std.proofs.Common.{rules}
 use Rattle.std.proofs.Common.{◌≡◌, ◌≢◌, ◌≤◌, ◌<◌, ◌+◌, ◌^◌, ◌∙◌, ◌⊎◌, inl, inr, ℕ, zero, suc, List, [], ◌∷◌, ◌++◌, Option, Some, None, IfSome, length, take, drop, ap, sym, subst, refl, arith, slice_get, append_assoc}
 use Rattle.std.proofs.lemmas.List.{length-append, append-nil}
 use Rattle.std.proofs.lemmas.Option.{slice_get_within}
@@ -47,16 +48,7 @@ not_behind b x m y a e =
 module _ (key : Key) (entries : List Entry) (end : Option Key) (ascends : AscendTo entries end) where
   apart : (a : Entry) (o : Option Key) (falls : FallsTo key entries end a o) (b : Entry) (p : Option Key) (other : FallsTo key entries end b p)
       → (m : List Entry) → falls.after ≡ m ++ (b ∷ other.after) → ⊥
-  apart a o falls b p other m behind =
-      let up : AscendTo (a ∷ falls.after) end = ascend_right falls.before (a ∷ falls.after) end (subst (λ (xs : List Entry). AscendTo xs end) falls.parts ascends) in
-      let sooner : IsBefore key b.first =
-      later_than key m b other.after end (subst (λ (xs : List Entry). AscendTo xs end) behind up.1) (subst (λ (xs : List Entry). IfSome (first_or xs None) (IsBefore key)) behind falls.to) in
-      elim other.from [
-        | inl none ↦
-            not_behind falls.before a m b other.after
-            (ap (λ (xs : List Entry). falls.before ++ (a ∷ xs)) (sym behind) ∙ (sym falls.parts ∙ (other.parts ∙ ap (λ (xs : List Entry). xs ++ (b ∷ other.after)) none)))
-        | inr later ↦ later sooner
-      ]
+  apart a o falls b p other m h = search (rules, ascend_right, later_than, not_behind)
 
   pub falls_once : (a : Entry) (o : Option Key) (falls : FallsTo key entries end a o) (b : Entry) (p : Option Key) (other : FallsTo key entries end b p) → (a ≡ b) × (o ≡ p)
   falls_once a o falls b p other =
@@ -92,10 +84,7 @@ KeepsIndexPages last old new = (n : ℕ) → 1 ≤ n → (slice_get new n ≡ sl
 -- a way on which each page fits leads where it led, where the pages of the index stay
 module _ (last : ℕ) (old new : List (List ℕ)) (keeps : KeepsIndexPages last old new) (key : Key) where
   stays : (level : ℕ) (entry : Entry) (end : Option Key) → 1 ≤ entry.page → NamesFitting last old level entry end → slice_get new entry.page ≡ slice_get old entry.page
-  stays level entry end some named = elim (keeps entry.page some) [
-    | inl same ↦ same
-    | inr none ↦ absurd (none (page_in old entry.page) named.there named.fits.is)
-  ]
+  stays level entry end h k = search rules
 
   pub still_leads : (level : ℕ) (entry : Entry) (end : Option Key) (found : Entry) (next : Option Key) → 1 ≤ entry.page → LeadsTo last old key level entry end found next
       → LeadsTo last new key level entry end found next
@@ -139,10 +128,7 @@ region_no_index last small schema region is h =
 
 -- nor is it so by its first byte
 pub region_no_kind : (schema : Schema) (region : RegionRows) → IsRegion schema region → ¬ (IsIndexKind (region_page schema region))
-region_no_kind schema region is other =
-    let kind = (region_parts schema region (region_page schema region) is refl).kind in
-    let e = sym kind ∙ other in
-    absurd (omega arith)
+region_no_kind schema region h = search (rules, region_parts)
 
 -- where another region comes, what an entry leads to doesn't go
 pub never_gone : (last : ℕ) (pages : List (List ℕ)) (key : Key) (added : Entry) (level : ℕ) (entry : Entry) (end : Option Key) (old new : Spelled)
@@ -210,9 +196,7 @@ module _ (last : ℕ) (pages : List (List ℕ)) (key : Key) (level : ℕ) (entry
   near = slice_get_within pages entry.page (page_in pages entry.page) named.there
 
   outside_below : (n : ℕ) → IsOutside n numbers → IsOutside n (pages_under pages level below)
-  outside_below n h =
-      outside_one (pages_under pages level) n falls.before below falls.after
-      (subst (λ (xs : List Entry). IsOutside n (flat_map (pages_under pages level) xs)) falls.parts h.1)
+  outside_below n h = search (rules, outside_one)
 
   wider : (to : ℕ) → middle.next ≤ to → (s : Sheet) → IsSpelledOf last pages (pages_under pages level below) old.next middle.next s → IsSpelledOf last pages numbers old.next to s
   wider to up s h = record {
@@ -230,23 +214,10 @@ module _ (last : ℕ) (pages : List (List ℕ)) (key : Key) (level : ℕ) (entry
       each_as (IsSpelledOf last pages (pages_under pages level below) old.next middle.next) (IsSpelledOf last pages numbers old.next to) (wider to up) lower.sheets lower.each
 
   here : (to : ℕ) (page : List ℕ) → IsSpelledOf last pages numbers old.next to (record { number = entry.page; page = page })
-  here to page = record {
-    own = λ n lt out. out.0;
-    some = some;
-    there = inl near;
-    kind = λ stood at. (let same : stood ≡ page_in pages entry.page = some_page at named.there in subst (IsIndexPage last) (sym same) named.fits.is);
-  }
+  here to page = search (rules, near, some_page)
 
   fresh : (to : ℕ) (page : List ℕ) → middle.next < to → IsSpelledOf last pages numbers old.next to (record { number = middle.next; page = page })
-  fresh to page up =
-      let more = lower.grown in
-      let low = near in
-      record {
-        own = λ n lt out e. absurd (omega arith);
-        some = omega arith;
-        there = inr (more, up);
-        kind = λ stood at. (let within = slice_get_within pages middle.next stood at in absurd (omega arith));
-      }
+  fresh to page h = search (rules, near, slice_get_within)
 
   -- what was spelled below, and then these
   then_these : (more : List Sheet) → new.sheets ≡ middle.sheets ++ more → middle.next ≤ new.next → AllByRecursion (IsSpelledOf last pages numbers old.next new.next) more
@@ -281,10 +252,7 @@ module _ (last : ℕ) (pages : List (List ℕ)) (key : Key) (level : ℕ) (entry
       (fresh new.next _ (omega arith), (here new.next _, tt))
 
   spells_up : (news told : Told) → Mends (suc level) entry falls.before below falls.after news middle new told → Spells last pages numbers old new
-  spells_up Same told m = unchanged m.1
-  spells_up Gone told m = by_told _ told m
-  spells_up (One other) told m = by_told _ told m
-  spells_up (Two left right) told m = by_told _ told m
+  spells_up news told h = search (rules, by_told, unchanged)
 
 module _ (last : ℕ) (pages : List (List ℕ)) (key : Key) (added : Option Entry) where
   pub spells : (level : ℕ) (entry : Entry) (end : Option Key) (old new : Spelled) (told : Told) → length pages ≤ old.next → 1 ≤ entry.page → Turns last pages key added level entry end old new told

@@ -1,25 +1,26 @@
 -- What a check takes of a tree is what makes its pages sound, and over sound pages it takes all.
-use Rattle.std.proofs.Common.{◌≡◌, ◌≤◌, ◌<◌, ◌^◌, ℕ, List, [], ◌∷◌, Option, Some, None, length, map, slice_get, ap, refl, sym, ◌∙◌, arith, subst}
+use Rattle.std.proofs.Common.{rules}
+use Rattle.std.proofs.Common.{◌≡◌, ◌≤◌, ◌<◌, ◌^◌, ℕ, List, [], ◌∷◌, Option, Some, None, map, slice_get, ap, refl, sym, ◌∙◌, arith, subst}
 use Rattle.std.proofs.lemmas.List.Elements.{All-from_recursion, recursion_from_All}
 use Rattle.std.proofs.lemmas.Option.{slice_get_within}
 use Rattle.std.specs.List.{AllByRecursion}
 use Rattle.ub_check.proofs.PlacedFacts.{placed_at}
 use Rattle.ub_check.proofs.TakenFacts.{IsTaken, new_below, new_differ, new_of, taken_walk, walk_taken}
-use Rattle.ub_check.specs.Checking.{Asked, StandsHere, numbers_in, numbers_of}
-use Rattle.ub_check.specs.Numbers.{AreNew, IsNone}
+use Rattle.ub_check.specs.Checking.{Asked, StandsHere, numbers_of}
+use Rattle.ub_check.specs.Numbers.{IsNone}
 use Rattle.ub_index.specs.Spans.{first_keys}
 use Rattle.ub_index.proofs.Numbers.{within_store}
 use Rattle.ub_index.proofs.PlaceFacts.{begins, each_entry, up}
-use Rattle.ub_index.specs.Index.{EachTo, IsUnder, pages_under, top, under}
+use Rattle.ub_index.specs.Index.{EachTo, IsUnder, top, under}
 use Rattle.ub_index.specs.View.{IndexView, IsIndexOn}
 use Rattle.ub_page.specs.Entries.{IsEntry}
 use Rattle.ub_page.specs.Header.{header_page}
 use Rattle.ub_region.specs.RegionPage.{region_page}
 use Rattle.ub_region.specs.declared.entry.Entry.{Entry}
 use Rattle.ub_region.proofs.Laws.{all_more, ascending_of}
-use Rattle.ub_region.specs.Regions.{AreApart, AreRegions, firsts_of, rows_of}
+use Rattle.ub_region.specs.Regions.{AreApart, AreRegions, firsts_of}
 use Rattle.ub_store.specs.Facts.{StoreFacts, IsHonest}
-use Rattle.ub_table.specs.Keys.{AreKeysAscending, origin}
+use Rattle.ub_table.specs.Keys.{AreKeysAscending}
 use Rattle.ub_table.specs.Region.{IsRegion}
 use Rattle.ub_table.specs.declared.row.Key.{Key}
 use Rattle.ub_table.specs.declared.row.Row.{Row}
@@ -70,9 +71,8 @@ module _ (asked : Asked) where
       → AllByRecursion (λ p. slice_get asked.pages p.page ≡ Some (region_page asked.schema p.region)) (placed_of asked.schema asked.pages es)
       → EachTo (λ e o. StandsHere asked e o (placed_at asked.schema asked.pages e).region) es None
   each_stands [] regions apart spelled = tt
-  each_stands (e ∷ []) regions apart spelled = (record { is = regions.0; spelled = spelled.0; held = (refl, tt) }, tt)
-  each_stands (e ∷ f ∷ es) regions apart spelled =
-      (record { is = regions.0; spelled = spelled.0; held = (refl, apart.0) }, each_stands (f ∷ es) regions.1 apart.1 spelled.1)
+  each_stands (e ∷ []) regions apart spelled = search rules
+  each_stands (e ∷ f ∷ es) regions apart spelled = search (rules, (each_stands (f ∷ es) regions.1 apart.1 spelled.1))
 
 none_met : (ns : List ℕ) → AllByRecursion (λ n. IsNone n []) ns
 none_met [] = tt
@@ -97,39 +97,13 @@ module _ (t : TreeView) (honest : IsHonest t.store) (some : 1 ≤ t.inner.index.
   ascending = subst (λ (ks : List Key). AreKeysAscending ks) (sym (firsts_back t.schema t.store.pages entries)) (ascending_of (first_keys entries) (up t.inner.index t.store on))
 
   pub well_index : HasIndex t.inner.index t.store.pages (map entry_of t.placed)
-  well_index = record {
-    some = some;
-    under_it = taken.0;
-    entries_are = sym (ap (λ (ps : List Placed). map entry_of ps) placed_is ∙ entries_back t.schema t.store.pages entries);
-  }
+  well_index = search (rules, entries_back, placed_is, taken)
 
   pub well_regions : AreRegions t.schema t.next (regions t)
-  well_regions =
-      let new : AreNew t.next [] (numbers_in (placed_of t.schema t.store.pages entries)) = taken.1.new in
-      subst (λ (ps : List Placed). AreRegions t.schema t.next (regions_in ps)) (sym placed_is) (record {
-        begins = ap (λ (ks : List Key). slice_get ks 0) (firsts_back t.schema t.store.pages entries) ∙ begins t.inner.index t.store on;
-        ascending = ascending;
-        each = each_region (asked_of t) entries None taken.1.stands;
-        apart = each_apart (asked_of t) entries None taken.1.stands;
-        distinct = new_differ t.next [] (numbers_in (placed_of t.schema t.store.pages entries)) new;
-        numbered = rows_below t.next (rows_of (regions_in (placed_of t.schema t.store.pages entries))) (new_below t.next [] (numbers_in (placed_of t.schema t.store.pages entries)) new);
-      })
+  well_regions = search (rules, ascending, begins, each_apart, each_region, firsts_back, new_below, new_differ, on, placed_is, rows_below, taken)
 
   pub well_placed : ArePlaced t.schema t.placed (reserved t.inner.index t.store.pages) t.store.pages
-  well_placed =
-      let all = each_on (asked_of t) entries None taken.1.stands (each_entry t.inner.index t.store on) in
-      subst (λ (ps : List Placed). ArePlaced t.schema ps (reserved t.inner.index t.store.pages) t.store.pages) (sym placed_is) (record {
-        spelled = All-from_recursion (λ p. slice_get t.store.pages p.page ≡ Some (region_page t.schema p.region)) (placed_of t.schema t.store.pages entries)
-            (all_more (IsOnPage t.schema t.store.pages) (λ p. slice_get t.store.pages p.page ≡ Some (region_page t.schema p.region)) (λ p h. h.spelled)
-            (placed_of t.schema t.store.pages entries) all);
-        own = all_differ t.schema t.store.pages t.inner.index.last small t.inner.index.levels origin None
-            (pages_under t.store.pages t.inner.index.levels (top t.inner.index.root)) (placed_of t.schema t.store.pages entries)
-            (under_from t.inner.index.last t.store.pages t.inner.index.levels (top t.inner.index.root) None tt root taken.0)
-            (under_differ t.inner.index.last t.store.pages t.inner.index.levels (top t.inner.index.root) None taken.0)
-            ascending all;
-        within = All-from_recursion (λ n. n < length t.store.pages) (reserved t.inner.index t.store.pages)
-            (slice_get_within t.store.pages 0 first there, within_store t.inner.index.last t.store.pages t.inner.index.levels (top t.inner.index.root) None taken.0);
-      })
+  well_placed = search (rules, All-from_recursion, IsOnPage, all_differ, all_more, ascending, each_entry, each_on, on, placed_is, slice_get_within, taken, under_differ, under_from, within_store)
 
 -- a tree that was opened, and whose pages are well, is sound, and so are its pages
 module _ (facts : StoreFacts) (t : TreeView) (honest : IsHonest facts) (opened : IsOpened facts t) (well : IsWell t) where
@@ -214,9 +188,7 @@ module _ (t : TreeView) (sound : IsSound t) where
       ((spelled.0, (region_parts t.schema p.region (region_page t.schema p.region) each.0 refl).on), told_each ps each.1 spelled.1)
 
   told : placed_of t.schema t.store.pages (map entry_of t.placed) ≡ t.placed
-  told =
-      placed_told t.schema t.store.pages t.placed
-      (told_each t.placed sound.regions_are.each (recursion_from_All (IsSpelled t.schema t.store.pages) t.placed sound.placed_are.spelled))
+  told = search (rules, placed_told, recursion_from_All, told_each)
 
   sound_entries : under t.store.pages t.inner.index.levels (top t.inner.index.root) ≡ map entry_of t.placed
   sound_entries = sound.indexed.entries_are
@@ -225,23 +197,8 @@ module _ (t : TreeView) (sound : IsSound t) where
   told_under = ap (λ (es : List Entry). placed_of t.schema t.store.pages es) sound_entries ∙ told
 
   sound_taken : IsTaken (asked_of t) (under t.store.pages t.inner.index.levels (top t.inner.index.root)) None [] t.placed
-  sound_taken =
-      let es = under t.store.pages t.inner.index.levels (top t.inner.index.root) in
-      let regions_are = subst (λ (ps : List Placed). AreRegions t.schema t.next (regions_in ps)) (sym told_under) sound.regions_are in
-      let spelled = recursion_from_All (λ p. slice_get t.store.pages p.page ≡ Some (region_page t.schema p.region)) t.placed sound.placed_are.spelled in
-      record {
-        stands = each_stands (asked_of t) es regions_are.each regions_are.apart
-            (subst (λ (ps : List Placed). AllByRecursion (λ p. slice_get t.store.pages p.page ≡ Some (region_page t.schema p.region)) ps) (sym told_under) spelled);
-        new = new_of t.next [] (numbers_in (placed_of t.schema t.store.pages es))
-            (numbers_below t.next (rows_of (regions_in (placed_of t.schema t.store.pages es))) regions_are.numbered)
-            (none_met (numbers_in (placed_of t.schema t.store.pages es))) regions_are.distinct;
-        after_is = sym told_under;
-      }
+  sound_taken = search (rules, each_stands, new_of, none_met, numbers_below, recursion_from_All, regions_are, told_under)
 
   -- so its pages are well
   pub sound_well : IsWell t
-  sound_well = record {
-    takes = taken_walk (asked_of t) t.inner.index.levels (top t.inner.index.root) None [] t.placed sound.indexed.under_it sound_taken (let count = sound.count_is in omega arith);
-    count_is = sound.count_is;
-    rows_are = sound.rows_are;
-  }
+  sound_well = search (rules, sound_taken, taken_walk)

@@ -1,17 +1,18 @@
 -- What a call that only writes leaves of a tree.
-use Rattle.std.proofs.Common.{◌≡◌, ◌≢◌, ◌∙◌, ◌⊎◌, inl, inr, ℕ, Bool, true, List, [], ◌∷◌, Err, IsTrue, Result, sym, ap, subst, refl}
+use Rattle.std.proofs.Common.{rules}
+use Rattle.std.proofs.Common.{◌≡◌, ◌≢◌, ◌∙◌, ℕ, Bool, true, List, [], ◌∷◌, Err, IsTrue, Result, sym, subst, refl}
 use Rattle.std.specs.List.{AllByRecursion}
-use Rattle.ub_store.specs.Writing.{IsOther, KeepsBut, SameBut, put_store}
+use Rattle.ub_store.specs.Writing.{IsOther, KeepsBut, put_store}
 use Rattle.ub_index.specs.Standing.{IsOutside}
 use Rattle.ub_index.specs.View.{IndexView}
 use Rattle.ub_page.specs.Header.{header_page}
 use Rattle.ub_store.specs.Facts.{StoreFacts, IsHonest}
-use Rattle.ub_store.specs.View.{PagerView, SameTrace, Trace}
+use Rattle.ub_store.specs.View.{PagerView, SameTrace}
 use Rattle.ub_store.specs.declared.fault.StoreFault.{StoreFault}
 use Rattle.ub_store.specs.declared.fault.StoreFault.TheVariants as store
 use Rattle.ub_table.specs.declared.schema.Schema.{Schema}
 use Rattle.ub_tree.specs.Effects.{IsMarkedFirst, written_store}
-use Rattle.ub_tree.specs.Others.{AreOthersKept, KeepsOthers}
+use Rattle.ub_tree.specs.Others.{KeepsOthers}
 use Rattle.ub_tree.specs.Tree.{tree_view}
 use Rattle.ub_tree.specs.View.{TreeView}
 use Rattle.ub_tree.specs.declared.fault.TreeFault.{TreeFault}
@@ -22,17 +23,11 @@ use Rattle.ub_writing.specs.declared.mark.Mark.{Mark}
 use Rattle.ub_writing.specs.declared.mark.Mark.TheVariants.{Due, Written}
 
 pub put_is : (U V : Type 0) (fault : StoreFault) (old new : StoreFacts) → put_store {A = U} (Err fault) old new ≡ written_store {A = V} (Err (Store fault)) old new
-put_is U V store.Device old new = refl
-put_is U V store.NoPage old new = refl
-put_is U V store.Memory old new = refl
-put_is U V store.BadSize old new = refl
+put_is U V fault old new = search rules
 
 -- a write fails with the device's fault alone, where the page is there
 pub write_refused : (fault : StoreFault) (old new : TreeView) → fault ≡ store.Device → IsTrue old.store.can_fail → HasStopped (Store fault) old new → IsWriteFault old new (Store fault)
-write_refused store.Device old new is can stopped = (can, stopped)
-write_refused store.NoPage old new is can stopped = cc
-write_refused store.Memory old new is can stopped = cc
-write_refused store.BadSize old new is can stopped = cc
+write_refused fault old new h k j = search rules
 
 outside_other : (m : ℕ) (numbers : List ℕ) → IsOutside m numbers → IsOther m numbers
 outside_other m [] h = tt
@@ -40,14 +35,7 @@ outside_other m (n ∷ numbers) h = (λ e. h.0 (sym e), outside_other m numbers 
 
 -- the pages that a write leaves as they are
 pub others_written : (numbers : List ℕ) (old new : StoreFacts) → KeepsBut numbers old new → KeepsOthers numbers old new
-others_written numbers old new k = record {
-  kept = λ honest m out lt. k.others honest m (outside_other m numbers out);
-  lasting = λ honest. by_last (k.lasting honest);
-}
-  where
-    by_last : (new.synced ≡ old.synced) ⊎ SameBut numbers old.pages new.synced → (new.synced ≡ old.synced) ⊎ AreOthersKept numbers old.pages new.synced
-    by_last (inl same) = inl same
-    by_last (inr h) = inr (λ m out lt. h.others m (outside_other m numbers out))
+others_written numbers old new h = search (rules, outside_other)
 
 module _ (schema : Schema) (index : IndexView) (count next rows : ℕ) (changed now_changed failed now_failed : Bool) (old new : PagerView) where
   abbrev before : TreeView
@@ -58,16 +46,11 @@ module _ (schema : Schema) (index : IndexView) (count next rows : ℕ) (changed 
 
   pub wrote_tree : {T : Type 0} (r : Result T TreeFault) → new.store ≡ written_store r old.store new.store → SameTrace old new
       → after ≡ record before { placed = after.placed; is_changed = now_changed; is_failed = now_failed; store = written_store r old.store new.store }
-  wrote_tree r same trace =
-      ap (λ (s : StoreFacts). record after { store = s }) same
-      ∙ ap (λ (t : Trace). record after { store = written_store r old.store new.store; trace = t }) trace
+  wrote_tree r h k = search rules
 
   -- a write that failed
   pub ended_by : (U : Type 0) (fault : StoreFault) → now_failed ≡ true → new.store ≡ put_store {A = U} (Err fault) old.store new.store → SameTrace old new → HasStopped (Store fault) before after
-  ended_by U fault ended same trace = record {
-    same = wrote_tree {T = TreeFault} (Err (Store fault)) (same ∙ put_is U TreeFault fault old.store new.store) trace
-        ∙ ap (λ (b : Bool). record before { placed = after.placed; is_changed = now_changed; is_failed = b; store = written_store {A = TreeFault} (Err (Store fault)) old.store new.store }) ended;
-  }
+  ended_by U fault h k j = search rules
 
   -- what a call did that marked the table, where it wasn't marked
   pub marks_first : (was now : Mark) (numbers : List ℕ) → changed ≡ is_written was → now_changed ≡ is_written now → IsMarkOf schema was → Marks numbers was now old.store new.store
