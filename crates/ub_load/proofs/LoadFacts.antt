@@ -16,7 +16,7 @@ use Rattle.ub_tree.specs.Placed.{Placed}
 use Rattle.ub_tree.specs.View.{TreeView, IsSound, regions}
 use Rattle.ub_load.specs.Field.{trimmed}
 use Rattle.ub_load.specs.LoadedTable.{IsSchemaOf, columns_of, records_of, row_of, rows_of}
-use Rattle.ub_load.specs.LoadedTree.{IsLoadedTree, insert_all}
+use Rattle.ub_load.specs.LoadedTree.{IsLoadedTree}
 use Rattle.ub_load.specs.Loading.{HasGrown, HasTaken, IsLoadFault, IsTakeFault}
 use Rattle.ub_load.specs.inner.Progress.{HasLoadedRecords, HasReadHeader, HoldsRows, IsHeaded, IsHeaderFault, IsLoading, IsRecordsFault}
 use Rattle.ub_load.specs.inner.Records.{HasRead, IsAt, Source}

@@ -1,17 +1,12 @@
 -- The tree that a CSV text is loaded into.
 use Rattle.std.specs.Prelude.{◌≡◌, ◌≤◌, ◌+◌, ℕ, List, [], ◌∷◌, length}
 use Rattle.ub_load.specs.LoadedTable.{IsLoaded}
-use Rattle.ub_region.specs.Regions.{AreTableRows, insert}
+use Rattle.ub_region.specs.Regions.{AreTableRows, insert_all}
 use Rattle.ub_table.specs.Keys.{origin}
 use Rattle.ub_table.specs.Region.{RegionRows}
 use Rattle.ub_table.specs.declared.axes.Axes.{Axes}
 use Rattle.ub_table.specs.declared.row.Row.{Row}
 use Rattle.ub_tree.specs.View.{TreeView, IsSound, region_count, regions}
-
--- rows put in one after the other, where a page holds c
-abbrev pub insert_all : ℕ → ℕ → List Row → List RegionRows → List RegionRows
-insert_all dims c [] regions = regions
-insert_all dims c (row ∷ rows) regions = insert_all dims c rows (insert dims c row regions)
 
 -- the regions of a table whose rows were put in one after the other
 abbrev pub loaded_regions : ℕ → ℕ → List Row → List RegionRows

@@ -1,5 +1,5 @@
 -- Insertion keeps the regions of a table, and adds its row to theirs.
-use Rattle.std.proofs.Common.{rules, ◌≡◌, ◌<◌, ◌≤◌, ◌+◌, ◌-◌, inl, inr, ℕ, zero, suc, List, [], ◌∷◌, ◌++◌, false, Some, length, map, take, drop, get_or, nat_eq, nat_le, ◌∙◌, sym, ap, refl, arith, subst}
+use Rattle.std.proofs.Common.{rules, ◌≡◌, ◌≢◌, ◌<◌, ◌≤◌, ◌+◌, ◌-◌, inl, inr, ℕ, zero, suc, List, [], ◌∷◌, ◌++◌, false, Some, length, map, take, drop, get_or, nat_eq, nat_le, ◌∙◌, sym, ap, refl, arith, subst}
 use Rattle.std.proofs.lemmas.Bool.{cases_Bool, leb-true, leb-false, ne_eqb}
 use Rattle.std.proofs.lemmas.List.{length-take, length-drop, take-append-drop, append-nil}
 use Rattle.std.proofs.lemmas.List.Elements.{All-from_recursion, recursion_from_All}
@@ -14,7 +14,7 @@ use Rattle.ub_table.specs.declared.row.Key.{Key}
 use Rattle.ub_table.specs.declared.row.Row.{Row}
 use Rattle.ub_table.specs.declared.schema.Schema.{Schema}
 use Rattle.ub_region.specs.Rows.{insert_row, left_half, separator, cut}
-use Rattle.ub_region.specs.Regions.{firsts_of, rows_of, AreRegions, two_regions, split_region, insert_first, insert}
+use Rattle.ub_region.specs.Regions.{firsts_of, rows_of, AreRegions, IsFree, two_regions, split_region, insert_first, insert}
 use Rattle.ub_region.proofs.KeyLists.{all_more, all_left, all_right, all_take, all_drop, upto_before, upto_upto, IsBeforeNext, up_take, up_drop, IsCut, is_cut}
 use Rattle.ub_region.proofs.RowFacts.{all_keys, all_of_keys, all_insert, up_insert, length-insert_row, moved_insert}
 use Rattle.ub_region.proofs.ChainFacts.{IsBelow, IsChain, BeginsWith, chain_of, each_of, firsts_up, apart_of, below_same, key_in_range, length-keys_of, keys_take, keys_drop, rows_append}
@@ -111,7 +111,7 @@ module _ (schema : Schema) (row : Row) (good : IsRow schema.dims (measures_of sc
   abbrev key : Key
   key = key_of schema.dims row
 
-  filled_insert : (region : RegionRows) → IsRegion schema region → ¬ (IsBefore key region.first) → AllByRecursion (λ other. other.number < row.number) region.rows
+  filled_insert : (region : RegionRows) → IsRegion schema region → ¬ (IsBefore key region.first) → AllByRecursion (λ other. other.number ≢ row.number) region.rows
       → IsFilled schema (record { first = region.first; rows = insert_row schema.dims row region.rows })
   filled_insert region h k j = search (rules, all_insert, all_keys, all_of_keys, length-insert_row, up_insert)
 
@@ -125,10 +125,10 @@ module _ (schema : Schema) (row : Row) (good : IsRow schema.dims (measures_of sc
     pub begins : BeginsWith first new
     pub rows : IsPermutation (row ∷ rows_of old) (rows_of new)
 
-  insert_here : (region : RegionRows) (regions : List RegionRows) → IsChain schema (region ∷ regions) → ¬ (IsBefore key region.first) → AllByRecursion (λ other. other.number < row.number) (rows_of (region ∷ regions))
+  insert_here : (region : RegionRows) (regions : List RegionRows) → IsChain schema (region ∷ regions) → ¬ (IsBefore key region.first) → AllByRecursion (λ other. other.number ≢ row.number) (rows_of (region ∷ regions))
       → IsBeforeNext key (firsts_of regions) → IsInserted region.first (region ∷ regions) (insert_first schema.dims schema.page_rows row (region ∷ regions))
   insert_here region regions chain upto numbers before =
-      let filled = filled_insert region chain.0 upto (all_left (λ other. other.number < row.number) region.rows (rows_of regions) numbers) in
+      let filled = filled_insert region chain.0 upto (all_left (λ other. other.number ≢ row.number) region.rows (rows_of regions) numbers) in
       let whole : RegionRows = record { first = region.first; rows = insert_row schema.dims row region.rows } in
       let same : rows_of (split_region schema.dims schema.page_rows whole ++ regions) ≡ insert_row schema.dims row region.rows ++ rows_of regions =
       rows_append (split_region schema.dims schema.page_rows whole) regions ∙ ap (λ (rows : List Row). rows ++ rows_of regions) (split_rows schema.dims schema.page_rows whole) in
@@ -139,14 +139,14 @@ module _ (schema : Schema) (row : Row) (good : IsRow schema.dims (measures_of sc
             (IsPermutation-append_left (rows_of regions) (row ∷ region.rows) (insert_row schema.dims row region.rows) (moved_insert schema.dims row region.rows));
       }
 
-  pub inserted : (region : RegionRows) (regions : List RegionRows) → IsChain schema (region ∷ regions) → ¬ (IsBefore key region.first) → AllByRecursion (λ other. other.number < row.number) (rows_of (region ∷ regions))
+  pub inserted : (region : RegionRows) (regions : List RegionRows) → IsChain schema (region ∷ regions) → ¬ (IsBefore key region.first) → AllByRecursion (λ other. other.number ≢ row.number) (rows_of (region ∷ regions))
       → IsInserted region.first (region ∷ regions) (insert schema.dims schema.page_rows row (region ∷ regions))
   inserted region [] chain upto numbers = insert_here region [] chain upto numbers tt
   inserted region (next ∷ regions) chain upto numbers = elim (cases_Bool (precedes key next.first)) [
     | inl t ↦ rw t (insert_here region (next ∷ regions) chain upto numbers (before_of key next.first t))
     | inr f ↦
         let later : ¬ (IsBefore key next.first) = (λ h. let t = precedes_of key next.first h in cc) in
-        let rest = inserted next regions chain.2 later (all_right (λ other. other.number < row.number) region.rows (rows_of (next ∷ regions)) numbers) in
+        let rest = inserted next regions chain.2 later (all_right (λ other. other.number ≢ row.number) region.rows (rows_of (next ∷ regions)) numbers) in
         rw f (record {
           chain = (chain.0, below_same schema.dims region next.first (next ∷ regions) (insert schema.dims schema.page_rows row (next ∷ regions)) refl rest.begins chain.1, rest.chain);
           begins = refl;
@@ -157,22 +157,22 @@ module _ (schema : Schema) (row : Row) (good : IsRow schema.dims (measures_of sc
   ]
 
 -- the number of a row is that of no other
-other_numbers : (n : ℕ) (rows : List Row) → AllByRecursion (λ row. row.number < n) rows → AllByRecursion (λ m. nat_eq n m ≡ false) (map (λ row. row.number) rows)
+pub other_numbers : (n : ℕ) (rows : List Row) → AllByRecursion (λ row. row.number ≢ n) rows → AllByRecursion (λ m. nat_eq n m ≡ false) (map (λ row. row.number) rows)
 other_numbers n [] h = tt
-other_numbers n (row ∷ rows) h = let less = h.0 in (ne_eqb n row.number (λ e. omega arith), other_numbers n rows h.1)
+other_numbers n (row ∷ rows) h = (ne_eqb n row.number (λ e. h.0 (sym e)), other_numbers n rows h.1)
 
 pub nat_eq_flips : (a b : ℕ) → nat_eq a b ≡ nat_eq b a
 nat_eq_flips a b = search rules
 
--- insertion of the next row of a table keeps its regions
-pub insert_keeps : (schema : Schema) (next : ℕ) (row : Row) (regions : List RegionRows) → AreRegions schema next regions → IsRow schema.dims (measures_of schema) row → row.number ≡ next
-    → AreRegions schema (next + 1) (insert schema.dims schema.page_rows row regions) × IsPermutation (row ∷ rows_of regions) (rows_of (insert schema.dims schema.page_rows row regions))
-insert_keeps schema next row [] h good is = let none = h.begins in cc
-insert_keeps schema next row (region ∷ regions) h good is =
+-- insertion of a row with a number that no other one has keeps regions, of which the next row has a later number then
+pub insert_keeps_new : (schema : Schema) (next later : ℕ) (row : Row) (regions : List RegionRows) → AreRegions schema next regions → IsRow schema.dims (measures_of schema) row
+    → IsFree row.number regions → next ≤ later → row.number < later
+    → AreRegions schema later (insert schema.dims schema.page_rows row regions) × IsPermutation (row ∷ rows_of regions) (rows_of (insert schema.dims schema.page_rows row regions))
+insert_keeps_new schema next later row [] h good free upper lt = let none = h.begins in cc
+insert_keeps_new schema next later row (region ∷ regions) h good free upper lt =
     let first : region.first ≡ origin = (let begins = h.begins in cc) in
     let upto : ¬ (IsBefore (key_of schema.dims row) region.first) = (λ before. not_before_origin (key_of schema.dims row) (subst (λ (k : Key). IsBefore (key_of schema.dims row) k) first before)) in
-    let less = subst (λ (n : ℕ). AllByRecursion (λ (other : Row). other.number < n) (rows_of (region ∷ regions))) (sym is) h.numbered in
-    let new = inserted schema row good region regions (chain_of schema (region ∷ regions) h.each h.ascending h.apart) upto less in
+    let new = inserted schema row good region regions (chain_of schema (region ∷ regions) h.each h.ascending h.apart) upto free in
     let after = insert schema.dims schema.page_rows row (region ∷ regions) in
     let numbers = λ (r : Row). r.number in (
       record {
@@ -182,11 +182,20 @@ insert_keeps schema next row (region ∷ regions) h good is =
         apart = apart_of schema after new.chain;
         distinct = IsDistinct-IsPermutation nat_eq nat_eq_flips (map numbers (row ∷ rows_of (region ∷ regions))) (map numbers (rows_of after))
             (IsPermutation-map numbers (row ∷ rows_of (region ∷ regions)) (rows_of after) new.rows)
-            (IsDistinct-cons nat_eq row.number (map numbers (rows_of (region ∷ regions))) (other_numbers row.number (rows_of (region ∷ regions)) less) h.distinct);
-        numbered = recursion_from_All (λ (r : Row). r.number < next + 1) (rows_of after)
-            (All-permutation (λ (r : Row). r.number < next + 1) (row ∷ rows_of (region ∷ regions)) (rows_of after) new.rows
-            (All-from_recursion (λ (r : Row). r.number < next + 1) (row ∷ rows_of (region ∷ regions))
-            (omega arith, all_more (λ (r : Row). r.number < next) (λ (r : Row). r.number < next + 1) (λ r lt. omega arith) (rows_of (region ∷ regions)) h.numbered)));
+            (IsDistinct-cons nat_eq row.number (map numbers (rows_of (region ∷ regions))) (other_numbers row.number (rows_of (region ∷ regions)) free) h.distinct);
+        numbered = recursion_from_All (λ (r : Row). r.number < later) (rows_of after)
+            (All-permutation (λ (r : Row). r.number < later) (row ∷ rows_of (region ∷ regions)) (rows_of after) new.rows
+            (All-from_recursion (λ (r : Row). r.number < later) (row ∷ rows_of (region ∷ regions))
+            (lt, all_more (λ (r : Row). r.number < next) (λ (r : Row). r.number < later) (λ r less. omega arith) (rows_of (region ∷ regions)) h.numbered)));
       },
       new.rows,
     )
+
+-- the number of a table's next row is that of no row
+pub next_free : (schema : Schema) (next n : ℕ) (regions : List RegionRows) → AreRegions schema next regions → next ≤ n → IsFree n regions
+next_free schema next n regions h upper = all_more (λ (r : Row). r.number < next) (λ (r : Row). r.number ≢ n) (λ r less same. omega arith) (rows_of regions) h.numbered
+
+-- insertion of the next row of a table keeps its regions
+pub insert_keeps : (schema : Schema) (next : ℕ) (row : Row) (regions : List RegionRows) → AreRegions schema next regions → IsRow schema.dims (measures_of schema) row → row.number ≡ next
+    → AreRegions schema (next + 1) (insert schema.dims schema.page_rows row regions) × IsPermutation (row ∷ rows_of regions) (rows_of (insert schema.dims schema.page_rows row regions))
+insert_keeps schema next row regions h good is = insert_keeps_new schema next (next + 1) row regions h good (next_free schema next row.number regions h (omega arith)) (omega arith) (omega arith)

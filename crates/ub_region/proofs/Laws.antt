@@ -9,8 +9,9 @@ use Rattle.ub_table.specs.Region.{RegionRows, key_of}
 use Rattle.ub_table.specs.declared.row.Key.{Key}
 use Rattle.ub_table.specs.declared.row.Row.{Row}
 use Rattle.ub_zaddr.specs.Address.{last_address}
+pub use Rattle.ub_region.proofs.AppendFacts.{AreNew, append_table, later_regions, new_all, new_moved, new_step, numbered_new}
 pub use Rattle.ub_region.proofs.ChainFacts.{IsBelow, IsChain, chain_of, keys_append, row_first}
-pub use Rattle.ub_region.proofs.InsertFacts.{IsFilled, insert_keeps, nat_eq_flips, two_chain}
+pub use Rattle.ub_region.proofs.InsertFacts.{IsFilled, insert_keeps, insert_keeps_new, nat_eq_flips, next_free, two_chain}
 pub use Rattle.ub_region.proofs.KeyLists.{IsBeforeNext, all_after, all_append, all_both, all_drop, all_left, all_more, all_right, all_take, are_ascending_of, ascending_of, before_cases, before_or_same, up_append, up_cons, up_head, up_tail, upto_before}
 pub use Rattle.ub_region.proofs.RemoveFacts.{all_from, other_key, remove_keeps, remove_none, remove_rows}
 pub use Rattle.ub_region.proofs.RowFacts.{all_insert, all_keys, all_of_keys, all_remove, has_append, has_none, length-insert_row, length-remove_row, up_remove}

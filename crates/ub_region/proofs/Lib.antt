@@ -1,4 +1,5 @@
 pub mod AddressFacts
+pub mod AppendFacts
 pub mod BlankRow
 pub mod ChainFacts
 pub mod ColumnFacts

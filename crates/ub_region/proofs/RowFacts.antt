@@ -1,6 +1,6 @@
 -- What an insertion and a removal leave of the rows of a region.
 use Rattle.std.proofs.lemmas.Grind.{common_steps}
-use Rattle.std.proofs.Common.{rules, ◌≡◌, ◌≢◌, ◌<◌, ◌≤◌, ◌+◌, inl, inr, ℕ, List, [], ◌∷◌, ◌++◌, true, false, ◌||◌, length, refl, arith}
+use Rattle.std.proofs.Common.{rules, ◌≡◌, ◌≢◌, ◌<◌, ◌≤◌, ◌+◌, inl, inr, ℕ, List, [], ◌∷◌, ◌++◌, true, false, ◌||◌, length, refl, sym, arith}
 use Rattle.std.proofs.lemmas.Bool.{cases_Bool}
 use Rattle.std.proofs.lemmas.List.Sorted.{IsPermutation-refl, IsPermutation-cons, IsPermutation-trans, IsPermutation-middle}
 use Rattle.std.specs.List.{AllByRecursion}
@@ -30,13 +30,12 @@ module _ (dims : ℕ) (row : Row) where
   next_insert key [] before next = before
   next_insert key (other ∷ rows) before next = search (rules, cases_Bool)
 
-  pub up_insert : (rows : List Row) → AreKeysAscending (keys_of dims rows) → AllByRecursion (λ other. other.number < row.number) rows → AreKeysAscending (keys_of dims (insert_row dims row rows))
+  pub up_insert : (rows : List Row) → AreKeysAscending (keys_of dims rows) → AllByRecursion (λ other. other.number ≢ row.number) rows → AreKeysAscending (keys_of dims (insert_row dims row rows))
   up_insert [] up numbers = tt
   up_insert (other ∷ rows) up numbers = elim (cases_Bool (precedes (key_of dims row) (key_of dims other))) [
     | inl t ↦ rw t (before_of (key_of dims row) (key_of dims other) t, up)
     | inr f ↦
-        let less = numbers.0 in
-        let ne : row.number ≢ other.number = (λ e. omega arith) in
+        let ne : row.number ≢ other.number = (λ e. numbers.0 (sym e)) in
         let apart : ¬ (IsBefore (key_of dims row) (key_of dims other)) = (λ h. let t = precedes_of (key_of dims row) (key_of dims other) h in cc) in
         let before = other_before (key_of dims row) (key_of dims other) apart ne in
         rw f (up_cons (key_of dims other) (keys_of dims (insert_row dims row rows)) (next_insert (key_of dims other) rows before (up_head (key_of dims other) (keys_of dims rows) up)) (up_insert rows (up_tail (key_of dims other) (keys_of dims rows) up) numbers.1))

@@ -1,6 +1,6 @@
 -- The regions of a UB-tree (Bayer 1997): disjoint, in the order of keys, each on one page.
-use Rattle.std.specs.Prelude.{◌≡◌, ◌<◌, ◌↔◌, ℕ, zero, suc, ◌+◌, ◌/◌, nat_lt, nat_le, Bool, false, not, ◌==◌, if◌then◌else◌, List, [], ◌∷◌, ◌++◌, Some, length, map, take, drop, slice_get}
-use Rattle.std.specs.List.{AllByRecursion, Contains, IsDistinct, filter, flat_map}
+use Rattle.std.specs.Prelude.{◌≡◌, ◌≢◌, ◌<◌, ◌↔◌, ℕ, zero, suc, ◌+◌, ◌/◌, nat_lt, nat_le, Bool, false, not, ◌==◌, if◌then◌else◌, List, [], ◌∷◌, ◌++◌, Some, length, map, take, drop, slice_get}
+use Rattle.std.specs.List.{AllByRecursion, Contains, IsDistinct, enumerate_from, filter, flat_map}
 use Rattle.std.specs.Bool.{nat_eq}
 use Rattle.ub_table.specs.Keys.{IsBefore, AreKeysAscending, origin, is_before_next}
 use Rattle.ub_table.specs.Region.{RegionRows, IsRegion, key_of, keys_of}
@@ -31,6 +31,18 @@ pub record AreRegions (schema : Schema) (next : ℕ) (regions : List RegionRows)
   pub apart : AreApart schema.dims regions
   pub distinct : IsDistinct nat_eq (map (λ row. row.number) (rows_of regions))
   pub numbered : AllByRecursion (λ row. row.number < next) (rows_of regions)
+
+-- a row with this number in the place of its own
+abbrev pub numbered : ℕ → Row → Row
+numbered n row = record row { number = n }
+
+-- these rows with the numbers from this one on
+abbrev pub numbered_from : ℕ → List Row → List Row
+numbered_from n rows = map (λ row. numbered row.0 row.1) (enumerate_from n rows)
+
+-- no row of regions has this number
+abbrev pub IsFree : ℕ → List RegionRows → Type 0
+IsFree number regions = AllByRecursion (λ row. row.number ≢ number) (rows_of regions)
 
 -- the table's rows: those of the regions, in ascending order of number
 pub record AreTableRows (regions : List RegionRows) (rows : List Row) : Type 0 where
@@ -67,6 +79,11 @@ insert_first dims c row (region ∷ regions) =
 -- insertion, where a page holds c rows: the row is put into the region that holds its key
 abbrev pub insert : ℕ → ℕ → Row → List RegionRows → List RegionRows
 insert dims c row regions = change_from (index_holding (key_of dims row) (firsts_of regions)) (insert_first dims c row) regions
+
+-- rows put in one after the other, where a page holds c
+abbrev pub insert_all : ℕ → ℕ → List Row → List RegionRows → List RegionRows
+insert_all dims c [] regions = regions
+insert_all dims c (row ∷ rows) regions = insert_all dims c rows (insert dims c row regions)
 
 -- the row of the key taken from the first region
 abbrev pub remove_first : ℕ → Key → List RegionRows → List RegionRows

@@ -3,15 +3,12 @@ use Rattle.std.specs.Prelude.{FitsSigned, ◌≡◌, ◌+◌, ◌^◌, ◌<◌, 
 use Rattle.std.specs.Int.{w64}
 use Rattle.std.specs.List.{All}
 use Rattle.ub_region.specs.Regions.{AreTableRows, insert}
+pub use Rattle.ub_region.specs.Regions.{numbered}
 pub use Rattle.ub_table.specs.Filling.{row_of}
 use Rattle.ub_table.specs.Region.{HasRest}
 use Rattle.ub_table.specs.declared.row.Row.{Row}
 use Rattle.ub_tree.specs.Grown.{IsOnlyGrown}
 use Rattle.ub_tree.specs.View.{TreeView, IsSound, regions}
-
--- a row with this number in the place of its own
-abbrev pub numbered : ℕ → Row → Row
-numbered n row = record row { number = n }
 
 -- the values of a row, whatever its number, are such as a row of so many dimensions and measures has
 pub record Suits (dims measures : ℕ) (row : Row) : Type 0 where
