@@ -54,7 +54,7 @@ fn row(x: u32, y: u32, m: i64) -> Row
 }
 
 // Puts the five rows in.
-fn put_five(tree: &mut Tree<Store>) -> Option<Result<(), TreeFault>> {
+fn put_five(alloc: Global, tree: &mut Tree<Store>) -> Option<Result<(), TreeFault>> {
     let schema = tree.schema();
     if schema.dims() != 2 || schema.measures() != 1 {
         return None;
@@ -66,7 +66,7 @@ fn put_five(tree: &mut Tree<Store>) -> Option<Result<(), TreeFault>> {
         row(0, 2, 7),
         row(2, 3, 1),
     ];
-    Some(put_rows(tree, &rows))
+    Some(put_rows(alloc, tree, &rows))
 }
 
 // Whether this is what a query of all rows writes, and the tree has failed where that is nothing.
@@ -85,7 +85,7 @@ fn made(alloc: Global, k: u64) -> Option<Tree<Store>> {
 // What is answered, and whether this stands then, where the k-th call of the store fails.
 fn told(alloc: Global, k: u64, text: &str) -> Option<(Result<(), TreeFault>, bool)> {
     let mut tree = made(alloc, k)?;
-    let put = put_five(&mut tree)?;
+    let put = put_five(alloc, &mut tree)?;
     Some((put, shows(alloc, &mut tree, text)))
 }
 

@@ -74,16 +74,16 @@ new_moved schema later rows order regions moved new = record {
 -- ---- rows with the numbers from one on
 
 -- their numbers are at least that
-from_number : (n m : ℕ) (rows : List Row) → m ≤ n → AllByRecursion (λ row. m ≤ row.number) (numbered_from n rows)
+pub from_number : (n m : ℕ) (rows : List Row) → m ≤ n → AllByRecursion (λ row. m ≤ row.number) (numbered_from n rows)
 from_number n m [] le = tt
 from_number n m (row ∷ rows) le = (le, from_number (n + 1) m rows (omega arith))
 
-below_number : (n m : ℕ) (rows : List Row) → n + length rows ≤ m → AllByRecursion (λ row. row.number < m) (numbered_from n rows)
+pub below_number : (n m : ℕ) (rows : List Row) → n + length rows ≤ m → AllByRecursion (λ row. row.number < m) (numbered_from n rows)
 below_number n m [] le = tt
 below_number n m (row ∷ rows) le = (omega arith, below_number (n + 1) m rows (omega arith))
 
 -- and differ
-differ_from : (n : ℕ) (rows : List Row) → IsDistinct nat_eq (map (λ row. row.number) (numbered_from n rows))
+pub differ_from : (n : ℕ) (rows : List Row) → IsDistinct nat_eq (map (λ row. row.number) (numbered_from n rows))
 unfolding IsDistinct
 differ_from n [] = tt
 differ_from n (row ∷ rows) = (later_differ n (numbered_from (n + 1) rows) (from_number (n + 1) (n + 1) rows (omega arith)), differ_from (n + 1) rows)

@@ -9,7 +9,7 @@ use Rattle.ub_table.specs.Region.{RegionRows, key_of}
 use Rattle.ub_table.specs.declared.row.Key.{Key}
 use Rattle.ub_table.specs.declared.row.Row.{Row}
 use Rattle.ub_zaddr.specs.Address.{last_address}
-pub use Rattle.ub_region.proofs.AppendFacts.{AreNew, append_table, later_regions, new_all, new_moved, new_step, numbered_new}
+pub use Rattle.ub_region.proofs.AppendFacts.{AreNew, append_table, below_number, differ_from, from_number, later_regions, new_all, new_moved, new_step, numbered_new}
 pub use Rattle.ub_region.proofs.ChainFacts.{IsBelow, IsChain, chain_of, keys_append, row_first}
 pub use Rattle.ub_region.proofs.InsertFacts.{IsFilled, insert_keeps, insert_keeps_new, nat_eq_flips, next_free, two_chain}
 pub use Rattle.ub_region.proofs.KeyLists.{IsBeforeNext, all_after, all_append, all_both, all_drop, all_left, all_more, all_right, all_take, are_ascending_of, ascending_of, before_cases, before_or_same, up_append, up_cons, up_head, up_tail, upto_before}

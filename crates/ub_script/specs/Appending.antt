@@ -1,48 +1,71 @@
--- What rows that are put into a tree one after the other make of its table, and of any tree.
-use Rattle.std.specs.Prelude.{◌≡◌, ◌≤◌, ℕ, List, [], ◌∷◌, Some, Result, Ok, Err, map, slice_get, take}
-use Rattle.std.specs.List.{enumerate_from}
-use Rattle.ub_exec.specs.Stand.{with_row}
-use Rattle.ub_script.specs.Basis.{Basis, on_stand, over_any}
-use Rattle.ub_script.specs.Changes.{HasPutRow}
-use Rattle.ub_script.specs.Faults.{fault_of_tree}
-use Rattle.ub_script.specs.declared.fault.RunFault.{RunFault}
+-- What rows that are put into a tree behind those that it has make of its table, and of any tree.
+use Rattle.std.specs.Prelude.{◌≡◌, ◌⊎◌, ◌+◌, ◌<◌, ◌≤◌, ℕ, List, [], ◌∷◌, ◌++◌, Some, Result, Ok, Err, IfErr, OnOk, length, map, slice_get, take}
+use Rattle.std.specs.Bool.{nat_eq}
+use Rattle.std.specs.List.{AllByRecursion, IsDistinct}
+use Rattle.std.specs.List.Sorted.{IsPermutation}
+use Rattle.ub_region.specs.Regions.{AreTableRows, insert_all, numbered_from}
+use Rattle.ub_script.specs.Faults.{Runs}
+use Rattle.ub_store.specs.declared.fault.StoreFault.TheVariants.{NoPage}
 use Rattle.ub_table.specs.declared.row.Row.{Row}
 use Rattle.ub_table.specs.declared.row.TheConstants.{MAX_ROW_NUMBER}
-use Rattle.ub_tree.specs.Change.{numbered}
-use Rattle.ub_tree.specs.View.{TreeView}
+use Rattle.ub_tree.specs.Inserted.{InsertsAs}
+use Rattle.ub_tree.specs.View.{TreeView, IsSound, KeepsTrace, regions}
 use Rattle.ub_tree.specs.declared.fault.TreeFault.{TreeFault}
+use Rattle.ub_tree.specs.declared.fault.TreeFault.TheVariants.{Full, Memory, Page, Store}
 
--- a row was put in with the number that is next, whatever number it came with: it is the table's last then
-abbrev pub IsPutIn : Basis → Row → Basis → Type 0
-IsPutIn (on_stand s) row now = (s.next ≤ MAX_ROW_NUMBER) × (now ≡ on_stand (with_row (numbered s.next row) s))
-IsPutIn (over_any seen) row now =
-    (after : TreeView) × HasPutRow seen (numbered seen.next row) (Ok seen.next) after × (now ≡ over_any after)
+-- these rows, with the numbers from the next one on in the order in which they came, are put in in some order
+abbrev pub IsOrderOf : TreeView → List Row → List Row → Type 0
+IsOrderOf t rows order = IsPermutation (numbered_from t.next rows) order
 
--- rows were put in one after the other, each into what those before it left
-abbrev pub ArePutIn : Basis → List Row → Basis → Type 0
-ArePutIn basis [] now = now ≡ basis
-ArePutIn basis (row ∷ rows) now = (mid : Basis) × IsPutIn basis row mid × ArePutIn mid rows now
+-- rows of which each has a number of its own, that comes no sooner than this one
+abbrev pub AreLater : ℕ → List Row → Type 0
+AreLater n rows = AllByRecursion (λ row. n ≤ row.number) rows × IsDistinct nat_eq (map (λ row. row.number) rows)
 
--- a fault came of a row that was to be put in: the table is as it was; any tree is what that refusal leaves of it
-abbrev pub IsPutEnd : Basis → Row → TreeFault → Basis → Type 0
-IsPutEnd (on_stand s) row fault now = now ≡ on_stand s
-IsPutEnd (over_any seen) row fault now =
-    (after : TreeView) × HasPutRow seen (numbered seen.next row) (Err fault) after × (now ≡ over_any after)
+-- rows were put into a tree one after the other, each with its own number: of each what `Tree::insert_numbered` says
+abbrev pub ArePut : TreeView → List Row → TreeView → Type 0
+ArePut old [] new = new ≡ old
+ArePut old (row ∷ rows) new = (mid : TreeView) × InsertsAs row old mid (Ok row.number) × ArePut mid rows new
 
 -- so many of these rows were put in, the first ones, and this fault came of the next one
-pub record ArePutUpTo (basis : Basis) (rows : List Row) (fault : TreeFault) (now : Basis) : Type 0 where
+pub record ArePutUpTo (old : TreeView) (rows : List Row) (fault : TreeFault) (new : TreeView) : Type 0 where
   pub count : ℕ
   pub row : Row
   pub next : slice_get rows count ≡ Some row
-  pub mid : Basis
-  pub put : ArePutIn basis (take count rows) mid
-  pub ended : IsPutEnd mid row fault now
+  pub mid : TreeView
+  pub put : ArePut old (take count rows) mid
+  pub ended : InsertsAs row mid new (Err fault)
 
--- these rows with the numbers from this one on
-abbrev pub numbered_from : ℕ → List Row → List Row
-numbered_from n rows = map (λ row. numbered row.0 row.1) (enumerate_from n rows)
+-- a fault came before all rows were in: no number is left for the last of them, and none was put in; or memory was refused before the first;
+-- or it came of one of them
+abbrev pub IsPutEnd : TreeView → List Row → TreeFault → TreeView → Type 0
+IsPutEnd old rows fault new =
+    ((fault ≡ Full) × (MAX_ROW_NUMBER + 1 < old.next + length rows) × (new ≡ old))
+    ⊎ (((fault ≡ Memory) × (new ≡ old))
+    ⊎ ((order : List Row) × IsOrderOf old rows order × ArePutUpTo old order fault new))
 
--- an answer of a tree as one of a run
-abbrev pub ran : {A : Type 0} → Result A TreeFault → Result A RunFault
-ran (Ok x) = Ok x
-ran (Err fault) = Err (fault_of_tree fault)
+-- what never comes of a sound tree: that a page is refused, or isn't there
+abbrev pub IsNoDamage : TreeFault → Type 0
+IsNoDamage (Page page fault) = ⊥
+IsNoDamage (Store NoPage) = ⊥
+IsNoDamage fault = Unit {0}
+
+-- rows were put into a sound tree: its table has them as its last, in the order in which they came, with the numbers from the next one on;
+-- in which regions they stand depends on the order in which they were put in
+pub record AreAppended (rows : List Row) (old new : TreeView) : Type 0 where
+  pub schema : new.schema ≡ old.schema
+  pub order : List Row
+  pub is : IsOrderOf old rows order
+  pub regions_are : regions new ≡ insert_all old.schema.dims old.schema.page_rows order (regions old)
+  pub table : (before : List Row) → AreTableRows (regions old) before → AreTableRows (regions new) (before ++ numbered_from old.next rows)
+  pub counted : new.rows ≡ old.rows + length rows
+  pub sound : IsSound new
+
+-- rows were to be put into a tree, with this answer
+pub record PutsRows (old new : TreeView) (rows : List Row) (result : Result (Unit {0}) TreeFault) : Type 0 where
+  pub appended : IsSound old → OnOk result (AreAppended rows old new)
+  pub put : OnOk result ((order : List Row) × IsOrderOf old rows order × ArePut old order new)
+  pub next : OnOk result (new.next ≡ old.next + length rows)
+  pub full : MAX_ROW_NUMBER + 1 < old.next + length rows → (result ≡ Err Full) × (new ≡ old)
+  pub stopped : IfErr result (λ fault. IsPutEnd old rows fault new × (IsSound old → IsNoDamage fault))
+  pub runs : OnOk result (Runs {A = Unit {0}} old new (Ok tt))
+  pub trace : KeepsTrace old new

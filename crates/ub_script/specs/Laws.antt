@@ -7,7 +7,6 @@ use Rattle.ub_query.specs.Meaning.{IsMeaning, titles}
 use Rattle.ub_query.specs.Shape.{Asked}
 use Rattle.ub_query.specs.declared.cell.Cell.{Cell}
 use Rattle.ub_region.specs.Regions.{AreRegions}
-use Rattle.ub_script.specs.Appending.{ArePutIn, numbered_from}
 use Rattle.ub_script.specs.Basis.{Basis, on_stand, over_any, schema_of, IsReply}
 use Rattle.ub_script.specs.Exports.{all_rows, renumbered}
 use Rattle.ub_script.specs.Formed.{IsSameBut}
@@ -100,12 +99,6 @@ UnchangedTablesStay = (basis : Basis) (script : List ℕ) (replies : List Reply)
 abbrev pub FullTablesStay : Type 0
 FullTablesStay = (seen : TreeView) (script : List ℕ) (replies : List Reply) (left pages : ℕ) (now : Basis)
     → EndedOver (over_any seen) script (Tree Full) replies left pages now → changed_by replies ≡ 0 → IsUnchanged (over_any seen) now
-
--- rows that are put in stand behind those that the table has, in their order, with the numbers from the next one on
-abbrev pub AppendedRowsAreLast : Type 0
-AppendedRowsAreLast = (s : Stand) (rows : List Row) (now : Basis) → ArePutIn (on_stand s) rows now
-    → (after : Stand) × (now ≡ on_stand after) × (after.table ≡ record s.table { rows = s.table.rows ++ numbered_from s.next rows })
-    × (after.next ≡ s.next + length rows)
 
 -- of the text of an answer the line of counts tells, and the lines that are answers are its title and its rows, over a schema whose
 -- columns' names are names, whatever the query and the rows are

@@ -1,52 +1,86 @@
 // Rows that are put into a tree as they are, behind those that it has.
 
-ghost use Rattle.std.specs.Prelude.{OnOk, IfErr};
+ghost use Rattle.std.specs.Prelude.{◌≡◌, ◌<◌, ◌≤◌, ◌+◌, IfErr, IfOk, OnOk, length};
 ghost use Rattle.std.specs.List.{All};
-ghost use Rattle.ub_script.specs.Appending.{ArePutIn, ArePutUpTo, IsPutEnd, IsPutIn, ran};
-ghost use Rattle.ub_script.specs.Basis.{Basis, IsBasisOf, IsRestOf};
-ghost use Rattle.ub_script.specs.Faults.{Runs};
-ghost use Rattle.ub_script.specs.Loop.{OnEach};
-ghost use Rattle.ub_table.specs.Region.{measures_of};
+ghost use Rattle.std.specs.List.Sorted.{IsPermutation};
+ghost use Rattle.ub_region.specs.Regions.{numbered_from};
+ghost use Rattle.ub_script.specs.Appending.{AreLater, ArePut, ArePutUpTo, PutsRows};
+ghost use Rattle.ub_table.specs.Region.{IsRow, measures_of};
 ghost use Rattle.ub_tree.specs.Change.{Suits};
-ghost use Rattle.ub_tree.specs.View.{KeepsTrace};
 
+use std::alloc::{AllocError, Global};
 use ub_store::PageStore;
-use ub_table::Row;
+use ub_table::{MAX_ROW_NUMBER, Row};
 use ub_tree::{Tree, TreeFault};
+use ub_zaddr::Shape;
 
-/// Puts these rows in, one after the other: each is the table's last row then, and has the number that is next. The numbers that
-/// they come with are not looked at. The trace stays as it is.
+/// Puts these rows in behind those that the tree has: the first gets the number that is next, each later one the number after. They go
+/// in in the order of their keys, so that the rows of a region go in one after the other, while its page is at hand. The numbers that they
+/// come with are not looked at. The trace stays as it is.
 ///
-/// Where a row is refused, those before it are in, and neither it nor any row after it is. Its fault is that of `Tree::insert_row`:
-/// `Full` where no number is left, or where another region is needed and the index has no room for it; `Failed` where the tree had
-/// failed; `Page` where a page was refused, which is never so on a sound tree; `Memory` where memory was refused; `Store` where the
-/// store failed in this call, has no such page, or can't have as many more as are needed. After `Store` with `Device` the tree may
-/// have failed.
-pub fn put_rows<S: PageStore>(tree: &mut Tree<S>, rows: &[Row]) -> Result<(), TreeFault>
+/// Full comes, with nothing changed, where no number is left for the last of them, and else where another region is needed and the index
+/// has no room for it. All other refusals are those of `Tree::insert_row`: of the rows so many are in then as went in before the one that
+/// was refused; Memory also comes where there is none for their order, with nothing changed. No page is refused on a sound tree. After
+/// Store with Device the tree may have failed.
+pub fn put_rows<S: PageStore>(
+    alloc: Global,
+    tree: &mut Tree<S>,
+    rows: &[Row],
+) -> Result<(), TreeFault>
     requires { All (Suits tree.old.schema.dims (measures_of tree.old.schema)) rows.now }
-    ensures put { OnEach tree.old (λ basis. OnOk result
-        ((now : Basis) × ArePutIn basis rows.now now × IsBasisOf tree.new now)) }
-    ensures stopped { OnEach tree.old (λ basis. IfErr result (λ fault.
-        (now : Basis) × ArePutUpTo basis rows.now fault now × IsRestOf tree.new now)) }
-    ensures trace { KeepsTrace tree.old tree.new }
-    ensures effect { Runs tree.old tree.new (ran result) }
+    ensures { PutsRows tree.old tree.new rows.now result }
 {
-    for row in rows {
-        put_row(tree, row)?;
+    let first = tree.next();
+    if rows.len() > (MAX_ROW_NUMBER + 1 - first) as usize {
+        return Err(TreeFault::Full);
     }
-    Ok(())
+    let ordered = in_key_order(alloc, tree.schema().shape(), rows, first)?;
+    put_all(tree, ordered.as_slice())
 }
 
-// Puts a row in, as the table's last one with the number that is next.
-fn put_row<S: PageStore>(tree: &mut Tree<S>, row: &Row) -> Result<(), TreeFault>
-    requires { Suits tree.old.schema.dims (measures_of tree.old.schema) row.now }
-    ensures put { OnEach tree.old (λ basis. OnOk result
-        ((now : Basis) × IsPutIn basis row.now now × IsBasisOf tree.new now)) }
-    ensures stopped { OnEach tree.old (λ basis. IfErr result (λ fault.
-        (now : Basis) × IsPutEnd basis row.now fault now × IsRestOf tree.new now)) }
-    ensures trace { KeepsTrace tree.old tree.new }
-    ensures effect { Runs tree.old tree.new (ran result) }
+// These rows with the numbers from this one on, in the order of their keys.
+fn in_key_order(
+    alloc: Global,
+    shape: Shape,
+    rows: &[Row],
+    first: u32,
+) -> Result<Vec<Row>, AllocError>
+    requires { first + length rows.now ≤ MAX_ROW_NUMBER + 1 }
+    ensures { IfOk result (λ ordered. IsPermutation (numbered_from first rows.now)
+        ordered.items) }
 {
-    tree.insert_row(row)?;
+    let mut ordered = numbered(alloc, rows, first)?;
+    ordered.sort_by_cached_key(|row: &Row| {
+        let key = row.key(shape);
+        (key.z, key.number)
+    })?;
+    Ok(ordered)
+}
+
+// These rows with the numbers from this one on.
+fn numbered(alloc: Global, rows: &[Row], first: u32) -> Result<Vec<Row>, AllocError>
+    requires { first + length rows.now ≤ MAX_ROW_NUMBER + 1 }
+    ensures { IfOk result (λ numbered. numbered.items ≡ numbered_from first rows.now) }
+{
+    let mut numbered = Vec::with_capacity(alloc, rows.len())?;
+    let mut number = first;
+    for row in rows {
+        numbered.push(Row { number, ..*row })?;
+        number += 1;
+    }
+    Ok(numbered)
+}
+
+// Puts rows in, one after the other, each with its own number.
+fn put_all<S: PageStore>(tree: &mut Tree<S>, ordered: &[Row]) -> Result<(), TreeFault>
+    requires rows { All (IsRow tree.old.schema.dims (measures_of tree.old.schema)) ordered.now }
+    requires later { AreLater tree.old.next ordered.now }
+    requires fewer { tree.old.rows < tree.old.next }
+    ensures put { OnOk result (ArePut tree.old ordered.now tree.new) }
+    ensures stopped { IfErr result (λ fault. ArePutUpTo tree.old ordered.now fault tree.new) }
+{
+    for row in ordered {
+        tree.insert_numbered(row)?;
+    }
     Ok(())
 }

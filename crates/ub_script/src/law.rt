@@ -1,4 +1,4 @@
-ghost use Rattle.ub_script.specs.Laws.{QueriesFetchOneNumberOfPages, OutcomesHaveOneReply, StatementsHaveOneReplyEach, ScriptsHaveOneEnd, ScriptsHaveOneSummary, CutTextsAreAFront, StoppedTextsAreAFront, StoppedTextsAreWhole, UnchangedTablesStay, FullTablesStay, AppendedRowsAreLast, AnswersAreTheirLines, ExportsAreLoaded};
+ghost use Rattle.ub_script.specs.Laws.{QueriesFetchOneNumberOfPages, OutcomesHaveOneReply, StatementsHaveOneReplyEach, ScriptsHaveOneEnd, ScriptsHaveOneSummary, CutTextsAreAFront, StoppedTextsAreAFront, StoppedTextsAreWhole, UnchangedTablesStay, FullTablesStay, AnswersAreTheirLines, ExportsAreLoaded};
 
 // Each function here does nothing, and its clause is a law of the definitions in specs/. So the law is proved, and is read
 // beside the code.
@@ -55,11 +55,6 @@ pub fn unchanged_tables_stay()
 /// Nor does an INSERT change a tree that finds no number left, or no room in the index.
 pub fn full_tables_stay()
     ensures { FullTablesStay }
-{}
-
-/// Rows that are put in are the table's last, in their order, and have the numbers from the next one on.
-pub fn appended_rows_are_last()
-    ensures { AppendedRowsAreLast }
 {}
 
 /// Of the text of an answer the line of counts alone tells of it: without that line it is the title

@@ -8,14 +8,12 @@ use Rattle.ub_files.specs.Files.{FilesFacts, HasPages, IsLent}
 use Rattle.ub_load.specs.Appending.{appended_rows, AreRowsOf, IsRowsFault}
 use Rattle.ub_load.specs.LoadedTable.{columns_of, rows_of}
 use Rattle.ub_load.specs.declared.fault.LoadFault.{LoadFault}
-use Rattle.ub_script.specs.Appending.{ArePutIn}
-use Rattle.ub_script.specs.Basis.{Basis, over_any, IsBasisOf}
-use Rattle.ub_script.specs.Loop.{OnEach}
+use Rattle.ub_script.specs.Appending.{PutsRows}
 use Rattle.ub_script.specs.Output.{OutFacts}
 use Rattle.ub_shell.proofs.CrashFacts.{read_honest}
 use Rattle.ub_shell.proofs.LeftFacts.{where_ok}
 use Rattle.ub_shell.proofs.GoesFacts.{runs_as, runs_same, runs_still, runs_then}
-use Rattle.ub_shell.specs.Appended.{appended_line, AppendsSafely, AppendsStore, HasAppended, HasClosed, HasRows, HoldsAppended, PutsRows, TellsAppended}
+use Rattle.ub_shell.specs.Appended.{appended_line, AppendsSafely, AppendsStore, HasAppended, HasClosed, HasRows, HoldsAppended, TellsAppended}
 use Rattle.ub_shell.specs.Commands.{ClosesFile, HasRead, IsKept, IsTreeOf, both_ended}
 use Rattle.ub_shell.specs.Ending.{Tells}
 use Rattle.ub_shell.specs.declared.status.Status.{Status}
@@ -33,28 +31,6 @@ use Rattle.ub_tree.specs.View.{TreeView}
 use Rattle.ub_tree.specs.declared.fault.TreeFault.{TreeFault}
 
 -- ---- how many rows were put in
-
-one_more : (s o a n k : ℕ) → o ≡ s → a ≡ o + 1 → n ≡ a + k → n ≡ s + suc k
-one_more s o a n k same counted more = omega arith
-
-none_more : (n : ℕ) → n ≡ n + 0
-none_more n = omega arith
-
--- each of them is counted by the number that is next
-next_after : (rows : List Row) (seen : TreeView) (now : Basis) → ArePutIn (over_any seen) rows now
-    → (after : TreeView) × (now ≡ over_any after) × (after.next ≡ seen.next + length rows)
-next_after [] seen now same = (seen, same, none_more seen.next)
-next_after (row ∷ rows) seen now (mid, (one, put, is), rest) =
-    let more = next_after rows one now (subst (λ (b : Basis). ArePutIn b rows now) is rest) in
-    let before : put.old.next ≡ seen.next = ap (λ (t : TreeView). t.next) put.same in
-    (more.0, more.1, one_more seen.next put.old.next one.next more.0.next (length rows) before put.puts_in.counted.0 more.2)
-
-pub next_is : (old new : TreeView) (rows : List Row) → OnEach old (λ basis. (now : Basis) × ArePutIn basis rows now × IsBasisOf new now) → new.next ≡ old.next + length rows
-next_is old new rows put =
-    let (now, are, is) = put (over_any old) refl in
-    let (after, same, next) = next_after rows old now are in
-    let there : IsBasisOf new (over_any after) = subst (λ (b : Basis). IsBasisOf new b) same is in
-    ap (λ (t : TreeView). t.next) there ∙ next
 
 pub no_fewer : (before after next last n : ℕ) → next ≡ before → last ≡ after → after ≡ before + n → next ≤ last
 no_fewer before after next last n first second is = omega arith
@@ -277,4 +253,4 @@ pub appended_sound : (schema : Schema) (placed : List Placed) (next : ℕ) (stor
     → AreSoundPages left.pages a.put.now.schema a.put.now.placed a.put.now.next
 appended_sound schema placed next store left text out out_now status honest sound a done =
     let of_tree = (a.tree_is.sound schema placed next honest sound).0 in
-    (where_ok a.put.closed.closing done (a.put.closed.closes.closed (a.put.puts.effect.sound of_tree))).1
+    (where_ok a.put.closed.closing done (a.put.closed.closes.closed (a.put.puts.appended of_tree).sound)).1

@@ -11,9 +11,8 @@ use Rattle.ub_load.specs.Appending.{appended_rows, AreRowsOf}
 use Rattle.ub_load.specs.LoadedTable.{records_of, rows_of}
 use Rattle.ub_load.specs.declared.fault.LoadFault.{LoadFault}
 use Rattle.ub_load.specs.declared.fault.LoadFault.TheVariants as load
-use Rattle.ub_script.proofs.AppendFacts.{appended_rows_are_last}
-use Rattle.ub_script.specs.Appending.{ArePutIn}
-use Rattle.ub_script.specs.Basis.{Basis, on_stand, IsBasisOf}
+use Rattle.ub_region.specs.Regions.{AreTableRows, numbered_from}
+use Rattle.ub_script.specs.Appending.{AreAppended}
 use Rattle.ub_script.specs.Output.{OutFacts}
 use Rattle.ub_shell.proofs.AppendFacts.{rows_for}
 use Rattle.ub_shell.proofs.KeptFacts.{store_not_done, tree_not_done}
@@ -35,7 +34,7 @@ use Rattle.ub_table.specs.declared.schema.Schema.{Schema}
 use Rattle.ub_tree.specs.Faults.{tree_fault}
 use Rattle.ub_tree.specs.Placed.{Placed, regions_in}
 use Rattle.ub_tree.specs.Stored.{AreSoundPages}
-use Rattle.ub_tree.specs.View.{TreeView, IsSound}
+use Rattle.ub_tree.specs.View.{TreeView, IsSound, regions}
 use Rattle.ub_tree.specs.declared.fault.TreeFault.{TreeFault}
 
 -- ---- a table file to which no row was appended
@@ -134,10 +133,23 @@ none_more s = record {
 }
 
 -- a table into which they were put has them
-more_rows : (rows : List Row) (s : Stand) (b : Basis) → ArePutIn (on_stand s) rows b → (after : Stand) × (b ≡ on_stand after) × HasMore s rows after
-more_rows rows s b put =
-    let (after, at, table, next) = appended_rows_are_last s rows b put in
-    (after, at, record { table_is = table; next_is = next })
+more_rows : (rows : List Row) (s : Stand) (t now : TreeView) → IsStandOf t s → AreAppended rows t now → now.next ≡ t.next + length rows → (after : Stand) × HasMore s rows after × IsStandOf now after
+more_rows rows s t now is more next =
+    let after : Stand = record {
+      table = record s.table { rows = s.table.rows ++ numbered_from s.next rows };
+      regions = regions now;
+      next = s.next + length rows;
+    } in (
+      after,
+      record { table_is = refl; next_is = refl },
+      record {
+        sound = more.sound;
+        schema_is = is.schema_is ∙ sym more.schema;
+        rows_are = subst (λ (n : ℕ). AreTableRows (regions now) (s.table.rows ++ numbered_from n rows)) (sym is.next_is) (more.table s.table.rows is.rows_are);
+        regions_are = refl;
+        next_is = ap (λ (n : ℕ). n + length rows) is.next_is ∙ sym next;
+      },
+    )
 
 -- pages that are told are those of a table that stands so
 stands_as : (held : Held) (all : List (List ℕ)) (t : TreeView) (s : Stand) → HasPages held all → AreSoundPages all t.schema t.placed t.next → IsStandOf t s → StandsAs held s
@@ -201,16 +213,16 @@ some_rows : (n : ℕ) → nat_lt 0 (suc n) ≡ true
 some_rows n = lt-ltb 0 (suc n) (omega arith)
 
 -- what is kept then
-more_kept : (rows : List Row) (table : List ℕ) (left : List (List ℕ)) (closing : Result (Unit {0}) TreeFault) (keeping : Result (Unit {0}) StoreFault) (old new : FilesFacts) (now : TreeView)
-    (s : Stand) (b : Basis) → IsKept (nat_lt 0 (length rows)) table left closing keeping old new → IsOk closing → IsOk keeping → AreSoundPages left now.schema now.placed now.next
-    → IsHeldStand (old.holds table) s → ArePutIn (on_stand s) rows b → IsBasisOf now b → (after : Stand) × HasMore s rows after × StandsAs (new.holds table) after
-more_kept [] table left closing keeping old new now s b kept done also sound held put is =
+more_kept : (rows : List Row) (table : List ℕ) (left : List (List ℕ)) (closing : Result (Unit {0}) TreeFault) (keeping : Result (Unit {0}) StoreFault) (old new : FilesFacts) (t now : TreeView)
+    (s : Stand) → IsKept (nat_lt 0 (length rows)) table left closing keeping old new → IsOk closing → IsOk keeping → AreSoundPages left now.schema now.placed now.next
+    → IsHeldStand (old.holds table) s → IsStandOf t s → AreAppended rows t now → now.next ≡ t.next + length rows → (after : Stand) × HasMore s rows after × StandsAs (new.holds table) after
+more_kept [] table left closing keeping old new t now s kept done also sound held is more next =
     (s, none_more s, stays_as (old.holds table) (new.holds table) s (held_same table old new kept.1) held)
-more_kept (row ∷ rows) table left closing keeping old new now s b kept done also sound held put is =
-    let more = more_rows (row ∷ rows) s b put in
+more_kept (row ∷ rows) table left closing keeping old new t now s kept done also sound held is more next =
+    let (after, has, stands) = more_rows (row ∷ rows) s t now is more next in
     let is_kept = subst (λ (b : Bool). IsKept b table left closing keeping old new) (some_rows (length rows)) kept in
     let holds = (kept_pages table left closing keeping old new done also is_kept).0 in
-    (more.0, more.2, stands_as (new.holds table) left now more.0 holds sound (subst (λ (x : Basis). IsBasisOf now x) more.1 is))
+    (after, has, stands_as (new.holds table) left now after holds sound stands)
 
 pub appended_tables_have_the_rows : AppendedTablesHaveTheRows
 appended_tables_have_the_rows table source s old new out out_now honest held (inl same) =
@@ -231,10 +243,10 @@ appended_tables_have_the_rows table source s old new out out_now honest held (in
                 let (placed, sound_pages, regions_are, stands) = standing_pages (append.mid.holds table) to.store s to.lent.stored here in
                 let (sound, of_schema, of_placed, of_next) = a.tree_is.sound s.table.schema placed s.next (to.lent.lent.honest mid_honest) sound_pages in
                 let stand = opened_stand a.tree s placed sound of_schema of_placed of_next regions_are stands in
-                let (b, put, is) = a.put.puts.put (on_stand s) stand in
+                let appended = a.put.puts.appended sound in
                 let done = all_done a.put.closed.closing a.put.closed.keeping _ _ out out_now a.put.closed.tells in
-                let left = where_ok a.put.closed.closing done.0 (a.put.closed.closes.closed (a.put.puts.effect.sound sound)) in
-                let more = more_kept a.rows table kept.left.pages a.put.closed.closing a.put.closed.keeping to.mid new a.put.now s b kept.kept done.0 done.1 left.1 there put is in
+                let left = where_ok a.put.closed.closing done.0 (a.put.closed.closes.closed appended.sound) in
+                let more = more_kept a.rows table kept.left.pages a.put.closed.closing a.put.closed.keeping to.mid new a.tree a.put.now s kept.kept done.0 done.1 left.1 there stand appended a.put.puts.next in
                 (append.text, a.rows, more.0, append.read.text_is, rows_for append.text a.tree.schema s.table.schema a.tree.next s.next a.rows a.rows of_schema of_next refl a.rows_are, more.1, more.2)
             | inr refused ↦ elim refused.0 [
               | inl none ↦ absurd (tree_not_done none.fault (told_done _ _ _ _ none.tells))

@@ -1,14 +1,11 @@
 -- What appending the rows of a CSV file leaves of a table file, and what is told.
-use Rattle.std.specs.Prelude.{◌≡◌, ◌≢◌, ◌⊎◌, ◌++◌, ◌<◌, ℕ, List, Result, Ok, Err, codes, decimal, length, nat_lt, true, IfErr, IsOk, OnOk}
+use Rattle.std.specs.Prelude.{◌≡◌, ◌≢◌, ◌⊎◌, ◌++◌, ◌<◌, ℕ, List, Result, Ok, Err, codes, decimal, length, nat_lt, true, IfErr, IsOk}
 use Rattle.ub_files.specs.Clock.{Endures, Folder, FolderClock, IsSameBut}
 use Rattle.ub_files.specs.Files.{FilesFacts, HasPages, Held, IsLent}
 use Rattle.ub_load.specs.Appending.{AreRowsOf, IsRowsFault}
 use Rattle.ub_load.specs.LoadedTable.{records_of}
 use Rattle.ub_load.specs.declared.fault.LoadFault.{LoadFault}
-use Rattle.ub_script.specs.Appending.{ArePutIn, ArePutUpTo, ran}
-use Rattle.ub_script.specs.Basis.{Basis, IsBasisOf, IsRestOf}
-use Rattle.ub_script.specs.Faults.{Runs}
-use Rattle.ub_script.specs.Loop.{OnEach}
+use Rattle.ub_script.specs.Appending.{PutsRows}
 use Rattle.ub_script.specs.Output.{OutFacts}
 use Rattle.ub_shell.specs.Commands.{Closes, HasRead, IsKept, IsSameFile, IsTreeOf, IsUnread, IsUnready, IsUntold, OpensFor, both_ended}
 use Rattle.ub_shell.specs.Ending.{Tells}
@@ -40,13 +37,6 @@ pub record HasClosed (t : TreeView) (count : ℕ) (left : StoreFacts) (out out_n
   pub closes : Closes t left closing
   pub faults : IfErr keeping (λ fault. fault ≡ Device)
   pub tells : TellsAppended count t.rows (both_ended closing keeping) out out_now status
-
--- these rows were to be put into a tree, with this answer: what `put_rows` says of any tree. Each of them gets the number that is next, and is
--- the table's last then; where a fault ended that, those before the row of which it came are in
-pub record PutsRows (old new : TreeView) (rows : List Row) (result : Result (Unit {0}) TreeFault) : Type 0 where
-  pub put : OnEach old (λ basis. OnOk result ((now : Basis) × ArePutIn basis rows now × IsBasisOf new now))
-  pub stopped : OnEach old (λ basis. IfErr result (λ fault. (now : Basis) × ArePutUpTo basis rows fault now × IsRestOf new now))
-  pub effect : Runs old new (ran result)
 
 -- all these rows were put into a tree, which was then closed so
 pub record HasPut (t : TreeView) (rows : List Row) (left : StoreFacts) (out out_now : OutFacts) (status : Status) : Type 0 where

@@ -5,7 +5,7 @@ use Rattle.ub_exec.specs.Stand.{Stand, IsStand, IsStandOf}
 use Rattle.ub_words.specs.CommandLine.{AsksHelp, AsksHelpAlone, AsksNothing, AsksQuery}
 use Rattle.ub_load.specs.Appending.{AreRowsOf}
 use Rattle.ub_load.specs.LoadedTable.{records_of}
-use Rattle.ub_script.specs.Appending.{numbered_from}
+use Rattle.ub_region.specs.Regions.{numbered_from}
 use Rattle.ub_script.specs.Basis.{Basis, on_stand, over_any}
 use Rattle.ub_script.specs.Output.{OutFacts, HasTaken, IsFrontOf, out_facts}
 use Rattle.ub_script.specs.Run.{EndedOver, FirstOver, summary_of}

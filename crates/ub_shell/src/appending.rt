@@ -119,7 +119,7 @@ fn append_tree<F: Files, W: Out>(
         (W.facts out.old) (W.facts out.new) result) (F.facts files.old) (F.clock files.new) }
 {
     match read_rows(alloc, text, tree.schema(), tree.next()) {
-        Ok(rows) => append_rows(files, path, tree, rows.as_slice(), out),
+        Ok(rows) => append_rows(alloc, files, path, tree, rows.as_slice(), out),
         Err(fault) => {
             leave_table(files, path, tree);
             tell_load_fault(fault, out)
@@ -129,6 +129,7 @@ fn append_tree<F: Files, W: Out>(
 
 // Puts rows into the tree of a table file, and keeps what is left where all of them are in.
 fn append_rows<F: Files, W: Out>(
+    alloc: Global,
     files: &mut F,
     path: &str,
     mut tree: Tree<F::Store>,
@@ -146,7 +147,7 @@ fn append_rows<F: Files, W: Out>(
         (W.facts out.old) (W.facts out.new) result) (F.facts files.old) (F.clock files.new) }
 {
     let next = tree.next();
-    match put_rows(&mut tree, rows) {
+    match put_rows(alloc, &mut tree, rows) {
         Ok(()) => {
             let count = tree.next() - next;
             keep_rows(files, path, tree, count, out)

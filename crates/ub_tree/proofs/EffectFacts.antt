@@ -1,19 +1,19 @@
 -- What a call leaves that calls others: a search, a refusal or a write, as a change.
 use Rattle.std.proofs.Common.{rules}
-use Rattle.std.proofs.Common.{◌≡◌, ◌≢◌, ◌<◌, ◌∙◌, ◌++◌, inl, inr, ◌⊎◌, ℕ, true, List, [], ◌∷◌, Ok, Err, Result, IfErr, OnOk, sym, ap, subst, refl}
+use Rattle.std.proofs.Common.{◌≡◌, ◌≢◌, ◌<◌, ◌∙◌, ◌++◌, inl, inr, ◌⊎◌, ℕ, true, List, [], ◌∷◌, Ok, Err, Result, IfErr, OnOk, arith, sym, ap, subst, refl}
 use Rattle.std.specs.Result.{IsErrAnd}
 use Rattle.ub_index.specs.Standing.{IsOutside}
 use Rattle.ub_index_change.specs.Changing.{IsUnspelled}
 use Rattle.ub_index_change.specs.Making.{PutsSheets, SameButSheets}
 use Rattle.ub_index_change.specs.declared.sheet.Sheet.{Sheet}
 use Rattle.ub_region.specs.declared.region.Region.{Region}
-use Rattle.ub_region.proofs.Laws.{all_left, all_right}
+use Rattle.ub_region.proofs.Laws.{all_left, all_right, next_free}
 use Rattle.ub_store.specs.Facts.{StoreFacts, IsHonest, page_count}
 use Rattle.ub_store.specs.declared.fault.StoreFault.TheVariants as store
 use Rattle.ub_table.specs.declared.schema.Schema.{Schema}
-use Rattle.ub_tree.specs.Effects.{Changes, HasEnded, IsLeft, IsMarkedFirst, KeepsMark, Leaves, Searches, Works, read_store, written_store}
+use Rattle.ub_tree.specs.Effects.{Changes, ChangesOf, HasEnded, HasNumber, IsLeft, IsLeftOf, IsMarkedFirst, KeepsMark, Leaves, Searches, Works, read_store, written_store}
 use Rattle.ub_tree.specs.Others.{AreOthersKept, KeepsOthers, WritesIndex, WritesOneRegion, WritesPage}
-use Rattle.ub_tree.specs.View.{TreeView, IsSound}
+use Rattle.ub_tree.specs.View.{TreeView, IsSound, regions}
 use Rattle.ub_tree.specs.declared.fault.TreeFault.{TreeFault}
 use Rattle.ub_tree.specs.declared.fault.TreeFault.TheVariants.{Full, Page, Store, Failed as HasFailed, Memory}
 use Rattle.ub_writing.specs.Marks.{HasMark, is_written}
@@ -46,6 +46,47 @@ same_leaves a = search rules
 -- a refusal after which all is as it was
 pub unchanged : {T : Type 0} (e : TreeFault) (a : TreeView) → IsLeft a a e → Changes {A = T} a a (Err e)
 unchanged e a left = record { frame = refl; marked = same_marked a; done = tt; left = left }
+
+-- what any change leaves one leaves that puts in a row of this number
+left_of : (n : ℕ) (a c : TreeView) (e : TreeFault) → IsLeft a c e → IsLeftOf n a c e
+left_of n a c Full h = h
+left_of n a c HasFailed h = h
+left_of n a c Memory h = h
+left_of n a c (Page page fault) h = (λ sound free. h.0 sound, inl h.1, h.2)
+left_of n a c (Store fault) h = h
+
+all_left_of : {T : Type 0} (n : ℕ) (a c : TreeView) (r : Result T TreeFault) → IfErr r (IsLeft a c) → IfErr r (IsLeftOf n a c)
+all_left_of n a c (Ok x) h = tt
+all_left_of n a c (Err e) h = left_of n a c e h
+
+pub changes_of : {T : Type 0} (n : ℕ) (a c : TreeView) (r : Result T TreeFault) → Changes a c r → ChangesOf n a c r
+changes_of n a c r h = record { frame = h.frame; marked = h.marked; done = h.done; left = all_left_of n a c r h.left }
+
+-- and the other way round where it is the number that is next
+left_next : (n : ℕ) (a c : TreeView) (e : TreeFault) → a.next ≡ n → IsLeftOf n a c e → IsLeft a c e
+left_next n a c Full is h = h
+left_next n a c HasFailed is h = h
+left_next n a c Memory is h = h
+left_next n a c (Page page fault) is h = (
+  λ sound. h.0 sound (next_free a.schema a.next n (regions a) sound.regions_are (omega arith)),
+  elim h.1 [
+    | inl refused ↦ refused
+    | inr taken ↦ inr (inr (inr (taken.0, subst (HasNumber a page) (sym is) taken.1)))
+  ],
+  h.2,
+)
+left_next n a c (Store fault) is h = h
+
+all_left_next : {T : Type 0} (n : ℕ) (a c : TreeView) (r : Result T TreeFault) → a.next ≡ n → IfErr r (IsLeftOf n a c) → IfErr r (IsLeft a c)
+all_left_next n a c (Ok x) is h = tt
+all_left_next n a c (Err e) is h = left_next n a c e is h
+
+pub changes_next : {T : Type 0} (n : ℕ) (a c : TreeView) (r : Result T TreeFault) → a.next ≡ n → ChangesOf n a c r → Changes a c r
+changes_next n a c r is h = record { frame = h.frame; marked = h.marked; done = h.done; left = all_left_next n a c r is h.left }
+
+-- nothing was changed by a call that puts in a row
+pub unchanged_of : {T : Type 0} (n : ℕ) (e : TreeFault) (a : TreeView) → IsLeftOf n a a e → ChangesOf n {A = T} a a (Err e)
+unchanged_of n e a left = record { frame = refl; marked = same_marked a; done = tt; left = left }
 
 -- the same refusal of another call
 pub left_by : {T U : Type 0} (r : Result T TreeFault) (e : TreeFault) (a c : TreeView) → IsErrAnd r (λ x. x ≡ e) → Changes {A = U} a c (Err e) → Changes a c r

@@ -1,5 +1,6 @@
 -- A row put into a tree: where its region's rows come to stand, what becomes of the table, and what a call tells of it.
-use Rattle.std.proofs.Common.{◌≡◌, ◌≢◌, ◌<◌, ◌+◌, ◌^◌, ◌∙◌, ◌++◌, ◌⊎◌, inl, inr, ℕ, zero, suc, true, false, List, [], ◌∷◌, Ok, Err, Result, IfErr, OnOk, Option, None, Some, IfSome, length, map, take, drop, nat_le, sym, ap, subst, refl, arith, slice_get, append_assoc}
+use Rattle.std.proofs.Common.{◌≡◌, ◌≢◌, ◌<◌, ◌≤◌, ◌+◌, ◌^◌, ◌∙◌, ◌++◌, ◌⊎◌, inl, inr, ℕ, zero, suc, true, false, List, [], ◌∷◌, Ok, Err, Result, IfErr, OnOk, Option, None, Some, IfSome, length, map, take, drop, nat_le, nat_lt, sym, ap, subst, refl, arith, slice_get, append_assoc}
+use Rattle.std.proofs.lemmas.Bool.{cases_Bool, ltb-true, ltb-false}
 use Rattle.std.proofs.lemmas.List.Sorted.{length_permutation}
 use Rattle.std.specs.List.{AllByRecursion}
 use Rattle.std.specs.Result.{IsErrAnd}
@@ -12,8 +13,8 @@ use Rattle.ub_index.specs.Fitting.{FallsTo as FallsToEntry}
 use Rattle.ub_index_change.specs.FullWay.{EndsFull, IsFullWay}
 use Rattle.ub_index.specs.Way.{HoldsKey, LeadsTo}
 use Rattle.ub_region.specs.declared.entry.Entry.{Entry}
-use Rattle.ub_region.proofs.Laws.{all_left, all_right, insert_keeps, insert_table}
-use Rattle.ub_region.specs.Regions.{firsts_of, index_holding, insert, rows_of, split_region}
+use Rattle.ub_region.proofs.Laws.{all_left, all_right, insert_keeps_new, insert_table}
+use Rattle.ub_region.specs.Regions.{IsFree, firsts_of, index_holding, insert, rows_of, split_region}
 use Rattle.ub_region.specs.Rows.{Halves, has_key, insert_row, split}
 use Rattle.ub_store.specs.Facts.{IsHonest}
 use Rattle.ub_store.specs.declared.fault.StoreFault.TheVariants as store
@@ -30,8 +31,8 @@ use Rattle.ub_tree.proofs.RoomFacts.{found_row, number_free, rows_each}
 use Rattle.ub_tree.proofs.ShrinkFacts.{regions_put}
 use Rattle.ub_tree.proofs.TreeFacts.{contained_at, firsts_placed, region_get, placed_there}
 use Rattle.ub_tree.proofs.WayFacts.{falls_once}
-use Rattle.ub_tree.specs.Change.{IsInserted}
-use Rattle.ub_tree.specs.Effects.{IsNumberTaken, IsTakenIn}
+use Rattle.ub_tree.specs.Change.{IsInserted, IsPutIn, next_after}
+use Rattle.ub_tree.specs.Effects.{HasNumber, IsTakenIn}
 use Rattle.ub_tree.specs.Holding.{Answers, AnswersKey, AnswersAt, GrowsAt, IsRoomFault}
 use Rattle.ub_tree.specs.Opened.{IsPassing}
 use Rattle.ub_tree.specs.Others.{AddsEntry, KeepsEntries, WritesIndex, WritesPage}
@@ -83,16 +84,38 @@ insert_at_index : (dims c : ℕ) (row : Row) (rs : List RegionRows) (index : ℕ
 insert_at_index dims c row rs index r at is =
     rw (← is) (rw (drop_at rs index r at) (sym (append_assoc (take index rs) (split_region dims c (record { first = r.first; rows = insert_row dims row r.rows })) (drop (suc index) rs))))
 
--- a row was put into a sound tree
+-- the next number isn't less than it was, and later than that of the row
+pub next_later : (next number : ℕ) → (next ≤ next_after next number) × (number < next_after next number)
+next_later next number = elim (cases_Bool (nat_lt number next)) [
+  | inl t ↦ let less = ltb-true number next t in rw t (omega arith, less)
+  | inr f ↦ let more = ltb-false number next f in rw f (omega arith, omega arith)
+]
+
+-- and in its range
+next_most : (next number most : ℕ) → next ≤ most → number < most → next_after next number ≤ most
+next_most next number most few less = elim (cases_Bool (nat_lt number next)) [
+  | inl t ↦ rw t few
+  | inr f ↦ rw f (omega arith)
+]
+
+-- one later than the number that was next
+pub next_one : (next number : ℕ) → number ≡ next → next_after next number ≡ next + 1
+next_one next number is = elim (cases_Bool (nat_lt number next)) [
+  | inl t ↦ let less = ltb-true number next t in absurd (omega arith)
+  | inr f ↦ rw f (omega arith)
+]
+
+-- a row was put into a sound tree that had none of its number
 pub grown : (a b after d : TreeView) (row : Row) (span : Region) (read : List Row) → IsHolder a (key_of a.schema.dims row) span read → b ≡ a → IsRow a.schema.dims (measures_of a.schema) row
-    → row.number ≡ a.next → a.next ≢ 16777216 → IsElsewhereSame b after → (IsSound b → after.is_changed ≡ true → HasMark b.schema after.store.pages) → after.inner.index.last ≡ last_address after.schema.dims
-    → region_count after < 2 ^ 32 → d ≡ record after { next = after.next + 1; rows = after.rows + 1 }
+    → IsElsewhereSame b after → (IsSound b → after.is_changed ≡ true → HasMark b.schema after.store.pages) → after.inner.index.last ≡ last_address after.schema.dims
+    → region_count after < 2 ^ 32 → d ≡ record after { next = next_after after.next row.number; rows = after.rows + 1 }
     → ((i : ℕ) → IsStored b → IsRegionIn b i span → AllByRecursion (IsRegion b.schema) (split_of b.schema span.first (insert_row b.schema.dims row read))
     → IsStored after × (regions after ≡ regions_with i (split_of b.schema span.first (insert_row b.schema.dims row read)) (regions b)) × KeepsGrown b after)
-    → IsSound a → IsInserted row a d
-grown a b after d row span read h same good number not_last changed marks last few counted written sound =
+    → IsSound a → IsFree row.number (regions a) → IsPutIn row a d
+grown a b after d row span read h same good changed marks last few counted written sound free =
     let dims = a.schema.dims in
     let key = key_of dims row in
+    let later = next_after a.next row.number in
     let whole : after ≡ record a { placed = after.placed; store = after.store; is_changed = true; inner = after.inner } =
     changed ∙ ap (λ (v : TreeView). record v { placed = after.placed; store = after.store; is_changed = true; inner = after.inner }) same in
     let i = index_holding key (first_keys (map entry_of a.placed)) in
@@ -104,7 +127,8 @@ grown a b after d row span read h same good number not_last changed marks last f
     insert_at_index dims a.schema.page_rows row (regions a) i there.0.region (region_get a.placed i there.0 there.1) (ap (index_holding key) (firsts_placed a.placed))
     ∙ ap (λ (k : Key). regions_with i (split_of a.schema k (insert_row dims row there.0.region.rows)) (regions a)) there.3
     ∙ ap (λ (rs : List Row). regions_with i (split_of a.schema span.first (insert_row dims row rs)) (regions a)) (sym read_is) in
-    let kept = insert_keeps a.schema a.next row (regions a) sound.regions_are good number in
+    let bounds = next_later a.next row.number in
+    let kept = insert_keeps_new a.schema a.next later row (regions a) sound.regions_are good free bounds.0 bounds.1 in
     let each : AllByRecursion (IsRegion a.schema) (take i (regions a) ++ news ++ drop (suc i) (regions a)) = subst (AllByRecursion (IsRegion a.schema)) is kept.0.each in
     let news_are = all_right (IsRegion a.schema) (take i (regions a)) news (all_left (IsRegion a.schema) (take i (regions a) ++ news) (drop (suc i) (regions a)) each) in
     let at_a = subst (λ (v : TreeView). (j : ℕ) → IsStored v → IsRegionIn v j span → AllByRecursion (IsRegion v.schema) (split_of v.schema span.first (insert_row v.schema.dims row read))
@@ -118,13 +142,13 @@ grown a b after d row span read h same good number not_last changed marks last f
     let more : length (rows_of (insert dims a.schema.page_rows row (regions a))) ≡ length (row ∷ rows_of (regions a)) =
     length_permutation (row ∷ rows_of (regions a)) (rows_of (insert dims a.schema.page_rows row (regions a))) kept.1 in
     let before : a.rows ≡ length (rows_of (regions a)) = sound.rows_are in
-    let most = sound.last_next in
+    let most = good.number.1 in
+    let some = sound.some_next in
+    let upper = bounds.0 in
     let count = stored.count_is in
-    subst (IsInserted row a) (sym (counted ∙ ap (λ (v : TreeView). record v { next = v.next + 1; rows = v.rows + 1 }) whole)) (record {
-      number = number;
+    subst (IsPutIn row a) (sym (counted ∙ ap (λ (v : TreeView). record v { next = next_after v.next row.number; rows = v.rows + 1 }) whole)) (record {
       schema = refl;
       regions_are = are;
-      table = λ old is_table. rw are (insert_table a.schema a.next row (regions a) old sound.regions_are is_table good number);
       next = refl;
       rows = refl;
       sound = record {
@@ -136,14 +160,31 @@ grown a b after d row span read h same good number not_last changed marks last f
         placed_are = stored.placed_are;
         count_is = count;
         rows_are = omega arith;
-        some_next = omega arith;
-        last_next = omega arith;
+        some_next = (let le : 1 ≤ later = omega arith in le);
+        last_next = next_most a.next row.number 16777216 sound.last_next (omega arith);
         few = omega arith;
         closed = λ e. cc;
         marked = λ _. mark;
       };
       grown = both.2;
     })
+
+-- so it has the row with its next number as its last
+pub inserted_next : (a d : TreeView) (row : Row) → IsRow a.schema.dims (measures_of a.schema) row → row.number ≡ a.next → IsSound a → IsPutIn row a d → IsInserted row a d
+inserted_next a d row good number sound put = record {
+  number = number;
+  schema = put.schema;
+  regions_are = put.regions_are;
+  table = λ old is_table. rw put.regions_are (insert_table a.schema a.next row (regions a) old sound.regions_are is_table good number);
+  next = put.next ∙ next_one a.next row.number number;
+  rows = put.rows;
+  sound = put.sound;
+  grown = put.grown;
+}
+
+pub all_inserted : (r : Result ℕ TreeFault) (a d : TreeView) (row : Row) → IsRow a.schema.dims (measures_of a.schema) row → row.number ≡ a.next → IsSound a → OnOk r (IsPutIn row a d) → OnOk r (IsInserted row a d)
+all_inserted (Err e) a d row good number sound put = tt
+all_inserted (Ok n) a d row good number sound put = inserted_next a d row good number sound put
 
 -- the counts of a tree say nothing of its regions and pages
 told_more : (t : TreeView) (next rows : ℕ) (region : Region) → IsRegionOf t region → IsRegionOf (record t { next = next; rows = rows }) region
@@ -152,35 +193,35 @@ told_more t next rows region h = record { key = h.key; falls = h.falls }
 told_less : (t : TreeView) (next rows : ℕ) (region : Region) → IsRegionOf (record t { next = next; rows = rows }) region → IsRegionOf t region
 told_less t next rows region h = record { key = h.key; falls = h.falls }
 
--- the tree with one row more counted
-abbrev counted_more : TreeView → TreeView
-counted_more t = record t { next = t.next + 1; rows = t.rows + 1 }
+-- the tree with these counts
+abbrev with_counts : TreeView → ℕ → ℕ → TreeView
+with_counts t next rows = record t { next = next; rows = rows }
 
 -- where a row was put, which then is counted
-pub grows_by : (a b mid d : TreeView) (key : Key) (span : Region) (page : RegionView) → b ≡ a → d ≡ record mid { next = mid.next + 1; rows = mid.rows + 1 } → HasReadAt a key span page
+pub grows_by : (a b mid d : TreeView) (next rows : ℕ) (key : Key) (span : Region) (page : RegionView) → b ≡ a → d ≡ record mid { next = next; rows = rows } → HasReadAt a key span page
     → StoresAt span (length page.region.rows) b mid → GrowsAt key a d
-grows_by a b mid d key span page same counted read h =
+grows_by a b mid d next rows key span page same counted read h =
     subst (λ (v : TreeView). GrowsAt key a v) (sym counted)
-    (subst (λ (v : TreeView). HasReadAt v key span page → GrowsAt key v (counted_more mid)) same by_b read)
+    (subst (λ (v : TreeView). HasReadAt v key span page → GrowsAt key v (with_counts mid next rows)) same by_b read)
   where
-    kept : KeepsEntries b mid → KeepsEntries b (counted_more mid)
+    kept : KeepsEntries b mid → KeepsEntries b (with_counts mid next rows)
     kept k = (
       record {
         count = k.0.count;
-        told = λ region. (λ t. told_more mid (mid.next + 1) (mid.rows + 1) region ((k.0.told region).0 t), λ t. (k.0.told region).1 (told_less mid (mid.next + 1) (mid.rows + 1) region t));
+        told = λ region. (λ t. told_more mid next rows region ((k.0.told region).0 t), λ t. (k.0.told region).1 (told_less mid next rows region t));
       },
       k.1,
     )
 
-    added : AddsEntry span.first b mid → AddsEntry span.first b (counted_more mid)
+    added : AddsEntry span.first b mid → AddsEntry span.first b (with_counts mid next rows)
     added k = k
 
     others : (WritesPage span.page b mid × KeepsEntries b mid) ⊎ (WritesIndex span.page b mid × AddsEntry span.first b mid)
-        → (WritesPage span.page b (counted_more mid) × KeepsEntries b (counted_more mid)) ⊎ (WritesIndex span.page b (counted_more mid) × AddsEntry span.first b (counted_more mid))
+        → (WritesPage span.page b (with_counts mid next rows) × KeepsEntries b (with_counts mid next rows)) ⊎ (WritesIndex span.page b (with_counts mid next rows) × AddsEntry span.first b (with_counts mid next rows))
     others (inl k) = inl (k.0, kept k.1)
     others (inr k) = inr (k.0, added k.1)
 
-    by_b : HasReadAt b key span page → GrowsAt key b (counted_more mid)
+    by_b : HasReadAt b key span page → GrowsAt key b (with_counts mid next rows)
     by_b read = record {
       span = span;
       falls = read.falls;
@@ -192,15 +233,14 @@ grows_by a b mid d key span page same counted read h =
 
 -- the key of a new row stands in the region on a span already
 pub key_there : (t : TreeView) (key : Key) (span : Region) (region : RegionRows) → FallsTo t key span → IsTakenIn t span region
-    → key.number ≡ t.next → has_key t.schema.dims key region.rows ≡ true → IsHolder t key span region.rows → (¬ (IsSound t)) × IsNumberTaken t span.page
-key_there t key span region falls on number has h = (
-  λ sound.
+    → has_key t.schema.dims key region.rows ≡ true → IsHolder t key span region.rows → (IsSound t → ¬ (IsFree key.number (regions t))) × HasNumber t span.page key.number
+key_there t key span region falls on has h = (
+  λ sound free.
       let i = index_holding key (first_keys (map entry_of t.placed)) in
       let at = region_stands t key span region.rows h sound in
       let there = placed_there t.placed i span at in
       let read_is : region.rows ≡ there.0.region.rows = h.rows_are i there.0 sound.honest at there.1 in
-      let less = rows_each (λ row. row.number < t.next) (regions t) i there.0.region (region_get t.placed i there.0 there.1) sound.regions_are.numbered in
-      number_free t.schema.dims key there.0.region.rows (subst (λ (n : ℕ). AllByRecursion (λ row. row.number < n) there.0.region.rows) (sym number) less)
+      number_free t.schema.dims key there.0.region.rows (rows_each (λ row. row.number ≢ key.number) (regions t) i there.0.region (region_get t.placed i there.0 there.1) free)
       (subst (λ (rs : List Row). has_key t.schema.dims key rs ≡ true) read_is has),
   (let found = found_row t.schema.dims key region.rows has in (
     span,
@@ -210,7 +250,7 @@ key_there t key span region falls on number has h = (
     on,
     found.0,
     contained_at (λ (_ : Row). Unit {0}) region.rows found.1 found.0 found.2,
-    found.3 ∙ number,
+    found.3,
   )),
 )
 

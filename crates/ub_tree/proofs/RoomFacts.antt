@@ -1,6 +1,6 @@
 -- Which rows can stand in the place of a region's, and where a region of theirs begins.
 use Rattle.std.proofs.Common.{rules}
-use Rattle.std.proofs.Common.{◌≡◌, ◌<◌, ◌≤◌, ◌+◌, ◌-◌, inl, inr, ℕ, zero, suc, true, false, List, [], ◌∷◌, ◌++◌, Option, Some, None, IfSome, length, nat_le, drop, ◌∙◌, sym, ap, subst, refl, arith, slice_get, length-append}
+use Rattle.std.proofs.Common.{◌≡◌, ◌≢◌, ◌<◌, ◌≤◌, ◌+◌, ◌-◌, inl, inr, ℕ, zero, suc, true, false, List, [], ◌∷◌, ◌++◌, Option, Some, None, IfSome, length, nat_le, drop, ◌∙◌, sym, ap, subst, refl, arith, slice_get, length-append}
 use Rattle.std.proofs.lemmas.Bool.{cases_Bool, and_from, eq-eqb, le-leb, lt-leb, leb-true, leb-false}
 use Rattle.std.proofs.lemmas.List.{length-drop}
 use Rattle.std.specs.List.{AllByRecursion}
@@ -191,12 +191,12 @@ next_region t key span next rows more falls is are are_more fit =
     joined_region t.schema span.first next.first rows more are.0 are_more.0 (begins_before t key span next.first falls is)
     (subst (λ (o : Option Key). IfSome o (λ end. AllByRecursion (λ k. IsBefore k end) (keys_of t.schema.dims rows))) is are.1) fit
 
--- no row of a sound tree has the number that is next
-pub number_free : (dims : ℕ) (key : Key) (rows : List Row) → AllByRecursion (λ row. row.number < key.number) rows → has_key dims key rows ≡ true → ⊥
-number_free dims key [] less has = cc
-number_free dims key (row ∷ rows) less has = elim (cases_Bool (is_same key (key_of dims row))) [
-  | inl t ↦ let number : key.number ≡ row.number = ap (λ (k : Key). k.number) (same_key key (key_of dims row) t) in let lt = less.0 in absurd (omega arith)
-  | inr f ↦ number_free dims key rows less.1 (rw f at has)
+-- rows of which none has its number haven't the key
+pub number_free : (dims : ℕ) (key : Key) (rows : List Row) → AllByRecursion (λ row. row.number ≢ key.number) rows → has_key dims key rows ≡ true → ⊥
+number_free dims key [] free has = cc
+number_free dims key (row ∷ rows) free has = elim (cases_Bool (is_same key (key_of dims row))) [
+  | inl t ↦ absurd (free.0 (sym (ap (λ (k : Key). k.number) (same_key key (key_of dims row) t))))
+  | inr f ↦ number_free dims key rows free.1 (rw f at has)
 ]
 
 -- the row of a key

@@ -95,7 +95,7 @@ falls_still old new key span falls kept =
     }
 
 -- a row was put into the region that was read, and then counted
-module _ (a mid d : TreeView) (row : Row) (span : Region) (page : RegionView) (counted : d ≡ record mid { next = mid.next + 1; rows = mid.rows + 1 })
+module _ (a mid d : TreeView) (next rows : ℕ) (row : Row) (span : Region) (page : RegionView) (counted : d ≡ record mid { next = next; rows = rows })
     (read : HasReadAt a (key_of a.schema.dims row) span page) (stores : StoresAt span (length page.region.rows) a mid)
     (can : CanStand a span (insert_row a.schema.dims row page.region.rows))
     (stand : IsHonest a.store → StandAt span (length page.region.rows) (insert_row a.schema.dims row page.region.rows) a mid) where
@@ -126,7 +126,7 @@ module _ (a mid d : TreeView) (row : Row) (span : Region) (page : RegionView) (c
   pub puts_row : PutsRow row a d
   puts_row = record {
     alone = λ number region honest into less.
-        let grown : GrowsAt key a d = grows_by a a mid d key span page refl counted read stores in
+        let grown : GrowsAt key a d = grows_by a a mid d next rows key span page refl counted read stores in
         let on = on_region a key number region span honest into read.falls in
         let same : page.region ≡ region = read.taken honest region on.0 in
         let less_page : length page.region.rows < a.schema.page_rows = subst (λ (r : RegionRows). length r.rows < a.schema.page_rows) (sym same) less in

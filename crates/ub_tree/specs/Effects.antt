@@ -13,6 +13,7 @@ use Rattle.ub_store.specs.View as trace
 use Rattle.ub_store.specs.View.{Notes}
 use Rattle.ub_table.specs.declared.row.TheConstants.{MAX_ROW_NUMBER}
 use Rattle.ub_region.specs.RegionPage.{region_page}
+use Rattle.ub_region.specs.Regions.{IsFree}
 use Rattle.ub_table.specs.Region.{RegionRows, IsRegion}
 use Rattle.ub_table.specs.declared.fault.PageFault.{PageFault}
 use Rattle.ub_table.specs.declared.fault.PageFault.TheVariants.{BadCount, BadOrder}
@@ -21,7 +22,7 @@ use Rattle.ub_table.specs.declared.row.Row.{Row}
 use Rattle.ub_tree.specs.Others.{WritesOneRegion}
 use Rattle.ub_writing.specs.Marks.{HasMark, KeepsUnless}
 use Rattle.ub_tree.specs.Told.{IsRegionOf, TellsStill}
-use Rattle.ub_tree.specs.View.{TreeView, IsSound, KeepsTrace, region_count}
+use Rattle.ub_tree.specs.View.{TreeView, IsSound, KeepsTrace, region_count, regions}
 use Rattle.ub_tree.specs.declared.fault.TreeFault.{TreeFault}
 use Rattle.ub_tree.specs.declared.fault.TreeFault.TheVariants.{Full, Page, Store, Failed, Memory}
 use Rattle.ub_tree.specs.Spans.{Region}
@@ -158,11 +159,15 @@ pub record HasEnded (fault : TreeFault) (old new : TreeView) : Type 0 where
 abbrev pub HasMissed : TreeView → TreeView → Type 0
 HasMissed old new = new ≡ record old { store = record old.store { failed_reads = raised old.store.failed_reads 1 } }
 
--- the region that the tree tells of on this page has a row already of the number that the next row gets
+-- the region that the tree tells of on this page has a row already of this number
+abbrev pub HasNumber : TreeView → ℕ → ℕ → Type 0
+HasNumber t page number =
+    (span : Region) × IsRegionOf t span × (span.page ≡ page)
+    × (region : RegionRows) × IsTakenIn t span region × (row : Row) × Contains region.rows row × (row.number ≡ number)
+
+-- so it is of the number that the next row gets
 abbrev pub IsNumberTaken : TreeView → ℕ → Type 0
-IsNumberTaken t number =
-    (span : Region) × IsRegionOf t span × (span.page ≡ number)
-    × (region : RegionRows) × IsTakenIn t span region × (row : Row) × Contains region.rows row × (row.number ≡ t.next)
+IsNumberTaken t page = HasNumber t page t.next
 
 -- an index that some key's region can't leave: the page of this number is refused then, or no region would be left
 abbrev pub IsDropRefused : TreeView → ℕ → PageFault → Type 0
@@ -207,3 +212,17 @@ pub record Changes {A : Type 0} (old new : TreeView) (result : Result A TreeFaul
   pub marked : IsMarkedFirst old new
   pub done : OnOk result (Works old new)
   pub left : IfErr result (IsLeft old new)
+
+-- what a call leaves that puts in a row of this number: what each change leaves; but a page is refused, or has that number already, only
+-- where the tree isn't sound, or one of its rows has it
+abbrev pub IsLeftOf : ℕ → TreeView → TreeView → TreeFault → Type 0
+IsLeftOf n old new (Page page fault) =
+    (IsSound old → ¬ (IsFree n (regions old))) × (IsChangeRefused old page fault ⊎ ((fault ≡ BadOrder) × HasNumber old page n)) × (new ≡ old)
+IsLeftOf n old new fault = IsLeft old new fault
+
+-- a call that puts in a row of this number
+pub record ChangesOf (n : ℕ) {A : Type 0} (old new : TreeView) (result : Result A TreeFault) : Type 0 where
+  pub frame : new ≡ record old { placed = new.placed; rows = new.rows; next = new.next; is_changed = new.is_changed; is_failed = new.is_failed; store = new.store; inner = new.inner }
+  pub marked : IsMarkedFirst old new
+  pub done : OnOk result (Works old new)
+  pub left : IfErr result (IsLeftOf n old new)

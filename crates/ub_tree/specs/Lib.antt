@@ -19,6 +19,7 @@ pub mod Upgrade
 pub mod Others
 pub mod Holding
 pub mod Pages
+pub mod Inserted
 pub mod Removal
 pub mod Checking
 pub mod Laws

@@ -1,22 +1,24 @@
-ghost use Rattle.std.specs.Prelude.{ℕ, ◌≡◌, ◌≢◌, ◌+◌, ◌-◌, ◌<◌, ◌∷◌, [], true, false, IsTrue, Some, Err, length, slice_get, IfOk, IfErr, MatchResult, OnOk};
+ghost use Rattle.std.specs.Prelude.{ℕ, ◌≡◌, ◌≢◌, ◌≤◌, ◌+◌, ◌-◌, ◌<◌, ◌∷◌, [], true, false, IsTrue, Some, Err, length, slice_get, IfOk, IfErr, MatchResult, OnOk};
 ghost use Rattle.ub_index_change.specs.Changing.{AreIndexPages, AreOnce, Stand};
 ghost use Rattle.ub_index_change.specs.Making.{PutsSheets, changed};
 ghost use Rattle.ub_index_change.specs.Preparing.{IsWithinRegion};
 ghost use Rattle.ub_region.specs.RegionPage.{region_page};
+ghost use Rattle.ub_region.specs.Regions.{IsFree};
 ghost use Rattle.ub_region.specs.Rows.{insert_row};
 ghost use Rattle.ub_store.specs.Facts as facts;
 ghost use Rattle.ub_store.specs.Facts.{page_count};
-ghost use Rattle.ub_table.specs.Region.{RegionRows, IsRegion, key_of, measures_of};
+ghost use Rattle.ub_table.specs.Region.{RegionRows, IsRegion, IsRow, key_of, measures_of};
 ghost use Rattle.ub_tree.specs.Change as spec;
-ghost use Rattle.ub_tree.specs.Change.{IsInserted, Suits, numbered};
+ghost use Rattle.ub_tree.specs.Change.{IsInserted, IsPutIn, Suits, numbered};
+ghost use Rattle.ub_tree.specs.Inserted.{InsertsAs};
 ghost use Rattle.ub_tree.specs.inner.Change.{CanStand, GrowsTo, HasReadAt, HasStopped, IsIndexFault, IsPut, IsReadAt, IsRegionIn, IsRegionThere, IsSplitAt, IsStored, KeepsGrown, StandAt, StoresAt, StoresRows, Writes, WritesBoth, placed_with};
-ghost use Rattle.ub_tree.specs.Effects.{Searches, Changes, IsTakenIn};
+ghost use Rattle.ub_tree.specs.Effects.{Searches, Changes, ChangesOf, IsTakenIn};
 ghost use Rattle.ub_tree.specs.Holding.{AnswersKey, AnswersRow, AnswersAt, FallsInto, GrowsAt};
 ghost use Rattle.ub_tree.specs.Opened.{IsPassing};
 ghost use Rattle.ub_tree.specs.Pages.{PutsRow, Spells, SpellsHalves};
 ghost use Rattle.ub_tree.specs.Placed.{Placed};
 ghost use Rattle.ub_tree.specs.Told.{KeepsTold, IsRegionOf};
-ghost use Rattle.ub_tree.specs.View.{IsSound, region_count};
+ghost use Rattle.ub_tree.specs.View.{IsSound, region_count, regions};
 ghost use Rattle.ub_writing.specs.Puts.{PutsTwo};
 
 use crate::fault::{TreeFault, bad_count};
@@ -31,6 +33,14 @@ use ub_writing::{Drafts, Room, put_halves, put_region, take_room};
 
 // One above the last number that a row can have.
 const NEXT_END: u32 = MAX_ROW_NUMBER + 1;
+
+// The number that the next row gets, once a row of this number is there too.
+fn next_after(next: u32, number: u32) -> u32
+    requires { number ≤ MAX_ROW_NUMBER }
+    ensures { result ≡ spec.next_after next number }
+{
+    if number < next { next } else { number + 1 }
+}
 
 // The refusal of a call in which the store failed as it was changed: the tree has failed then.
 fn failing(is_failed: &mut bool, fault: StoreFault) -> TreeFault
@@ -337,7 +347,7 @@ impl<S: PageStore> Tree<S> {
             (key_of self.old.schema.dims (numbered self.old.next row.now)) result }
         ensures effect { Changes self.old self.new result }
     {
-        if self.is_failed {
+        if self.has_failed() {
             return Err(TreeFault::Failed);
         }
         if self.next == NEXT_END {
@@ -347,27 +357,44 @@ impl<S: PageStore> Tree<S> {
             number: self.next,
             ..*row
         };
+        self.insert_numbered(&row)
+    }
+
+    /// Puts a row in with its own number, which no row of the tree may have, and gives that; the next number is later than it from
+    /// then on. With it the tree must have fewer rows than that number, as each has that has no number twice.
+    ///
+    /// Full comes where another region is needed, and the index has 16 levels each page of which on the way there is full. All other
+    /// refusals are those of `insert`.
+    pub fn insert_numbered(&mut self, row: &Row) -> Result<u32, TreeFault>
+        requires row { IsRow self.old.schema.dims (measures_of self.old.schema) row.now }
+        requires fewer { self.old.rows + 1 < spec.next_after self.old.next row.now.number }
+        ensures { InsertsAs row.now self.old self.new result }
+    {
+        if self.is_failed {
+            return Err(TreeFault::Failed);
+        }
         let mut room = take_room(&mut self.room, self.alloc, self.schema.shape())?;
-        let inserted = self.insert_within(&row, &mut room);
+        let inserted = self.insert_within(row, &mut room);
         self.room = Some(room);
         inserted
     }
 
-    // The same of a tree that works and has a number left, which the row has, in this room.
+    // The same of a tree that works, in this room.
     fn insert_within(&mut self, row: &Row, room: &mut Room) -> Result<u32, TreeFault>
-        requires row { Suits self.old.schema.dims (measures_of self.old.schema) row.now
-            × (row.now.number ≡ self.old.next) }
-        requires able { (self.old.is_failed ≡ false) × (self.old.next ≢ MAX_ROW_NUMBER + 1) }
-        ensures inserted { IsSound self.old
-            → OnOk result (IsInserted row.now self.old self.new) }
-        ensures number { IfOk result (λ n. n ≡ self.old.next) }
-        ensures counted { OnOk result ((self.new.next ≡ self.old.next + 1)
+        requires row { IsRow self.old.schema.dims (measures_of self.old.schema) row.now }
+        requires fewer { self.old.rows + 1 < spec.next_after self.old.next row.now.number }
+        requires able { self.old.is_failed ≡ false }
+        ensures inserted { IsSound self.old → IsFree row.now.number (regions self.old)
+            → OnOk result (IsPutIn row.now self.old self.new) }
+        ensures number { IfOk result (λ n. n ≡ row.now.number) }
+        ensures counted { OnOk result
+            ((self.new.next ≡ spec.next_after self.old.next row.now.number)
             × (self.new.rows ≡ self.old.rows + 1) × (self.new.is_failed ≡ false)
             × GrowsAt (key_of self.old.schema.dims row.now) self.old self.new) }
         ensures put { OnOk result (PutsRow row.now self.old self.new) }
         ensures refused { facts.IsHonest self.old.store
             → AnswersKey self.old (key_of self.old.schema.dims row.now) result }
-        ensures effect { Changes self.old self.new result }
+        ensures effect { ChangesOf row.now.number self.old self.new result }
     {
         let key = row.key(self.schema.shape());
         let region = self.read_holding(&key, &mut room.region)?;
@@ -378,7 +405,7 @@ impl<S: PageStore> Tree<S> {
             });
         }
         self.store_with(&region, &key, row, room)?;
-        self.next += 1;
+        self.next = next_after(self.next, row.number);
         self.rows += 1;
         Ok(row.number)
     }

@@ -1,7 +1,8 @@
-ghost use Rattle.std.specs.Prelude.{◌≡◌, ◌≤◌, [], false, IsTrue, Err, length, IfOk, IfSome, OnOk, option_copied};
+ghost use Rattle.std.specs.Prelude.{◌≡◌, ◌<◌, ◌≤◌, ◌+◌, [], false, IsTrue, Err, length, IfOk, IfSome, OnOk, option_copied};
 ghost use Rattle.std.specs.List.{Contains};
 ghost use Rattle.ub_region.specs.RegionPage.{empty_region};
 ghost use Rattle.ub_store.specs.View.{emptied};
+ghost use Rattle.ub_table.specs.declared.row.TheConstants.{MAX_ROW_NUMBER};
 ghost use Rattle.ub_tree.specs.Calls.{StandsAt};
 ghost use Rattle.ub_tree.specs.Effects.{IsTakenIn, ReadsRegion, Searches};
 ghost use Rattle.ub_tree.specs.Spans.{IsLater, Meets, First};
@@ -116,9 +117,11 @@ impl<S: PageStore> Tree<S> {
         self.rows
     }
 
-    /// The number that the next row gets: one more than the last row got.
+    /// The number that the next row gets: one more than the last row got. It is more than there are rows, and at most one above the
+    /// last that a row can have.
     pub fn next(&self) -> u32
-        ensures { result ≡ self.now.next }
+        ensures next { result ≡ self.now.next }
+        ensures range { (self.now.rows < result) × (result ≤ MAX_ROW_NUMBER + 1) }
     {
         self.next
     }

@@ -40,4 +40,4 @@ returns-clause-answer g c basis is =
     (put_by old c.insert.new.self c.args.values.now _ _ _ are long c.in_ok-insert.ensures.number c.in_ok-insert.ensures.failed c.in_ok-insert.ensures.counted c.in_ok-insert.ensures.refused
     c.in_ok-insert.ensures.effect)
     (put_row old c.insert.new.self c.args.values.now _ _ _ are long c.in_ok-insert.ensures.inserted)
-    (c.in_ok-text.ensures ∙ ap inserted_text c.next.ensures)
+    (c.in_ok-text.ensures ∙ ap inserted_text c.next.ensures.next)

@@ -11,14 +11,14 @@ append_rows-requires g c = record {
 pub returns-in-Ok-clause-appends : goal.returns-in-Ok-clause-appends
 returns-in-Ok-clause-appends g c =
     tree_appends c.args.path.now c.args.text.now c.args.tree (g.W.Out.facts c.args.out.now) (g.W.Out.facts c.append_rows.new.out) c.append_rows.result
-    c.as_slice.result.now _ _ (rows_for c.args.text.now c.schema.result.now c.args.tree.schema c.next.result c.args.tree.next _ c.as_slice.result.now c.schema.ensures c.next.ensures c.as_slice.ensures.value c.in-Ok.ensures.rows)
+    c.as_slice.result.now _ _ (rows_for c.args.text.now c.schema.result.now c.args.tree.schema c.next.result c.args.tree.next _ c.as_slice.result.now c.schema.ensures c.next.ensures.next c.as_slice.ensures.value c.in-Ok.ensures.rows)
     c.append_rows.ensures.appends
 
 pub returns-in-Err-clause-appends : goal.returns-in-Err-clause-appends
 returns-in-Err-clause-appends g c = inr (
   inl (record {
     fault = c.in-Err.fault;
-    is = fault_for c.args.text.now c.schema.result.now c.args.tree.schema c.next.result c.args.tree.next c.in-Err.fault c.schema.ensures c.next.ensures c.in-Err.ensures.refused;
+    is = fault_for c.args.text.now c.schema.result.now c.args.tree.schema c.next.result c.args.tree.next c.in-Err.fault c.schema.ensures c.next.ensures.next c.in-Err.ensures.refused;
     tells = c.tell_load_fault.ensures;
   }),
   c.leave_table.ensures.kept,
@@ -27,7 +27,7 @@ returns-in-Err-clause-appends g c = inr (
 pub returns-in-Ok-clause-crash : goal.returns-in-Ok-clause-crash
 returns-in-Ok-clause-crash g c =
     tree_safely c.args.path.now c.args.text.now c.args.tree (g.W.Out.facts c.args.out.now) (g.W.Out.facts c.append_rows.new.out) c.append_rows.result
-    c.as_slice.result.now (g.F.Files.facts c.args.files.now) _ _ (rows_for c.args.text.now c.schema.result.now c.args.tree.schema c.next.result c.args.tree.next _ c.as_slice.result.now c.schema.ensures c.next.ensures c.as_slice.ensures.value c.in-Ok.ensures.rows)
+    c.as_slice.result.now (g.F.Files.facts c.args.files.now) _ _ (rows_for c.args.text.now c.schema.result.now c.args.tree.schema c.next.result c.args.tree.next _ c.as_slice.result.now c.schema.ensures c.next.ensures.next c.as_slice.ensures.value c.in-Ok.ensures.rows)
     c.append_rows.ensures.crash
 
 pub returns-in-Err-clause-crash : goal.returns-in-Err-clause-crash
@@ -37,7 +37,7 @@ returns-in-Err-clause-crash g c =
 pub returns-in-Ok-clause-lasts : goal.returns-in-Ok-clause-lasts
 returns-in-Ok-clause-lasts g c = λ some done.
     tree_lasts c.args.path.now c.args.text.now c.args.tree (g.W.Out.facts c.args.out.now) (g.W.Out.facts c.append_rows.new.out) c.append_rows.result
-    c.as_slice.result.now (g.F.Files.facts c.args.files.now) (g.F.Files.clock c.append_rows.new.files) (rows_for c.args.text.now c.schema.result.now c.args.tree.schema c.next.result c.args.tree.next _ c.as_slice.result.now c.schema.ensures c.next.ensures c.as_slice.ensures.value c.in-Ok.ensures.rows)
+    c.as_slice.result.now (g.F.Files.facts c.args.files.now) (g.F.Files.clock c.append_rows.new.files) (rows_for c.args.text.now c.schema.result.now c.args.tree.schema c.next.result c.args.tree.next _ c.as_slice.result.now c.schema.ensures c.next.ensures.next c.as_slice.ensures.value c.in-Ok.ensures.rows)
     some (λ more. c.append_rows.ensures.lasts more done)
 
 pub returns-in-Err-clause-lasts : goal.returns-in-Err-clause-lasts

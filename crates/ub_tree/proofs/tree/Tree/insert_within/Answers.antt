@@ -4,14 +4,14 @@ use Rattle.ub_store.specs.Facts.{IsHonest}
 use Rattle.ub_table.specs.Region.{IsRow, key_of, measures_of}
 use Rattle.ub_table.specs.declared.fault.PageFault.TheVariants.{BadOrder}
 use Rattle.ub_table.specs.declared.row.Key.{Key}
-use Rattle.ub_tree.proofs.EffectFacts.{counted_anew, left_by, marked_sound, refused_none, then_changed, unchanged}
+use Rattle.ub_tree.proofs.EffectFacts.{changes_of, counted_anew, left_by, marked_sound, refused_none, searched_by, then_changed, unchanged_of}
 use Rattle.ub_tree.proofs.GrowFacts.{added_answers, grown, grows_by, key_there, passing_answers_key, answers_err_at, answers_ok_at}
 use Rattle.ub_tree.proofs.HoldingFacts.{has_told, key_is_there, next_key}
-use Rattle.ub_tree.proofs.NewFacts.{numbered_row}
 use Rattle.ub_tree.proofs.RemovalFacts.{holder}
 use Rattle.ub_tree.proofs.RoomFacts.{can_stand, rows_on}
-use Rattle.ub_tree.specs.Effects.{Changes}
+use Rattle.ub_tree.specs.Effects.{ChangesOf}
 use Rattle.ub_tree.specs.Holding.{FallsInto}
+use Rattle.ub_tree.specs.Change.{next_after}
 use Rattle.ub_tree.specs.Tree.{tree_view}
 use Rattle.ub_tree.specs.View.{TreeView}
 use Rattle.ub_tree.specs.declared.fault.TreeFault.TheVariants.{Page}
@@ -49,9 +49,9 @@ returns-then-has-clause-effect g c =
     let read = subst (λ (k : Key). HasReadAt a k span page) is c.in_ok-region.ensures.read in
     let has : has_key a.schema.dims (key_of a.schema.dims row) page.region.rows ≡ true =
     has_told page.region.rows read.read.dims is c.has.ensures c.if-has.true in
-    let taken = key_there a (key_of a.schema.dims row) span page.region read.falls read.read.on c.requires.row.1 has (holder a (key_of a.schema.dims row) span page read) in
-    subst (λ (v : TreeView). Changes {A = ℕ} a v (Err (Page span.page BadOrder))) (sym c.in_ok-region.ensures.effect.same)
-    (unchanged (Page span.page BadOrder) a (taken.0, inr (inr (inr (refl, taken.1))), refl))
+    let taken = key_there a (key_of a.schema.dims row) span page.region read.falls read.read.on has (holder a (key_of a.schema.dims row) span page read) in
+    subst (λ (v : TreeView). ChangesOf row.number {A = ℕ} a v (Err (Page span.page BadOrder))) (sym c.in_ok-region.ensures.effect.same)
+    (unchanged_of row.number (Page span.page BadOrder) a (taken.0, inr (refl, taken.1), refl))
 
 pub store_with-requires-clause-rows : goal.store_with-requires-clause-rows
 store_with-requires-clause-rows g c =
@@ -63,12 +63,7 @@ store_with-requires-clause-rows g c =
     let read = subst (λ (k : Key). HasReadAt a k span page) is c.in_ok-region.ensures.read in
     let has : has_key a.schema.dims (key_of a.schema.dims row) page.region.rows ≡ false =
     has_told page.region.rows read.read.dims is c.has.ensures c.if-has.false in
-    let number = c.requires.row.1 in
-    let fewer = c.self.invariant.fewer in
-    let last_next = c.self.invariant.last_next in
-    let same_next : c.self.inside.next ≡ a.next = ap (λ (v : TreeView). v.next) c.self.view_is in
-    let not_last = c.requires.able.1 in
-    let good : IsRow a.schema.dims (measures_of a.schema) row = numbered_row a.schema.dims (measures_of a.schema) row c.requires.row.0 (omega arith, omega arith) in
+    let good : IsRow a.schema.dims (measures_of a.schema) row = c.requires.row in
     let last : a.inner.index.last ≡ last_address a.schema.dims = subst (λ (v : TreeView). v.inner.index.last ≡ last_address v.schema.dims) c.self.view_is c.self.invariant.last_is in
     subst (λ (v : TreeView). CanStand v span (insert_row v.schema.dims row page.region.rows)) (sym c.in_ok-region.ensures.effect.same)
     (can_stand a span row page.region.rows last (rows_on a span page.region read.read.on) read.falls.holds good has)
@@ -90,8 +85,14 @@ returns-in_err-store_with-clause-refused g c =
 
 pub returns-in_err-store_with-clause-effect : goal.returns-in_err-store_with-clause-effect
 returns-in_err-store_with-clause-effect g c =
-    left_by c.from_residual-in_err-store_with.result c.in_err-store_with.field-0.0 c.args.self.now c.store_with.new.self c.from_residual-in_err-store_with.ensures.1
-    (then_changed {T = Unit {0}} _ c.args.self.now c.read_holding.new.self c.store_with.new.self c.in_ok-region.ensures.effect.same c.in_err-store_with.ensures.effect)
+    changes_of c.args.row.now.number c.args.self.now c.store_with.new.self c.from_residual-in_err-store_with.result
+    (left_by c.from_residual-in_err-store_with.result c.in_err-store_with.field-0.0 c.args.self.now c.store_with.new.self c.from_residual-in_err-store_with.ensures.1
+    (then_changed {T = Unit {0}} _ c.args.self.now c.read_holding.new.self c.store_with.new.self c.in_ok-region.ensures.effect.same c.in_err-store_with.ensures.effect))
+
+pub returns-in_err-region-clause-effect : goal.returns-in_err-region-clause-effect
+returns-in_err-region-clause-effect g c =
+    changes_of c.args.row.now.number c.args.self.now c.read_holding.new.self c.from_residual.result
+    (searched_by c.from_residual.result c.in_err-region.field-0.0 c.args.self.now c.read_holding.new.self c.from_residual.ensures.1 c.in_err-region.ensures.effect)
 
 pub returns-clause-inserted : goal.returns-clause-inserted
 returns-clause-inserted g c =
@@ -101,19 +102,16 @@ returns-clause-inserted g c =
     let page = c.read_holding.new.page in
     let is = next_key _ a c.shape.result row c.key-key.result c.self.view_is c.shape.ensures c.key-key.ensures in
     let read = subst (λ (k : Key). HasReadAt a k span page) is c.in_ok-region.ensures.read in
-    let number = c.requires.row.1 in
-    let fewer = c.self.invariant.fewer in
-    let last_next = c.self.invariant.last_next in
-    let same_next : c.self.inside.next ≡ a.next = ap (λ (v : TreeView). v.next) c.self.view_is in
-    let not_last = c.requires.able.1 in
-    let good : IsRow a.schema.dims (measures_of a.schema) row = numbered_row a.schema.dims (measures_of a.schema) row c.requires.row.0 (omega arith, omega arith) in
+    let good : IsRow a.schema.dims (measures_of a.schema) row = c.requires.row in
     let u = c.self-2.inside in
     let after = c.store_with.new.self in
-    let d : TreeView = tree_view u.schema u.index u.count (u.next + 1) (u.rows + 1) (is_written u.mark) u.is_failed u.pager in
-    let d_is : d ≡ record after { next = after.next + 1; rows = after.rows + 1 } = ap (λ (v : TreeView). record v { next = v.next + 1; rows = v.rows + 1 }) c.self-2.view_is in
+    let d : TreeView = tree_view u.schema u.index u.count c.next_after-self-inside.result (u.rows + 1) (is_written u.mark) u.is_failed u.pager in
+    let d_is : d ≡ record after { next = next_after after.next row.number; rows = after.rows + 1 } =
+    ap (λ (n : ℕ). tree_view u.schema u.index u.count n (u.rows + 1) (is_written u.mark) u.is_failed u.pager) c.next_after-self-inside.ensures
+    ∙ ap (λ (v : TreeView). record v { next = next_after v.next row.number; rows = v.rows + 1 }) c.self-2.view_is in
     let few : after.inner.count < 2 ^ 32 = subst (λ (v : TreeView). v.inner.count < 2 ^ 32) c.self-2.view_is c.self-2.invariant.few in
     let last : after.inner.index.last ≡ last_address after.schema.dims = subst (λ (v : TreeView). v.inner.index.last ≡ last_address v.schema.dims) c.self-2.view_is c.self-2.invariant.last_is in
-    grown a c.read_holding.new.self after d row span page.region.rows (holder a (key_of a.schema.dims row) span page read) c.in_ok-region.ensures.effect.same good number not_last
+    grown a c.read_holding.new.self after d row span page.region.rows (holder a (key_of a.schema.dims row) span page read) c.in_ok-region.ensures.effect.same good
     c.in_ok-store_with.ensures.same.same (marked_sound c.in_ok-store_with.ensures.effect.marked) last few d_is (λ i stored at all. c.in_ok-store_with.ensures.written i stored at all)
 
 pub returns-clause-counted : goal.returns-clause-counted
@@ -126,16 +124,18 @@ returns-clause-counted g c =
     let read = subst (λ (k : Key). HasReadAt a k span page) is c.in_ok-region.ensures.read in
     let u = c.self-2.inside in
     let after = c.store_with.new.self in
-    let d : TreeView = tree_view u.schema u.index u.count (u.next + 1) (u.rows + 1) (is_written u.mark) u.is_failed u.pager in
-    let d_is : d ≡ record after { next = after.next + 1; rows = after.rows + 1 } = ap (λ (v : TreeView). record v { next = v.next + 1; rows = v.rows + 1 }) c.self-2.view_is in
+    let d : TreeView = tree_view u.schema u.index u.count c.next_after-self-inside.result (u.rows + 1) (is_written u.mark) u.is_failed u.pager in
+    let d_is : d ≡ record after { next = next_after after.next row.number; rows = after.rows + 1 } =
+    ap (λ (n : ℕ). tree_view u.schema u.index u.count n (u.rows + 1) (is_written u.mark) u.is_failed u.pager) c.next_after-self-inside.ensures
+    ∙ ap (λ (v : TreeView). record v { next = next_after v.next row.number; rows = v.rows + 1 }) c.self-2.view_is in
     let same = c.in_ok-region.ensures.effect.same in
     let whole = d_is
-    ∙ ap (λ (v : TreeView). record v { next = v.next + 1; rows = v.rows + 1 }) c.in_ok-store_with.ensures.same.same
-    ∙ ap (λ (v : TreeView). record v { placed = after.placed; store = after.store; is_changed = true; inner = after.inner; next = v.next + 1; rows = v.rows + 1 }) same in (
+    ∙ ap (λ (v : TreeView). record v { next = next_after v.next row.number; rows = v.rows + 1 }) c.in_ok-store_with.ensures.same.same
+    ∙ ap (λ (v : TreeView). record v { placed = after.placed; store = after.store; is_changed = true; inner = after.inner; next = next_after v.next row.number; rows = v.rows + 1 }) same in (
       ap (λ (v : TreeView). v.next) whole,
       ap (λ (v : TreeView). v.rows) whole,
-      ap (λ (v : TreeView). v.is_failed) whole ∙ c.requires.able.0,
-      grows_by a c.read_holding.new.self after d (key_of a.schema.dims row) span page same d_is read c.in_ok-store_with.ensures.same,
+      ap (λ (v : TreeView). v.is_failed) whole ∙ c.requires.able,
+      grows_by a c.read_holding.new.self after d (next_after after.next row.number) (after.rows + 1) (key_of a.schema.dims row) span page same d_is read c.in_ok-store_with.ensures.same,
     )
 
 pub returns-clause-refused : goal.returns-clause-refused
@@ -154,11 +154,16 @@ returns-clause-refused g c =
 
 pub returns-clause-effect : goal.returns-clause-effect
 returns-clause-effect g c =
+    let row = c.args.row.now in
     let after = c.store_with.new.self in
     let u = c.self-2.inside in
-    let d : TreeView = tree_view u.schema u.index u.count (u.next + 1) (u.rows + 1) (is_written u.mark) u.is_failed u.pager in
-    counted_anew {T = Unit {0}} {U = ℕ} tt _ c.args.self.now after d (after.rows + 1) (after.next + 1) (ap (λ (v : TreeView). record v { next = v.next + 1; rows = v.rows + 1 }) c.self-2.view_is)
-    (then_changed {T = Unit {0}} _ c.args.self.now c.read_holding.new.self after c.in_ok-region.ensures.effect.same c.in_ok-store_with.ensures.effect)
+    let d : TreeView = tree_view u.schema u.index u.count c.next_after-self-inside.result (u.rows + 1) (is_written u.mark) u.is_failed u.pager in
+    let d_is : d ≡ record after { next = next_after after.next row.number; rows = after.rows + 1 } =
+    ap (λ (n : ℕ). tree_view u.schema u.index u.count n (u.rows + 1) (is_written u.mark) u.is_failed u.pager) c.next_after-self-inside.ensures
+    ∙ ap (λ (v : TreeView). record v { next = next_after v.next row.number; rows = v.rows + 1 }) c.self-2.view_is in
+    changes_of row.number c.args.self.now d (Ok row.number)
+    (counted_anew {T = Unit {0}} {U = ℕ} tt row.number c.args.self.now after d (after.rows + 1) (next_after after.next row.number) d_is
+    (then_changed {T = Unit {0}} _ c.args.self.now c.read_holding.new.self after c.in_ok-region.ensures.effect.same c.in_ok-store_with.ensures.effect))
 
 pub returns-in_err-region-clause-put : goal.returns-in_err-region-clause-put
 returns-in_err-region-clause-put g c = refused_none _ c.from_residual.result c.in_err-region.field-0.0 c.from_residual.ensures.1
@@ -179,19 +184,16 @@ returns-clause-put g c =
     let read = subst (λ (k : Key). HasReadAt a k span page) is c.in_ok-region.ensures.read in
     let has : has_key a.schema.dims (key_of a.schema.dims row) page.region.rows ≡ false =
     has_told page.region.rows read.read.dims is c.has.ensures c.if-has.false in
-    let number = c.requires.row.1 in
-    let fewer = c.self.invariant.fewer in
-    let last_next = c.self.invariant.last_next in
-    let same_next : c.self.inside.next ≡ a.next = ap (λ (v : TreeView). v.next) c.self.view_is in
-    let not_last = c.requires.able.1 in
-    let good : IsRow a.schema.dims (measures_of a.schema) row = numbered_row a.schema.dims (measures_of a.schema) row c.requires.row.0 (omega arith, omega arith) in
+    let good : IsRow a.schema.dims (measures_of a.schema) row = c.requires.row in
     let last : a.inner.index.last ≡ last_address a.schema.dims = subst (λ (v : TreeView). v.inner.index.last ≡ last_address v.schema.dims) c.self.view_is c.self.invariant.last_is in
     let can = can_stand a span row page.region.rows last (rows_on a span page.region read.read.on) read.falls.holds good has in
     let same = c.in_ok-region.ensures.effect.same in
     let u = c.self-2.inside in
     let after = c.store_with.new.self in
-    let d : TreeView = tree_view u.schema u.index u.count (u.next + 1) (u.rows + 1) (is_written u.mark) u.is_failed u.pager in
-    let d_is : d ≡ record after { next = after.next + 1; rows = after.rows + 1 } = ap (λ (v : TreeView). record v { next = v.next + 1; rows = v.rows + 1 }) c.self-2.view_is in
+    let d : TreeView = tree_view u.schema u.index u.count c.next_after-self-inside.result (u.rows + 1) (is_written u.mark) u.is_failed u.pager in
+    let d_is : d ≡ record after { next = next_after after.next row.number; rows = after.rows + 1 } =
+    ap (λ (n : ℕ). tree_view u.schema u.index u.count n (u.rows + 1) (is_written u.mark) u.is_failed u.pager) c.next_after-self-inside.ensures
+    ∙ ap (λ (v : TreeView). record v { next = next_after v.next row.number; rows = v.rows + 1 }) c.self-2.view_is in
     let stores = subst (λ (v : TreeView). StoresAt span (length page.region.rows) v after) same c.in_ok-store_with.ensures.same in
     let stand = subst (λ (v : TreeView). IsHonest v.store → StandAt span (length page.region.rows) (insert_row v.schema.dims row page.region.rows) v after) same c.in_ok-store_with.ensures.put in
-    puts_row a after d row span page d_is read stores can stand
+    puts_row a after d (next_after after.next row.number) (after.rows + 1) row span page d_is read stores can stand
