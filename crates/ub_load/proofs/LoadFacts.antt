@@ -27,7 +27,7 @@ use Rattle.ub_load.specs.declared.fault.LoadFault.{LoadFault}
 use Rattle.ub_load.specs.declared.fault.LoadFault.TheVariants.{NoHeader}
 use Rattle.ub_load.proofs.RefusalFacts.{enumerate_from-append, first-here, first-skip, flat-more, flat-refused}
 use Rattle.ub_region.proofs.Laws.{insertion_adds_the_row}
-use Rattle.ub_region.specs.Regions.{insert}
+use Rattle.ub_region.specs.Regions.{insert, insert_all}
 use Rattle.ub_table.specs.Keys.{origin}
 use Rattle.ub_table.specs.Region.{RegionRows, IsRow, measures_of}
 use Rattle.ub_table.specs.Value.{axes_of}

@@ -58,7 +58,7 @@ put_stopped a b c rows i d e within put ended = record {
 }
 
 pub put_whole : (a b : TreeView) (rows : List Row) (i : ℕ) → length rows ≤ i → ArePut a (take i rows) b → ArePut a rows b
-put_whole a b rows i far put = subst (λ (rs : List Row). ArePut a rs b) (take_all rows i far) put
+put_whole a b rows i far put = subst (λ (rs : List Row). ArePut a rs b) (take_all i rows far) put
 
 -- what each of them leaves as it was
 pub put_schema : (a b : TreeView) (rows : List Row) → ArePut a rows b → b.schema ≡ a.schema
@@ -263,7 +263,7 @@ numbered_more n m rows items i d within is same =
     ∙ ap (numbered_from n) (sym (take_more rows i d within))
 
 pub numbered_whole : (n : ℕ) (rows items : List Row) (i : ℕ) → length rows ≤ i → items ≡ numbered_from n (take i rows) → items ≡ numbered_from n rows
-numbered_whole n rows items i far same = same ∙ ap (numbered_from n) (take_all rows i far)
+numbered_whole n rows items i far same = same ∙ ap (numbered_from n) (take_all i rows far)
 
 -- what is later than all their numbers is later than the last one
 last_number : (n m : ℕ) (rows : List Row) → n ≤ m → AllByRecursion (λ row. row.number < m) (numbered_from n rows) → n + length rows ≤ m
@@ -290,7 +290,7 @@ module _ (a b : TreeView) (rows order : List Row) (suit : All (Suits a.schema.di
   appended : ArePut a order b → IsSound a → AreAppended rows a b
   appended put sound =
       let new = put_new later order [] a b sound (omega arith) (rw (append-nil order) (order_new sound)) put in
-      let long : length (numbered_from a.next rows) ≡ length order = length_permutation (numbered_from a.next rows) order is in
+      let long : length order ≡ length (numbered_from a.next rows) = length_permutation (numbered_from a.next rows) order is in
       let same = length-numbered a.next rows in
       let counted = new.counted in
       record {

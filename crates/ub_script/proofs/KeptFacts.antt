@@ -121,7 +121,7 @@ runs_of {A = A} (Err e) a b h = record {
 
 -- ---- a run after a run
 
-works_more : (a b c : TreeView) → Works a b → Works b c → Works a c
+pub works_more : (a b c : TreeView) → Works a b → Works b c → Works a c
 works_more a b c h k = (k.0 ∙ h.0, k.1 ∙ ap (λ (s : StoreFacts). record s { pages = c.store.pages; synced = c.store.synced }) h.1)
 
 device_more : (a b c : TreeView) → Works a b → HasMetDevice b c → HasMetDevice a c
@@ -133,7 +133,7 @@ device_more a b c h (inr k) =
 lost_more : (a b c : TreeView) → Works a b → HasLostPage b c → HasLostPage a c
 lost_more a b c h k = (k.0, k.1 ∙ ap (λ (s : StoreFacts). record s { pages = c.store.pages; synced = c.store.synced }) h.1)
 
-honest_before : (a b : TreeView) → Works a b → IsHonest a.store → IsHonest b.store
+pub honest_before : (a b : TreeView) → Works a b → IsHonest a.store → IsHonest b.store
 honest_before a b h honest = subst (λ (s : StoreFacts). IsHonest s) (sym h.1) honest
 
 left_more : (a b c : TreeView) (fault : RunFault) → (IsSound a → IsSound b) → Works a b → IsRunLeft b c fault → IsRunLeft a c fault

@@ -92,7 +92,7 @@ next_later next number = elim (cases_Bool (nat_lt number next)) [
 ]
 
 -- and in its range
-next_most : (next number most : ℕ) → next ≤ most → number < most → next_after next number ≤ most
+pub next_most : (next number most : ℕ) → next ≤ most → number < most → next_after next number ≤ most
 next_most next number most few less = elim (cases_Bool (nat_lt number next)) [
   | inl t ↦ rw t few
   | inr f ↦ rw f (omega arith)
