@@ -21,7 +21,7 @@ use Rattle.ub_store.specs.Facts.{StoreFacts, IsHonest, IsPage, page_count, count
 use Rattle.ub_store.specs.View.{PagerView, SameTrace}
 use Rattle.ub_store.specs.declared.fault.StoreFault.{StoreFault}
 use Rattle.ub_store.specs.declared.fault.StoreFault.TheVariants as store
-use Rattle.ub_table.specs.Region.{RegionRows, IsRegion, keys_of}
+use Rattle.ub_table.specs.Region.{RegionRows, IsRegion}
 use Rattle.ub_table.specs.declared.fault.PageFault.TheVariants.{BadRow}
 use Rattle.ub_table.specs.declared.fault.PageFault.{PageFault}
 use Rattle.ub_table.specs.declared.row.Key.{Key}
@@ -86,11 +86,6 @@ module _ (ns : List ℕ) (from now : NumbersView) (i n : ℕ) (h : IsPutTo ns fr
 pub put_all : (ns : List ℕ) (from to : NumbersView) (i : ℕ) → length ns ≤ i → IsPutTo ns from to i → (met : List ℕ) → HasJust from met → AreNew from.bound met ns × HasJust to (met ++ ns)
 put_all ns from to i h k met j = grind (arith, drop_end, take_end)
 
-pub numbers_at : (keys : List Key) (i : ℕ) (key : Key) → slice_get keys i ≡ Some key → slice_get (map (λ k. k.number) keys) i ≡ Some key.number
-numbers_at [] i key at = cc
-numbers_at (k ∷ keys) zero key at = let same : k ≡ key = cc in ap (λ (x : Key). Some x.number) same
-numbers_at (k ∷ keys) (suc i) key at = numbers_at keys i key at
-
 module _ (schema : Schema) (last level : ℕ) (entries : List Entry) (end : Option Key) (old now : PagerView) (from to : Walk) (i : ℕ) (e : Entry) (next : Option Key)
     (h : IsWalkedTo schema last level entries end old now from to i) (at : slice_get entries i ≡ Some e) (next_is : next ≡ first_or (drop (suc i) entries) end) where
   still_honest : IsHonest old.store → IsHonest now.store
@@ -139,10 +134,6 @@ region_no_kind schema region h = search (rules, region_parts)
 -- a pager whose store was read
 pub pager_read : (old new : PagerView) (s : StoreFacts) → new.store ≡ s → SameTrace old new → new ≡ record old { store = s; cached = new.cached }
 pager_read old new s h k = search rules
-
-keys_numbers : (dims : ℕ) (rows : List Row) → map (λ k. k.number) (keys_of dims rows) ≡ numbers_of rows
-keys_numbers dims [] = refl
-keys_numbers dims (row ∷ rows) = ap (λ (ns : List ℕ). row.number ∷ ns) (keys_numbers dims rows)
 
 pub numbers_append : (before : List Placed) (p : Placed) → numbers_in (before ++ p ∷ []) ≡ numbers_in before ++ numbers_of p.region.rows
 numbers_append before p = grind (arith, common_steps, append-nil, append_assoc, map-append)
@@ -224,10 +215,6 @@ module _ (schema : Schema) (last : ℕ) (entry : Entry) (end : Option Key) (from
             numbers = subst (λ (ns : List ℕ). HasJust to.numbers ns) (sym (numbers_append before (record { page = entry.page; region = region }))) new.1;
           },
         )
-
--- the rows that stand on a region's page, by the numbers of their keys
-pub keyed : (keys : List Key) (dims : ℕ) (rows : List Row) → keys ≡ keys_of dims rows → map (λ k. k.number) keys ≡ numbers_of rows
-keyed keys dims rows are = ap (λ (ks : List Key). map (λ k. k.number) ks) are ∙ keys_numbers dims rows
 
 -- a page of the index, with the regions that it leads to
 module _ (schema : Schema) (last level : ℕ) (entry : Entry) (end : Option Key) (from : Walk) (old : PagerView) where

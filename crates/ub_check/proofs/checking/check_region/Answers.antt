@@ -3,7 +3,7 @@ use Rattle.ub_index.specs.Held.{KeepsChecked}
 use Rattle.ub_region.specs.declared.region.Region.{Region}
 use Rattle.ub_store.specs.Facts.{IsHonest}
 use Rattle.ub_store.specs.View.{PagerView}
-use Rattle.ub_check.proofs.CheckingFacts.{keyed, pager_read, region_checked, region_not_new, region_refused, region_taken, region_unread, walks_by}
+use Rattle.ub_check.proofs.CheckingFacts.{pager_read, region_checked, region_not_new, region_refused, region_taken, region_unread, walks_by}
 use Rattle.ub_check.proofs.StandingFacts.{page_still}
 use Rattle.ub_check.specs.Checking.{StandsHere}
 use Rattle.ub_check.specs.Numbers.{AreNew, HasJust}
@@ -38,7 +38,7 @@ returns-then-not-put_numbers-clause-effect g c =
       spelled = (page_still _ _ _ _ _ c.in_ok-bring.ensures.effect taken.page_is) honest ∙ ap (λ (p : List ℕ). Some p) taken.spelled;
       held = taken.stands;
     }) in
-    let numbers = keyed c.keys.result.now c.take_region.new.page.dims region.rows c.keys.ensures.keys in
+    let numbers = c.numbers.ensures.numbers in
     record {
       same = pager_read c.args.pager.now c.take_region.new.pager c.args.pager.now.store (ap (λ (p : PagerView). p.store) taken.kept ∙ c.in_ok-bring.ensures.effect.same)
           (ap (λ (p : PagerView). p.trace) taken.kept ∙ c.in_ok-bring.ensures.trace);
@@ -60,7 +60,7 @@ returns-clause-taken g c =
       spelled = (page_still _ _ _ _ _ c.in_ok-bring.ensures.effect taken.page_is) honest ∙ ap (λ (p : List ℕ). Some p) taken.spelled;
       held = taken.stands;
     }) in
-    let numbers = keyed c.keys.result.now c.take_region.new.page.dims region.rows c.keys.ensures.keys in
+    let numbers = c.numbers.ensures.numbers in
     region_taken c.args.schema.now c.args.last c.args.entry.now c.args.end c.args.walk.now c.args.pager.now c.if-walk-eq0.false region stands
     (record { left = c.args.walk.now.left - 1; rows = c.saturating_add-walk.result; numbers = c.put_numbers.new.numbers; region = c.take_region.new.page }) refl
     (search rules)
