@@ -149,8 +149,8 @@ fn tells_keys(schema: &Schema) -> bool {
     match RegionPage::read(schema, &page_of(LOW, &[])) {
         Ok(region) => {
             region.numbers() == [1, 4].as_slice()
-                && region.key(0) == keys[0]
                 && region.len() == 2
+                && region.key(0) == keys[0]
                 && region.row(1) == row(4, 0, 2, 7)
                 && region.key(1) == keys[1]
         }

@@ -235,7 +235,8 @@ impl RegionPage {
     /// Whether the key of the row at an index, from 0, of those there are, is after that of another row.
     pub(crate) fn is_after(&self, i: usize, row: &Row) -> bool
         requires { i < length self.now.region.rows }
-        ensures { (key : KeyView) → slice_get (keys_of self.now.dims self.now.region.rows) i ≡ Some key
+        ensures { (key : KeyView)
+            → slice_get (keys_of self.now.dims self.now.region.rows) i ≡ Some key
             → result ≡ precedes (key_of self.now.dims row.now) key }
     {
         order::is_after(self.shape, &self.numbers, &self.dims, i, row)
@@ -244,7 +245,8 @@ impl RegionPage {
     /// Whether the key of the row at an index, from 0, of those there are, is before that of another row.
     pub(crate) fn is_before(&self, i: usize, row: &Row) -> bool
         requires { i < length self.now.region.rows }
-        ensures { (key : KeyView) → slice_get (keys_of self.now.dims self.now.region.rows) i ≡ Some key
+        ensures { (key : KeyView)
+            → slice_get (keys_of self.now.dims self.now.region.rows) i ≡ Some key
             → result ≡ precedes key (key_of self.now.dims row.now) }
     {
         order::is_before(self.shape, &self.numbers, &self.dims, i, row)
@@ -253,7 +255,8 @@ impl RegionPage {
     /// Whether the row at an index, from 0, of those there are, has this key: by number first, in which most differ.
     pub(crate) fn has_at(&self, i: usize, key: &Key) -> bool
         requires { i < length self.now.region.rows }
-        ensures { (own : KeyView) → slice_get (keys_of self.now.dims self.now.region.rows) i ≡ Some own
+        ensures { (own : KeyView)
+            → slice_get (keys_of self.now.dims self.now.region.rows) i ≡ Some own
             → result ≡ is_same key.now own }
     {
         key.number == self.numbers()[i] && key.z == self.key(i).z
