@@ -1,5 +1,5 @@
 -- What a deletion does to a tree, also to one that isn't sound.
-use Rattle.std.specs.Prelude.{◌≡◌, ◌≢◌, ◌+◌, ◌++◌, ◌∷◌, ◌⊎◌, [], ℕ, suc, Bool, true, false, if◌then◌else◌, IsTrue, List, Some, None, Result, Ok, Err, IfErr, IfOk, OnOk}
+use Rattle.std.specs.Prelude.{◌≡◌, ◌≢◌, ◌+◌, ◌++◌, ◌∷◌, ◌⊎◌, [], ℕ, suc, Bool, true, if◌then◌else◌, IsTrue, List, Some, None, Result, Ok, Err, IfErr, IfOk, OnOk}
 use Rattle.std.specs.List.{filter}
 use Rattle.std.specs.List.Sorted.{IsNonDecreasingBy, IsPermutation}
 use Rattle.ub_exec.specs.Answers.{IsReady, begun}
@@ -12,10 +12,9 @@ use Rattle.ub_store.specs.declared.fault.StoreFault.TheVariants as store
 use Rattle.ub_table.specs.Region.{keys_of}
 use Rattle.ub_table.specs.declared.row.Key.{Key}
 use Rattle.ub_table.specs.declared.row.Row.{Row}
-use Rattle.ub_tree.specs.Effects.{Changes, KeepsMark, Works}
-use Rattle.ub_tree.specs.Holding.{AnswersRemoval, ShrinksAt}
+use Rattle.ub_tree.specs.Effects.{KeepsMark, Works}
 use Rattle.ub_tree.specs.Reading.{ReadsTree, fault_of_tree}
-use Rattle.ub_tree.specs.Removal.{IsRemoved, IsRemovalFault}
+use Rattle.ub_tree.specs.Removal.{Removes}
 use Rattle.ub_tree.specs.View.{TreeView, IsSound}
 use Rattle.ub_tree.specs.declared.fault.TreeFault.{TreeFault}
 use Rattle.ub_tree.specs.declared.fault.TreeFault.TheVariants.{Full, Page, Store, Failed, Memory as no_memory}
@@ -33,19 +32,6 @@ pub record IsDeletionOf (t : TreeView) (p : PlanView) : Type 0 where
   pub plain : IsDeletion p.asked
 
 -- ---- rows taken out of any tree
-
--- the row of a key was asked to be taken out, with this answer: all that `Tree::remove` says
-pub record Removes (key : Key) (old new : TreeView) (result : Result Bool TreeFault) : Type 0 where
-  pub removed : IsSound old → IfOk result (λ found. IsRemoved key found old new)
-  pub untouched : IfOk result (λ found. found ≡ false → new ≡ old)
-  pub counted : IfOk result (λ found. found ≡ true
-      → (new.next ≡ old.next) × (new.rows + 1 ≡ old.rows) × ShrinksAt key old new)
-  pub refused : old.is_failed ≡ false → IsHonest old.store → AnswersRemoval old key result
-  pub failed : IsTrue old.is_failed → result ≡ Err Failed
-  pub effect : Changes old new result
-  pub faults : IfErr result (IsRemovalFault old)
-  pub stays : old.is_changed ≡ true → new.is_changed ≡ true
-  pub marks : IfOk result (λ found. found ≡ true → new.is_changed ≡ true)
 
 -- the rows of these keys were taken out, one after the other, but for those that weren't there; so many were
 abbrev pub TakesOut : List Key → TreeView → TreeView → ℕ → Type 0

@@ -43,6 +43,10 @@ same_marked a = record { kept = λ honest unmarked m first lt. refl; marked = λ
 pub same_leaves : (a : TreeView) → Leaves a a
 same_leaves a = search rules
 
+-- a call that changed nothing
+pub all_same : {T : Type 0} (x : T) (a : TreeView) → Changes a a (Ok x)
+all_same x a = record { frame = refl; marked = same_marked a; done = (refl, refl); left = tt }
+
 -- a refusal after which all is as it was
 pub unchanged : {T : Type 0} (e : TreeFault) (a : TreeView) → IsLeft a a e → Changes {A = T} a a (Err e)
 unchanged e a left = record { frame = refl; marked = same_marked a; done = tt; left = left }

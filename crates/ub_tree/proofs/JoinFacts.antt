@@ -41,7 +41,9 @@ use Rattle.ub_tree.specs.Removal.{IsRemovalFault}
 use Rattle.ub_tree.specs.Tree.{placed_in}
 use Rattle.ub_tree.specs.View.{TreeView, IsSound, region_count, regions}
 use Rattle.ub_tree.specs.declared.fault.TreeFault.{TreeFault}
-use Rattle.ub_tree.specs.inner.Change.{HasStopped, IsDropReady, IsElsewhereSame, IsIndexFault, IsPut, IsRegionIn, IsRegionThere, IsSpelledAt, IsStored, JoinsAt, Writes, placed_with}
+use Rattle.ub_tree.specs.inner.Change.{HasStopped, IsDropReady, IsElsewhereSame, IsIndexFault, IsPut, IsRegionIn, IsRegionThere, IsSpelledAt, IsStored, Writes, placed_with}
+use Rattle.ub_tree.specs.inner.Removing.{JoinsAt}
+use Rattle.ub_tree.specs.Pages.{Spells}
 use Rattle.ub_tree.specs.Told.{IsRegionOf}
 use Rattle.ub_writing.specs.Marks.{HasMark}
 
@@ -114,8 +116,8 @@ module _ (b mid n : TreeView) (span next : Region) (change : ChangeView) (there 
     elsewhere : IsElsewhereSame b d
     elsewhere = whole ∙ ap (λ (v : TreeView). record b { placed = v.placed; store = v.store; is_changed = true; inner = v.inner }) (sym whole)
 
-    pub joined_at : 1 ≤ region_count b → JoinsAt span b d
-    joined_at h = search (rules, elsewhere, store_is, whole, written_others)
+    pub joined_at : (rows : List Row) → 1 ≤ region_count b → (IsHonest b.store → Spells d span.page span.first rows) → JoinsAt span rows b d
+    joined_at rows h k = search (rules, elsewhere, store_is, whole, written_others)
 
     pub joined_effect : {T : Type 0} (x : T) → n.store ≡ record mid.store { pages = n.store.pages; synced = n.store.synced } → Changes b d (Ok x)
     joined_effect x h = search (rules, elsewhere, mark_then, store_is, whole)

@@ -23,9 +23,8 @@ use Rattle.ub_table.specs.declared.row.Row.{Row}
 use Rattle.ub_table.specs.declared.schema.Schema.{Schema}
 use Rattle.ub_tree.specs.Effects.{HasEnded, IsChangeMissing, IsChangeRefused, IsFull, IsIndexFull, IsReadFault, IsTakenIn, KeepsMark, Leaves, read_store, written_store, IsMarkedFirst}
 use Rattle.ub_tree.specs.Grown.{IsOnlyGrown}
-use Rattle.ub_tree.specs.Holding.{IsThatOrBefore}
 use Rattle.ub_tree.specs.Indexed.{HasIndex, reserved}
-use Rattle.ub_tree.specs.Others.{AddsEntry, DropsEntry, KeepsEntries, KeepsOthers, WritesIndex, WritesPage}
+use Rattle.ub_tree.specs.Others.{AddsEntry, KeepsEntries, KeepsOthers, WritesIndex, WritesPage}
 use Rattle.ub_tree.specs.Pages.{Spells, SpellsHalves}
 use Rattle.ub_tree.specs.Placed.{Placed, ArePlaced, entry_of}
 use Rattle.ub_tree.specs.Spans.{Region, first_keys}
@@ -64,18 +63,6 @@ pub record StoresAt (span : Region) (count : ℕ) (old new : TreeView) : Type 0 
 pub record StandAt (span : Region) (count : ℕ) (rows : List Row) (old new : TreeView) : Type 0 where
   pub alone : count < old.schema.page_rows → Spells new span.page span.first rows
   pub halved : count ≡ old.schema.page_rows → SpellsHalves new span.page (page_count old.store) span.first (split old.schema.dims old.schema.page_rows rows)
-
--- the same, and a region was written anew, with the rows of the next one, which is no more
-pub record JoinsAt (span : Region) (old new : TreeView) : Type 0 where
-  pub same : IsElsewhereSame old new
-  pub others : WritesIndex span.page old new
-  pub dropped : DropsEntry old new
-
--- the same, and a row was taken out of a region
-pub record TakesAt (span : Region) (old new : TreeView) : Type 0 where
-  pub same : IsElsewhereSame old new
-  pub shrunk : (WritesPage span.page old new × KeepsEntries old new)
-      ⊎ ((first : Region) × IsThatOrBefore old span first × WritesIndex first.page old new × DropsEntry old new)
 
 -- in place of the region at an index stand these
 abbrev pub placed_with : ℕ → List Placed → List Placed → List Placed
