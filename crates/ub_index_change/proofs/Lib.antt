@@ -13,3 +13,4 @@ pub mod MadeFacts
 pub mod PutFacts
 pub mod SheetFacts
 pub mod OwnFacts
+pub mod BesideFacts

@@ -1,5 +1,5 @@
 -- What becomes of a store's pages where it grows, and where sheets are put.
-use Rattle.std.proofs.Common.{Result, Ok, Err, None, option_map, ◌⊎◌, ◌≡◌, ◌≢◌, ◌≤◌, ◌<◌, ◌+◌, inl, inr, ℕ, zero, suc, List, [], ◌∷◌, ◌++◌, Some, take, ◌∙◌, sym, ap, subst, refl, arith, slice_get}
+use Rattle.std.proofs.Common.{Result, Ok, Err, None, option_map, ◌⊎◌, ◌≡◌, ◌≢◌, ◌≤◌, ◌<◌, ◌+◌, inl, inr, ℕ, zero, suc, List, [], ◌∷◌, Some, take, ◌∙◌, sym, ap, subst, refl, arith, slice_get}
 use Rattle.std.specs.Prelude.{IsTrue}
 use Rattle.std.specs.Result.{IsErrOf}
 use Rattle.ub_store.specs.Cache.{SameBut, page_at}
