@@ -17,8 +17,9 @@ use Rattle.ub_table.specs.declared.row.Key.{Key}
 use Rattle.ub_table.specs.declared.row.Row.{Row}
 use Rattle.ub_tree.proofs.EffectFacts.{all_same, changed_by, counted_anew, left_by, marked_sound, searched_by, unchanged}
 use Rattle.ub_tree.proofs.HoldingFacts.{fault_told, no_answer, passing_fault, passing_removal, removal_answers}
+use Rattle.ub_tree.proofs.JoinFacts.{first_falls}
 use Rattle.ub_tree.proofs.RemovalFacts.{holder, none_removed, searched_removal, shrinks_by, shrunk, some_counted}
-use Rattle.ub_tree.proofs.StandFacts.{first_falls, takes_row}
+use Rattle.ub_tree.proofs.StandFacts.{takes_row}
 use Rattle.ub_tree.specs.Effects.{Searches}
 use Rattle.ub_tree.specs.Holding.{FallsInto}
 use Rattle.ub_tree.specs.Opened.{IsPassing}

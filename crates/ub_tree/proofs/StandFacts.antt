@@ -148,12 +148,6 @@ module _ (a mid d : TreeView) (row : Row) (span : Region) (page : RegionView) (c
         (subst (λ (m : ℕ). SpellsHalves d m (page_count a.store) span.first (split a.schema.dims a.schema.page_rows new_rows)) on.1 then));
   }
 
--- the first key of a region that a tree tells of falls there
-pub first_falls : (t : TreeView) (span : Region) → IsHonest t.store → IsRegionOf t span → FallsTo t span.first span
-first_falls t span honest told =
-    let ways = ways_hold t.inner.index t.store told.key span (told.falls.way honest) in
-    record { holds = ways.1; from = told.falls.from; to = told.falls.to; way = λ _. ways.2 span.first ways.1 }
-
 -- rows that were put stand so once the index is put
 pub joined_stand : (b mid n d : TreeView) (span : Region) (change : ChangeView) (rows : List Row) → IsRegionThere b span → b.inner.index.last < 2 ^ 128
     → (IsHonest b.store → AllByRecursion (IsSpelledAt b (page_count b.store) change) change.sheets) → (IsHonest b.store → IsHonest mid.store) → PutsSheets change.sheets mid.store n.store

@@ -49,7 +49,7 @@ pub record ShrinksAt (key : Key) (old new : TreeView) : Type 0 where
   pub span : Region
   pub falls : FallsTo old key span
   pub others : (WritesPage span.page old new × KeepsEntries old new)
-      ⊎ ((first : Region) × IsThatOrBefore old span first × WritesIndex first.page old new × DropsEntry old new)
+      ⊎ ((first : Region) × IsThatOrBefore old span first × WritesIndex first.page old new × DropsEntry first old new)
   pub changed : new.is_changed ≡ true
 
 -- the answer is this fault, unless memory was refused or the device failed

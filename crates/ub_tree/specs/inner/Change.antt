@@ -1,5 +1,5 @@
 -- What the steps of a change of one region do to a tree, and what they need.
-use Rattle.std.specs.Prelude.{IfSome, ◌≡◌, ◌≢◌, ◌+◌, ◌<◌, ◌≤◌, ◌++◌, ◌⊎◌, ℕ, suc, true, false, List, [], ◌∷◌, Option, IsTrue, Result, Err, IfErr, OnOk, Some, length, map, take, drop, slice_get}
+use Rattle.std.specs.Prelude.{IfSome, ◌≡◌, ◌≢◌, ◌+◌, ◌<◌, ◌≤◌, ◌^◌, ◌++◌, ◌⊎◌, ℕ, suc, true, false, List, [], ◌∷◌, Option, IsTrue, Result, Err, IfErr, OnOk, Some, length, map, take, drop, slice_get}
 use Rattle.std.specs.List.{AllByRecursion}
 use Rattle.ub_store.specs.Writing.{Grows}
 use Rattle.ub_index_change.specs.Changed.{Replaces}
@@ -7,6 +7,7 @@ use Rattle.ub_index_change.specs.Changing.{AreIndexPages}
 use Rattle.ub_index.specs.Index.{IsIndexPage}
 use Rattle.ub_index.specs.Standing.{IsOutside}
 use Rattle.ub_index_change.specs.Filling.{KeepsFilled}
+use Rattle.ub_index_change.specs.Lowering.{IsDropped}
 use Rattle.ub_index_change.specs.Making.{IsPutFault}
 use Rattle.ub_index_change.specs.Preparing.{ChangeView, IsWithinRegion, MakesIndex, TakesNeeded, added_at}
 use Rattle.ub_index.specs.View.{IsRegionAt, entries_in, entry_at}
@@ -150,6 +151,8 @@ pub record IsAddReady (t : TreeView) (span : Region) (first : Key) (change : Cha
 
 -- what is prepared for a region that goes
 pub record IsDropReady (t : TreeView) (span : Region) (change : ChangeView) : Type 0 where
+  pub bounds : (1 ≤ t.inner.index.root) × (1 ≤ t.inner.index.levels) × (page_count t.store < 2 ^ 32)
+  pub made : IsHonest t.store → IsDropped t.inner.index t.store span.first change
   pub spelled : IsHonest t.store → AllByRecursion (IsSpelledAt t (page_count t.store) change) change.sheets
   pub pages : IsHonest t.store → AreIndexPages t.inner.index.last change.sheets
   pub next : IsHonest t.store → change.next ≡ page_count t.store

@@ -32,14 +32,14 @@ pub record IsPair (t : TreeView) (first second : Region) (page : RegionView) : T
 pub record JoinsAt (span : Region) (rows : List Row) (old new : TreeView) : Type 0 where
   pub same : IsElsewhereSame old new
   pub others : WritesIndex span.page old new
-  pub dropped : DropsEntry old new
+  pub dropped : DropsEntry span old new
   pub put : IsHonest old.store → Spells new span.page span.first rows
 
 -- these rows are left of a region, alone or with those of a neighbour; all else is as it was
 pub record TakesAt (span : Region) (rows : List Row) (old new : TreeView) : Type 0 where
   pub same : IsElsewhereSame old new
   pub shrunk : (WritesPage span.page old new × KeepsEntries old new)
-      ⊎ ((first : Region) × IsThatOrBefore old span first × WritesIndex first.page old new × DropsEntry old new)
+      ⊎ ((first : Region) × IsThatOrBefore old span first × WritesIndex first.page old new × DropsEntry first old new)
   pub put : IsHonest old.store → LeavesRows span rows old new
 
 -- what must be answered where so many rows are left of a region: no page is refused where no neighbour is needed; and BadCount of the

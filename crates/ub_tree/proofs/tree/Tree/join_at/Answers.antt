@@ -14,7 +14,7 @@ use Rattle.ub_tree.specs.inner.Change.{IsDropReady, IsRegionIn, IsRegionThere, I
 use Rattle.ub_tree.specs.inner.Removing.{JoinsAt}
 use Rattle.ub_tree.proofs.CallFacts.{last_small}
 use Rattle.ub_tree.proofs.EffectFacts.{changes_by, ready_by}
-use Rattle.ub_tree.proofs.JoinFacts.{alone_not_sound, index_failed, joined_at, joined_effect, joined_written}
+use Rattle.ub_tree.proofs.JoinFacts.{alone_not_sound, index_failed, joined_at, joined_beside, joined_effect, joined_written}
 use Rattle.ub_tree.proofs.LessenFacts.{alone_lessens, device_removal, fault_by, put_removal, then_lessens}
 use Rattle.ub_tree.proofs.StandFacts.{joined_stand}
 use Rattle.ub_writing.specs.Marks.{is_written}
@@ -79,12 +79,16 @@ returns-clause-joined g c =
     let small = subst (λ n. n < 2 ^ 128) (sym c.self.invariant.last_is) (last_small c.self.inside.schema.dims c.self.inside.schema.counts.few_dims) in
     let near = subst (λ (v : TreeView). v.inner.index.last < 2 ^ 128) (c.self.view_is ∙ sym same) small in
     let rows = c.args.page.now.region.rows in
+    let told = subst (λ (v : TreeView). IsRegionOf v next) (sym same) c.requires.told in
+    let good = subst (λ (v : TreeView). IsRegion v.schema (record { first = span.first; rows = rows })) (sym same) c.requires.region in
     let put : IsHonest b.store → Spells d span.page span.first rows = joined_stand b c.rewrite.new.self c.put_index.new.self d span change rows there near ready.spelled
     (λ honest. ap (λ (v : TreeView). v.store.honest) c.in_ok-rewrite.ensures.effect.frame ∙ honest) c.put_index.ensures.kept c.in_ok-rewrite.ensures.put
     (ap (λ (v : TreeView). v.store) is) (ap (λ (v : TreeView). v.schema) is ∙ ap (λ (v : TreeView). v.schema) c.in_ok-put_index.ensures.now) in
     subst (λ (v : TreeView). JoinsAt span rows v d) same
     (joined_at b c.rewrite.new.self c.put_index.new.self span next change there c.requires.ends ready c.in_ok-rewrite.ensures.same c.in_ok-rewrite.ensures.effect c.put_index.ensures.kept
-    d c.in_ok-put_index.ensures.now is rows some put)
+    d c.in_ok-put_index.ensures.now is rows some put
+    (joined_beside b c.rewrite.new.self c.put_index.new.self span next change there c.requires.ends ready c.in_ok-rewrite.ensures.same c.in_ok-rewrite.ensures.effect c.put_index.ensures.kept
+    d c.in_ok-put_index.ensures.now is rows near good told c.in_ok-put_index.ensures.stand put))
 
 pub returns-clause-written : goal.returns-clause-written
 returns-clause-written g c = λ i stored at at_next each.

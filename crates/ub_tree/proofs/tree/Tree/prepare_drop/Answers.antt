@@ -22,6 +22,8 @@ returns-clause-ready g c =
     let t = c.self.inside in
     let old : TreeView = tree_view t.schema t.index t.count t.next t.rows (is_written t.mark) t.is_failed t.pager in
     rw (← c.self.view_is) (record {
+      bounds = (c.root-root.ensures.some, c.root-root.ensures.low, (let fits = c.pages-pages.type_inv in let same = c.pages-pages.ensures in omega arith));
+      made = λ honest. c.in_ok-change.ensures.made honest;
       spelled = λ honest. drop_spelled old c.args.region.now.first c.in_ok-change.change c.root-root.ensures.some (c.in_ok-change.ensures.made honest);
       next = λ honest. drop_next t.index t.pager.store c.args.region.now.first c.in_ok-change.change (c.in_ok-change.ensures.made honest);
       pages = λ honest. c.in_ok-change.ensures.pages honest;
