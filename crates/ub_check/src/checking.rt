@@ -8,7 +8,7 @@ ghost use Rattle.ub_index.specs.Index.{first_or, top};
 ghost use Rattle.ub_page.specs.declared.header.TheConstants.{MAX_LEVEL};
 
 use crate::numbers::Numbers;
-use crate::reading::take_region;
+use crate::reading::read_region;
 use crate::walk::{Walk, has_met_all, new_walk};
 use std::alloc::Global;
 use ub_index::{IndexFault, entries_at, region_at};
@@ -167,9 +167,8 @@ fn check_region<S: PageStore>(
     if walk.left == 0 {
         return Err(miscounted());
     }
-    pager.bring(entry.page)?;
     let region = region_at(last, *entry, end);
-    take_region(pager, schema, &region, &mut walk.region)?;
+    read_region(pager, schema, &region, &mut walk.region)?;
     if !put_numbers(walk.region.keys(), &mut walk.numbers) {
         return Err(IndexFault::Page {
             page: entry.page,

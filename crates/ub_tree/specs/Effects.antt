@@ -1,7 +1,8 @@
 -- What the calls of a tree leave, in a few words: a call that searches, one that reads regions, one that changes the tree.
 use Rattle.std.specs.Prelude.{◌+◌, ◌≡◌, ◌<◌, ◌≤◌, ◌⊎◌, ℕ, true, IsTrue, Result, Ok, Err, IfErr, OnOk, List, Some, None}
 use Rattle.std.specs.List.{Contains}
-use Rattle.ub_check.specs.Standing.{IsHeldBy, IsRegionRefused}
+use Rattle.ub_check.specs.Standing as check
+use Rattle.ub_check.specs.Standing.{IsRegionRefused}
 use Rattle.ub_store.specs.Writing.{Grows}
 use Rattle.ub_index_change.specs.Lowering.{IsDropFault}
 use Rattle.ub_index_change.specs.Preparing.{HasFullWay, NeedsPages}
@@ -12,8 +13,7 @@ use Rattle.ub_store.specs.Facts.{StoreFacts, IsHonest, IsPage, page_count, raise
 use Rattle.ub_store.specs.View as trace
 use Rattle.ub_store.specs.View.{Notes}
 use Rattle.ub_table.specs.declared.row.TheConstants.{MAX_ROW_NUMBER}
-use Rattle.ub_region.specs.RegionPage.{region_page}
-use Rattle.ub_table.specs.Region.{RegionRows, IsRegion}
+use Rattle.ub_table.specs.Region.{RegionRows}
 use Rattle.ub_table.specs.declared.fault.PageFault.{PageFault}
 use Rattle.ub_table.specs.declared.fault.PageFault.TheVariants.{BadCount, BadOrder}
 use Rattle.ub_table.specs.declared.row.Key.{Key}
@@ -83,11 +83,6 @@ pub record Searches {A : Type 0} (old new : TreeView) (result : Result A TreeFau
   pub same : new ≡ record old { store = read_store result old.store }
   pub faults : IfErr result (IsReadFault old)
 
--- a call that searches and reads regions: the trace can grow too
-pub record Reads {A : Type 0} (old new : TreeView) (result : Result A TreeFault) : Type 0 where
-  pub same : new ≡ record old { store = read_store result old.store; trace = new.trace }
-  pub faults : IfErr result (IsReadFault old)
-
 -- a page was asked for: it stands in the trace, after the others
 abbrev pub HasNoted : ℕ → TreeView → TreeView → Type 0
 HasNoted page old new = Notes page old.trace new.trace
@@ -105,8 +100,7 @@ IsSpanFault span old _ = ⊥
 
 -- the region that is taken in is the one that this one's page spells; it begins as this one does, and stands before the next one
 abbrev pub IsTakenIn : TreeView → Region → RegionRows → Type 0
-IsTakenIn t span region =
-    IsRegion t.schema region × IsHeldBy t.schema.dims span.first span.next region × IsPage t.store span.page (region_page t.schema region)
+IsTakenIn t span region = check.IsTakenIn t.schema t.store span region
 
 -- a call that reads this region, whose page is noted first: want of memory comes before that only where the trace has no room;
 -- which region of the tree it is the caller says

@@ -21,7 +21,7 @@ ghost use Rattle.ub_writing.specs.Puts.{PutsTwo};
 
 use crate::fault::{TreeFault, bad_count};
 use crate::tree::Tree;
-use ub_check::take_region;
+use ub_check::read_region;
 use ub_index_change::{Change, commit};
 use ub_page::RegionPage;
 use ub_region::{Region, index_in};
@@ -59,8 +59,7 @@ impl<S: PageStore> Tree<S> {
             → MatchResult result (λ _. page.new.region ≡ r) IsPassing }
         ensures effect { Searches self.old self.new result }
     {
-        self.pager.bring(region.page)?;
-        take_region(&mut self.pager, &self.schema, region, page)?;
+        read_region(&mut self.pager, &self.schema, region, page)?;
         Ok(())
     }
 

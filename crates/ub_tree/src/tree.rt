@@ -14,7 +14,7 @@ use crate::fault::TreeFault;
 use std::alloc::Global;
 use std::marker::Model;
 use ub_bigmin::ZBox;
-use ub_check::take_region;
+use ub_check::fetch_region;
 use ub_index::Index;
 use ub_page::{Header, RegionPage};
 use ub_region::Region;
@@ -213,8 +213,7 @@ impl<S: PageStore> Tree<S> {
         if self.has_failed() {
             return Err(TreeFault::Failed);
         }
-        self.pager.bring_region(region.page)?;
-        take_region(&mut self.pager, &self.schema, region, page)?;
+        fetch_region(&mut self.pager, &self.schema, region, page)?;
         Ok(())
     }
 }
