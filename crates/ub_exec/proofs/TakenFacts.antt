@@ -4,7 +4,7 @@ use Rattle.std.proofs.Math.Seq.{take-suc}
 use Rattle.std.proofs.lemmas.Bool.{true≢false}
 use Rattle.std.proofs.lemmas.List.{take-append-drop}
 use Rattle.std.specs.Result.{IsErrAnd}
-use Rattle.ub_exec.specs.Deleting.{HasLostPage, HasMetDevice, IsDeletionFault, Removes, StopsAt, TakesOut, TakesOutBy}
+use Rattle.ub_exec.specs.Deleting.{HasMetDevice, IsDeletionFault, Removes, StopsAt, TakesOut, TakesOutBy}
 use Rattle.ub_store.specs.Facts.{StoreFacts, page_count, raised}
 use Rattle.ub_store.specs.declared.fault.StoreFault.TheVariants as store
 use Rattle.ub_table.specs.declared.row.Key.{Key}
@@ -162,8 +162,7 @@ left_next a b Memory left = ap (λ (t : TreeView). t.next) left.same
 left_next a b (Page page fault) left = ap (λ (t : TreeView). t.next) left.2
 left_next a b (Store store.Device) (can, inl missed) = ap (λ (t : TreeView). t.next) missed
 left_next a b (Store store.Device) (can, inr ended) = ap (λ (t : TreeView). t.next) ended.same
-left_next a b (Store store.NoPage) (broken, inl missing) = ap (λ (t : TreeView). t.next) missing.1
-left_next a b (Store store.NoPage) (broken, inr ended) = ap (λ (t : TreeView). t.next) ended.1.same
+left_next a b (Store store.NoPage) left = ap (λ (t : TreeView). t.next) left.2
 left_next a b (Store store.BadSize) left = ap (λ (t : TreeView). t.next) left.1.same
 left_next a b (Store store.Memory) left = absurd left
 
@@ -187,12 +186,6 @@ ended_device a b c works ended =
           ∙ ap (λ (facts : StoreFacts). record facts { pages = c.store.pages; synced = c.store.synced; failed_writes = raised facts.failed_writes 1 }) works.1,
     )
 
-lost_page : (a b c : TreeView) → Works a b → HasEnded (Store store.NoPage) b c → HasLostPage a c
-lost_page a b c works ended = (
-  ap (λ (t : TreeView). t.is_failed) ended.same,
-  ap (λ (t : TreeView). t.store) ended.same ∙ ap (λ (facts : StoreFacts). record facts { pages = c.store.pages; synced = c.store.synced }) works.1,
-)
-
 deletion_fault : (a b c : TreeView) (count : ℕ) (fault : TreeFault) → a.is_failed ≡ false → HasLost a b count → IsLeft b c fault → IsRemovalFault b fault
     → IsDeletionFault a c (fault_of_tree fault)
 deletion_fault a b c count Full working lost left of = absurd of
@@ -204,15 +197,8 @@ deletion_fault a b c count (Store store.Device) working lost (can, inl missed) o
     (subst IsTrue (ap (λ (facts : StoreFacts). facts.can_fail) lost.works.1) can, missed_device a b c lost.works missed)
 deletion_fault a b c count (Store store.Device) working lost (can, inr ended) of =
     (subst IsTrue (ap (λ (facts : StoreFacts). facts.can_fail) lost.works.1) can, ended_device a b c lost.works ended)
-deletion_fault a b c count (Store store.NoPage) working lost (broken, inl missing) of =
-    ((λ sound. broken (lost.sound sound)), inl (Works-then a b c lost.works (Works-same b c missing.1)))
-deletion_fault a b c count (Store store.NoPage) working lost (broken, inr ended) of = (
-  (λ sound. broken (lost.sound sound)),
-  inr (
-    (λ honest. ended.0 (ap (λ (facts : StoreFacts). facts.honest) lost.works.1 ∙ honest)),
-    lost_page a b c lost.works ended.1,
-  ),
-)
+deletion_fault a b c count (Store store.NoPage) working lost left of =
+    ((λ sound. left.0 (lost.sound sound)), Works-then a b c lost.works (Works-same b c left.2))
 deletion_fault a b c count (Store store.BadSize) working lost left of = absurd of
 deletion_fault a b c count (Store store.Memory) working lost left of = absurd left
 

@@ -119,12 +119,6 @@ HasMetDevice old new =
       failed_writes = raised old.store.failed_writes 1;
     }))
 
--- the store has no page of a number that the index was to be written on, as one that isn't honest can answer: the tree has failed, and
--- no call of the store has
-abbrev pub HasLostPage : TreeView → TreeView → Type 0
-HasLostPage old new =
-    (new.is_failed ≡ true) × (new.store ≡ record old.store { pages = new.store.pages; synced = new.store.synced })
-
 -- what can end a deletion, and what it leaves then
 abbrev pub IsDeletionFault : TreeView → TreeView → ReadFault → Type 0
 IsDeletionFault old new Memory = Works old new
@@ -133,8 +127,7 @@ IsDeletionFault old new (Tree Failed) = IsTrue old.is_failed × (new ≡ begun o
 IsDeletionFault old new (Tree no_memory) = ⊥
 IsDeletionFault old new (Tree (Page page fault)) = (¬ (IsSound old)) × Works old new
 IsDeletionFault old new (Tree (Store store.Device)) = IsTrue old.store.can_fail × HasMetDevice old new
-IsDeletionFault old new (Tree (Store store.NoPage)) =
-    (¬ (IsSound old)) × (Works old new ⊎ ((¬ (IsHonest old.store)) × HasLostPage old new))
+IsDeletionFault old new (Tree (Store store.NoPage)) = (¬ (IsSound old)) × Works old new
 IsDeletionFault old new (Tree (Store _)) = ⊥
 
 -- a deletion from a tree: what it never touches; that it counts the rows that are gone, and no others; that a table once marked as

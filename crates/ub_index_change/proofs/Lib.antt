@@ -1,5 +1,6 @@
 pub mod Changes
 pub mod SheetNumbers
+pub mod BelowFacts
 pub mod SpreadFacts
 pub mod ClimbFacts
 pub mod FillFacts

@@ -70,7 +70,7 @@ ready_left HasFailed a c h = (h.faults, h.same)
 ready_left Memory a c h = subst (λ (v : TreeView). Leaves a v) (sym h.same) (same_leaves a)
 ready_left (Page page fault) a c h = (h.faults.0, h.faults.1, h.same)
 ready_left (Store store.Device) a c h = (h.faults, inl h.same)
-ready_left (Store store.NoPage) a c h = (h.faults.0, inl (h.faults.1, h.same))
+ready_left (Store store.NoPage) a c h = (h.faults.0, h.faults.1, h.same)
 ready_left (Store store.BadSize) a c h = (h.faults, subst (λ (v : TreeView). Leaves a v) (sym h.same) (same_leaves a))
 ready_left (Store store.Memory) a c h = absurd h.faults
 

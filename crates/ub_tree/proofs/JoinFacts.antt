@@ -5,7 +5,6 @@ use Rattle.std.proofs.Common.{◌≡◌, ◌≢◌, ◌<◌, ◌≤◌, ◌+◌,
 use Rattle.std.proofs.lemmas.List.{length-map}
 use Rattle.std.proofs.lemmas.Option.{slice_get_past}
 use Rattle.std.specs.Result.{IsErrAnd}
-use Rattle.ub_check.proofs.StandingFacts.{each_get}
 use Rattle.ub_index_change.specs.Changed.{Replaces}
 use Rattle.ub_index_change.specs.Changing.{AreOnce, IsUnspelled, Stand}
 use Rattle.ub_index.specs.Standing.{IsOutside}
@@ -89,8 +88,8 @@ module _ (b mid n : TreeView) (span next : Region) (change : ChangeView) (there 
   ended : (fault : TreeFault) → HasStopped fault mid n → HasEnded fault b n
   ended fault h = search (rules, writes_told, written_others)
 
-  no_page_missing : IsPutFault change.sheets mid.store store.NoPage → ¬ (IsHonest b.store)
-  no_page_missing h = search (rules, each_get)
+  no_page_missing : IsPutFault change.next change.sheets mid.store store.NoPage → ⊥
+  no_page_missing missing = let less = missing.0 in let next = ready.next in let same = wrote.count in omega arith
 
   index_left : (fault : TreeFault) → HasStopped fault mid n → IsIndexFault change mid.store fault → IsLeft b n fault
   index_left fault h k = search (rules, ended, no_page_missing)

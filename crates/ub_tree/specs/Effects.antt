@@ -178,16 +178,14 @@ IsChangeRefused t number fault =
     ⊎ ((number ≡ 0) × (fault ≡ BadCount) × ((t.rows ≡ 0) ⊎ ((region_count t ≡ 4294967295) ⊎ (region_count t ≡ 1))))
     ⊎ ((fault ≡ BadOrder) × IsNumberTaken t number)
 
--- what a call can answer that changes the tree, and what it leaves then; a store that isn't honest may have no page of a number that
--- the index is to be written on
+-- what a call can answer that changes the tree, and what it leaves then
 abbrev pub IsLeft : TreeView → TreeView → TreeFault → Type 0
 IsLeft old new Full = ((old.next ≡ MAX_ROW_NUMBER + 1) ⊎ IsIndexFull old) × (new ≡ old)
 IsLeft old new Failed = IsTrue old.is_failed × (new ≡ old)
 IsLeft old new Memory = Leaves old new
 IsLeft old new (Page page fault) = (¬ (IsSound old)) × IsChangeRefused old page fault × (new ≡ old)
 IsLeft old new (Store store.Device) = IsTrue old.store.can_fail × (HasMissed old new ⊎ HasEnded (Store store.Device) old new)
-IsLeft old new (Store store.NoPage) =
-    (¬ (IsSound old)) × ((IsChangeMissing old × (new ≡ old)) ⊎ ((¬ (IsHonest old.store)) × HasEnded (Store store.NoPage) old new))
+IsLeft old new (Store store.NoPage) = (¬ (IsSound old)) × IsChangeMissing old × (new ≡ old)
 IsLeft old new (Store store.BadSize) = IsFull old × Leaves old new
 IsLeft old new (Store store.Memory) = ⊥
 

@@ -165,7 +165,7 @@ pub record IsAddReady (t : TreeView) (span : Region) (first : Key) (change : Cha
 pub record IsDropReady (t : TreeView) (span : Region) (change : ChangeView) : Type 0 where
   pub spelled : IsHonest t.store → AllByRecursion (IsSpelledAt t (page_count t.store) change) change.sheets
   pub pages : IsHonest t.store → AreIndexPages t.inner.index.last change.sheets
-  pub next : IsHonest t.store → change.next ≡ page_count t.store
+  pub next : change.next ≡ page_count t.store
   pub makes : (i : ℕ) → IsStored t → IsRegionIn t i span → IsBefore origin span.first
       → MakesIndex t.inner.index t.store (page_count t.store) change (Replaces (entry_at span) [] (entries_in t.inner.index t.store))
 
@@ -206,9 +206,10 @@ pub record WritesBoth {A : Type 0} (number : ℕ) (span : Region) (old new : Tre
   pub faults : IfErr result (IsWriteFault old new)
   pub others : KeepsOthers (0 ∷ number ∷ span.page ∷ []) old.store new.store
 
--- why the pages that a change spells aren't put: the store failed, which it then can; or it has no page of that number
+-- why the pages that a change spells aren't put: the store failed, which it then can; or it has fewer pages than the change needs, and
+-- none of that number
 abbrev pub IsIndexFault : ChangeView → StoreFacts → TreeFault → Type 0
-IsIndexFault change old (Store fault) = IsPutFault change.sheets old fault
+IsIndexFault change old (Store fault) = IsPutFault change.next change.sheets old fault
 IsIndexFault change old _ = ⊥
 
 -- where rows were only put in before, that is so still
