@@ -44,6 +44,32 @@ read_store result old = record old { failed_reads = counted result old.failed_re
 abbrev pub written_store : {A : Type 0} → Result A TreeFault → StoreFacts → StoreFacts → StoreFacts
 written_store result old new = record old { pages = new.pages; synced = new.synced; failed_writes = counted result old.failed_writes }
 
+-- a way to one of these keys stops at the page of this number, which is refused; over a sound tree none does
+abbrev pub IsWayRefused : (Key → Type 0) → TreeView → ℕ → PageFault → Type 0
+IsWayRefused Sought t number fault = IsHonest t.store → (key : Key) × Sought key × Stops t.inner.index t.store key number (Some fault)
+
+-- a way to one of these keys stops at a page that the store doesn't have
+abbrev pub IsWayMissing : (Key → Type 0) → TreeView → Type 0
+IsWayMissing Sought t =
+    (n : ℕ) × (page_count t.store ≤ n)
+    × (IsHonest t.store → (key : Key) × Sought key × Stops t.inner.index t.store key n None)
+
+-- what a search can answer that goes down to these keys alone: `Failed` where the tree has, the device's fault where the store can
+-- fail, and a fault of a page on the way to one of them, or that there is none, only where the tree isn't sound
+abbrev pub IsSearchFault : (Key → Type 0) → TreeView → TreeFault → Type 0
+IsSearchFault Sought old Full = ⊥
+IsSearchFault Sought old Failed = IsTrue old.is_failed
+IsSearchFault Sought old Memory = Unit {0}
+IsSearchFault Sought old (Page page fault) = (¬ (IsSound old)) × IsWayRefused Sought old page fault
+IsSearchFault Sought old (Store store.Device) = IsTrue old.store.can_fail
+IsSearchFault Sought old (Store store.NoPage) = (¬ (IsSound old)) × IsWayMissing Sought old
+IsSearchFault Sought old (Store _) = ⊥
+
+-- a search that goes down to these keys alone: with the device's fault the store has one failed read more, and else nothing has changed
+pub record SearchesFor {A : Type 0} (Sought : Key → Type 0) (old new : TreeView) (result : Result A TreeFault) : Type 0 where
+  pub same : new ≡ record old { store = read_store result old.store }
+  pub faults : IfErr result (IsSearchFault Sought old)
+
 -- a way to some key stops at the page of this number, which is refused; over a sound tree none does
 abbrev pub IsIndexRefused : TreeView → ℕ → PageFault → Type 0
 IsIndexRefused t number fault = IsHonest t.store → (key : Key) × Stops t.inner.index t.store key number (Some fault)
@@ -78,7 +104,8 @@ IsReadFault old (Store store.Device) = IsTrue old.store.can_fail
 IsReadFault old (Store store.NoPage) = (¬ (IsSound old)) × IsPageMissing old
 IsReadFault old (Store _) = ⊥
 
--- a call that only searches: with the device's fault the store has one failed read more, and else nothing has changed
+-- a call within that only searches, or reads a region: with the device's fault the store has one failed read more, and else nothing has
+-- changed
 pub record Searches {A : Type 0} (old new : TreeView) (result : Result A TreeFault) : Type 0 where
   pub same : new ≡ record old { store = read_store result old.store }
   pub faults : IfErr result (IsReadFault old)
