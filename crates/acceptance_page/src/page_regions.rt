@@ -148,10 +148,27 @@ fn tells_keys(schema: &Schema) -> bool {
     let keys = [Key { z: 3, number: 1 }, Key { z: 4, number: 4 }];
     match RegionPage::read(schema, &page_of(LOW, &[])) {
         Ok(region) => {
-            region.keys() == keys.as_slice()
+            region.numbers() == [1, 4].as_slice()
                 && region.len() == 2
+                && region.key(0) == keys[0]
                 && region.row(1) == row(4, 0, 2, 7)
                 && region.key(1) == keys[1]
+        }
+        Err(_) => false,
+    }
+}
+
+// Whether the region of the first page tells where rows go in, by address and number, and of which it has the key.
+fn tells_places(schema: &Schema) -> bool {
+    match RegionPage::read(schema, &page_of(LOW, &[])) {
+        Ok(region) => {
+            region.place_of(&row(9, 1, 0, 0)) == Some(0)
+                && region.place_of(&row(0, 1, 1, 0)) == Some(0)
+                && region.place_of(&row(1, 1, 1, 0)).is_none()
+                && region.place_of(&row(2, 1, 1, 0)) == Some(1)
+                && region.place_of(&row(3, 0, 2, 0)) == Some(1)
+                && region.place_of(&row(4, 0, 2, 0)).is_none()
+                && region.place_of(&row(1, 2, 0, 0)) == Some(2)
         }
         Err(_) => false,
     }
@@ -161,6 +178,7 @@ fn tells_keys(schema: &Schema) -> bool {
 fn gives_rows_and_keys_or_the_first_fault(rt: HostRuntime) {
     let schema = plane().expect(&rt, "a table");
     assert!(rt; tells_keys(&schema));
+    assert!(rt; tells_places(&schema));
     for (changes, fault) in FAULTS {
         let read = RegionPage::read(&schema, &page_of(LOW, changes)).err();
         assert!(rt; read == Some(*fault), "{fault}");

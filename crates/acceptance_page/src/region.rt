@@ -247,16 +247,6 @@ fn rows_taken_out_and_put_in(rt: HostRuntime) {
     }
 }
 
-// Whether it is told of which keys there are rows, by number and address both.
-fn has_keys(region: &RegionPage) -> bool {
-    region.has(&key(1, 7))
-        && region.has(&key(362, 5))
-        && region.has(&key(362, 6))
-        && !region.has(&key(362, 7))
-        && !region.has(&key(20, 3))
-        && !region.has(&key(1, 0))
-}
-
 // Whether rows are taken out by their keys, where they are, and only then: by number and address
 // both, among others of one address, and to the last one.
 fn are_taken_out(region: &mut RegionPage) -> bool {
@@ -281,7 +271,7 @@ fn are_taken_out(region: &mut RegionPage) -> bool {
 fn rows_taken_out_by_key(rt: HostRuntime) {
     let shape = Shape::new(4).expect(&rt, "four dimensions");
     let mut region = region_of(shape, &[0, 2, 3, 4]);
-    assert!(rt; has_keys(&region) && are_taken_out(&mut region) && !region.has(&key(362, 3)));
+    assert!(rt; are_taken_out(&mut region));
 }
 
 // Whether no row, one and two are few where pages hold so many.

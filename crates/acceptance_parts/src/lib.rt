@@ -1,6 +1,6 @@
 // Tests of what stands below a tree, where no transcript can show it: the places of tokens, the syntax that is built of them, the
-// boxes of conditions that have too many for a transcript, rows of one answer put after those of another one, and the nearest
-// addresses of many boxes. The values come from hand arithmetic, never from the program's own output.
+// boxes of conditions that have too many for a transcript, the plan of a query that no statement asks, rows of one answer put after
+// those of another one, and the nearest addresses of many boxes. The values come from hand arithmetic, never from the program's own output.
 #![tactic(auto)]
 
 #[cfg(test)]
@@ -11,5 +11,7 @@ mod boxes;
 mod lexer;
 #[cfg(test)]
 mod nearest;
+#[cfg(test)]
+mod planning;
 #[cfg(test)]
 mod syntax;

@@ -5,10 +5,10 @@ use Rattle.std.proofs.Math.Nat.{mul-le-mul_right, add-mul, div-mul-le_self, lt-d
 use Rattle.std.proofs.Math.Pow.{shr_mono}
 use Rattle.std.proofs.lemmas.Bool.{cases_lt, cases_eq}
 use Rattle.std.proofs.lemmas.List.Elements.{All-get_or}
-use Rattle.std.proofs.lemmas.Nat.{pow_pos, shr-shr}
+use Rattle.std.proofs.lemmas.Nat.{pow_pos}
 use Rattle.std.proofs.lemmas.Nat.Bits.{same_from_bits, bit_at_above}
 use Rattle.ub_zaddr.specs.Address.{address, place, IsAtMost, IsPoint}
-use Rattle.ub_zaddr.proofs.Laws.{is_place}
+use Rattle.ub_zaddr.proofs.Laws.{bit_of_shift, is_place, same_bit}
 use Rattle.ub_bigmin.specs.Box.{Corners, IsInside, Holds, IsBox}
 use Rattle.ub_bigmin.specs.Cells.{prefix, free_below, IsPrefixOf, least_with, greatest_with, IsMet, IsFloor}
 use Rattle.ub_bigmin.specs.inner.Cells.{IsInCell, HasPrefixes, least_beside, greatest_beside, IsInPart, IsLeastPoint, IsGreatestPoint, IsLift, IsSink, IsTop}
@@ -44,15 +44,6 @@ place_within d i k b hi = (
 )
 
 -- ---- prefixes and bits
-
-bit_of_shift : (n k j : ℕ) → bit_at (n / 2 ^ k) j ≡ bit_at n (k + j)
-bit_of_shift n k j = ap (λ (m : ℕ). m % 2) (shr-shr n k j)
-
--- numbers with one prefix from bit f up have the same bits there
-pub same_bit : (a b f k : ℕ) → f ≤ k → a / 2 ^ f ≡ b / 2 ^ f → bit_at a k ≡ bit_at b k
-same_bit a b f k le e =
-    let split : f + (k - f) ≡ k = omega arith in
-    ap (λ (n : ℕ). bit_at a n) (sym split) ∙ sym (bit_of_shift a f (k - f)) ∙ ap (λ (n : ℕ). bit_at n (k - f)) e ∙ bit_of_shift b f (k - f) ∙ ap (λ (n : ℕ). bit_at b n) split
 
 coordinate_small : (d j : ℕ) (p : List ℕ) → IsPoint d p → j < d → slice_index p j < 2 ^ 32
 coordinate_small d j p h lt = let long = h.0 in All-get_or (λ (x : ℕ). x < 2 ^ 32) p j 0 (omega arith) h.1

@@ -3,43 +3,19 @@
 use Rattle.std.proofs.Common.{min, ◌≡◌, ◌≤◌, ◌<◌, ◌+◌, ◌-◌, ◌*◌, ◌/◌, ◌%◌, ◌^◌, ℕ, max, ◌↔◌, sym, ap, ◌∙◌, arith, ◌⊎◌, inl, inr, Some, None, bit_xor}
 use Rattle.std.specs.Int.{bit_at, bit_not, trailing_zeros, w32}
 use Rattle.std.specs.Int.Count.{count_leading_zeros, trailing_of_zero}
-use Rattle.std.proofs.Math.Nat.{lt-div-mul-add, div-le_self}
+use Rattle.std.proofs.Math.Nat.{div-le_self}
 use Rattle.std.proofs.Math.Pow.{shr_mono, pow_mono}
 use Rattle.std.proofs.lemmas.Bool.{cases_lt, cases_eq}
-use Rattle.std.proofs.lemmas.Nat.{pow_pos, pow-add, shr-shr, leading_length, leading_le}
-use Rattle.std.proofs.lemmas.Nat.Bits.{same_from_bits, bit_at_above, bit_at_xor, bit_at-lt, bit_at-zero, bit_at-trailing_zeros, bit_at_not}
+use Rattle.std.proofs.lemmas.Nat.{pow-add, leading_length, leading_le}
+use Rattle.std.proofs.lemmas.Nat.Bits.{bit_at-lt, bit_at-zero, bit_at-trailing_zeros, bit_at_not}
 use Rattle.ub_bigmin.specs.Cells.{IsNeed}
 use Rattle.ub_bigmin.specs.Extremes.{Least}
 use Rattle.ub_bigmin.specs.Jumps.{IsOwnJump}
 use Rattle.ub_bigmin.proofs.CutFacts.{shr_halves}
-use Rattle.ub_bigmin.proofs.CellFacts.{same_bit, own_above, own_below}
-
-bit_of_shift : (n k j : ℕ) → bit_at (n / 2 ^ k) j ≡ bit_at n (k + j)
-bit_of_shift n k j = ap (λ (m : ℕ). m % 2) (shr-shr n k j)
+use Rattle.ub_bigmin.proofs.CellFacts.{own_above, own_below}
+use Rattle.ub_zaddr.proofs.Laws.{bit_of_shift, same_xor, xor_same}
 
 -- ---- where two numbers differ
-
--- a number has no bit from f up just where it is below 2 ^ f
-small_from_bits : (n f : ℕ) → ((t : ℕ) → bit_at n (f + t) ≡ 0) → n < 2 ^ f
-small_from_bits n f h =
-    let none : n / 2 ^ f ≡ 0 = same_from_bits _ _ (λ t. bit_of_shift n f t ∙ h t ∙ sym (bit_at-zero t)) in
-    let top = lt-div-mul-add {a = n} {b = 2 ^ f} (pow_pos f) in
-    let zero_times : n / 2 ^ f * 2 ^ f ≡ 0 * 2 ^ f = ap (λ (m : ℕ). m * 2 ^ f) none in
-    omega arith
-
-xor_same : (a b f : ℕ) → a / 2 ^ f ≡ b / 2 ^ f → bit_xor a b < 2 ^ f
-xor_same a b f e =
-    small_from_bits _ f (λ t. let same = same_bit a b f (f + t) (omega arith) e in let x = bit_at_xor a b (f + t) in omega arith)
-
-same_xor : (a b f : ℕ) → bit_xor a b < 2 ^ f → a / 2 ^ f ≡ b / 2 ^ f
-same_xor a b f lt = same_from_bits _ _ (λ t. bit_of_shift a f t ∙ same t ∙ sym (bit_of_shift b f t))
-  where
-    same : (t : ℕ) → bit_at a (f + t) ≡ bit_at b (f + t)
-    same t =
-        let none = bit_at_above (bit_xor a b) f (f + t) lt (omega arith) in
-        let x = bit_at_xor a b (f + t) in
-        let sa = bit_at-lt a (f + t) in let sb = bit_at-lt b (f + t) in
-        omega arith
 
 -- so many leading zeros say below which power a number is
 length_is : (n f r : ℕ) → n < 2 ^ 32 → r + count_leading_zeros 32 n ≡ 32 → (r ≤ f) ↔ (n < 2 ^ f)

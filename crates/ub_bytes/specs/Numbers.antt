@@ -3,21 +3,14 @@ use Rattle.std.specs.Prelude.{ℕ, ℤ, pos, List, slice_index_or}
 use Rattle.std.specs.Int.{w64, cast_unsigned}
 use Rattle.std.specs.List.{flat_map, range_with_len}
 use Rattle.ub_bytes.specs.Bytes.{number_bytes}
-use Rattle.ub_table.specs.declared.row.Key.{Key}
-
-abbrev pub blank_key : Key
-blank_key = record { z = 0; number = 0 }
 
 -- the numbers of 0 to n - 1, each on so many bytes
 abbrev pub first_numbers : ℕ → (ℕ → ℕ) → ℕ → List ℕ
 first_numbers width number n = flat_map (λ i. number_bytes width (number i)) (range_with_len 0 n)
 
--- what a page holds of each place: the number of a key, a dimension, and a measure in two's complement
-abbrev pub number_in : List Key → ℕ → ℕ
-number_in keys i = (slice_index_or keys i blank_key).number
-
-abbrev pub dim_in : List ℕ → ℕ → ℕ
-dim_in column i = slice_index_or column i 0
+-- what a page holds of each place: a row's number or a dimension, and a measure in two's complement
+abbrev pub word_in : List ℕ → ℕ → ℕ
+word_in column i = slice_index_or column i 0
 
 abbrev pub measure_in : List ℤ → ℕ → ℕ
 measure_in column i = cast_unsigned w64 (slice_index_or column i (pos 0))

@@ -1,9 +1,9 @@
 ghost use Rattle.std.specs.Prelude.{◌≡◌, ◌+◌, ◌*◌, ◌<◌, ◌≤◌, ◌^◌, [], ◌∷◌, ◌++◌, length, drop};
 ghost use Rattle.ub_bytes.specs.Bytes.{number_bytes, padded};
-ghost use Rattle.ub_bytes.specs.Numbers.{first_numbers, number_in, dim_in, measure_in};
+ghost use Rattle.ub_bytes.specs.Numbers.{first_numbers, word_in, measure_in};
 
 use crate::page::Page;
-use crate::spelling::{Keys, write_dim, write_measure, write_numbers};
+use crate::spelling::{write_measure, write_words};
 use byteorder::{BigEndian, ByteOrder};
 use std::marker::Model;
 use ub_table::MAX_ROWS;
@@ -113,25 +113,14 @@ impl Draft {
         self.len += bytes.len();
     }
 
-    /// Puts the numbers of the first so many keys.
-    pub fn put_numbers(&mut self, keys: &Keys, count: usize)
+    /// Puts a number of each of the first so many rows: their own, or a dimension.
+    pub fn put_words(&mut self, column: &[u32; MAX_ROWS], count: usize)
         requires few { count ≤ MAX_ROWS }
         requires room { length self.old + 4 * count ≤ 4096 }
-        ensures bytes { self.new ≡ self.old ++ first_numbers 4 (number_in keys.now) count }
+        ensures bytes { self.new ≡ self.old ++ first_numbers 4 (word_in column.now) count }
         ensures len { length self.new ≡ length self.old + 4 * count }
     {
-        write_numbers(&mut self.page[self.len..], keys, count);
-        self.len += 4 * count;
-    }
-
-    /// Puts a dimension of the first so many rows.
-    pub fn put_dim(&mut self, column: &[u32; MAX_ROWS], count: usize)
-        requires few { count ≤ MAX_ROWS }
-        requires room { length self.old + 4 * count ≤ 4096 }
-        ensures bytes { self.new ≡ self.old ++ first_numbers 4 (dim_in column.now) count }
-        ensures len { length self.new ≡ length self.old + 4 * count }
-    {
-        write_dim(&mut self.page[self.len..], column, count);
+        write_words(&mut self.page[self.len..], column, count);
         self.len += 4 * count;
     }
 

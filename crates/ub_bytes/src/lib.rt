@@ -12,4 +12,3 @@ mod spelling;
 
 pub use draft::Draft;
 pub use page::Page;
-pub use spelling::Keys;

@@ -1,32 +1,17 @@
 // Columns of a region, written over the front of some bytes.
 ghost use Rattle.std.specs.Prelude.{◌≡◌, ◌+◌, ◌*◌, ◌<◌, ◌≤◌, ◌++◌, length, take, drop};
 ghost use Rattle.ub_bytes.specs.Bytes.{number_bytes};
-ghost use Rattle.ub_bytes.specs.Numbers.{first_numbers, number_in, dim_in, measure_in};
+ghost use Rattle.ub_bytes.specs.Numbers.{first_numbers, word_in, measure_in};
 
 use byteorder::{BigEndian, ByteOrder};
-use ub_table::{Key, MAX_ROWS};
+use ub_table::MAX_ROWS;
 
-/// The keys of the rows of a page.
-pub type Keys = [Key; MAX_ROWS];
-
-/// Writes the numbers of the first so many keys.
-pub fn write_numbers(target: &mut [u8], keys: &Keys, count: usize)
+/// Writes a number of each of the first so many rows.
+pub fn write_words(target: &mut [u8], column: &[u32; MAX_ROWS], count: usize)
     requires few { count ≤ MAX_ROWS }
     requires room { 4 * count ≤ length target.old }
     ensures { target.new
-        ≡ first_numbers 4 (number_in keys.now) count ++ drop (4 * count) target.old }
-{
-    for i in 0..count {
-        write_u32(target, 4 * i, keys[i].number);
-    }
-}
-
-/// Writes a dimension of the first so many rows.
-pub fn write_dim(target: &mut [u8], column: &[u32; MAX_ROWS], count: usize)
-    requires few { count ≤ MAX_ROWS }
-    requires room { 4 * count ≤ length target.old }
-    ensures { target.new
-        ≡ first_numbers 4 (dim_in column.now) count ++ drop (4 * count) target.old }
+        ≡ first_numbers 4 (word_in column.now) count ++ drop (4 * count) target.old }
 {
     for i in 0..count {
         write_u32(target, 4 * i, column[i]);

@@ -2,36 +2,32 @@
 use Rattle.std.proofs.lemmas.Grind.{common_steps}
 use Rattle.std.proofs.Common.{rules, ◌≡◌, ◌≤◌, ◌<◌, ◌+◌, ◌-◌, ◌++◌, inl, inr, ℕ, zero, suc, IsTrue, List, [], ◌∷◌, Option, Some, None, Result, Ok, Err, OnOk, length, take, drop, map, min, slice_get, ◌^◌, ap, refl, sym, ◌∙◌, arith, subst}
 use Rattle.std.proofs.lemmas.List.{append-nil, append_assoc, length-append, map-append}
-use Rattle.std.specs.Result.{IsErrAnd, IsErrOf}
+use Rattle.std.specs.Result.{IsErrAnd}
 use Rattle.ub_index.specs.Descending.{IsStepFault, Steps}
 use Rattle.ub_index.specs.Index.{NamesFitting, entries_of, first_or}
+use Rattle.ub_index.specs.Spans.{region_of}
 use Rattle.ub_index.specs.declared.fault.IndexFault.{IndexFault}
 use Rattle.ub_index.specs.declared.fault.IndexFault.TheVariants.{Full, Page, Store}
 use Rattle.ub_region.specs.declared.entry.Entry.{Entry}
-use Rattle.ub_page.proofs.PageLaws.{region_parts}
-use Rattle.ub_region.specs.RegionPage.{region_page}
-use Rattle.ub_index.proofs.HeldFacts.{keeps_but, keeps_less, keeps_on}
+use Rattle.ub_region.specs.RegionPage.{RegionView}
+use Rattle.ub_index.proofs.HeldFacts.{keeps_on}
 use Rattle.ub_index.proofs.SearchFacts.{same_store as same_read}
-use Rattle.ub_index.proofs.StepFacts.{held_once, honest_back}
 use Rattle.ub_index.specs.Held.{KeepsChecked}
-use Rattle.ub_page.specs.Index.{IsIndexKind}
 use Rattle.ub_region.specs.Regions.{rows_of}
-use Rattle.ub_store.specs.Cache.{NoneMore, NoneMoreBut, SameBut, page_at}
-use Rattle.ub_store.specs.Facts.{StoreFacts, IsHonest, IsPage, page_count, counted as counted_there}
+use Rattle.ub_store.specs.Facts.{StoreFacts, IsHonest}
 use Rattle.ub_store.specs.View.{PagerView, SameTrace}
-use Rattle.ub_store.specs.declared.fault.StoreFault.{StoreFault}
 use Rattle.ub_store.specs.declared.fault.StoreFault.TheVariants as store
-use Rattle.ub_table.specs.Region.{RegionRows, IsRegion, keys_of}
+use Rattle.ub_table.specs.Region.{RegionRows}
 use Rattle.ub_table.specs.declared.fault.PageFault.TheVariants.{BadRow}
 use Rattle.ub_table.specs.declared.fault.PageFault.{PageFault}
 use Rattle.ub_table.specs.declared.row.Key.{Key}
 use Rattle.ub_table.specs.declared.row.Row.{Row}
 use Rattle.ub_table.specs.declared.schema.Schema.{Schema}
 use Rattle.ub_check.specs.Checking.{Asked, StandsHere, StopsEach, StopsIn, TakesAll, TakesEach, numbers_in, numbers_of}
-use Rattle.ub_index.specs.Searching.{count_with, store_after}
+use Rattle.ub_index.specs.Searching.{store_after}
 use Rattle.ub_check.specs.Numbers.{AreNew, HasJust, IsNone, NumbersView}
 use Rattle.ub_check.specs.Placed.{Placed, regions_in}
-use Rattle.ub_check.specs.Standing.{IsRegionRefused}
+use Rattle.ub_check.specs.Standing.{IsSpanFault, ReadsAt}
 use Rattle.ub_check.specs.declared.walk.Walk.{Walk}
 use Rattle.ub_check.specs.inner.Checking.{HasTaken, IsPutTo, IsWalkFault, IsWalkedTo, TakesOn, Walks, asked_by}
 
@@ -86,11 +82,6 @@ module _ (ns : List ℕ) (from now : NumbersView) (i n : ℕ) (h : IsPutTo ns fr
 pub put_all : (ns : List ℕ) (from to : NumbersView) (i : ℕ) → length ns ≤ i → IsPutTo ns from to i → (met : List ℕ) → HasJust from met → AreNew from.bound met ns × HasJust to (met ++ ns)
 put_all ns from to i h k met j = grind (arith, drop_end, take_end)
 
-pub numbers_at : (keys : List Key) (i : ℕ) (key : Key) → slice_get keys i ≡ Some key → slice_get (map (λ k. k.number) keys) i ≡ Some key.number
-numbers_at [] i key at = cc
-numbers_at (k ∷ keys) zero key at = let same : k ≡ key = cc in ap (λ (x : Key). Some x.number) same
-numbers_at (k ∷ keys) (suc i) key at = numbers_at keys i key at
-
 module _ (schema : Schema) (last level : ℕ) (entries : List Entry) (end : Option Key) (old now : PagerView) (from to : Walk) (i : ℕ) (e : Entry) (next : Option Key)
     (h : IsWalkedTo schema last level entries end old now from to i) (at : slice_get entries i ≡ Some e) (next_is : next ≡ first_or (drop (suc i) entries) end) where
   still_honest : IsHonest old.store → IsHonest now.store
@@ -132,17 +123,9 @@ module _ (schema : Schema) (last level : ℕ) (entries : List Entry) (end : Opti
       subst (λ (o : Option Key). StopsIn asked level e o so_far.0 n fault) next_is (subst (λ (a : Asked). StopsIn a level e next so_far.0 n fault) (same_asked count) stops) in
       so_far.3 n fault (subst (λ (es : List Entry). StopsEach (TakesAll asked level) (StopsIn asked level) es end so_far.0 n fault) (sym (drop_at entries i e at)) (inl here))
 
--- the page of a region doesn't begin as one of an index does
-region_no_kind : (schema : Schema) (region : RegionRows) → IsRegion schema region → ¬ (IsIndexKind (region_page schema region))
-region_no_kind schema region h = search (rules, region_parts)
-
 -- a pager whose store was read
 pub pager_read : (old new : PagerView) (s : StoreFacts) → new.store ≡ s → SameTrace old new → new ≡ record old { store = s; cached = new.cached }
 pager_read old new s h k = search rules
-
-keys_numbers : (dims : ℕ) (rows : List Row) → map (λ k. k.number) (keys_of dims rows) ≡ numbers_of rows
-keys_numbers dims [] = refl
-keys_numbers dims (row ∷ rows) = ap (λ (ns : List ℕ). row.number ∷ ns) (keys_numbers dims rows)
 
 pub numbers_append : (before : List Placed) (p : Placed) → numbers_in (before ++ p ∷ []) ≡ numbers_in before ++ numbers_of p.region.rows
 numbers_append before p = grind (arith, common_steps, append-nil, append_assoc, map-append)
@@ -153,10 +136,6 @@ count_append before p = grind (arith, common_steps, append-nil, length-append)
 saturated : (a b c d : ℕ) → c ≡ min a 18446744073709551615 → d ≡ min (c + b) (2 ^ 64 - 1) → d ≡ min (a + b) 18446744073709551615
 saturated a b c d first second = omega arith
 
--- a failed read, as the store counts it and as a check does
-count_read : (T U : Type 0) (e : StoreFault) (n : ℕ) → counted_there {A = U} (Err e) n ≡ count_with {A = T} (Err (Store e)) n
-count_read T U e n = search rules
-
 not_zero : (n : ℕ) → (n ≡ 0 → ⊥) → 1 ≤ n
 not_zero n h = search rules
 
@@ -165,32 +144,29 @@ module _ (schema : Schema) (last : ℕ) (entry : Entry) (end : Option Key) (from
   few : (count : ℕ) (before : List Placed) → HasTaken count from before → length before < count
   few count before has = let left = has.left in let one = not_zero from.left some in omega arith
 
-  module _ {U : Type 0} where
-    unread_fault : (e : StoreFault) → (IsErrOf {T = U} (Err e) store.Device → IsTrue old.store.can_fail) → (IsErrOf {T = U} (Err e) store.NoPage → page_count old.store ≤ entry.page)
-        → (¬ (IsErrOf {T = U} (Err e) store.BadSize)) → IsWalkFault schema last 0 entry end old.store from (Store e)
-    unread_fault store.Device device missing size = device refl
-    unread_fault store.NoPage device missing size = λ count before honest has. (entry.page, inr (few count before has, refl, inl (refl, missing refl)))
-    unread_fault store.Memory device missing size = tt
-    unread_fault store.BadSize device missing size = absurd (size refl)
+  span_fault : (e : IndexFault) → IsSpanFault schema old.store (region_of last entry end) e → IsWalkFault schema last 0 entry end old.store from e
+  span_fault (Page n fault) (at, page, is, refused) = λ count before honest has.
+      inr (few count before has, at, inr (inl (page, subst (λ (m : ℕ). slice_get old.store.pages m ≡ Some page) at (is honest), fault, refl, refused)))
+  span_fault Full h = absurd h
+  span_fault (Store store.Memory) h = tt
+  span_fault (Store store.Device) h = h
+  span_fault (Store store.NoPage) h = λ count before honest has. (entry.page, inr (few count before has, refl, inl (refl, h)))
+  span_fault (Store store.BadSize) h = absurd h
 
-    -- its page isn't read
-    pub region_unread : {T : Type 0} (r : Result T IndexFault) (e : StoreFault) (new : PagerView) → IsErrAnd r (λ x. x ≡ Store e)
-        → new.store ≡ record old.store { failed_reads = counted_there {A = U} (Err e) old.store.failed_reads } → SameTrace old new
-        → (IsErrOf {T = U} (Err e) store.Device → IsTrue old.store.can_fail) → (IsErrOf {T = U} (Err e) store.NoPage → page_count old.store ≤ entry.page)
-        → (¬ (IsErrOf {T = U} (Err e) store.BadSize)) → NoneMore old.cached new.cached → Walks schema last 0 entry end from old new r
-    region_unread r e new h k j l m o p = search (rules, count_read, honest_back, keeps_less, pager_read, unread_fault)
+  -- it isn't read
+  pub region_refused : {T : Type 0} (U : Type 0) (r : Result T IndexFault) (e : IndexFault) (new : PagerView) (page : RegionView) → IsErrAnd r (λ x. x ≡ e) → SameTrace old new
+      → ReadsAt {A = U} schema (region_of last entry end) old new page (Err e) → Walks schema last 0 entry end from old new r
+  region_refused U (Ok x) e new page is trace h = absurd is
+  region_refused {T = T} U (Err f) e new page is trace h = subst (λ (x : IndexFault). Walks {A = T} schema last 0 entry end from old new (Err x)) (sym is) (record {
+    same = pager_read old new (store_after {A = T} (Err e) old.store) (ap (λ (p : PagerView). p.store) h.same ∙ same_read T U e old.store) trace;
+    checked = h.checked last;
+    faults = span_fault e h.faults;
+  })
 
-  -- its page is refused, and then forgotten
-  pub region_refused : {T : Type 0} (f : IndexFault) (page : List ℕ) (of_page : PageFault) (read new : PagerView) → f ≡ Page entry.page of_page
-      → IsRegionRefused schema entry.first end page of_page → IsPage old.store entry.page page → read.store ≡ old.store → SameTrace old read → NoneMoreBut entry.page old.cached read.cached
-      → new ≡ record read { cached = new.cached } → page_at new.cached entry.page ≡ None → SameBut entry.page read.cached new.cached
-      → Walks {A = T} schema last 0 entry end from old new (Err f)
-  region_refused f page of_page read new h k j l m o p q r = search rules
-
-  -- its page is taken, and held
-  pub region_checked : (region : RegionRows) (page : List ℕ) (new : PagerView) → IsRegion schema region → page ≡ region_page schema region → new.store ≡ old.store
-      → NoneMoreBut entry.page old.cached new.cached → page_at new.cached entry.page ≡ Some page → KeepsChecked last old new
-  region_checked region page new h k j l m = search (rules, held_once, keeps_but, region_no_kind)
+  -- it stands where it is due
+  pub region_stands : (new : PagerView) (page : RegionView) → ReadsAt {A = Unit {0}} schema (region_of last entry end) old new page (Ok tt)
+      → (count : ℕ) → IsHonest old.store → StandsHere (asked_by schema last count from old.store) entry end page.region
+  region_stands new page h count honest = record { is = h.taken.0; spelled = h.taken.2 honest; held = h.taken.1 }
 
   module _ (region : RegionRows) (stands : (count : ℕ) → IsHonest old.store → StandsHere (asked_by schema last count from old.store) entry end region) where
     -- one of its rows has a number that isn't new
@@ -224,10 +200,6 @@ module _ (schema : Schema) (last : ℕ) (entry : Entry) (end : Option Key) (from
             numbers = subst (λ (ns : List ℕ). HasJust to.numbers ns) (sym (numbers_append before (record { page = entry.page; region = region }))) new.1;
           },
         )
-
--- the rows that stand on a region's page, by the numbers of their keys
-pub keyed : (keys : List Key) (dims : ℕ) (rows : List Row) → keys ≡ keys_of dims rows → map (λ k. k.number) keys ≡ numbers_of rows
-keyed keys dims rows are = ap (λ (ks : List Key). map (λ k. k.number) ks) are ∙ keys_numbers dims rows
 
 -- a page of the index, with the regions that it leads to
 module _ (schema : Schema) (last level : ℕ) (entry : Entry) (end : Option Key) (from : Walk) (old : PagerView) where
@@ -310,8 +282,3 @@ module _ (schema : Schema) (last level : ℕ) (entry : Entry) (end : Option Key)
         checked = keeps_on last old mid new checked (keeps_on last mid now new h.checked k.checked);
         faults = subst (λ (x : IndexFault). IsWalkFault schema last (suc level) entry end old.store from x) (sym is) (below_fault f k.faults);
       }
-
--- the same answer of another call
-pub walks_by : {T U : Type 0} (schema : Schema) (last : ℕ) (entry : Entry) (end : Option Key) (from : Walk) (old new : PagerView) (r : Result T IndexFault) (e : IndexFault)
-    → IsErrAnd r (λ x. x ≡ e) → Walks {A = U} schema last 0 entry end from old new (Err e) → Walks schema last 0 entry end from old new r
-walks_by schema last entry end from old new r e h k = search rules

@@ -2,6 +2,7 @@ pub mod NumberFacts
 pub mod StandingFacts
 pub mod PlacedFacts
 pub mod CheckingFacts
+pub mod ReadingFacts
 pub mod TakenFacts
 pub mod StopFacts
 pub mod OnceFacts

@@ -1,13 +1,18 @@
 -- Which region stands where one is due, and why a page is refused there.
-use Rattle.std.specs.Prelude.{◌≡◌, ◌<◌, ◌⊎◌, ℕ, List, Option, None, IfSome, Result, IsOk, IfErr, OnOk, OnErr}
+use Rattle.std.specs.Prelude.{◌≡◌, ◌<◌, ◌≤◌, ◌⊎◌, ℕ, IsTrue, List, Option, IfSome, Result, MatchResult, IfErr, OnOk}
 use Rattle.std.specs.List.{AllByRecursion}
+use Rattle.ub_index.specs.Descending.{IsForgotten}
+use Rattle.ub_index.specs.Held.{KeepsChecked}
+use Rattle.ub_index.specs.Opening.{IsPassing}
+use Rattle.ub_index.specs.Searching.{store_after}
 use Rattle.ub_index.specs.declared.fault.IndexFault.{IndexFault}
-use Rattle.ub_index.specs.declared.fault.IndexFault.TheVariants.{Page}
-use Rattle.ub_region.specs.RegionPage.{IsRegionFault, RegionView, region_on, region_page}
+use Rattle.ub_index.specs.declared.fault.IndexFault.TheVariants.{Full, Page, Store}
+use Rattle.ub_region.specs.RegionPage.{IsRegionFault, RegionView, region_page}
 use Rattle.ub_region.specs.declared.region.Region.{Region}
-use Rattle.ub_store.specs.Cache.{SameBut, page_at}
-use Rattle.ub_store.specs.Facts.{IsPage, page_count}
+use Rattle.ub_store.specs.Cache.{NoneMoreBut}
+use Rattle.ub_store.specs.Facts.{StoreFacts, IsHonest, IsPage, page_count}
 use Rattle.ub_store.specs.View.{Holds, PagerView}
+use Rattle.ub_store.specs.declared.fault.StoreFault.TheVariants as store
 use Rattle.ub_table.specs.Keys.{IsBefore}
 use Rattle.ub_table.specs.Region.{RegionRows, IsRegion, keys_of}
 use Rattle.ub_table.specs.declared.fault.PageFault.{PageFault}
@@ -29,28 +34,34 @@ IsRegionRefused schema first next page fault =
     ⊎ ((fault ≡ OutOfRegion) × (region : RegionRows) × IsRegion schema region × (page ≡ region_page schema region)
     × (¬ (IsHeldBy schema.dims first next region)))
 
--- the page of a region is refused where that is due
-abbrev pub IsRefusedAt : Schema → Region → List ℕ → IndexFault → Type 0
-IsRefusedAt schema span bytes fault =
-    (of_page : PageFault) × (fault ≡ Page span.page of_page) × IsRegionRefused schema span.first span.next bytes of_page
+-- the region that is taken in is the one that this one's page spells; it begins as this one does, and stands before the next one
+abbrev pub IsTakenIn : Schema → StoreFacts → Region → RegionRows → Type 0
+IsTakenIn schema store span region =
+    IsRegion schema region × IsHeldBy schema.dims span.first span.next region × IsPage store span.page (region_page schema region)
 
--- what stands on the page of a region is taken in with this result. The pager holds these bytes of that page: they spell what is
--- taken in, which stands where the region is due, and whatever they spell that stands there is taken in; and nothing else has
--- changed. Or the page is refused, and is held no more
-pub record TakesIn {A : Type 0} (schema : Schema) (span : Region) (old new : PagerView) (page : RegionView) (result : Result A IndexFault) : Type 0 where
-  pub bytes : List ℕ
-  pub held : Holds old span.page bytes
-  pub there : span.page < page_count old.store
-  pub page_is : IsPage old.store span.page bytes
+-- why a region isn't read: memory was refused; the store failed, which it then can; it has no page of that number; or the page that it
+-- has there is refused where the region is due
+abbrev pub IsSpanFault : Schema → StoreFacts → Region → IndexFault → Type 0
+IsSpanFault schema old span (Store store.Memory) = Unit {0}
+IsSpanFault schema old span (Store store.Device) = IsTrue old.can_fail
+IsSpanFault schema old span (Store store.NoPage) = page_count old ≤ span.page
+IsSpanFault schema old span (Store store.BadSize) = ⊥
+IsSpanFault schema old span Full = ⊥
+IsSpanFault schema old span (Page n fault) =
+    (n ≡ span.page) × (page : List ℕ) × IsPage old n page × IsRegionRefused schema span.first span.next page fault
+
+-- the page of a region is read with this result, and what it spells is taken in where that stands where the region is due; over an
+-- honest store what stands there so is taken in, memory and the device aside. The pager then holds that page, and no other one more;
+-- it is held no more where it is refused. With the device's fault the store has one failed read more, and else nothing has changed
+-- but the trace
+pub record ReadsAt {A : Type 0} (schema : Schema) (span : Region) (old new : PagerView) (page : RegionView) (result : Result A IndexFault) : Type 0 where
+  pub same : new ≡ record old { store = store_after result old.store; trace = new.trace; cached = new.cached }
   pub dims : OnOk result (page.dims ≡ schema.dims)
-  pub on : OnOk result (page.region ≡ region_on schema bytes)
-  pub is : OnOk result (IsRegion schema page.region)
-  pub spelled : OnOk result (bytes ≡ region_page schema page.region)
-  pub stands : OnOk result (IsHeldBy schema.dims span.first span.next page.region)
-  pub exact : (r : RegionRows) → IsRegion schema r → bytes ≡ region_page schema r → IsHeldBy schema.dims span.first span.next r
-      → IsOk result × (page ≡ record { dims = schema.dims; region = r })
-  pub refused : IfErr result (IsRefusedAt schema span bytes)
-  pub kept : OnOk result (new ≡ old)
-  pub gone : OnErr result (page_at new.cached span.page ≡ None)
-  pub others : SameBut span.page old.cached new.cached
-  pub same : new ≡ record old { cached = new.cached }
+  pub taken : OnOk result (IsTakenIn schema old.store span page.region)
+  pub there : OnOk result (span.page < page_count old.store)
+  pub exact : (r : RegionRows) → IsHonest old.store → IsTakenIn schema old.store span r → MatchResult result (λ _. page.region ≡ r) IsPassing
+  pub held : OnOk result (Holds new span.page (region_page schema page.region))
+  pub others : NoneMoreBut span.page old.cached new.cached
+  pub checked : (last : ℕ) → KeepsChecked last old new
+  pub forgotten : IfErr result (IsForgotten new)
+  pub faults : IfErr result (IsSpanFault schema old.store span)

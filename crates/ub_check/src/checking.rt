@@ -1,6 +1,6 @@
 // The check of a whole table: from the root of its index on each page is read and looked at in full, before what it leads to. A
 // region's rows put their numbers into a set, so that no number is taken twice.
-ghost use Rattle.std.specs.Prelude.{◌≡◌, ◌≤◌, ◌++◌, ℕ, [], List, false, map, drop, IsTrue, OnOk};
+ghost use Rattle.std.specs.Prelude.{◌≡◌, ◌≤◌, ◌++◌, ℕ, [], List, false, drop, IsTrue, OnOk};
 ghost use Rattle.ub_check.specs.Calls.{Checks};
 ghost use Rattle.ub_check.specs.Numbers.{AreNew, HasJust};
 ghost use Rattle.ub_check.specs.inner.Checking.{HasTaken, TakesOn, Walks};
@@ -8,7 +8,7 @@ ghost use Rattle.ub_index.specs.Index.{first_or, top};
 ghost use Rattle.ub_page.specs.declared.header.TheConstants.{MAX_LEVEL};
 
 use crate::numbers::Numbers;
-use crate::reading::take_region;
+use crate::reading::read_region;
 use crate::walk::{Walk, has_met_all, new_walk};
 use std::alloc::Global;
 use ub_index::{IndexFault, entries_at, region_at};
@@ -167,10 +167,9 @@ fn check_region<S: PageStore>(
     if walk.left == 0 {
         return Err(miscounted());
     }
-    pager.bring(entry.page)?;
     let region = region_at(last, *entry, end);
-    take_region(pager, schema, &region, &mut walk.region)?;
-    if !put_numbers(walk.region.keys(), &mut walk.numbers) {
+    read_region(pager, schema, &region, &mut walk.region)?;
+    if !put_numbers(walk.region.numbers(), &mut walk.numbers) {
         return Err(IndexFault::Page {
             page: entry.page,
             fault: PageFault::BadRow,
@@ -181,17 +180,16 @@ fn check_region<S: PageStore>(
     Ok(())
 }
 
-// Puts the numbers of these keys into a set, as long as they are new.
-fn put_numbers(keys: &[Key], numbers: &mut Numbers) -> bool
+// Puts these numbers into a set, as long as they are new.
+fn put_numbers(given: &[u32], numbers: &mut Numbers) -> bool
     ensures bound { numbers.new.bound ≡ numbers.old.bound }
     ensures new { (met : List ℕ) → HasJust numbers.old met → IsTrue result
-        → AreNew numbers.old.bound met (map (λ key. key.number) keys.now)
-        × HasJust numbers.new (met ++ map (λ key. key.number) keys.now) }
+        → AreNew numbers.old.bound met given.now × HasJust numbers.new (met ++ given.now) }
     ensures refused { (met : List ℕ) → HasJust numbers.old met → result ≡ false
-        → ¬ (AreNew numbers.old.bound met (map (λ key. key.number) keys.now)) }
+        → ¬ (AreNew numbers.old.bound met given.now) }
 {
-    for key in keys {
-        if !numbers.put(key.number) {
+    for number in given {
+        if !numbers.put(*number) {
             return false;
         }
     }

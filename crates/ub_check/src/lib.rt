@@ -10,10 +10,10 @@
 // to which no entry leads aren't looked at. It keeps a bit for each row number, and one page of the index a level.
 //
 // What belongs here is what needs no tree: `ub_tree` says what is told of its table, and which fault of its own each one is. The
-// definitions stand in specs/: `Standing` (which region stands where one is due, and why its page is refused), `Placed` (regions on
-// pages), `Numbers` (row numbers that are new), `Checking` (what a check takes, and where it stops first), `Calls` (what it answers).
-// The code: `checking` goes from page to page, `walk` says how far it has come, `numbers` is the set of the row numbers that were met,
-// `reading` takes in one region, as the tree does for its own calls.
+// definitions stand in specs/: `Standing` (which region stands where one is due, why its page is refused, and how it is read),
+// `Placed` (regions on pages), `Numbers` (row numbers that are new), `Checking` (what a check takes, and where it stops first),
+// `Calls` (what it answers). The code: `checking` goes from page to page, `walk` says how far it has come, `numbers` is the set of
+// the row numbers that were met, `reading` reads one region from its page, as the tree does for its own calls.
 
 #![tactic(auto)]
 
@@ -23,4 +23,4 @@ pub mod reading;
 mod walk;
 
 pub use checking::{Told, check_pages};
-pub use reading::take_region;
+pub use reading::{fetch_region, read_region};

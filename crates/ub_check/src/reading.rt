@@ -1,22 +1,57 @@
-ghost use Rattle.std.specs.Prelude.{◌≡◌, ◌↔◌, IsOk, OnOk, IfErr, IsTrue};
+// A region read from its page where one is due.
+ghost use Rattle.std.specs.Prelude.{◌≡◌, ◌⊎◌, ◌↔◌, Err, IsOk, OnOk, IfErr, IsTrue};
 ghost use Rattle.std.specs.List.{AllByRecursion};
-ghost use Rattle.ub_check.specs.Standing.{IsHeldBy, IsRefusedAt, TakesIn};
-ghost use Rattle.ub_region.specs.RegionPage as spec;
+ghost use Rattle.ub_check.specs.Standing.{IsHeldBy, ReadsAt};
+ghost use Rattle.ub_check.specs.inner.Taking.{IsRefusedAt, TakesIn};
 ghost use Rattle.ub_region.specs.RegionPage.{region_page};
 ghost use Rattle.ub_table.specs.Keys.{IsBefore, AreKeysAscending};
-ghost use Rattle.ub_store.specs.View.{IsCached};
+ghost use Rattle.ub_store.specs.View.{IsCached, IsFull, Notes, SameTrace};
 ghost use Rattle.ub_table.specs.Region.{RegionRows, IsRegion, keys_of};
 
 use ub_index::IndexFault;
 use ub_page::{Page, RegionPage};
 use ub_region::{Region, is_equal};
-use ub_store::{PageStore, Pager};
+use ub_store::{PageStore, Pager, StoreFault};
 use ub_table::{Key, PageFault, Schema};
 
-/// Takes in what stands on the page of a region, which the pager holds, where it begins with the region's first key, and its
-/// rows are before the next region's, if there is one. A page that is refused isn't held after it, and any region may stand in
-/// `page` then.
-pub fn take_region<S: PageStore>(
+/// Reads the page of a region, and takes in the region that it spells, which begins with this one's first key, and has its rows before
+/// the next one's, if there is one.
+///
+/// Page comes where the page is refused: by its reader, or as OutOfRegion where what it spells doesn't stand so; it isn't held after
+/// that. Store comes with NoPage where the store has no such page, with Device where it failed in this call, with Memory where memory
+/// was refused. After a fault any region may stand in `page`.
+pub fn read_region<S: PageStore>(
+    pager: &mut Pager<S>,
+    schema: &Schema,
+    region: &Region,
+    page: &mut RegionPage,
+) -> Result<(), IndexFault>
+    ensures trace { SameTrace pager.old pager.new }
+    ensures read { ReadsAt schema.now region.now pager.old pager.new page.new result }
+{
+    pager.bring(region.page)?;
+    take_region(pager, schema, region, page)
+}
+
+/// The same of a page that is noted in the trace first, whether it is held or not. Memory comes also where it was refused for the
+/// note; then the trace has no room for one page more, and nothing has changed.
+pub fn fetch_region<S: PageStore>(
+    pager: &mut Pager<S>,
+    schema: &Schema,
+    region: &Region,
+    page: &mut RegionPage,
+) -> Result<(), IndexFault>
+    ensures noted { ((result ≡ Err (IndexFault.Store StoreFault.Memory))
+        × (pager.new ≡ pager.old) × IsFull pager.old.trace)
+        ⊎ Notes region.now.page pager.old.trace pager.new.trace }
+    ensures read { ReadsAt schema.now region.now pager.old pager.new page.new result }
+{
+    pager.bring_region(region.page)?;
+    take_region(pager, schema, region, page)
+}
+
+// Takes in what stands on the page of a region, which the pager holds. A page that is refused isn't held after it.
+fn take_region<S: PageStore>(
     pager: &mut Pager<S>,
     schema: &Schema,
     region: &Region,
@@ -42,7 +77,6 @@ fn take_in(
     page: &mut RegionPage,
 ) -> Result<(), IndexFault>
     ensures dims { OnOk result (page.new.dims ≡ schema.now.dims) }
-    ensures on { OnOk result (page.new.region ≡ spec.region_on schema.now bytes.now) }
     ensures found { OnOk result (IsRegion schema.now page.new.region
         × (bytes.now ≡ region_page schema.now page.new.region)) }
     ensures held { OnOk result

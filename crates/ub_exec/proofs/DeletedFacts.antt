@@ -1,5 +1,5 @@
 -- What a deletion leaves, put together of reading and of taking out.
-use Rattle.std.proofs.Common.{◌≡◌, ◌⊎◌, ◌∙◌, inl, inr, ℕ, Bool, true, false, IsTrue, List, Result, Ok, Err, length, slice_get, take, refl, sym, ap, subst}
+use Rattle.std.proofs.Common.{◌≡◌, ◌∙◌, inl, inr, ℕ, Bool, false, IsTrue, List, Result, Ok, Err, length, slice_get, take, refl, sym, ap, subst}
 use Rattle.std.proofs.lemmas.Bool.{true≢false}
 use Rattle.std.specs.List.{AllByRecursion}
 use Rattle.std.specs.Result.{IsErrAnd}
@@ -7,13 +7,13 @@ use Rattle.ub_exec.proofs.NotedFacts.{on_ok}
 use Rattle.ub_exec.proofs.StandFacts.{first_out, none_taken, read_stand, rows_out, selected_rise, selected_there, stand_by}
 use Rattle.ub_exec.proofs.TakenFacts.{stopped_at, taken_lost, taken_none}
 use Rattle.ub_exec.specs.Answers.{begun}
-use Rattle.ub_exec.specs.Deleting.{Deletes, HasLostPage, HasReadKeys, HasMetDevice, IsDeletionFault, IsDeletionOf, ReadsFirst, StopsAt, TakesOut, TakesOutBy, answer_of}
+use Rattle.ub_exec.specs.Deleting.{Deletes, HasReadKeys, HasMetDevice, IsDeletionFault, IsDeletionOf, ReadsFirst, StopsAt, TakesOut, TakesOutBy, answer_of}
 use Rattle.ub_exec.specs.Reading.{IsRead, NotesPages}
 use Rattle.ub_exec.specs.Stand.{Stand, IsStandOf, selected_of, without_rows, without_selected}
 use Rattle.ub_exec.specs.Visits.{HasFetched}
 use Rattle.ub_planning.specs.Plan.{PlanView, plan_of}
 use Rattle.ub_query.specs.Shape.{Asked}
-use Rattle.ub_store.specs.Facts.{IsHonest, StoreFacts}
+use Rattle.ub_store.specs.Facts.{StoreFacts}
 use Rattle.ub_store.specs.View.{Trace}
 use Rattle.ub_store.specs.declared.fault.StoreFault.TheVariants as store
 use Rattle.ub_table.specs.Region.{keys_of}
@@ -125,10 +125,8 @@ fault_before a b new (Page page fault) traced working left =
     ((λ sound. left.0 ((Keeps-by a b traced).sound sound)), subst (λ (t : TreeView). Works t new) traced left.1)
 fault_before a b new (Store store.Device) traced working left =
     subst (λ (t : TreeView). IsDeletionFault t new (Tree (Store store.Device))) traced left
-fault_before a b new (Store store.NoPage) traced working left = (
-  (λ sound. left.0 ((Keeps-by a b traced).sound sound)),
-  subst (λ (t : TreeView). Works t new ⊎ ((¬ (IsHonest t.store)) × HasLostPage t new)) traced left.1,
-)
+fault_before a b new (Store store.NoPage) traced working left =
+    ((λ sound. left.0 ((Keeps-by a b traced).sound sound)), subst (λ (t : TreeView). Works t new) traced left.1)
 fault_before a b new (Store store.BadSize) traced working left = left
 fault_before a b new (Store store.Memory) traced working left = left
 
@@ -143,7 +141,7 @@ reading_fault old new (Tree (Page page fault)) working reads =
 reading_fault old new (Tree (Store store.Device)) working reads =
     (reads.faults.0, subst (λ (t : TreeView). HasMetDevice old t) (sym reads.same) (inl (refl, refl)))
 reading_fault old new (Tree (Store store.NoPage)) working reads =
-    ((λ sound. reads.faults.0.0 ((begun_keeps old (begun old) refl).sound sound)), inl (subst (λ (t : TreeView). Works old t) (sym reads.same) (refl, refl)))
+    ((λ sound. reads.faults.0.0 ((begun_keeps old (begun old) refl).sound sound)), subst (λ (t : TreeView). Works old t) (sym reads.same) (refl, refl))
 reading_fault old new (Tree (Store store.BadSize)) working reads = absurd reads.faults.0
 reading_fault old new (Tree (Store store.Memory)) working reads = absurd reads.faults.0
 

@@ -1,9 +1,8 @@
 -- What is made of the rows that a scan read, over any tree, is what the query means on them.
-use Rattle.std.proofs.Common.{◌≡◌, ◌≢◌, ◌≤◌, ◌++◌, ◌∷◌, ◌∙◌, inl, inr, ℕ, Bool, true, false, List, [], Option, Some, Contains, IsPermutation, filter, flat_map, get_or, length, sym, ap, refl, arith, subst}
-use Rattle.std.proofs.lemmas.List.{append-nil}
-use Rattle.std.proofs.lemmas.List.Elements.{Contains-append_cases, Contains-append_left}
+use Rattle.std.proofs.Common.{◌≡◌, ◌≢◌, ◌≤◌, ◌∷◌, inl, inr, Bool, List, [], Option, Some, Contains, IsPermutation, filter, flat_map, get_or, sym, ap, refl, subst}
+use Rattle.std.proofs.lemmas.List.Elements.{Contains-append_cases}
 use Rattle.std.proofs.lemmas.List.Sorted.{Contains-permutation}
-use Rattle.std.specs.List.{All, AllByRecursion}
+use Rattle.std.specs.List.{All}
 use Rattle.ub_exec.proofs.MeantFacts.{get_or_same}
 use Rattle.ub_exec.proofs.PermutedFacts.{filtered_permuted}
 use Rattle.ub_exec.proofs.RowsReadFacts.{chosen_read}
@@ -20,7 +19,6 @@ use Rattle.ub_query.specs.declared.cell.Cell.{Cell}
 use Rattle.ub_table.specs.Region.{IsRow, measures_of}
 use Rattle.ub_table.specs.Table.{Table, IsInOrder}
 use Rattle.ub_table.specs.declared.row.Row.{Row}
-use Rattle.ub_table.specs.declared.schema.Schema.{Schema}
 use Rattle.ub_tree.specs.Spans.{Region}
 use Rattle.ub_tree.specs.View.{TreeView}
 

@@ -2,8 +2,9 @@
 use Rattle.std.proofs.Common.{◌≡◌, ◌∙◌, Result, Ok, Err, refl, sym, ap}
 use Rattle.std.specs.Prelude.{IfOk, OnOk}
 use Rattle.std.specs.Result.{IsErrAnd}
-use Rattle.ub_tree.proofs.Laws.{IsTraced, tree_reads}
-use Rattle.ub_tree.specs.Effects.{Searches, raised_by}
+use Rattle.ub_table.specs.declared.row.Key.{Key}
+use Rattle.ub_tree.proofs.Laws.{IsTraced, searched_fault, tree_reads}
+use Rattle.ub_tree.specs.Effects.{SearchesFor, raised_by}
 use Rattle.ub_tree.specs.Reading.{ReadsTree, fault_of_tree}
 use Rattle.ub_tree.specs.View.{TreeView}
 use Rattle.ub_tree.specs.declared.fault.TreeFault.{TreeFault}
@@ -31,7 +32,8 @@ memory_reads (Ok x) a b is traced = absurd is
 memory_reads (Err f) a b is traced = rw is (record { same = traced; faults = tt })
 
 -- the fault of a search handed on
-pub search_reads : {T U : Type 0} (r : Result T ReadFault) (e : TreeFault) (a b : TreeView) → IsErrAnd r (λ x. x ≡ fault_of_tree e) → Searches {A = U} a b (Err e) → ReadsTree a b r
-search_reads r e a b is searches =
+pub search_reads : {T U : Type 0} {Sought : Key → Type 0} (r : Result T ReadFault) (e : TreeFault) (a b : TreeView) → IsErrAnd r (λ x. x ≡ fault_of_tree e)
+    → SearchesFor {A = U} Sought a b (Err e) → ReadsTree a b r
+search_reads {Sought = Sought} r e a b is searches =
     tree_reads r e a a b is refl
-    (searches.same ∙ ap (λ (t : TreeView). record a { store = record a.store { failed_reads = raised_by e a.store.failed_reads }; trace = t.trace }) (sym searches.same)) searches.faults
+    (searches.same ∙ ap (λ (t : TreeView). record a { store = record a.store { failed_reads = raised_by e a.store.failed_reads }; trace = t.trace }) (sym searches.same)) (searched_fault Sought a e searches.faults)

@@ -1,7 +1,7 @@
 -- The rows of the regions that were taken in, one after the other, over any tree; and which of them a choice takes.
-use Rattle.std.proofs.Common.{◌≡◌, ◌≢◌, ◌∙◌, ◌++◌, ◌∷◌, inl, inr, Bool, List, [], Option, Some, None, filter, map, refl, sym, ap, subst, append_assoc}
+use Rattle.std.proofs.Common.{◌≡◌, ◌≢◌, ◌∙◌, ◌++◌, ◌∷◌, Bool, List, [], Option, Some, None, filter, refl, sym, ap, subst, append_assoc}
 use Rattle.std.proofs.lemmas.List.{append-nil}
-use Rattle.std.proofs.lemmas.List.Elements.{Contains-append_cases, Contains-append_left, filter-append}
+use Rattle.std.proofs.lemmas.List.Elements.{Contains-append_left, filter-append}
 use Rattle.std.specs.List.{Contains}
 use Rattle.ub_bigmin.specs.Box.{Corners}
 use Rattle.ub_exec.proofs.NotedFacts.{HasReadUpTo, HasReadUpTo-begun, all_told, come_with}
@@ -21,7 +21,7 @@ use Rattle.ub_table.specs.declared.schema.Schema.{Schema}
 use Rattle.ub_tree.proofs.Laws.{IsTraced}
 use Rattle.ub_tree.specs.Effects.{IsTakenIn}
 use Rattle.ub_tree.specs.Spans.{Region}
-use Rattle.ub_tree.specs.View.{TreeView, KeepsTrace}
+use Rattle.ub_tree.specs.View.{TreeView}
 
 -- ---- one region more
 

@@ -177,7 +177,7 @@ first_out rows a c s fault stand up there stops working =
     let front : stops.front ≡ keys_of dims (take j rows) = front_of (key_of dims) rows stops.front (stops.key ∷ stops.left) stops.parts in
     let (counted, out) = rows_out (take j rows) a stops.mid s stops.count stand (rising_first (λ x y. x.number < y.number) j rows up) (all_first (Contains s.table.rows) j rows there)
     (subst (λ (keys : List Key). TakesOut keys a stops.mid stops.count) front stops.taken) in
-    (j, change_stand stops.mid c (without_rows (take j rows) s) fault out stops.ended.effect.left working)
+    (j, change_stand stops.mid c (without_rows (take j rows) s) fault out stops.ended.leaves.changes.left working)
 
 -- ---- reading that was ended by a fault
 

@@ -4,7 +4,7 @@ use Rattle.std.proofs.Math.Seq.{take-suc}
 use Rattle.std.proofs.lemmas.Bool.{true≢false}
 use Rattle.std.proofs.lemmas.List.{take-append-drop}
 use Rattle.std.specs.Result.{IsErrAnd}
-use Rattle.ub_exec.specs.Deleting.{HasLostPage, HasMetDevice, IsDeletionFault, Removes, StopsAt, TakesOut, TakesOutBy}
+use Rattle.ub_exec.specs.Deleting.{HasMetDevice, IsDeletionFault, StopsAt, TakesOut, TakesOutBy}
 use Rattle.ub_store.specs.Facts.{StoreFacts, page_count, raised}
 use Rattle.ub_store.specs.declared.fault.StoreFault.TheVariants as store
 use Rattle.ub_table.specs.declared.row.Key.{Key}
@@ -12,7 +12,7 @@ use Rattle.ub_tree.proofs.Laws.{mark_then, take_all}
 use Rattle.ub_tree.specs.Effects.{HasEnded, HasMissed, IsLeft, KeepsMark, Leaves, Works}
 use Rattle.ub_tree.specs.Holding.{ShrinksAt}
 use Rattle.ub_tree.specs.Reading.{fault_of_tree}
-use Rattle.ub_tree.specs.Removal.{IsRemovalFault}
+use Rattle.ub_tree.specs.Removal.{IsRemovalFault, Removes}
 use Rattle.ub_tree.specs.View.{TreeView, IsSound}
 use Rattle.ub_tree.specs.declared.fault.TreeFault.{TreeFault}
 use Rattle.ub_tree.specs.declared.fault.TreeFault.TheVariants.{Full, Page, Store, Failed, Memory}
@@ -45,7 +45,7 @@ taken_more (first ∷ keys) a b c count key found (was, mid, more, one, rest, is
 pub taken_none : (keys : List Key) (a b : TreeView) (count : ℕ) → TakesOut keys a b count → count ≡ 0 → b ≡ a
 taken_none [] a b count taken none = taken.1
 taken_none (key ∷ keys) a b count (true, mid, more, one, rest, is) none = absurd (omega arith)
-taken_none (key ∷ keys) a b count (false, mid, more, one, rest, is) none = taken_none keys mid b more rest (sym is ∙ none) ∙ one.untouched refl
+taken_none (key ∷ keys) a b count (false, mid, more, one, rest, is) none = taken_none keys mid b more rest (sym is ∙ none) ∙ one.done.1 refl
 
 -- ---- what that leaves
 
@@ -91,18 +91,19 @@ as_many key a b shrinks = elim shrinks.others [
 ]
 
 lost_one : (key : Key) (a b : TreeView) (found : Bool) → Removes key a b (Ok found) → HasLost a b (if found then 1 else 0)
-lost_one key a b false removes = lost_none a b (removes.untouched refl)
+lost_one key a b false removes = lost_none a b (removes.done.1 refl)
 lost_one key a b true removes =
-    let (next, rows, shrinks) = removes.counted refl in
+    let loses = removes.done.0 refl in
+    let changes = removes.leaves.changes in
     record {
-      frame = removes.effect.frame ∙ ap (λ (n : ℕ). record a { placed = b.placed; rows = b.rows; next = n; is_changed = b.is_changed; is_failed = b.is_failed; store = b.store; inner = b.inner }) next;
-      counted = rows;
-      works = removes.effect.done;
-      stays = removes.stays;
-      marks = λ some. removes.marks refl;
-      kept = removes.effect.marked.kept;
-      marked = removes.effect.marked.marked;
-      pages = as_many key a b shrinks;
+      frame = changes.frame ∙ ap (λ (n : ℕ). record a { placed = b.placed; rows = b.rows; next = n; is_changed = b.is_changed; is_failed = b.is_failed; store = b.store; inner = b.inner }) loses.next;
+      counted = loses.rows;
+      works = changes.done;
+      stays = removes.leaves.stays;
+      marks = λ some. loses.shrunk.changed;
+      kept = changes.marked.kept;
+      marked = changes.marked.marked;
+      pages = as_many key a b loses.shrunk;
       sound = λ sound. (removes.removed sound).sound;
     }
 
@@ -162,8 +163,7 @@ left_next a b Memory left = ap (λ (t : TreeView). t.next) left.same
 left_next a b (Page page fault) left = ap (λ (t : TreeView). t.next) left.2
 left_next a b (Store store.Device) (can, inl missed) = ap (λ (t : TreeView). t.next) missed
 left_next a b (Store store.Device) (can, inr ended) = ap (λ (t : TreeView). t.next) ended.same
-left_next a b (Store store.NoPage) (broken, inl missing) = ap (λ (t : TreeView). t.next) missing.1
-left_next a b (Store store.NoPage) (broken, inr ended) = ap (λ (t : TreeView). t.next) ended.1.same
+left_next a b (Store store.NoPage) left = ap (λ (t : TreeView). t.next) left.2
 left_next a b (Store store.BadSize) left = ap (λ (t : TreeView). t.next) left.1.same
 left_next a b (Store store.Memory) left = absurd left
 
@@ -187,12 +187,6 @@ ended_device a b c works ended =
           ∙ ap (λ (facts : StoreFacts). record facts { pages = c.store.pages; synced = c.store.synced; failed_writes = raised facts.failed_writes 1 }) works.1,
     )
 
-lost_page : (a b c : TreeView) → Works a b → HasEnded (Store store.NoPage) b c → HasLostPage a c
-lost_page a b c works ended = (
-  ap (λ (t : TreeView). t.is_failed) ended.same,
-  ap (λ (t : TreeView). t.store) ended.same ∙ ap (λ (facts : StoreFacts). record facts { pages = c.store.pages; synced = c.store.synced }) works.1,
-)
-
 deletion_fault : (a b c : TreeView) (count : ℕ) (fault : TreeFault) → a.is_failed ≡ false → HasLost a b count → IsLeft b c fault → IsRemovalFault b fault
     → IsDeletionFault a c (fault_of_tree fault)
 deletion_fault a b c count Full working lost left of = absurd of
@@ -204,15 +198,8 @@ deletion_fault a b c count (Store store.Device) working lost (can, inl missed) o
     (subst IsTrue (ap (λ (facts : StoreFacts). facts.can_fail) lost.works.1) can, missed_device a b c lost.works missed)
 deletion_fault a b c count (Store store.Device) working lost (can, inr ended) of =
     (subst IsTrue (ap (λ (facts : StoreFacts). facts.can_fail) lost.works.1) can, ended_device a b c lost.works ended)
-deletion_fault a b c count (Store store.NoPage) working lost (broken, inl missing) of =
-    ((λ sound. broken (lost.sound sound)), inl (Works-then a b c lost.works (Works-same b c missing.1)))
-deletion_fault a b c count (Store store.NoPage) working lost (broken, inr ended) of = (
-  (λ sound. broken (lost.sound sound)),
-  inr (
-    (λ honest. ended.0 (ap (λ (facts : StoreFacts). facts.honest) lost.works.1 ∙ honest)),
-    lost_page a b c lost.works ended.1,
-  ),
-)
+deletion_fault a b c count (Store store.NoPage) working lost left of =
+    ((λ sound. left.0 (lost.sound sound)), Works-then a b c lost.works (Works-same b c left.2))
 deletion_fault a b c count (Store store.BadSize) working lost left of = absurd of
 deletion_fault a b c count (Store store.Memory) working lost left of = absurd left
 
@@ -228,15 +215,15 @@ pub stopped_at : (keys : List Key) (a c : TreeView) (fault : TreeFault) → a.is
 stopped_at keys a c fault working stops =
     let b = stops.mid in
     let lost = taken_lost stops.front a b stops.count stops.taken in
-    let effect = stops.ended.effect in
+    let effect = stops.ended.leaves.changes in
     record {
       frame = effect.frame
           ∙ ap (λ (n : ℕ). record b { placed = c.placed; rows = c.rows; next = n; is_changed = c.is_changed; is_failed = c.is_failed; store = c.store; inner = c.inner }) (left_next b c fault effect.left)
           ∙ ap (λ (t : TreeView). record t { placed = c.placed; rows = c.rows; is_changed = c.is_changed; is_failed = c.is_failed; store = c.store; inner = c.inner }) lost.frame;
-      stays = λ changed. stops.ended.stays (lost.stays changed);
-      kept = kept_then a b c lost.works stops.ended.stays lost.pages lost.kept effect.marked.kept;
+      stays = λ changed. stops.ended.leaves.stays (lost.stays changed);
+      kept = kept_then a b c lost.works stops.ended.leaves.stays lost.pages lost.kept effect.marked.kept;
       marked = mark_then a b c (λ honest. ap (λ (facts : StoreFacts). facts.honest) lost.works.1 ∙ honest) (lost_schema a b stops.count lost) lost.marked effect.marked.marked;
-      left = deletion_fault a b c stops.count fault working lost effect.left stops.ended.faults;
+      left = deletion_fault a b c stops.count fault working lost effect.left stops.ended.leaves.faults;
     }
 
 -- ---- the keys one by one

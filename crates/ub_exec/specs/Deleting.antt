@@ -1,5 +1,5 @@
 -- What a deletion does to a tree, also to one that isn't sound.
-use Rattle.std.specs.Prelude.{◌≡◌, ◌≢◌, ◌+◌, ◌++◌, ◌∷◌, ◌⊎◌, [], ℕ, suc, Bool, true, false, if◌then◌else◌, IsTrue, List, Some, None, Result, Ok, Err, IfErr, IfOk, OnOk}
+use Rattle.std.specs.Prelude.{◌≡◌, ◌≢◌, ◌+◌, ◌++◌, ◌∷◌, ◌⊎◌, [], ℕ, suc, Bool, true, if◌then◌else◌, IsTrue, List, Some, None, Result, Ok, Err, IfErr, IfOk, OnOk}
 use Rattle.std.specs.List.{filter}
 use Rattle.std.specs.List.Sorted.{IsNonDecreasingBy, IsPermutation}
 use Rattle.ub_exec.specs.Answers.{IsReady, begun}
@@ -12,10 +12,9 @@ use Rattle.ub_store.specs.declared.fault.StoreFault.TheVariants as store
 use Rattle.ub_table.specs.Region.{keys_of}
 use Rattle.ub_table.specs.declared.row.Key.{Key}
 use Rattle.ub_table.specs.declared.row.Row.{Row}
-use Rattle.ub_tree.specs.Effects.{Changes, KeepsMark, Works}
-use Rattle.ub_tree.specs.Holding.{AnswersRemoval, ShrinksAt}
+use Rattle.ub_tree.specs.Effects.{KeepsMark, Works}
 use Rattle.ub_tree.specs.Reading.{ReadsTree, fault_of_tree}
-use Rattle.ub_tree.specs.Removal.{IsRemoved, IsRemovalFault}
+use Rattle.ub_tree.specs.Removal.{Removes}
 use Rattle.ub_tree.specs.View.{TreeView, IsSound}
 use Rattle.ub_tree.specs.declared.fault.TreeFault.{TreeFault}
 use Rattle.ub_tree.specs.declared.fault.TreeFault.TheVariants.{Full, Page, Store, Failed, Memory as no_memory}
@@ -33,19 +32,6 @@ pub record IsDeletionOf (t : TreeView) (p : PlanView) : Type 0 where
   pub plain : IsDeletion p.asked
 
 -- ---- rows taken out of any tree
-
--- the row of a key was asked to be taken out, with this answer: all that `Tree::remove` says
-pub record Removes (key : Key) (old new : TreeView) (result : Result Bool TreeFault) : Type 0 where
-  pub removed : IsSound old → IfOk result (λ found. IsRemoved key found old new)
-  pub untouched : IfOk result (λ found. found ≡ false → new ≡ old)
-  pub counted : IfOk result (λ found. found ≡ true
-      → (new.next ≡ old.next) × (new.rows + 1 ≡ old.rows) × ShrinksAt key old new)
-  pub refused : old.is_failed ≡ false → IsHonest old.store → AnswersRemoval old key result
-  pub failed : IsTrue old.is_failed → result ≡ Err Failed
-  pub effect : Changes old new result
-  pub faults : IfErr result (IsRemovalFault old)
-  pub stays : old.is_changed ≡ true → new.is_changed ≡ true
-  pub marks : IfOk result (λ found. found ≡ true → new.is_changed ≡ true)
 
 -- the rows of these keys were taken out, one after the other, but for those that weren't there; so many were
 abbrev pub TakesOut : List Key → TreeView → TreeView → ℕ → Type 0
@@ -119,12 +105,6 @@ HasMetDevice old new =
       failed_writes = raised old.store.failed_writes 1;
     }))
 
--- the store has no page of a number that the index was to be written on, as one that isn't honest can answer: the tree has failed, and
--- no call of the store has
-abbrev pub HasLostPage : TreeView → TreeView → Type 0
-HasLostPage old new =
-    (new.is_failed ≡ true) × (new.store ≡ record old.store { pages = new.store.pages; synced = new.store.synced })
-
 -- what can end a deletion, and what it leaves then
 abbrev pub IsDeletionFault : TreeView → TreeView → ReadFault → Type 0
 IsDeletionFault old new Memory = Works old new
@@ -133,8 +113,7 @@ IsDeletionFault old new (Tree Failed) = IsTrue old.is_failed × (new ≡ begun o
 IsDeletionFault old new (Tree no_memory) = ⊥
 IsDeletionFault old new (Tree (Page page fault)) = (¬ (IsSound old)) × Works old new
 IsDeletionFault old new (Tree (Store store.Device)) = IsTrue old.store.can_fail × HasMetDevice old new
-IsDeletionFault old new (Tree (Store store.NoPage)) =
-    (¬ (IsSound old)) × (Works old new ⊎ ((¬ (IsHonest old.store)) × HasLostPage old new))
+IsDeletionFault old new (Tree (Store store.NoPage)) = (¬ (IsSound old)) × Works old new
 IsDeletionFault old new (Tree (Store _)) = ⊥
 
 -- a deletion from a tree: what it never touches; that it counts the rows that are gone, and no others; that a table once marked as

@@ -46,7 +46,7 @@ spread_narrow level entry entries from to (One other) few h = (tt, ap (λ (s : S
 spread_narrow level entry entries from to (Two left right) few h = let full = h.0 in absurd (omega arith)
 
 -- a region's entry that goes needs no page more
-narrow : (last : ℕ) (old : List (List ℕ)) (key : Key) (level : ℕ) (entry : Entry) (end : Option Key) (from to : Spelled) (told : Told)
+pub narrow : (last : ℕ) (old : List (List ℕ)) (key : Key) (level : ℕ) (entry : Entry) (end : Option Key) (from to : Spelled) (told : Told)
     → Turns last old key None level entry end from to told → IsAtMostOne told × (to.next ≡ from.next)
 narrow last old key zero entry end from to told (told_is, same) = (subst (λ (t : Told). IsAtMostOne t) (sym told_is) tt, ap (λ (s : Spelled). s.next) same)
 narrow last old key (suc level) entry end from to told (named, below, next, falls, middle, news, turns, mends) =
@@ -64,7 +64,7 @@ narrow last old key (suc level) entry end from to told (named, below, next, fall
     by_news (Two left right) n m few = absurd n
 
 -- a page that is spelled stands; one that isn't spelled isn't among the sheets
-spelled_then : (later : List (List ℕ)) (sheets : List Sheet) (n : ℕ) → Stand later sheets
+pub spelled_then : (later : List (List ℕ)) (sheets : List Sheet) (n : ℕ) → Stand later sheets
     → ((p : List ℕ) × (spelled_page sheets n ≡ Some p) × (slice_get later n ≡ Some p)) ⊎ ((spelled_page sheets n ≡ None) × IsUnspelled n sheets)
 spelled_then later [] n stand = inr (refl, tt)
 spelled_then later (s ∷ sheets) n stand = elim (cases_Bool (s.number == n)) [
@@ -94,7 +94,7 @@ named_some : (n : ℕ) → 1 ≤ n → unless_first n ≡ None → ⊥
 named_some zero some h = omega (arith, some)
 named_some (suc n) some h = cc
 
-sole_is : (entries : List Entry) (page : ℕ) → sole_page entries ≡ Some page → (entry : Entry) × (entries ≡ entry ∷ []) × (entry.page ≡ page)
+pub sole_is : (entries : List Entry) (page : ℕ) → sole_page entries ≡ Some page → (entry : Entry) × (entries ≡ entry ∷ []) × (entry.page ≡ page)
 sole_is [] page h = cc
 sole_is (entry ∷ []) page h = (entry, refl, named_is entry.page page h)
 sole_is (a ∷ b ∷ entries) page h = cc

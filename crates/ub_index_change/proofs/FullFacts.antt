@@ -124,7 +124,7 @@ one_place key (x ∷ b1) x1 a1 (y ∷ b2) x2 a2 end e up1 up2 from1 to1 from2 to
     not_at z b w (inl none) = let no : z ∷ b ≡ [] = none in cc
     not_at z b w (inr not) = not
 
-falls_once : (key : Key) (entries : List Entry) (end : Option Key) (x1 : Entry) (n1 : Option Key) (x2 : Entry) (n2 : Option Key) → AscendTo entries end
+pub falls_once : (key : Key) (entries : List Entry) (end : Option Key) (x1 : Entry) (n1 : Option Key) (x2 : Entry) (n2 : Option Key) → AscendTo entries end
     → FallsTo key entries end x1 n1 → FallsTo key entries end x2 n2 → (x1 ≡ x2) × (n1 ≡ n2)
 falls_once key entries end x1 n1 x2 n2 up f1 f2 =
     let up1 : AscendTo (f1.before ++ (x1 ∷ f1.after)) end = subst (λ (xs : List Entry). AscendTo xs end) f1.parts up in

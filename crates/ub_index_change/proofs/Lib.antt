@@ -1,5 +1,6 @@
 pub mod Changes
 pub mod SheetNumbers
+pub mod BelowFacts
 pub mod SpreadFacts
 pub mod ClimbFacts
 pub mod FillFacts
@@ -13,3 +14,4 @@ pub mod MadeFacts
 pub mod PutFacts
 pub mod SheetFacts
 pub mod OwnFacts
+pub mod BesideFacts

@@ -1,5 +1,5 @@
 -- What becomes of a store's pages where it grows, and where sheets are put.
-use Rattle.std.proofs.Common.{Result, Ok, Err, None, option_map, ◌⊎◌, ◌≡◌, ◌≢◌, ◌≤◌, ◌<◌, ◌+◌, inl, inr, ℕ, zero, suc, List, [], ◌∷◌, ◌++◌, Some, take, ◌∙◌, sym, ap, subst, refl, arith, slice_get}
+use Rattle.std.proofs.Common.{Result, Ok, Err, None, option_map, ◌⊎◌, ◌≡◌, ◌≢◌, ◌≤◌, ◌<◌, ◌+◌, inl, inr, ℕ, zero, suc, List, [], ◌∷◌, Some, take, ◌∙◌, sym, ap, subst, refl, arith, slice_get}
 use Rattle.std.specs.Prelude.{IsTrue}
 use Rattle.std.specs.Result.{IsErrOf}
 use Rattle.ub_store.specs.Cache.{SameBut, page_at}
@@ -7,12 +7,13 @@ use Rattle.ub_store.specs.View.{PagerView}
 use Rattle.ub_store.specs.Facts.{StoreFacts, IsHonest, MayFlush, WritesAt, page_count}
 use Rattle.ub_store.specs.declared.fault.StoreFault.{StoreFault}
 use Rattle.ub_store.specs.declared.fault.StoreFault.TheVariants as store
-use Rattle.ub_index_change.specs.Changing.{AreIndexPages, AreOnce, IsUnspelled, Stand}
+use Rattle.ub_index_change.specs.Changing.{AreBelow, AreIndexPages, AreOnce, IsUnspelled, Stand}
 use Rattle.ub_index.specs.Held.{KeepsChecked}
 use Rattle.ub_index.specs.Index.{IsIndexPage}
 use Rattle.ub_index_change.specs.Making.{IsPutFault, PutsSheets, SameButSheets}
 use Rattle.ub_index_change.specs.declared.sheet.Sheet.{Sheet}
 use Rattle.ub_index.proofs.HeldFacts.{keeps_on}
+use Rattle.ub_index_change.proofs.BelowFacts.{below_at}
 use Rattle.ub_index.proofs.StandFacts.{put_get, put_checked}
 
 pub then_done : (a b d : StoreFacts) → b ≡ record a { pages = b.pages; synced = b.synced } → d ≡ record b { pages = d.pages; synced = d.synced } → d ≡ record a { pages = d.pages; synced = d.synced }
@@ -61,13 +62,16 @@ stands_more sheets i sheet a b d honesty at there w once honest stand =
 -- why one of the sheets isn't put after others
 pub put_fault : (T : Type 0) (sheets : List Sheet) (i : ℕ) (sheet : Sheet) (a b : StoreFacts) (fault : StoreFault) → slice_get sheets i ≡ Some sheet → b ≡ record a { pages = b.pages; synced = b.synced }
     → page_count b ≡ page_count a → (fault ≡ store.Device) ⊎ (fault ≡ store.NoPage) → (IsErrOf {T = T} (Err fault) store.Device → IsTrue b.can_fail)
-    → (IsErrOf {T = T} (Err fault) store.NoPage → page_count b ≤ sheet.number) → IsPutFault sheets a fault
-put_fault T sheets i sheet a b store.Device at same count or device missing = sym (ap (λ (s : StoreFacts). s.can_fail) same) ∙ device refl
-put_fault T sheets i sheet a b store.NoPage at same count or device missing = (i, sheet, at, subst (λ (n : ℕ). n ≤ sheet.number) count (missing refl))
-put_fault T sheets i sheet a b store.Memory at same count (inl e) device missing = cc
-put_fault T sheets i sheet a b store.Memory at same count (inr e) device missing = cc
-put_fault T sheets i sheet a b store.BadSize at same count (inl e) device missing = cc
-put_fault T sheets i sheet a b store.BadSize at same count (inr e) device missing = cc
+    → (IsErrOf {T = T} (Err fault) store.NoPage → page_count b ≤ sheet.number) → (count : ℕ) → AreBelow count sheets → IsPutFault count sheets a fault
+put_fault T sheets i sheet a b store.Device at same pages or device missing count all = sym (ap (λ (s : StoreFacts). s.can_fail) same) ∙ device refl
+put_fault T sheets i sheet a b store.NoPage at same pages or device missing count all =
+    let past = missing refl in
+    let below = below_at count sheets i sheet at all in
+    (omega arith, i, sheet, at, subst (λ (n : ℕ). n ≤ sheet.number) pages past)
+put_fault T sheets i sheet a b store.Memory at same pages (inl e) device missing count all = cc
+put_fault T sheets i sheet a b store.Memory at same pages (inr e) device missing count all = cc
+put_fault T sheets i sheet a b store.BadSize at same pages (inl e) device missing count all = cc
+put_fault T sheets i sheet a b store.BadSize at same pages (inr e) device missing count all = cc
 
 -- a page of an index that is put leaves the pages that are held checked: it is held in the place of one, or isn't
 page_of : (last : ℕ) (sheets : List Sheet) (i : ℕ) (sheet : Sheet) → slice_get sheets i ≡ Some sheet → AreIndexPages last sheets → IsIndexPage last sheet.page

@@ -64,8 +64,7 @@ settle_fault index old key added from to told (Store store.BadSize) few room tur
       let next = two.1 in
       (index.levels + 1, (index.levels, all_end index.last old.pages key index.levels (top index.root) None two.0, inr (refl, h.1, refl)), omega arith)),
 )
-settle_fault index old key added from to told (Page n fault) few room turns h = λ honest.
-    inr (h.0, h.1, to, subst (λ (t : Told). TurnsRoot index old key added from to t) h.2 (turns honest))
+settle_fault index old key added from to told (Page n fault) few room turns h = absurd h
 settle_fault index old key added from to told Full few room turns h = (
   h.0,
   λ honest. let two = settled_two index old key added from to told h.1 h.2 h.3 (turns honest) in
@@ -78,8 +77,7 @@ pub settled_all : (T U : Type 0) (index : IndexView) (key : Key) (added : Option
     → to.next ≤ from.next + index.levels → to.next ≤ 4294967295 → (IsHonest old.store → TurnsRoot index old.store key added from to told)
     → new ≡ record old { store = old.store; cached = new.cached } → Keeps index.last old new → IfErr r (IsSettleFault index.root index.levels told to) → PreparesAll index key added from old new r
 settled_all T U index key added from to old new told (Ok x) few room turns same kept h = record { same = same; checked = kept.0; more = kept.1; faults = tt }
-settled_all T U index key added from to old new told (Err (Page n fault)) few room turns same kept h =
-    record { same = same; checked = kept.0; more = kept.1; faults = settle_fault index old.store key added from to told (Page n fault) few room turns h }
+settled_all T U index key added from to old new told (Err (Page n fault)) few room turns same kept h = absurd h
 settled_all T U index key added from to old new told (Err Full) few room turns same kept h = record { same = same; checked = kept.0; more = kept.1; faults = settle_fault index old.store key added from to told Full few room turns h }
 settled_all T U index key added from to old new told (Err (Store store.Memory)) few room turns same kept h = record { same = same; checked = kept.0; more = kept.1; faults = tt }
 settled_all T U index key added from to old new told (Err (Store store.Device)) few room turns same kept h = absurd h

@@ -129,15 +129,15 @@ module _ (last : ℕ) (small : last < 2 ^ 128) (pages : List (List ℕ)) (key : 
   high : suc level ≤ 16
   high = let h = named.fits.is.is.high in let e : (node_on (page_in pages entry.page)).level ≡ suc level = named.fits.level_is in omega arith
 
-  abbrev mended : Told → List Entry
+  abbrev pub mended : Told → List Entry
   mended t = falls.before ++ (named_as t below ++ falls.after)
 
-  mended_all : (t : Told) → IsOrderly last below next t → AllByRecursion (IsEntry last) (mended t)
+  pub mended_all : (t : Told) → IsOrderly last below next t → AllByRecursion (IsEntry last) (mended t)
   mended_all t o =
       all_append (IsEntry last) falls.before (named_as t below ++ falls.after) (all_left (IsEntry last) falls.before (below ∷ falls.after) all_parts)
       (all_append (IsEntry last) (named_as t below) falls.after o.all (all_right (IsEntry last) falls.before (below ∷ falls.after) all_parts).1)
 
-  mended_up : (t : Told) → IsOrderly last below next t → AscendTo (mended t) end
+  pub mended_up : (t : Told) → IsOrderly last below next t → AscendTo (mended t) end
   mended_up t o =
       let no_sooner = not_before below (named_as t below) falls.after end o.later from_below.0 in
       ascend_join falls.before (named_as t below ++ falls.after) end

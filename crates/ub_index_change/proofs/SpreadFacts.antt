@@ -1,5 +1,5 @@
 -- What is spelled of a page's entries stands on the later pages as it is named.
-use Rattle.std.proofs.Common.{nat_eq, ◌≡◌, ◌≢◌, ◌≤◌, ◌<◌, ◌+◌, ◌^◌, ◌++◌, inl, inr, ℕ, suc, List, [], ◌∷◌, Option, Some, None, length, take, drop, slice_get, ◌∙◌, sym, ap, subst, refl, arith, take-append-drop}
+use Rattle.std.proofs.Common.{nat_eq, ◌≡◌, ◌≢◌, ◌≤◌, ◌<◌, ◌^◌, ◌++◌, inl, inr, ℕ, suc, List, [], ◌∷◌, Option, Some, None, length, take, drop, slice_get, ◌∙◌, sym, ap, subst, refl, arith, take-append-drop}
 use Rattle.std.proofs.lemmas.List.{append-nil, length-drop, length-take-le}
 use Rattle.std.proofs.lemmas.Grind.{flat_map-append}
 use Rattle.std.specs.List.{AllByRecursion, IsDistinct, flat_map}

@@ -167,6 +167,10 @@ pub record IsFine (last : ℕ) (added : Option Entry) (found : Entry) (next : Op
   pub later : BeginFrom found.first (named_as (with_added added found) found)
   pub entries : AllByRecursion (IsEntry last) (named_as (with_added added found) found)
 
+-- each of these pages is spelled under a number below this one
+abbrev pub AreBelow : ℕ → List Sheet → Type 0
+AreBelow count sheets = AllByRecursion (λ s. s.number < count) sheets
+
 -- no number is spelled twice
 abbrev pub AreOnce : List Sheet → Type 0
 AreOnce [] = Unit {0}

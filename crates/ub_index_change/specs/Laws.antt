@@ -9,7 +9,7 @@ use Rattle.ub_index_change.specs.Changed.{Becomes, BeginFrom, Replaces, Stays}
 use Rattle.ub_index_change.specs.Changing.{IsFine, Spelled, Stand, StayBut, Turns, named_as, so_far, with_added}
 use Rattle.ub_index_change.specs.Filling.{IsFilled, KeepsFilled}
 use Rattle.ub_index_change.specs.Lowering.{IsRootRefused}
-use Rattle.ub_index_change.specs.Making.{IsCommitted, IsPutFault, PutsSheets, StayOutside, changed}
+use Rattle.ub_index_change.specs.Making.{IsCommitted, PutsSheets, StayOutside, changed}
 use Rattle.ub_index_change.specs.Preparing.{ChangeView, IsForeign, IsPrepared, MakesIndex, added_at}
 use Rattle.ub_index.specs.View.{IsReachedOnce, pages_of_index, IndexView, IsIndexOn, IsRegionAt, entries_in, entry_at}
 use Rattle.ub_index.specs.Way.{LeadsTo}
@@ -22,7 +22,6 @@ use Rattle.ub_page.specs.declared.header.TheConstants.{MAX_LEVEL}
 use Rattle.ub_page.specs.Entries.{IsEntry}
 use Rattle.ub_region.specs.declared.entry.Entry.{Entry}
 use Rattle.ub_store.specs.Facts.{StoreFacts, IsHonest, page_count}
-use Rattle.ub_store.specs.declared.fault.StoreFault.TheVariants as store
 use Rattle.ub_table.specs.Keys.{IsBefore, origin}
 use Rattle.ub_table.specs.declared.fault.PageFault.{PageFault}
 use Rattle.ub_table.specs.declared.row.Key.{Key}
@@ -66,12 +65,6 @@ ChangeIsMade = (index : IndexView) (old grown filled new : StoreFacts) (from : �
     → IsIndexOn index old → MakesIndex index old from change (Replaces f fs (entries_in index old)) → Grows old grown
     → StayOutside numbers grown.pages filled.pages → AllByRecursion (IsForeign index old from change) numbers → IsHonest filled → IsHonest new
     → PutsSheets change.sheets filled new → Stand new.pages change.sheets → IsCommitted index old from change f fs filled new
-
--- no page is missing that such a change spells, on a store that has so many pages as it takes
-abbrev pub ChangeHasPages : Type 0
-ChangeHasPages = (index : IndexView) (old filled : StoreFacts) (from : ℕ) (change : ChangeView) (f : Entry) (fs : List Entry)
-    → IsIndexOn index old → MakesIndex index old from change (Replaces f fs (entries_in index old)) → page_count old ≤ page_count filled → change.next ≤ page_count filled
-    → ¬ (IsPutFault change.sheets filled store.NoPage)
 
 -- a change puts neither the first page, nor a page of a region, nor that of the region that comes
 abbrev pub RegionsAreForeign : Type 0

@@ -1,5 +1,5 @@
 -- How a change is made: the store gets the pages that it needs, and those that it spells are put.
-use Rattle.std.specs.Prelude.{◌≡◌, ◌≤◌, ◌⊎◌, ℕ, IsTrue, List, Some, length, slice_get}
+use Rattle.std.specs.Prelude.{◌≡◌, ◌<◌, ◌≤◌, ◌⊎◌, ℕ, IsTrue, List, Some, length, slice_get}
 use Rattle.ub_index_change.specs.Changed.{Replaces}
 use Rattle.ub_index.specs.Standing.{IsOutside}
 use Rattle.ub_index_change.specs.Changing.{IsUnspelled}
@@ -23,11 +23,13 @@ pub record PutsSheets (sheets : List Sheet) (old new : StoreFacts) : Type 0 wher
   pub others : IsHonest old → (m : ℕ) → IsUnspelled m sheets → slice_get new.pages m ≡ slice_get old.pages m
   pub lasting : IsHonest old → (new.synced ≡ old.synced) ⊎ SameButSheets sheets old.pages new.synced
 
--- why a page that is spelled isn't put: the store failed, which it then can; or it has no page of that number
-abbrev pub IsPutFault : List Sheet → StoreFacts → StoreFault → Type 0
-IsPutFault sheets old store.Device = IsTrue old.can_fail
-IsPutFault sheets old store.NoPage = (k : ℕ) × (sheet : Sheet) × (slice_get sheets k ≡ Some sheet) × (page_count old ≤ sheet.number)
-IsPutFault sheets old _ = ⊥
+-- why a page that is spelled isn't put, where the store is to have so many pages: it failed, which it then can; or it has fewer, and none
+-- of that number
+abbrev pub IsPutFault : ℕ → List Sheet → StoreFacts → StoreFault → Type 0
+IsPutFault count sheets old store.Device = IsTrue old.can_fail
+IsPutFault count sheets old store.NoPage =
+    (page_count old < count) × (k : ℕ) × (sheet : Sheet) × (slice_get sheets k ≡ Some sheet) × (page_count old ≤ sheet.number)
+IsPutFault count sheets old _ = ⊥
 
 -- the pages are as they were, but for those of these numbers
 abbrev pub StayOutside : List ℕ → List (List ℕ) → List (List ℕ) → Type 0

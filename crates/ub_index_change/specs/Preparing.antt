@@ -45,14 +45,14 @@ Settles root levels (Two left right) start old change =
     (levels < MAX_LEVEL) × (old.next < MAX_PAGES)
     × (change ≡ change_view (so_far (old.sheets ++ sheet_of old.next (levels + 1) (left ∷ right ∷ []) ∷ []) (old.next + 1)) start old.next (levels + 1))
 
--- why the root can't be left so: memory was refused, or there are as many pages as there can be; it would be of a level above
--- the highest; or nothing is left
+-- why the root can't be left so, where something is left: memory was refused, or there are as many pages as there can be; or it
+-- would be of a level above the highest
 abbrev pub IsSettleFault : ℕ → ℕ → Told → Spelled → IndexFault → Type 0
 IsSettleFault root levels told old (Store store.Memory) = Unit {0}
 IsSettleFault root levels told old (Store store.BadSize) =
     (MAX_PAGES ≤ old.next) × (levels < MAX_LEVEL) × (left : Entry) × (right : Entry) × (told ≡ Two left right)
 IsSettleFault root levels told old (Store fault) = ⊥
-IsSettleFault root levels told old (Page n fault) = (n ≡ root) × (fault ≡ BadCount) × (told ≡ Gone)
+IsSettleFault root levels told old (Page n fault) = ⊥
 IsSettleFault root levels told old Full = (levels ≡ MAX_LEVEL) × (left : Entry) × (right : Entry) × (told ≡ Two left right)
 
 -- what becomes of the root where the region's entry to which the key falls goes, or gets this one behind it

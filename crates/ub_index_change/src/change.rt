@@ -1,7 +1,7 @@
 // A change of an index that is prepared, and not yet made.
 ghost use Rattle.std.specs.Prelude.{◌≡◌, ◌≤◌, ◌<◌, ◌+◌, ◌-◌, ◌⊎◌, [], None, IfOk, IfErr, IfSome, OnOk};
 ghost use Rattle.ub_store.specs.Writing.{Grows, put_store};
-ghost use Rattle.ub_index_change.specs.Changing.{IsAtMostOne, IsNoGrowth};
+ghost use Rattle.ub_index_change.specs.Changing.{AreBelow, IsAtMostOne, IsNoGrowth};
 ghost use Rattle.ub_index.specs.Descending.{IsForgotten, Steps};
 ghost use Rattle.ub_index.specs.Index.{top};
 ghost use Rattle.ub_index_change.specs.Lowering.{LowersTo, ReadsRoots, entries_then, sole_page, spelled_page, unless_first};
@@ -10,7 +10,7 @@ ghost use Rattle.ub_store.specs.Facts.{IsHonest, page_count};
 ghost use Rattle.ub_store.specs.View.{SameTrace};
 ghost use Rattle.ub_index.specs.Standing.{IsGrowFault};
 ghost use Rattle.ub_index_change.specs.Preparing.{Settles, IsSettleFault, TakesFew};
-ghost use Rattle.ub_index_change.specs.declared.told.Told.TheVariants.{Two};
+ghost use Rattle.ub_index_change.specs.declared.told.Told.TheVariants.{Gone, Two};
 ghost use Rattle.ub_page.specs.declared.header.TheConstants.{MAX_LEVEL};
 
 use crate::making::extend_by;
@@ -22,7 +22,6 @@ use ub_bytes::page::u16_at;
 use ub_index::{IndexFault, bring_root};
 use ub_page::{Entry, MAX_LEVEL, Page, entry_at};
 use ub_store::{PageStore, Pager, StoreFault};
-use ub_table::PageFault;
 
 /// A change that is prepared: the pages that it spells, how many pages the store has, and the root from then on, and its level.
 #[derive(Drop)]
@@ -46,8 +45,8 @@ impl Model for Change {
 }
 
 impl Change {
-    /// How the change leaves the root, which stands on this page and is of this level, and of which this is told. Full comes
-    /// where a new root would have a level above 16, BadCount where nothing is left.
+    /// How the change leaves the root, which stands on this page and is of this level, and of which this is told, and not that
+    /// nothing is left. Full comes where a new root would have a level above 16.
     pub(crate) fn settled(
         root: u32,
         levels: u32,
@@ -59,16 +58,13 @@ impl Change {
         requires high { levels ≤ MAX_LEVEL }
         requires some { 1 ≤ root }
         requires more { IsAtMostOne told ⊎ (1 ≤ sheets.next) }
+        requires left { ¬ (told ≡ Gone) }
         ensures settled { IfOk result (Settles root levels told start sheets) }
         ensures few { IfOk result (TakesFew start sheets.next 1) }
         ensures narrow { IsAtMostOne told → IfErr result IsNoGrowth }
         ensures refused { IfErr result (IsSettleFault root levels told sheets) }
     {
         match told {
-            Told::Gone => Err(IndexFault::Page {
-                page: root,
-                fault: PageFault::BadCount,
-            }),
             Told::Two(left, right) => raised(root, levels, left, right, start, sheets),
             _ => Ok(Change {
                 sheets,
@@ -81,7 +77,8 @@ impl Change {
 
     /// The pages that it spells, in the order in which they are put.
     pub(crate) fn sheets(&self) -> &[Sheet]
-        ensures { result.now ≡ self.now.sheets }
+        ensures sheets { result.now ≡ self.now.sheets }
+        ensures below { AreBelow self.now.next self.now.sheets }
     {
         self.sheets.all()
     }
@@ -120,7 +117,7 @@ impl Change {
     }
 
     /// The change with the root to which its root gives way: while it is above level 1 and names one page alone, that page
-    /// becomes the root. A page that isn't spelled is read, and refused as in a search.
+    /// becomes the root. A page that isn't spelled is read, and refused, and then forgotten, as in a search.
     pub(crate) fn lowered<S: PageStore>(
         self,
         pager: &mut Pager<S>,
@@ -128,6 +125,8 @@ impl Change {
     ) -> Result<Change, IndexFault>
         ensures lowered { IsHonest pager.old.store → IfOk result
             (LowersTo pager.old.store.pages self) }
+        ensures next { IfOk result (λ change. change.next ≡ self.next) }
+        ensures forgotten { IfErr result (IsForgotten pager.new) }
         ensures effect { ReadsRoots last self pager.old pager.new result }
     {
         let mut root = self.root;

@@ -1,4 +1,4 @@
-ghost use Rattle.ub_index_change.specs.Laws.{AddedPagesAreOwn, ChangeFills, ChangeHasPages, ChangeIsMade, ChangeKeepsOrder, ChangeReplaces, DroppedPagesAreOwn, EntriesCount, FilledIndexIsLow, FullWaysPart, NewIndexIsFilled, RegionsAreForeign, RegionsKeepFilled, ReplacesAtRegion, RootsAreTaken, TurnsBecome};
+ghost use Rattle.ub_index_change.specs.Laws.{AddedPagesAreOwn, ChangeFills, ChangeIsMade, ChangeKeepsOrder, ChangeReplaces, DroppedPagesAreOwn, EntriesCount, FilledIndexIsLow, FullWaysPart, NewIndexIsFilled, RegionsAreForeign, RegionsKeepFilled, ReplacesAtRegion, RootsAreTaken, TurnsBecome};
 
 /// Where a region's entry became others, they stand in its place in the whole list.
 pub fn change_replaces()
@@ -23,11 +23,6 @@ pub fn full_ways_part()
 /// A change that is prepared is made once the store has grown, the regions' pages are put, and then the pages that it spells.
 pub fn change_is_made()
     ensures { ChangeIsMade }
-{}
-
-/// No page that a change spells is missing, once the store has grown.
-pub fn change_has_pages()
-    ensures { ChangeHasPages }
 {}
 
 /// A change of an index puts none of the regions' pages.

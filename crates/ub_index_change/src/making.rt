@@ -1,7 +1,7 @@
 // How a change is made in a store.
 ghost use Rattle.std.specs.Prelude.{◌≡◌, ◌+◌, ℕ, IfErr, OnErr, OnOk};
 ghost use Rattle.ub_store.specs.Writing.{Grows, put_store};
-ghost use Rattle.ub_index_change.specs.Changing.{AreIndexPages, AreOnce, Stand};
+ghost use Rattle.ub_index_change.specs.Changing.{AreBelow, AreIndexPages, AreOnce, Stand};
 ghost use Rattle.ub_index.specs.Held.{KeepsChecked};
 ghost use Rattle.ub_index.specs.Standing.{IsGrowFault};
 ghost use Rattle.ub_index_change.specs.Making.{IsPutFault, PutsSheets};
@@ -31,8 +31,8 @@ pub fn extend_by<S: PageStore>(pager: &mut Pager<S>, by: u32) -> Result<(), Stor
 }
 
 /// Makes a change, once the store has grown: puts the pages that it spells, and then takes over the root. Device comes
-/// where the store failed in this call, NoPage where it has no page of that number; the index is then as it was, and the
-/// pages that the change spells may hold any bytes.
+/// where the store failed in this call, NoPage where it has no page of that number, which it only can where it hasn't as many
+/// as the change needs; the index is then as it was, and the pages that the change spells may hold any bytes.
 pub fn commit<S: PageStore>(
     index: &mut Index,
     pager: &mut Pager<S>,
@@ -50,7 +50,8 @@ pub fn commit<S: PageStore>(
     ensures checked { AreIndexPages index.old.last change.now.sheets
         → KeepsChecked index.old.last pager.old pager.new }
     ensures same { pager.new.store ≡ put_store result pager.old.store pager.new.store }
-    ensures refused { IfErr result (IsPutFault change.now.sheets pager.old.store) }
+    ensures refused { IfErr result
+        (IsPutFault change.now.next change.now.sheets pager.old.store) }
 {
     put_all(pager, change.sheets())?;
     let (root, levels) = change.root();
@@ -67,7 +68,8 @@ fn put_all<S: PageStore>(pager: &mut Pager<S>, sheets: &[Sheet]) -> Result<(), S
     ensures stand { AreOnce sheets.now → IsHonest pager.old.store
         → OnOk result (Stand pager.new.store.pages sheets.now) }
     ensures same { pager.new.store ≡ put_store result pager.old.store pager.new.store }
-    ensures refused { IfErr result (IsPutFault sheets.now pager.old.store) }
+    ensures refused { (count : ℕ) → AreBelow count sheets.now
+        → IfErr result (IsPutFault count sheets.now pager.old.store) }
 {
     for sheet in sheets {
         pager.put(sheet.number, &sheet.page)?;

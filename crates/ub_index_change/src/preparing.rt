@@ -5,6 +5,7 @@ ghost use Rattle.ub_index_change.specs.Changing.{AreIndexPages, IsNoGrowth, so_f
 ghost use Rattle.ub_index_change.specs.Filling.{KeepsFilled};
 ghost use Rattle.ub_index_change.specs.Lowering.{IsDropped, MakesLow, PreparesDrop};
 ghost use Rattle.ub_index_change.specs.Preparing.{IsPrepared, MakesIndex, IsWithinRegion, PreparesAll, TakesFew, TakesNeeded, added_at};
+ghost use Rattle.ub_index.specs.Descending.{IsForgotten};
 ghost use Rattle.ub_index.specs.View.{IsReachedOnce, IsIndexOn, IsRegionAt, Leads, entries_in, entry_at};
 ghost use Rattle.ub_page.specs.declared.header.TheConstants.{MAX_LEVEL};
 ghost use Rattle.ub_store.specs.Facts.{IsHonest, page_count};
@@ -12,13 +13,14 @@ ghost use Rattle.ub_table.specs.Keys.{IsBefore, origin};
 
 use crate::change::Change;
 use crate::sheets::Sheets;
+use crate::told::Told;
 use crate::turning::{Aim, turn};
 use std::alloc::Global;
 use ub_index::{Index, IndexFault, root_place};
 use ub_page::Entry;
 use ub_region::Region;
 use ub_store::{PageStore, Pager};
-use ub_table::Key;
+use ub_table::{Key, PageFault};
 
 /// Prepares that a region comes behind another one, with this first key, on a page that the store gets first. Nothing is written.
 ///
@@ -26,7 +28,7 @@ use ub_table::Key;
 /// BadSize of the store exactly where it would have more than 4294967295 pages: the region takes one, each page of 170 entries on
 /// that way one, from the lowest up to the first that has fewer, and a new root one, where all are full. With Full exactly where
 /// that is room enough, and all 16 levels are full on that way. Where there is no page for the region, that is told before any is
-/// read. Index and store are then as they were.
+/// read. Index and store are then as they were, and the pager has forgotten the page that is refused.
 pub fn prepare_add<S: PageStore>(
     index: &Index,
     alloc: Global,
@@ -58,6 +60,7 @@ pub fn prepare_add<S: PageStore>(
         → IsRegionAt (entries_in index.now pager.old.store) i region.now
         → IsWithinRegion index.now.last region.now.first region.now.next first.now
         → IfOk result (KeepsFilled index.now pager.old.store) }
+    ensures forgotten { IfErr result (IsForgotten pager.new) }
     ensures effect { PreparesAll index.now region.now.first
         (Some (added_at first.now pager.old.store)) (so_far [] (page_count pager.old.store + 1))
         pager.old pager.new result }
@@ -79,7 +82,7 @@ pub fn prepare_add<S: PageStore>(
 ///
 /// Refused as `Index::region_holding` is, each page on the way looked at in full, on the way to its first key, and where a page
 /// that would be the root can't be taken; with BadCount of the root where no region would be left. Index and store are then as
-/// they were.
+/// they were, and the pager has forgotten the page that is refused.
 pub fn prepare_drop<S: PageStore>(
     index: &Index,
     alloc: Global,
@@ -101,6 +104,8 @@ pub fn prepare_drop<S: PageStore>(
         → IsRegionAt (entries_in index.now pager.old.store) i region.now
         → IsBefore origin region.now.first
         → IfOk result (λ c. (c.next ≡ c.start) × MakesLow index.now pager.old.store c) }
+    ensures next { IfOk result (λ c. c.next ≡ page_count pager.old.store) }
+    ensures forgotten { IfErr result (IsForgotten pager.new) }
     ensures effect { PreparesDrop index.now region.now.first pager.old pager.new result }
 {
     let start = pager.pages();
@@ -114,7 +119,7 @@ pub fn prepare_drop<S: PageStore>(
 }
 
 // Prepares a change, where the store has so many pages, and some may be spelled already: one at least that the store gets,
-// where a region comes.
+// where a region comes. BadCount of the root comes where nothing is left.
 fn prepare<S: PageStore>(
     index: &Index,
     alloc: Global,
@@ -123,13 +128,16 @@ fn prepare<S: PageStore>(
     start: u32,
     sheets: Sheets,
 ) -> Result<Change, IndexFault>
-    requires { (aim.now.added ≡ None) ⊎ (1 ≤ sheets.next) }
+    requires more { (aim.now.added ≡ None) ⊎ (1 ≤ sheets.next) }
+    requires there { page_count pager.old.store ≤ sheets.next }
     ensures bounds { (index.now.last < 2 ^ 128) × (index.now.levels ≤ MAX_LEVEL)
         × (1 ≤ index.now.levels) × (1 ≤ index.now.root) }
     ensures made { IsHonest pager.old.store → IfOk result
         (IsPrepared index.now pager.old.store aim.now.key aim.now.added start sheets) }
     ensures few { IfOk result (TakesFew start sheets.next (index.now.levels + 1)) }
     ensures narrow { aim.now.added ≡ None → IfErr result IsNoGrowth }
+    ensures forgotten { IfErr result (IsForgotten pager.new) }
+    ensures still { aim.now.added ≡ None → IfOk result (λ c. c.next ≡ sheets.next) }
     ensures effect { PreparesAll index.now aim.now.key aim.now.added sheets pager.old pager.new
         result }
 {
@@ -137,5 +145,12 @@ fn prepare<S: PageStore>(
     let mut sheets = sheets;
     let place = root_place(root);
     let told = turn(alloc, pager, index.last(), levels, &place, aim, &mut sheets)?;
+    if let Told::Gone = told {
+        pager.forget(root);
+        return Err(IndexFault::Page {
+            page: root,
+            fault: PageFault::BadCount,
+        });
+    }
     Change::settled(root, levels, told, start, sheets)
 }

@@ -1,6 +1,6 @@
 // The pages of an index that a change spells, before one of them is put.
 ghost use Rattle.std.specs.Prelude.{◌≡◌, ◌+◌, ◌<◌, ◌≤◌, ◌++◌, ◌∷◌, [], length, IfOk, IfErr, OnOk, option_copied};
-ghost use Rattle.ub_index_change.specs.Changing.{IsNamedBy, IsAtMostOne, NeedsNoGrowth, Mends, Spreads, IsSpreadFault, named_as, sheet_of, so_far};
+ghost use Rattle.ub_index_change.specs.Changing.{AreBelow, IsNamedBy, IsAtMostOne, NeedsNoGrowth, Mends, Spreads, IsSpreadFault, named_as, sheet_of, so_far};
 ghost use Rattle.ub_index_change.specs.Lowering.{spelled_page};
 ghost use Rattle.ub_page.specs.declared.header.TheConstants.{MAX_LEVEL};
 ghost use Rattle.ub_page.specs.declared.entries.TheConstants.{MAX_ENTRIES};
@@ -17,7 +17,8 @@ use ub_store::StoreFault;
 // How many entries of a page that is parted stay on it.
 const LEFT: usize = 86;
 
-/// The pages that are spelled so far, in the order in which they are put, and the number of the next page that the store gets.
+/// The pages that are spelled so far, in the order in which they are put, and the number of the next page that the store gets, which
+/// is above all of theirs.
 #[derive(Drop)]
 pub struct Sheets {
     all: Vec<Sheet>,
@@ -26,13 +27,13 @@ pub struct Sheets {
 
 impl Model for Sheets {
     ghost use Rattle.std.specs.Prelude.{◌≤◌};
-    ghost use Rattle.ub_index_change.specs.Changing.{Spelled, so_far};
+    ghost use Rattle.ub_index_change.specs.Changing.{AreBelow, Spelled, so_far};
 
     ghost Value = { Spelled };
 
     ghost view = { λ s. so_far s.all.items s.next };
 
-    ghost invariant = { λ s. s.next ≤ 4294967295 };
+    ghost invariant = { λ s. (s.next ≤ 4294967295) × AreBelow s.next s.all.items };
 }
 
 impl Sheets {
@@ -48,7 +49,8 @@ impl Sheets {
 
     /// The pages that are spelled so far.
     pub fn all(&self) -> &[Sheet]
-        ensures { result.now ≡ self.now.sheets }
+        ensures sheets { result.now ≡ self.now.sheets }
+        ensures below { AreBelow self.now.next self.now.sheets }
     {
         self.all.as_slice()
     }
@@ -86,8 +88,9 @@ impl Sheets {
         Ok(number)
     }
 
-    /// Spells the page of these entries, at most 170, on a level of at most 16, under this number.
+    /// Spells the page of these entries, at most 170, on a level of at most 16, under this number, which the store has, or gets.
     pub fn spell(&mut self, number: u32, level: u32, entries: &[Entry]) -> Result<(), AllocError>
+        requires there { number < self.old.next }
         requires few { length entries.now ≤ MAX_ENTRIES }
         requires high { level ≤ MAX_LEVEL }
         ensures { OnOk result (self.new ≡ so_far
@@ -109,6 +112,7 @@ impl Sheets {
         entry: &Entry,
         entries: &[Entry],
     ) -> Result<Told, IndexFault>
+        requires there { entry.now.page < self.old.next }
         requires few { length entries.now ≤ MAX_ENTRIES + 1 }
         requires high { level ≤ MAX_LEVEL }
         ensures told { IfOk result (Spreads level entry.now entries.now self.old self.new) }
@@ -127,6 +131,7 @@ impl Sheets {
 
     // Spells 171 entries on two pages, the second before the first.
     fn part(&mut self, level: u32, entry: &Entry, entries: &[Entry]) -> Result<Told, IndexFault>
+        requires there { entry.now.page < self.old.next }
         requires full { length entries.now ≡ MAX_ENTRIES + 1 }
         requires high { level ≤ MAX_LEVEL }
         ensures told { IfOk result (Spreads level entry.now entries.now self.old self.new) }
@@ -159,6 +164,7 @@ impl Sheets {
         after: &[Entry],
         news: Told,
     ) -> Result<Told, IndexFault>
+        requires there { entry.now.page < self.old.next }
         requires few { length before.items + length after.now < MAX_ENTRIES }
         requires high { level ≤ MAX_LEVEL }
         ensures told { IfOk result (Mends level entry.now before.items below.now after.now news

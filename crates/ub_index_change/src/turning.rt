@@ -1,5 +1,5 @@
 // How a change goes down an index, and back up: what each page on the way becomes.
-ghost use Rattle.std.specs.Prelude.{◌≡◌, ◌+◌, ◌<◌, ◌≤◌, ℕ, [], None, IfErr, IfOk, length, take, drop};
+ghost use Rattle.std.specs.Prelude.{◌≡◌, ◌+◌, ◌<◌, ◌≤◌, ℕ, [], None, IfErr, IfOk, OnOk, length, take, drop};
 ghost use Rattle.ub_index_change.specs.Changing.{NeedsNoGrowth, OpensTo, Prepares, Turns};
 ghost use Rattle.ub_index.specs.Descending.{IsForgotten, Steps};
 ghost use Rattle.ub_index.specs.Fitting.{FallsTo};
@@ -7,7 +7,7 @@ ghost use Rattle.ub_index.specs.Index.{first_or};
 ghost use Rattle.ub_page.specs.Index.{head_on, node_on};
 ghost use Rattle.ub_page.specs.declared.header.TheConstants.{MAX_LEVEL};
 ghost use Rattle.ub_page.specs.declared.entries.TheConstants.{MAX_ENTRIES};
-ghost use Rattle.ub_store.specs.Facts.{IsHonest};
+ghost use Rattle.ub_store.specs.Facts.{IsHonest, page_count};
 
 use crate::sheets::Sheets;
 use crate::told::{Told, with_added};
@@ -34,8 +34,8 @@ pub struct Opened {
     pub after: Vec<Entry>,
 }
 
-/// What an entry of this level becomes, and the pages that it then leads to. Reads the pages on the way to the region's entry;
-/// writes nothing. It calls itself once a level.
+/// What an entry of this level becomes, and the pages that it then leads to. Reads the pages on the way to the region's entry, and
+/// forgets one that is refused; writes nothing. It calls itself once a level.
 pub fn turn<S: PageStore>(
     alloc: Global,
     pager: &mut Pager<S>,
@@ -45,12 +45,16 @@ pub fn turn<S: PageStore>(
     aim: &Aim,
     sheets: &mut Sheets,
 ) -> Result<Told, IndexFault>
-    requires { level ≤ MAX_LEVEL }
+    requires high { level ≤ MAX_LEVEL }
+    requires there { page_count pager.old.store ≤ sheets.old.next }
     ensures turned { IsHonest pager.old.store → IfOk result (Turns last pager.old.store.pages
         aim.now.key aim.now.added level place.now.entry place.now.next sheets.old sheets.new) }
     ensures few { IfOk result (λ _. (sheets.old.next ≤ sheets.new.next)
         × (sheets.new.next ≤ sheets.old.next + level)) }
     ensures narrow { aim.now.added ≡ None → NeedsNoGrowth result }
+    ensures still { aim.now.added ≡ None
+        → IfOk result (λ _. sheets.new.next ≡ sheets.old.next) }
+    ensures forgotten { IfErr result (IsForgotten pager.new) }
     ensures effect { Prepares last level aim.now.key place.now.entry place.now.next
         sheets.old.next pager.old pager.new result }
 {
@@ -83,6 +87,7 @@ fn open<S: PageStore>(
         pager.old.store.pages key.now level place.now.entry place.now.next
         o.before.items o.below.entry o.below.next o.after.items) }
     ensures few { IfOk result (λ o. length o.before.items + length o.after.items < MAX_ENTRIES) }
+    ensures there { OnOk result (place.now.entry.page < page_count pager.old.store) }
     ensures forgotten { IfErr result (IsForgotten pager.new) }
     ensures effect { Steps last level place.now.entry place.now.next pager.old pager.new result }
 {

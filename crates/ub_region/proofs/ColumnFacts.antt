@@ -2,9 +2,10 @@
 use Rattle.std.proofs.Common.{rules, ◌≡◌, ◌<◌, ◌≤◌, ◌+◌, ◌*◌, ℕ, ℤ, pos, zero, suc, List, [], ◌∷◌, length, map, take, replicate, get_or, Some, refl, sym, ap, arith, ◌∙◌}
 use Rattle.std.proofs.Math.Seq.{get_or-take}
 use Rattle.std.proofs.lemmas.Bool.{cases_order}
-use Rattle.std.proofs.lemmas.List.{get_or_append_left, get_or-append_right, get_or-replicate, length-append, length-replicate}
+use Rattle.std.proofs.lemmas.List.{ext_get_or, length-take-le, get_or_append_left, get_or-append_right, get_or-replicate, length-append, length-replicate}
 use Rattle.std.proofs.lemmas.List.FromFn.{length-map-range_with_len, get_or-map-range_with_len}
-use Rattle.std.proofs.lemmas.Option.{slice_get-get_or}
+use Rattle.std.proofs.lemmas.Option.{slice_get-get_or, slice_get-map}
+use Rattle.std.specs.Option.{option_map}
 use Rattle.std.proofs.lemmas.Simd.{map-map}
 use Rattle.std.specs.Int.{w64, cast_signed}
 use Rattle.std.specs.List.{range_with_len, slice_get}
@@ -12,10 +13,9 @@ use Rattle.ub_region.proofs.LaneFacts.{sorted}
 use Rattle.ub_bytes.specs.Bytes.{number_at}
 use Rattle.ub_region.proofs.BlankRow.{blank_row}
 use Rattle.ub_region.specs.Columns.{block, blank_dims, blank_measures, across, point_in, values_in, row_in, key_in}
-use Rattle.ub_bytes.specs.Numbers.{blank_key}
 use Rattle.ub_region.specs.RegionPage.{places, row_on}
-use Rattle.ub_table.specs.Region.{keys_of}
-use Rattle.ub_table.specs.declared.row.Key.{Key}
+use Rattle.ub_table.specs.Region.{key_of, keys_of}
+use Rattle.ub_table.specs.declared.row.Row.{Row}
 
 module _ {A : Type 0} where
   -- an index that holds a value
@@ -68,33 +68,30 @@ pub columns_long : (g : ℕ → ℕ → ℕ) (count used d : ℕ) → count ≤ 
 columns_long g count used d h k j = search (rules, block_at, cases_order, get_or-append_right, get_or-replicate, length-block, length-map-range_with_len, length-replicate, sorted)
 
 -- the columns hold what stands on a page that tells of so many rows
-pub record AreRead (dims measures count : ℕ) (page : List ℕ) (keys : List Key) (points : List (List ℕ)) (values : List (List ℤ)) : Type 0 where
+pub record AreRead (dims measures count : ℕ) (page : List ℕ) (numbers : List ℕ) (points : List (List ℕ)) (values : List (List ℤ)) : Type 0 where
   pub few_dims : dims ≤ 4
   pub few_measures : measures ≤ 4
   pub few : count ≤ 64
-  pub keys_are : take count keys ≡ map (key_in dims page points) (range_with_len 0 count)
+  pub numbers_are : numbers ≡ block 64 0 (λ i. number_at 4 (24 + 4 * i) page) count
   pub points_are : points ≡ block 4 blank_dims (λ d. block 64 0 (λ i. number_at 4 (24 + 4 * count + 4 * (count * d + i)) page) count) dims
   pub values_are : values
       ≡ block 4 blank_measures (λ m. block 64 (pos 0) (λ i. cast_signed w64 (number_at 8 (24 + 4 * count + 4 * (count * dims) + 8 * (count * m + i)) page)) count) measures
 
 -- the same with each number under the name that the code has for it
-pub are_read : (dims measures count used many shape : ℕ) (page : List ℕ) (keys : List Key) (points : List (List ℕ)) (values : List (List ℤ)) → dims ≤ 4 → measures ≤ 4 → count ≤ 64
-    → used ≡ dims → many ≡ measures → shape ≡ dims
-    → take count keys ≡ map (key_in shape page points) (range_with_len 0 count)
+pub are_read : (dims measures count used many : ℕ) (page : List ℕ) (numbers : List ℕ) (points : List (List ℕ)) (values : List (List ℤ)) → dims ≤ 4 → measures ≤ 4 → count ≤ 64
+    → used ≡ dims → many ≡ measures
+    → numbers ≡ block 64 0 (λ i. number_at 4 (24 + 4 * i) page) count
     → points ≡ block 4 blank_dims (λ d. block 64 0 (λ i. number_at 4 (24 + 4 * count + 4 * (count * d + i)) page) count) used
     → values ≡ block 4 blank_measures (λ m. block 64 (pos 0) (λ i. cast_signed w64 (number_at 8 (24 + 4 * count + 4 * (count * used) + 8 * (count * m + i)) page)) count) many
-    → AreRead dims measures count page keys points values
-are_read dims measures count used many shape page keys points values h k j l m o p q r = search rules
+    → AreRead dims measures count page numbers points values
+are_read dims measures count used many page numbers points values h k j l m p q r = search rules
 
-number_read : (dims measures count : ℕ) (page : List ℕ) (keys : List Key) (points : List (List ℕ)) (values : List (List ℤ)) → AreRead dims measures count page keys points values
-    → (i : ℕ) → i < count → get_or keys i blank_key ≡ key_in dims page points i
-number_read dims measures count page keys points values h i k = search (rules, get_or-map-range_with_len, get_or-take)
-
-row_read : (dims measures count : ℕ) (page : List ℕ) (keys : List Key) (points : List (List ℕ)) (values : List (List ℤ)) → AreRead dims measures count page keys points values
-    → (i : ℕ) → i < count → row_in keys points values i ≡ row_on dims measures count page i
+row_read : (dims measures count : ℕ) (page : List ℕ) (numbers : List ℕ) (points : List (List ℕ)) (values : List (List ℤ)) → AreRead dims measures count page numbers points values
+    → (i : ℕ) → i < count → row_in numbers points values i ≡ row_on dims measures count page i
 unfolding row_on
-row_read dims measures count page keys points values read i less =
-    let number : (get_or keys i blank_key).number ≡ number_at 4 (24 + 4 * i) page = ap (λ (key : Key). key.number) (number_read dims measures count page keys points values read i less) in
+row_read dims measures count page numbers points values read i less =
+    let number : get_or numbers i 0 ≡ number_at 4 (24 + 4 * i) page
+    = ap (λ (ns : List ℕ). get_or ns i 0) read.numbers_are ∙ block_at 64 0 (λ i. number_at 4 (24 + 4 * i) page) count i 0 less in
     let point : point_in points i ≡ places 0 (λ d. number_at 4 (24 + 4 * count + 4 * (count * d + i)) page) dims
     = ap (λ (ps : List (List ℕ)). point_in ps i) read.points_are ∙ across_block 0 (λ d i. number_at 4 (24 + 4 * count + 4 * (count * d + i)) page) count dims i read.few_dims less read.few in
     let value : values_in values i ≡ places (pos 0) (λ m. cast_signed w64 (number_at 8 (24 + 4 * count + 4 * (count * dims) + 8 * (count * m + i)) page)) measures
@@ -103,19 +100,35 @@ row_read dims measures count page keys points values read i less =
     rw (number, point, value) refl
 
 -- the rows in the columns are those on the page
-pub rows_read : (dims measures count : ℕ) (page : List ℕ) (keys : List Key) (points : List (List ℕ)) (values : List (List ℤ)) → AreRead dims measures count page keys points values
-    → map (row_in keys points values) (range_with_len 0 count) ≡ map (row_on dims measures count page) (range_with_len 0 count)
-rows_read dims measures count page keys points values h = search (rules, all_same, row_read)
-
--- and the keys are theirs
-pub keys_read : (dims measures count : ℕ) (page : List ℕ) (keys : List Key) (points : List (List ℕ)) (values : List (List ℤ)) → AreRead dims measures count page keys points values
-    → take count keys ≡ keys_of dims (map (row_in keys points values) (range_with_len 0 count))
-keys_read dims measures count page keys points values h = search (rules, all_same, map-map, number_read)
+pub rows_read : (dims measures count : ℕ) (page : List ℕ) (numbers : List ℕ) (points : List (List ℕ)) (values : List (List ℤ)) → AreRead dims measures count page numbers points values
+    → map (row_in numbers points values) (range_with_len 0 count) ≡ map (row_on dims measures count page) (range_with_len 0 count)
+rows_read dims measures count page numbers points values h = search (rules, all_same, row_read)
 
 -- a row is that of its columns
-pub row_there : (keys : List Key) (points : List (List ℕ)) (values : List (List ℤ)) (count i : ℕ) → i < length (map (row_in keys points values) (range_with_len 0 count))
-    → slice_get (map (row_in keys points values) (range_with_len 0 count)) i ≡ Some (row_in keys points values i)
-row_there keys points values count i less =
-    let long : length (map (row_in keys points values) (range_with_len 0 count)) ≡ count = length-map-range_with_len (row_in keys points values) 0 count in
-    slice_get-get_or (map (row_in keys points values) (range_with_len 0 count)) i blank_row less
-    ∙ ap Some (get_or-map-range_with_len (row_in keys points values) 0 count i i blank_row (omega arith) (omega arith))
+pub row_there : (numbers : List ℕ) (points : List (List ℕ)) (values : List (List ℤ)) (count i : ℕ) → i < length (map (row_in numbers points values) (range_with_len 0 count))
+    → slice_get (map (row_in numbers points values) (range_with_len 0 count)) i ≡ Some (row_in numbers points values i)
+row_there numbers points values count i less =
+    let long : length (map (row_in numbers points values) (range_with_len 0 count)) ≡ count = length-map-range_with_len (row_in numbers points values) 0 count in
+    slice_get-get_or (map (row_in numbers points values) (range_with_len 0 count)) i blank_row less
+    ∙ ap Some (get_or-map-range_with_len (row_in numbers points values) 0 count i i blank_row (omega arith) (omega arith))
+
+-- and so is its key
+pub key_there_in : (dims : ℕ) (numbers : List ℕ) (points : List (List ℕ)) (values : List (List ℤ)) (count i : ℕ) → i < length (map (row_in numbers points values) (range_with_len 0 count))
+    → slice_get (keys_of dims (map (row_in numbers points values) (range_with_len 0 count))) i ≡ Some (key_in dims numbers points i)
+key_there_in dims numbers points values count i less =
+    slice_get-map (key_of dims) (map (row_in numbers points values) (range_with_len 0 count)) i
+    ∙ ap (option_map (key_of dims)) (row_there numbers points values count i less)
+
+-- the keys of all rows, and their numbers
+pub keys_in : (dims : ℕ) (numbers : List ℕ) (points : List (List ℕ)) (values : List (List ℤ)) (count : ℕ)
+    → keys_of dims (map (row_in numbers points values) (range_with_len 0 count)) ≡ map (key_in dims numbers points) (range_with_len 0 count)
+keys_in dims numbers points values count = map-map (key_of dims) (row_in numbers points values) (range_with_len 0 count)
+
+pub numbers_in : (numbers : List ℕ) (points : List (List ℕ)) (values : List (List ℤ)) (count : ℕ) → count ≤ length numbers
+    → take count numbers ≡ map (λ (row : Row). row.number) (map (row_in numbers points values) (range_with_len 0 count))
+numbers_in numbers points values count few =
+    ext_get_or 0 (take count numbers) (map (λ i. get_or numbers i 0) (range_with_len 0 count))
+    (length-take-le count numbers few ∙ sym (length-map-range_with_len (λ i. get_or numbers i 0) 0 count))
+    (λ i lt. let less : i < count = omega (arith, length-take-le count numbers few) in
+    get_or-take count numbers i 0 less ∙ sym (get_or-map-range_with_len (λ i. get_or numbers i 0) 0 count i i 0 less (omega arith)))
+    ∙ sym (map-map (λ (row : Row). row.number) (row_in numbers points values) (range_with_len 0 count))

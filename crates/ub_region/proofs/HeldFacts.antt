@@ -6,15 +6,11 @@ use Rattle.std.proofs.lemmas.List.{ext_get_or, get_or-append_right, get_or-drop,
 use Rattle.std.proofs.lemmas.List.Edits.{length-insert, get_or-insert_below, get_or-insert_at, get_or-insert_above}
 use Rattle.std.proofs.lemmas.List.FromFn.{length-map-range_with_len, get_or-map-range_with_len}
 use Rattle.std.specs.List.{insert, range_with_len}
-use Rattle.ub_bytes.specs.Numbers.{blank_key}
 use Rattle.ub_region.proofs.BlankRow.{blank_row}
-use Rattle.ub_region.proofs.ChainFacts.{length-keys_of}
 use Rattle.ub_region.specs.Columns.{point_in, values_in, row_in}
 use Rattle.ub_region.specs.Held.{AreColumns, held, held_rows}
 use Rattle.ub_region.specs.RegionPage.{RegionView}
 use Rattle.ub_region.specs.declared.region_page.RegionPage.TheInside.{Inside}
-use Rattle.ub_table.specs.Region.{key_of, keys_of}
-use Rattle.ub_table.specs.declared.row.Key.{Key}
 use Rattle.ub_table.specs.declared.row.Row.{Row}
 
 -- at each of the first n places stands what the row there has
@@ -55,86 +51,92 @@ module _ {A : Type 0} (part : Row → A) where
   stands_first n count f rows le old i lt = old i (omega arith) ∙ ap part (sym (get_or-take count rows i blank_row lt))
 
 -- columns hold these rows in their first places
-pub record AreHeld (dims n : ℕ) (keys : List Key) (points : List (List ℕ)) (values : List (List ℤ)) (rows : List Row) : Type 0 where
+pub record AreHeld (n : ℕ) (numbers : List ℕ) (points : List (List ℕ)) (values : List (List ℤ)) (rows : List Row) : Type 0 where
   pub long : length rows ≡ n
-  pub key : Stands (key_of dims) n (λ i. get_or keys i blank_key) rows
+  pub number : Stands (λ row. row.number) n (λ i. get_or numbers i 0) rows
   pub point : Stands (λ row. row.dims) n (point_in points) rows
   pub value : Stands (λ row. row.measures) n (values_in values) rows
 
 row_same : (a b : Row) → a.number ≡ b.number → a.dims ≡ b.dims → a.measures ≡ b.measures → a ≡ b
 row_same a b p q r = rw (← p, ← q, ← r) refl
 
--- so they are those of the columns, and the keys are theirs
-pub rows_held : (dims n : ℕ) (keys : List Key) (points : List (List ℕ)) (values : List (List ℤ)) (rows : List Row) → AreHeld dims n keys points values rows
-    → map (row_in keys points values) (range_with_len 0 n) ≡ rows
-rows_held dims n keys points values rows h =
-    let f : ℕ → Row = row_in keys points values in
+-- so they are those of the columns
+pub rows_held : (n : ℕ) (numbers : List ℕ) (points : List (List ℕ)) (values : List (List ℤ)) (rows : List Row) → AreHeld n numbers points values rows
+    → map (row_in numbers points values) (range_with_len 0 n) ≡ rows
+rows_held n numbers points values rows h =
+    let f : ℕ → Row = row_in numbers points values in
     let count = length-map-range_with_len f 0 n in
     let long = h.long in
     ext_get_or blank_row (map f (range_with_len 0 n)) rows (omega arith)
     (λ i lt. get_or-map-range_with_len f 0 n i i blank_row (omega arith) (omega arith)
-    ∙ row_same (f i) (get_or rows i blank_row) (ap (λ (k : Key). k.number) (h.key i (omega arith))) (h.point i (omega arith)) (h.value i (omega arith)))
-
-pub keys_held : (dims n : ℕ) (keys : List Key) (points : List (List ℕ)) (values : List (List ℤ)) (rows : List Row) → AreHeld dims n keys points values rows → n ≤ length keys
-    → take n keys ≡ keys_of dims rows
-keys_held dims n keys points values rows h le =
-    let long = h.long in
-    let front : length (take n keys) ≡ n = length-take-le n keys le in
-    let count : length (keys_of dims rows) ≡ length rows = length-keys_of dims rows in
-    ext_get_or blank_key (take n keys) (keys_of dims rows) (omega arith)
-    (λ i lt. get_or-take n keys i blank_key (omega arith) ∙ h.key i (omega arith) ∙ sym (get_or-map (key_of dims) rows i blank_row blank_key (omega arith)))
+    ∙ row_same (f i) (get_or rows i blank_row) (h.number i (omega arith)) (h.point i (omega arith)) (h.value i (omega arith)))
 
 -- those of a region in memory
-pub held_at : (p : Inside) → AreColumns p → AreHeld p.shape p.len p.keys p.dims p.measures (held_rows p)
-held_at p h = search (rules, blank_row, get_or-map, get_or-map-range_with_len, get_or-take, length-map-range_with_len)
+held_at : (p : Inside) → AreHeld p.len p.numbers p.dims p.measures (held_rows p)
+held_at p =
+    let f : ℕ → Row = row_in p.numbers p.dims p.measures in
+    let at : (i : ℕ) → i < p.len → get_or (map f (range_with_len 0 p.len)) i blank_row ≡ f i = λ i lt. get_or-map-range_with_len f 0 p.len i i blank_row lt (omega arith) in
+    record {
+      long = length-map-range_with_len f 0 p.len;
+      number = λ i lt. ap (λ (row : Row). row.number) (sym (at i lt));
+      point = λ i lt. ap (λ (row : Row). row.dims) (sym (at i lt));
+      value = λ i lt. ap (λ (row : Row). row.measures) (sym (at i lt));
+    }
 
 -- and its rows are those of its view
-pub held_now : (p : Inside) (v : RegionView) → AreColumns p → held p ≡ v → AreHeld p.shape p.len p.keys p.dims p.measures v.region.rows
-held_now p v h is = subst (λ (rows : List Row). AreHeld p.shape p.len p.keys p.dims p.measures rows) (ap (λ (w : RegionView). w.region.rows) is) (held_at p h)
+pub held_now : (p : Inside) (v : RegionView) → held p ≡ v → AreHeld p.len p.numbers p.dims p.measures v.region.rows
+held_now p v is = subst (λ (rows : List Row). AreHeld p.len p.numbers p.dims p.measures rows) (ap (λ (w : RegionView). w.region.rows) is) (held_at p)
+
+-- there are as many, and each has a place
+pub view_long : (p : Inside) (v : RegionView) → held p ≡ v → length v.region.rows ≡ p.len
+view_long p v is = (held_now p v is).long
+
+pub row_within : (p : Inside) (v : RegionView) → held p ≡ v → p.len ≤ 64 → (i : ℕ) → i < length v.region.rows → i < 64
+row_within p v is few i less = let long = view_long p v is in omega arith
 
 -- where a row was put in
-pub held_put : (dims n index : ℕ) (row : Row) (keys new_keys : List Key) (points new_points : List (List ℕ)) (values new_values : List (List ℤ)) (rows : List Row)
-    → AreHeld dims n keys points values rows → index ≤ n
-    → ((j : ℕ) → j < index → get_or new_keys j blank_key ≡ get_or keys j blank_key) → get_or new_keys index blank_key ≡ key_of dims row
-    → ((j : ℕ) → index ≤ j → j < n → get_or new_keys (j + 1) blank_key ≡ get_or keys j blank_key)
+pub held_put : (n index : ℕ) (row : Row) (numbers new_numbers : List ℕ) (points new_points : List (List ℕ)) (values new_values : List (List ℤ)) (rows : List Row)
+    → AreHeld n numbers points values rows → index ≤ n
+    → ((j : ℕ) → j < index → get_or new_numbers j 0 ≡ get_or numbers j 0) → get_or new_numbers index 0 ≡ row.number
+    → ((j : ℕ) → index ≤ j → j < n → get_or new_numbers (j + 1) 0 ≡ get_or numbers j 0)
     → ((j : ℕ) → j < index → point_in new_points j ≡ point_in points j) → point_in new_points index ≡ row.dims
     → ((j : ℕ) → index ≤ j → j < n → point_in new_points (j + 1) ≡ point_in points j)
     → ((j : ℕ) → j < index → values_in new_values j ≡ values_in values j) → values_in new_values index ≡ row.measures
     → ((j : ℕ) → index ≤ j → j < n → values_in new_values (j + 1) ≡ values_in values j)
-    → AreHeld dims (n + 1) new_keys new_points new_values (insert rows index row)
-held_put dims n index row keys new_keys points new_points values new_values rows h k j l m o p q r s t = search (rules, length-insert, stands_put)
+    → AreHeld (n + 1) new_numbers new_points new_values (insert rows index row)
+held_put n index row numbers new_numbers points new_points values new_values rows h k j l m o p q r s t = search (rules, length-insert, stands_put)
 
 -- where one was taken out
-pub held_out : (dims n index : ℕ) (keys new_keys : List Key) (points new_points : List (List ℕ)) (values new_values : List (List ℤ)) (rows : List Row)
-    → AreHeld dims n keys points values rows → index < n
-    → ((j : ℕ) → j < index → get_or new_keys j blank_key ≡ get_or keys j blank_key)
-    → ((j : ℕ) → index ≤ j → j + 1 < n → get_or new_keys j blank_key ≡ get_or keys (j + 1) blank_key)
+pub held_out : (n index : ℕ) (numbers new_numbers : List ℕ) (points new_points : List (List ℕ)) (values new_values : List (List ℤ)) (rows : List Row)
+    → AreHeld n numbers points values rows → index < n
+    → ((j : ℕ) → j < index → get_or new_numbers j 0 ≡ get_or numbers j 0)
+    → ((j : ℕ) → index ≤ j → j + 1 < n → get_or new_numbers j 0 ≡ get_or numbers (j + 1) 0)
     → ((j : ℕ) → j < index → point_in new_points j ≡ point_in points j)
     → ((j : ℕ) → index ≤ j → j + 1 < n → point_in new_points j ≡ point_in points (j + 1))
     → ((j : ℕ) → j < index → values_in new_values j ≡ values_in values j)
     → ((j : ℕ) → index ≤ j → j + 1 < n → values_in new_values j ≡ values_in values (j + 1))
-    → AreHeld dims (n - 1) new_keys new_points new_values (take index rows ++ drop (index + 1) rows)
-held_out dims n index keys new_keys points new_points values new_values rows h within kb ka pb pa vb va =
+    → AreHeld (n - 1) new_numbers new_points new_values (take index rows ++ drop (index + 1) rows)
+held_out n index numbers new_numbers points new_points values new_values rows h within kb ka pb pa vb va =
     let long = h.long in
     let front : length (take index rows) ≡ index = length-take-le index rows (omega arith) in
     let rest : length (drop (index + 1) rows) ≡ length rows - (index + 1) = length-drop (index + 1) rows in
     let both : length (take index rows ++ drop (index + 1) rows) ≡ length (take index rows) + length (drop (index + 1) rows) = length-append (take index rows) (drop (index + 1) rows) in
     record {
       long = omega arith;
-      key = stands_out (key_of dims) n index (λ i. get_or keys i blank_key) (λ i. get_or new_keys i blank_key) rows long within h.key kb ka;
+      number = stands_out (λ (r : Row). r.number) n index (λ i. get_or numbers i 0) (λ i. get_or new_numbers i 0) rows long within h.number kb ka;
       point = stands_out (λ (r : Row). r.dims) n index (point_in points) (point_in new_points) rows long within h.point pb pa;
       value = stands_out (λ (r : Row). r.measures) n index (values_in values) (values_in new_values) rows long within h.value vb va;
     }
 
 -- where others were taken over
-pub held_over : (dims n m at from count : ℕ) (keys other_keys new_keys : List Key) (points other_points new_points : List (List ℕ)) (values other_values new_values : List (List ℤ)) (xs ys : List Row)
-    → AreHeld dims n keys points values xs → AreHeld dims m other_keys other_points other_values ys → at ≤ n → from + count ≤ m
-    → ((j : ℕ) → j < at → get_or new_keys j blank_key ≡ get_or keys j blank_key)
-    → ((j : ℕ) → j < count → get_or new_keys (at + j) blank_key ≡ get_or other_keys (from + j) blank_key)
+pub held_over : (n m at from count : ℕ) (numbers other_numbers new_numbers : List ℕ) (points other_points new_points : List (List ℕ)) (values other_values new_values : List (List ℤ)) (xs ys : List Row)
+    → AreHeld n numbers points values xs → AreHeld m other_numbers other_points other_values ys → at ≤ n → from + count ≤ m
+    → ((j : ℕ) → j < at → get_or new_numbers j 0 ≡ get_or numbers j 0)
+    → ((j : ℕ) → j < count → get_or new_numbers (at + j) 0 ≡ get_or other_numbers (from + j) 0)
     → ((j : ℕ) → j < at → point_in new_points j ≡ point_in points j) → ((j : ℕ) → j < count → point_in new_points (at + j) ≡ point_in other_points (from + j))
     → ((j : ℕ) → j < at → values_in new_values j ≡ values_in values j) → ((j : ℕ) → j < count → values_in new_values (at + j) ≡ values_in other_values (from + j))
-    → AreHeld dims (at + count) new_keys new_points new_values (take at xs ++ take count (drop from ys))
-held_over dims n m at from count keys other_keys new_keys points other_points new_points values other_values new_values xs ys h g within there kb kc pb pc vb vc =
+    → AreHeld (at + count) new_numbers new_points new_values (take at xs ++ take count (drop from ys))
+held_over n m at from count numbers other_numbers new_numbers points other_points new_points values other_values new_values xs ys h g within there kb kc pb pc vb vc =
     let long = h.long in
     let long_other = g.long in
     let front : length (take at xs) ≡ at = length-take-le at xs (omega arith) in
@@ -143,26 +145,17 @@ held_over dims n m at from count keys other_keys new_keys points other_points ne
     let both : length (take at xs ++ take count (drop from ys)) ≡ length (take at xs) + length (take count (drop from ys)) = length-append (take at xs) (take count (drop from ys)) in
     record {
       long = omega arith;
-      key = stands_copied (key_of dims) n m at from count (λ i. get_or keys i blank_key) (λ i. get_or other_keys i blank_key) (λ i. get_or new_keys i blank_key) xs ys long long_other within there h.key g.key kb kc;
+      number = stands_copied (λ (r : Row). r.number) n m at from count (λ i. get_or numbers i 0) (λ i. get_or other_numbers i 0) (λ i. get_or new_numbers i 0) xs ys long long_other within there h.number g.number kb kc;
       point = stands_copied (λ (r : Row). r.dims) n m at from count (point_in points) (point_in other_points) (point_in new_points) xs ys long long_other within there h.point g.point pb pc;
       value = stands_copied (λ (r : Row). r.measures) n m at from count (values_in values) (values_in other_values) (values_in new_values) xs ys long long_other within there h.value g.value vb vc;
     }
 
 -- where the first ones are kept
-pub held_first : (dims n count : ℕ) (keys : List Key) (points : List (List ℕ)) (values : List (List ℤ)) (rows : List Row) → AreHeld dims n keys points values rows → count ≤ n
-    → AreHeld dims count keys points values (take count rows)
-held_first dims n count keys points values rows h k = grind (arith, common_steps, length-take-le, stands_first)
+pub held_first : (n count : ℕ) (numbers : List ℕ) (points : List (List ℕ)) (values : List (List ℤ)) (rows : List Row) → AreHeld n numbers points values rows → count ≤ n
+    → AreHeld count numbers points values (take count rows)
+held_first n count numbers points values rows h k = grind (arith, common_steps, length-take-le, stands_first)
 
 -- what holds rows is a region in memory, and its rows are these
-pub columns_held : (p : Inside) (rows : List Row) → AreHeld p.shape p.len p.keys p.dims p.measures rows → p.len ≤ 64 → length p.keys ≡ 64
-    → ((d : ℕ) → d < 4 → length (get_or p.dims d []) ≡ 64) → AreColumns p
-columns_held p rows h few keys_long dims_long = record {
-  few = few;
-  keys_long = keys_long;
-  dims_long = dims_long;
-  keys = keys_held p.shape p.len p.keys p.dims p.measures rows h (omega arith) ∙ ap (keys_of p.shape) (sym (rows_held p.shape p.len p.keys p.dims p.measures rows h));
-}
-
-pub view_held : (p : Inside) (v : RegionView) (rows : List Row) → AreHeld p.shape p.len p.keys p.dims p.measures rows → p.shape ≡ v.dims → p.first ≡ v.region.first
+pub view_held : (p : Inside) (v : RegionView) (rows : List Row) → AreHeld p.len p.numbers p.dims p.measures rows → p.shape ≡ v.dims → p.first ≡ v.region.first
     → held p ≡ record { dims = v.dims; region = record { first = v.region.first; rows = rows } }
-view_held p v rows h shape first = rw (← shape, ← first) (ap (λ (rs : List Row). record { dims = p.shape; region = record { first = p.first; rows = rs } }) (rows_held p.shape p.len p.keys p.dims p.measures rows h))
+view_held p v rows h shape first = rw (← shape, ← first) (ap (λ (rs : List Row). record { dims = p.shape; region = record { first = p.first; rows = rs } }) (rows_held p.len p.numbers p.dims p.measures rows h))

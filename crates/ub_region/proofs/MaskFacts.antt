@@ -46,25 +46,25 @@ at_dim columns i (suc (suc (suc zero))) less = refl
 at_dim columns i (suc (suc (suc (suc d)))) less = absurd (omega arith)
 
 -- the mask of all dimensions is that of the rows in the box
-pub IsMaskBelow-all : (shape len : ℕ) (first : Key) (keys : List Key) (columns : List (List ℕ)) (measures : List (List ℤ)) (zbox : Corners) (mask : ℕ)
+pub IsMaskBelow-all : (shape len : ℕ) (first : Key) (numbers : List ℕ) (columns : List (List ℕ)) (measures : List (List ℤ)) (zbox : Corners) (mask : ℕ)
     → 1 ≤ shape → shape ≤ 4 → len ≤ 64 → length zbox.lo ≡ shape → length zbox.hi ≡ shape
     → ((d : ℕ) → d < 4 → length (get_or columns d []) ≡ 64) → IsMaskBelow len columns zbox.lo zbox.hi shape mask
     → (i : ℕ) → (bit_at mask i ≡ 1)
-    ↔ IsRowInside (record { dims = shape; region = record { first = first; rows = map (row_in keys columns measures) (range_with_len 0 len) } }) zbox i
-IsMaskBelow-all shape len first keys columns measures zbox mask some within few lo_long hi_long long so i =
-    let rows = map (row_in keys columns measures) (range_with_len 0 len) in
-    let count : length rows ≡ len = length-map-range_with_len (row_in keys columns measures) 0 len in
+    ↔ IsRowInside (record { dims = shape; region = record { first = first; rows = map (row_in numbers columns measures) (range_with_len 0 len) } }) zbox i
+IsMaskBelow-all shape len first numbers columns measures zbox mask some within few lo_long hi_long long so i =
+    let rows = map (row_in numbers columns measures) (range_with_len 0 len) in
+    let count : length rows ≡ len = length-map-range_with_len (row_in numbers columns measures) 0 len in
     let point = point_in columns i in
     let short : length (take shape point) ≡ shape = length-take-le shape point within in
-    let at_row : i < len → slice_get rows i ≡ Some (row_in keys columns measures i)
-    = λ less. slice_get-get_or rows i blank_row (omega arith) ∙ ap Some (get_or-map-range_with_len (row_in keys columns measures) 0 len i i blank_row less (omega arith)) in
+    let at_row : i < len → slice_get rows i ≡ Some (row_in numbers columns measures i)
+    = λ less. slice_get-get_or rows i blank_row (omega arith) ∙ ap Some (get_or-map-range_with_len (row_in numbers columns measures) 0 len i i blank_row less (omega arith)) in
     let value : (d : ℕ) → d < shape → i < len → get_or (take shape point) d 0 ≡ get_or (used len columns d) i 0
     = λ d less there. get_or-take shape point d 0 less ∙ at_dim columns i d (omega arith) ∙ sym (get_or-take len (get_or columns d []) i 0 there) in (
       (λ bit. let h = (so i).0 bit in
           let zeroth = h.1 0 (omega arith) in
           let column_long = length-take-le len (get_or columns 0 []) (omega (arith, long 0 (omega arith))) in
           let there : i < len = let first = zeroth.0 in omega arith in (
-            row_in keys columns measures i,
+            row_in numbers columns measures i,
             at_row there,
             (
               (lo_long ∙ sym short, λ d less. let between = h.1 d (omega arith) in rw (value d (omega arith) there) between.1),
@@ -72,7 +72,7 @@ IsMaskBelow-all shape len first keys columns measures zbox mask some within few 
             ),
           )),
       (λ h. let there : i < len = omega (arith, slice_get_within rows i h.0 h.1) in
-          let same : h.0 ≡ row_in keys columns measures i = some_same h.0 (row_in keys columns measures i) (sym h.1 ∙ at_row there) in
+          let same : h.0 ≡ row_in numbers columns measures i = some_same h.0 (row_in numbers columns measures i) (sym h.1 ∙ at_row there) in
           let inside : IsInside zbox (take shape point) = rw same at h.2 in
           (so i).1 (
             omega arith,

@@ -1,14 +1,8 @@
 -- Places that are filled one after the other.
-use Rattle.std.proofs.Common.{rules, ◌≡◌, ◌<◌, ◌+◌, ◌-◌, ℕ, suc, List, [], ◌∷◌, ◌++◌, length, map, set, take, replicate, sym, ap, arith, ◌∙◌, append_assoc}
+use Rattle.std.proofs.Common.{◌≡◌, ◌<◌, ◌+◌, ◌-◌, ℕ, suc, List, [], ◌∷◌, ◌++◌, length, map, set, replicate, sym, ap, arith, ◌∙◌, append_assoc}
 use Rattle.std.specs.List.{range_with_len}
 use Rattle.std.proofs.Math.Seq.{set-append_seam}
-use Rattle.std.proofs.lemmas.List.{take_more_set}
 use Rattle.std.proofs.lemmas.List.FromFn.{length-map-range_with_len, map-range_with_len_more}
-
--- one value more, whatever stands in the places after it
-pub first_more : {A : Type 0} (f : ℕ → A) (xs : List A) (n : ℕ) (x : A) → n < length xs → take n xs ≡ map f (range_with_len 0 n) → x ≡ f n
-    → take (n + 1) (set xs n x) ≡ map f (range_with_len 0 (n + 1))
-first_more f xs n x h k j = search (rules, map-range_with_len_more, take_more_set)
 
 -- one value more
 pub block_more : {A : Type 0} (total : ℕ) (rest : A) (f : ℕ → A) (n : ℕ) → n < total

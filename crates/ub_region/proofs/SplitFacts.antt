@@ -1,11 +1,12 @@
 -- Rows that are parted where one more is put in among them, and the key that is looked for.
 use Rattle.std.proofs.lemmas.Grind.{common_steps}
-use Rattle.std.proofs.Common.{◌≡◌, ◌<◌, ◌≤◌, ◌+◌, ◌-◌, ℕ, zero, suc, List, [], ◌∷◌, ◌++◌, Some, true, false, length, take, drop, get_or, slice_get, refl, sym, ap, ◌∙◌, arith}
+use Rattle.std.proofs.Common.{Bool, ◌≡◌, ◌<◌, ◌≤◌, ◌+◌, ◌-◌, ℕ, zero, suc, List, [], ◌∷◌, ◌++◌, Some, true, false, length, take, drop, get_or, slice_get, refl, sym, ap, ◌∙◌, arith}
 use Rattle.std.proofs.lemmas.List.{append_assoc, drop_more, get_or-drop, get_or-map, get_or-take, take_more}
-use Rattle.std.proofs.lemmas.Option.{get_or_from_slice_get}
+use Rattle.std.proofs.lemmas.Option.{get_or_from_slice_get, slice_get-get_or}
 use Rattle.std.specs.List.{insert}
 use Rattle.ub_region.proofs.BlankRow.{blank_row}
 use Rattle.ub_region.proofs.ChainFacts.{keys_drop, keys_take}
+use Rattle.ub_region.proofs.IndexFacts.{key_there}
 use Rattle.ub_region.specs.Rows.{cut, has_key, remove_row, separator}
 use Rattle.ub_table.specs.Keys.{is_same}
 use Rattle.ub_table.specs.Region.{key_of, keys_of}
@@ -49,24 +50,22 @@ pub separator_at : (dims n : ℕ) (rows left right : List Row) (a b : Key) → 1
     → slice_get (keys_of dims left) (n - 1) ≡ Some a → slice_get (keys_of dims right) 0 ≡ Some b → separator a b ≡ (cut dims n rows).first
 separator_at dims n rows left right a b h k j l m = grind (arith, common_steps, get_or-drop, get_or-take, get_or_from_slice_get, keys_drop, keys_take)
 
-module _ (dims : ℕ) (key : Key) (keys : List Key) (rows : List Row) (is : keys ≡ keys_of dims rows) (i : ℕ) (lt : i < length rows) (e : Key) where
-  abbrev row : Row
-  row = get_or rows i blank_row
-
-  same_key : get_or keys i e ≡ key_of dims row
-  same_key = ap (λ (ks : List Key). get_or ks i e) is ∙ get_or-map (key_of dims) rows i blank_row e lt
+module _ (dims : ℕ) (key : Key) (rows : List Row) (i : ℕ) (lt : i < length rows) (has : Bool) (told : (own : Key) → slice_get (keys_of dims rows) i ≡ Some own → has ≡ is_same key own) where
+  test : is_same key (key_of dims (get_or rows i blank_row)) ≡ has
+  test = sym (told (key_of dims (get_or rows i blank_row)) (key_there dims rows i (get_or rows i blank_row) (slice_get-get_or rows i blank_row lt)))
 
   -- a row of another key is passed over
-  pub passed_any : is_same key (get_or keys i e) ≡ false → has_key dims key (drop i rows) ≡ has_key dims key (drop (i + 1) rows)
-  passed_any other = rw (drop_more rows i blank_row lt, sym (ap (is_same key) same_key) ∙ other) refl
+  pub passed_any : has ≡ false → has_key dims key (drop i rows) ≡ has_key dims key (drop (i + 1) rows)
+  passed_any other = rw (drop_more rows i blank_row lt, test ∙ other) refl
 
-  pub passed_rest : is_same key (get_or keys i e) ≡ false
-      → take i rows ++ remove_row dims key (drop i rows) ≡ take (i + 1) rows ++ remove_row dims key (drop (i + 1) rows)
-  passed_rest h = grind (arith, common_steps, append_assoc, blank_row, drop_more, same_key, take_more)
+  pub passed_rest : has ≡ false → take i rows ++ remove_row dims key (drop i rows) ≡ take (i + 1) rows ++ remove_row dims key (drop (i + 1) rows)
+  passed_rest other =
+      rw (drop_more rows i blank_row lt, test ∙ other, take_more rows i blank_row lt)
+      (sym (append_assoc (take i rows) (get_or rows i blank_row ∷ []) (remove_row dims key (drop (i + 1) rows))))
 
   -- the one of the key is found
-  pub found_any : is_same key (get_or keys i e) ≡ true → has_key dims key (drop i rows) ≡ true
-  found_any same = rw (drop_more rows i blank_row lt, sym (ap (is_same key) same_key) ∙ same) refl
+  pub found_any : has ≡ true → has_key dims key (drop i rows) ≡ true
+  found_any same = rw (drop_more rows i blank_row lt, test ∙ same) refl
 
-  pub found_rest : is_same key (get_or keys i e) ≡ true → remove_row dims key (drop i rows) ≡ drop (i + 1) rows
-  found_rest same = rw (drop_more rows i blank_row lt, sym (ap (is_same key) same_key) ∙ same) refl
+  pub found_rest : has ≡ true → remove_row dims key (drop i rows) ≡ drop (i + 1) rows
+  found_rest same = rw (drop_more rows i blank_row lt, test ∙ same) refl

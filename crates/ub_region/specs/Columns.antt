@@ -1,8 +1,7 @@
--- The rows of a region in columns of 64 places: their keys, dimensions and measures.
+-- The rows of a region in columns of 64 places: their numbers, dimensions and measures.
 use Rattle.std.specs.Prelude.{◌≤◌, ◌+◌, ◌*◌, ◌-◌, ◌++◌, ℕ, ℤ, pos, List, [], ◌∷◌, map, replicate, slice_index_or}
 use Rattle.std.specs.List.{flat_map, range_with_len}
-use Rattle.ub_bytes.specs.Bytes.{number_at}
-use Rattle.ub_bytes.specs.Numbers.{blank_key, dim_in, first_numbers, measure_in}
+use Rattle.ub_bytes.specs.Numbers.{first_numbers, measure_in, word_in}
 use Rattle.ub_table.specs.Region.{key_of, measures_of}
 use Rattle.ub_table.specs.declared.row.Key.{Key}
 use Rattle.ub_table.specs.declared.row.Row.{Row}
@@ -32,30 +31,30 @@ abbrev pub values_in : List (List ℤ) → ℕ → List ℤ
 values_in measures i = across (pos 0) measures i
 
 -- the row at an index
-abbrev pub row_in : List Key → List (List ℕ) → List (List ℤ) → ℕ → Row
-row_in keys dims measures i = record {
-  number = (slice_index_or keys i blank_key).number;
+abbrev pub row_in : List ℕ → List (List ℕ) → List (List ℤ) → ℕ → Row
+row_in numbers dims measures i = record {
+  number = slice_index_or numbers i 0;
   dims = point_in dims i;
   measures = values_in measures i;
 }
 
--- the key of the row whose number stands on a page, and whose dimensions in columns, at an index
+-- the key of the row at an index
 abbrev pub key_in : ℕ → List ℕ → List (List ℕ) → ℕ → Key
-key_in dims page columns i =
-    key_of dims (record { number = number_at 4 (24 + 4 * i) page; dims = point_in columns i; measures = [] })
+key_in dims numbers columns i =
+    key_of dims (record { number = slice_index_or numbers i 0; dims = point_in columns i; measures = [] })
 
 -- of so many rows the first dimension, then the second, and so on, and so of their measures
 abbrev pub dims_in : List (List ℕ) → ℕ → ℕ → List ℕ
 dims_in columns dims count =
-    flat_map (λ d. first_numbers 4 (dim_in (slice_index_or columns d [])) count) (range_with_len 0 dims)
+    flat_map (λ d. first_numbers 4 (word_in (slice_index_or columns d [])) count) (range_with_len 0 dims)
 
 abbrev pub measures_in : List (List ℤ) → ℕ → ℕ → List ℕ
 measures_in columns measures count =
     flat_map (λ m. first_numbers 8 (measure_in (slice_index_or columns m [])) count) (range_with_len 0 measures)
 
--- a key's number is one of a row
-abbrev pub IsKeyNumbered : Key → Type 0
-IsKeyNumbered key = (1 ≤ key.number) × (key.number ≤ MAX_ROW_NUMBER)
+-- a number is one of a row
+abbrev pub IsRowNumber : ℕ → Type 0
+IsRowNumber number = (1 ≤ number) × (number ≤ MAX_ROW_NUMBER)
 
 -- how many bytes of its page a region with so many rows uses
 abbrev pub end_with : Schema → ℕ → ℕ

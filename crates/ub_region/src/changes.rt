@@ -1,13 +1,16 @@
 // What becomes of the rows of one region in memory: one is put in or taken out by its key, they are split, or joined with those
 // of another region. They stand in columns all the while, never more of them than a page holds.
-ghost use Rattle.std.specs.Prelude.{◌≡◌, ◌+◌, ◌<◌, ◌≤◌, ◌++◌, ◌/◌, ℕ, length, take, drop, is_some, IfSome, if◌then◌else◌, nat_lt, nat_le};
+ghost use Rattle.std.specs.Prelude.{◌≡◌, ◌+◌, ◌<◌, ◌≤◌, ◌++◌, ◌/◌, ℕ, length, take, drop, slice_get, is_some, IfSome, Some, if◌then◌else◌, nat_lt, nat_le, true, false};
 ghost use Rattle.std.specs.List.{insert};
 ghost use Rattle.std.specs.Option.{IfNone};
 ghost use Rattle.ub_table.specs.declared.schema.TheConstants.{MAX_ROWS};
 ghost use Rattle.ub_region.specs.Rows as spec;
-ghost use Rattle.ub_region.specs.Rows.{has_key, remove_row, split};
+ghost use Rattle.ub_region.specs.Rows.{has_key, insert_row, remove_row, split};
+ghost use Rattle.ub_table.specs.Keys.{precedes, AreKeysAscending};
+ghost use Rattle.ub_table.specs.Region.{key_of, keys_of};
+ghost use Rattle.ub_table.specs.declared.row.Key.{Key as KeyView};
 
-use crate::keys::{first_between, is_equal};
+use crate::keys::first_between;
 use crate::region_page::RegionPage;
 use ub_table::{Key, Row};
 
@@ -30,13 +33,6 @@ impl RegionPage {
         true
     }
 
-    /// Whether there is a row with this key.
-    pub fn has(&self, key: &Key) -> bool
-        ensures { result ≡ has_key self.now.dims key.now self.now.region.rows }
-    {
-        self.find(key).is_some()
-    }
-
     // The index of the row with this key.
     fn find(&self, key: &Key) -> Option<usize>
         ensures found { is_some result ≡ has_key self.now.dims key.now self.now.region.rows }
@@ -46,12 +42,59 @@ impl RegionPage {
         ensures none { IfNone result (remove_row self.now.dims key.now self.now.region.rows
             ≡ self.now.region.rows) }
     {
-        for (i, other) in self.keys().iter().enumerate() {
-            if is_equal(key, other) {
+        for i in 0..self.len() {
+            if self.has_at(i, key) {
                 return Some(i);
             }
         }
         None
+    }
+
+    /// The index at which a row goes in among the rows, whose keys ascend; none where one of them has its key already. It is
+    /// found by halving, and no address is made.
+    pub fn place_of(&self, row: &Row) -> Option<usize>
+        requires { AreKeysAscending (keys_of self.now.dims self.now.region.rows) }
+        ensures none { IfNone result
+            (has_key self.now.dims (key_of self.now.dims row.now) self.now.region.rows ≡ true) }
+        ensures place { IfSome result (λ i.
+            (has_key self.now.dims (key_of self.now.dims row.now) self.now.region.rows ≡ false)
+            × (i ≤ length self.now.region.rows)
+            × (insert_row self.now.dims row.now self.now.region.rows
+            ≡ insert self.now.region.rows i row.now)) }
+    {
+        let index = self.first_after(row);
+        if index == 0 {
+            return Some(index);
+        }
+        if self.is_before(index - 1, row) {
+            Some(index)
+        } else {
+            None
+        }
+    }
+
+    // The index of the first row whose key is after that of another one, and of the place behind them where there is none.
+    fn first_after(&self, row: &Row) -> usize
+        requires { AreKeysAscending (keys_of self.now.dims self.now.region.rows) }
+        ensures within { result ≤ length self.now.region.rows }
+        ensures below { (i : ℕ) (key : KeyView) → i < result
+            → slice_get (keys_of self.now.dims self.now.region.rows) i ≡ Some key
+            → precedes (key_of self.now.dims row.now) key ≡ false }
+        ensures above { (i : ℕ) (key : KeyView) → result ≤ i
+            → slice_get (keys_of self.now.dims self.now.region.rows) i ≡ Some key
+            → precedes (key_of self.now.dims row.now) key ≡ true }
+    {
+        let mut low = 0;
+        let mut high = self.len();
+        while low < high {
+            let middle = low + (high - low) / 2;
+            if self.is_after(middle, row) {
+                high = middle;
+            } else {
+                low = middle + 1;
+            }
+        }
+        low
     }
 
     /// Whether these are fewer rows than half of what a page holds.

@@ -1,22 +1,33 @@
-// The rows of a region's page in columns of host order: their keys, dimensions and measures, each column in 64 places. The
-// places of dimensions and measures that no row uses are blank; in those of keys anything stands.
-ghost use Rattle.std.specs.Prelude.{◌≡◌, ℕ, ◌+◌, ◌*◌, ◌<◌, ◌≤◌, ◌-◌, [], pos, length, map, take, slice_index_or};
-ghost use Rattle.std.specs.List.{insert, range_with_len};
+// The rows of a region's page in columns of host order: their numbers, dimensions and measures, each column in 64 places. The
+// places that no row uses are blank where a page was read.
+ghost use Rattle.std.specs.Prelude.{◌≡◌, ℕ, ◌+◌, ◌*◌, ◌<◌, ◌≤◌, ◌-◌, [], pos, length, take, slice_index_or};
+ghost use Rattle.std.specs.List.{insert};
 ghost use Rattle.std.specs.Int.{w64, cast_signed};
 ghost use Rattle.ub_bytes.specs.Bytes.{number_at};
 ghost use Rattle.ub_region.specs.Columns.{block, blank_dims, blank_measures, point_in, values_in, key_in, row_in};
 
 use byteorder::{BigEndian, ByteOrder};
-use ub_bytes::page::u32_at;
-use ub_bytes::{Keys, Page};
+use ub_bytes::Page;
 use ub_table::{Key, MAX_ROWS, Row};
-use ub_zaddr::{Shape, interleave_first};
+use ub_zaddr::{Shape, interleave_places};
+
+/// The number of each row.
+pub type Numbers = [u32; MAX_ROWS];
 
 /// The first dimension of each row, then the second, and so on.
 pub type Dims = [[u32; MAX_ROWS]; 4];
 
 /// The first measure of each row, then the second, and so on.
 pub type Measures = [[i64; MAX_ROWS]; 4];
+
+/// Puts in a column the numbers of so many rows of a page.
+pub fn read_numbers(numbers: &mut Numbers, page: &Page, count: usize)
+    requires { count ≤ MAX_ROWS }
+    ensures { numbers.new ≡ block MAX_ROWS 0 (λ i. number_at 4 (24 + 4 * i) page.now) count }
+{
+    *numbers = [0; MAX_ROWS];
+    read_dim(numbers, page, 0, 24, count);
+}
 
 /// Puts in the columns the dimensions of so many rows, the first of which begin at an offset of the
 /// page.
@@ -87,51 +98,8 @@ fn read_measure(
     BigEndian::read_i64_into(&page[start..start + 8 * count], &mut column[..count]);
 }
 
-/// Puts in the first places the keys of so many rows with these dimensions: the address of each is
-/// made here, once for a page, by the loop for their number of dimensions.
-pub fn read_keys(keys: &mut Keys, page: &Page, shape: Shape, dims: &Dims, count: usize)
-    requires { count ≤ MAX_ROWS }
-    ensures keys { take count keys.new
-        ≡ map (key_in shape page.now dims.now) (range_with_len 0 count) }
-    ensures long { length keys.new ≡ MAX_ROWS }
-{
-    match shape.dims() {
-        1 => read_keys_in::<1>(keys, page, dims, count),
-        2 => read_keys_in::<2>(keys, page, dims, count),
-        3 => read_keys_in::<3>(keys, page, dims, count),
-        _ => read_keys_in::<4>(keys, page, dims, count),
-    }
-}
-
-// The same in a space of D dimensions.
-fn read_keys_in<const D: usize>(keys: &mut Keys, page: &Page, dims: &Dims, count: usize)
-    requires some { 1 ≤ D }
-    requires within { D ≤ 4 }
-    requires few { count ≤ MAX_ROWS }
-    ensures keys { take count keys.new
-        ≡ map (key_in D page.now dims.now) (range_with_len 0 count) }
-    ensures long { length keys.new ≡ MAX_ROWS }
-{
-    for i in 0..count {
-        keys[i] = read_key::<D>(page, dims, i);
-    }
-}
-
-// The key of the row at an index, in such a space.
-fn read_key<const D: usize>(page: &Page, dims: &Dims, i: usize) -> Key
-    requires some { 1 ≤ D }
-    requires within { D ≤ 4 }
-    requires at { i < MAX_ROWS }
-    ensures { result ≡ key_in D page.now dims.now i }
-{
-    Key {
-        z: interleave_first::<D>(&point_at(dims, i)),
-        number: u32_at(page, 24 + 4 * i),
-    }
-}
-
-// The dimensions of the row at an index.
-fn point_at(dims: &Dims, i: usize) -> [u32; 4]
+/// The dimensions of the row at an index.
+pub fn point_at(dims: &Dims, i: usize) -> [u32; 4]
     requires { i < MAX_ROWS }
     ensures { result ≡ point_in dims.now i }
 {
@@ -151,13 +119,24 @@ fn values_at(measures: &Measures, i: usize) -> [i64; 4]
     ]
 }
 
-/// The row at an index of the columns.
-pub fn row_at(keys: &Keys, dims: &Dims, measures: &Measures, i: usize) -> Row
+/// The key of the row at an index: its address is made here.
+pub fn key_at(shape: Shape, numbers: &Numbers, dims: &Dims, i: usize) -> Key
     requires { i < MAX_ROWS }
-    ensures { result ≡ row_in keys.now dims.now measures.now i }
+    ensures { result ≡ key_in shape numbers.now dims.now i }
+{
+    Key {
+        z: interleave_places(shape, &point_at(dims, i)),
+        number: numbers[i],
+    }
+}
+
+/// The row at an index of the columns.
+pub fn row_at(numbers: &Numbers, dims: &Dims, measures: &Measures, i: usize) -> Row
+    requires { i < MAX_ROWS }
+    ensures { result ≡ row_in numbers.now dims.now measures.now i }
 {
     Row {
-        number: keys[i].number,
+        number: numbers[i],
         dims: point_at(dims, i),
         measures: values_at(measures, i),
     }

@@ -15,10 +15,11 @@ pub mod entry;
 pub mod keys;
 pub mod law;
 pub mod masks;
+mod order;
 pub mod region;
 pub mod region_page;
 
 pub use entry::Entry;
-pub use keys::{first_between, index_in, is_equal};
+pub use keys::{first_between, is_equal};
 pub use region::{ORIGIN, Region};
 pub use region_page::{RegionPage, write_region};

@@ -1,22 +1,25 @@
-ghost use Rattle.std.specs.Prelude.{◌≡◌, ◌+◌, ◌-◌, ◌*◌, ◌≤◌, ◌<◌, [], ◌++◌, ◌↔◌, ℕ, Ok, Some, length, take, drop, slice_get, IsTrue, IsOk, IfOk, IfErr, OnOk, OnErr};
+ghost use Rattle.std.specs.Prelude.{◌≡◌, ◌+◌, ◌-◌, ◌*◌, ◌≤◌, ◌<◌, [], ◌++◌, ◌↔◌, ℕ, Ok, Some, length, map, take, drop, slice_get, IsTrue, IsOk, IfOk, IfErr, OnOk, OnErr};
 ghost use Rattle.std.specs.Int.{bit_at};
 ghost use Rattle.std.specs.List.{AllByRecursion, insert};
 ghost use Rattle.ub_bytes.specs.Bytes.{number_at, layout, padded};
-ghost use Rattle.ub_region.specs.Columns.{end_with, dims_in, measures_in, IsKeyNumbered};
+ghost use Rattle.ub_region.specs.Columns.{end_with, dims_in, measures_in, IsRowNumber};
 ghost use Rattle.ub_region.specs.RegionPage.{head_fields, region_page, region_on, empty_region, IsRegionKind, HasCounts, HasRows, HasOrder, HasFirst, IsRegionFault, IsRowInside};
-ghost use Rattle.ub_table.specs.Keys.{AreKeysAscending};
-ghost use Rattle.ub_table.specs.Region.{RegionRows, keys_of, measures_of, IsNumbered, IsFirst, AreFrom, IsRegion};
+ghost use Rattle.ub_table.specs.Keys.{is_same, precedes, AreKeysAscending};
+ghost use Rattle.ub_table.specs.Region.{RegionRows, key_of, keys_of, measures_of, IsNumbered, IsFirst, AreFrom, IsRegion};
+ghost use Rattle.ub_table.specs.declared.row.Key.{Key as KeyView};
 
 use crate::columns::{
-    Dims, Measures, copy_in, copy_points, copy_values, put_in, put_point, put_values, read_dims,
-    read_keys, read_measures, row_at, take_out, take_point_out, take_values_out,
+    Dims, Measures, Numbers, copy_in, copy_points, copy_values, key_at, put_in, put_point,
+    put_values, read_dims, read_measures, read_numbers, row_at, take_out, take_point_out,
+    take_values_out,
 };
 use crate::masks::mask_between;
+use crate::order;
 use crate::region::ORIGIN;
 use std::marker::Model;
 use ub_bigmin::ZBox;
 use ub_bytes::page::{is_blank_from, u8_at, u32_at, u128_at};
-use ub_bytes::{Draft, Keys, Page};
+use ub_bytes::{Draft, Page};
 use ub_table::{Key, MAX_ROW_NUMBER, MAX_ROWS, PageFault, Row, Schema};
 use ub_zaddr::{Shape, last};
 
@@ -25,12 +28,12 @@ const KIND: u8 = 0x52;
 
 /// A region's page that has been read: the first key, and the rows in the order of their keys, none before the first key.
 ///
-/// The rows stand in columns of host order, and each is made when it is asked for; their keys are made once, by `read`.
+/// The rows stand in columns of host order. Each is made when it is asked for, and so is each key: rows are compared without.
 #[derive(Drop)]
 pub struct RegionPage {
     shape: Shape,
     first: Key,
-    keys: Keys,
+    numbers: Numbers,
     dims: Dims,
     measures: Measures,
     len: usize,
@@ -82,7 +85,7 @@ impl RegionPage {
         RegionPage {
             shape,
             first,
-            keys: [ORIGIN; MAX_ROWS],
+            numbers: [0; MAX_ROWS],
             dims: [[0; MAX_ROWS]; 4],
             measures: [[0; MAX_ROWS]; 4],
             len: 0,
@@ -148,10 +151,10 @@ impl RegionPage {
         if !has_rows(schema.shape(), self) {
             return Err(PageFault::BadRow);
         }
-        if !are_ascending(self.keys()) {
+        if !self.is_ascending() {
             return Err(PageFault::BadOrder);
         }
-        if !are_from(&self.first(), self.keys()) {
+        if !self.is_from_first() {
             return Err(PageFault::OutOfRegion);
         }
         Ok(())
@@ -179,7 +182,7 @@ impl RegionPage {
             offset + 4 * (len * used),
             len,
         );
-        read_keys(&mut self.keys, page, self.shape, &self.dims, len);
+        read_numbers(&mut self.numbers, page, len);
         self.len = len;
     }
 
@@ -202,7 +205,7 @@ impl RegionPage {
         ensures len { result ≡ length self.now.region.rows }
         ensures few { result ≤ MAX_ROWS }
     {
-        self.keys().len()
+        self.numbers().len()
     }
 
     /// The row at an index, from 0, of those there are.
@@ -210,23 +213,71 @@ impl RegionPage {
         requires { i < length self.now.region.rows }
         ensures { slice_get self.now.region.rows i ≡ Some result }
     {
-        row_at(&self.keys, &self.dims, &self.measures, i)
+        row_at(&self.numbers, &self.dims, &self.measures, i)
     }
 
-    /// The keys of the rows in their order, each the row's address and its number: at most 64.
-    pub fn keys(&self) -> &[Key]
-        ensures keys { result.now ≡ keys_of self.now.dims self.now.region.rows }
+    /// The numbers of the rows, in the order of their keys: at most 64.
+    pub fn numbers(&self) -> &[u32]
+        ensures numbers { result.now ≡ map (λ row. row.number) self.now.region.rows }
         ensures few { length result.now ≤ MAX_ROWS }
     {
-        &self.keys[..self.len]
+        &self.numbers[..self.len]
     }
 
-    /// The key of the row at an index, from 0, of those there are: its address and its number.
+    /// The key of the row at an index, from 0, of those there are: its address, which is made here, and its number.
     pub fn key(&self, i: usize) -> Key
         requires { i < length self.now.region.rows }
         ensures { slice_get (keys_of self.now.dims self.now.region.rows) i ≡ Some result }
     {
-        self.keys()[i]
+        key_at(self.shape, &self.numbers, &self.dims, i)
+    }
+
+    /// Whether the key of the row at an index, from 0, of those there are, is after that of another row.
+    pub(crate) fn is_after(&self, i: usize, row: &Row) -> bool
+        requires { i < length self.now.region.rows }
+        ensures { (key : KeyView)
+            → slice_get (keys_of self.now.dims self.now.region.rows) i ≡ Some key
+            → result ≡ precedes (key_of self.now.dims row.now) key }
+    {
+        order::is_after(self.shape, &self.numbers, &self.dims, i, row)
+    }
+
+    /// Whether the key of the row at an index, from 0, of those there are, is before that of another row.
+    pub(crate) fn is_before(&self, i: usize, row: &Row) -> bool
+        requires { i < length self.now.region.rows }
+        ensures { (key : KeyView)
+            → slice_get (keys_of self.now.dims self.now.region.rows) i ≡ Some key
+            → result ≡ precedes key (key_of self.now.dims row.now) }
+    {
+        order::is_before(self.shape, &self.numbers, &self.dims, i, row)
+    }
+
+    /// Whether the row at an index, from 0, of those there are, has this key: by number first, in which most differ.
+    pub(crate) fn has_at(&self, i: usize, key: &Key) -> bool
+        requires { i < length self.now.region.rows }
+        ensures { (own : KeyView)
+            → slice_get (keys_of self.now.dims self.now.region.rows) i ≡ Some own
+            → result ≡ is_same key.now own }
+    {
+        key.number == self.numbers()[i] && key.z == self.key(i).z
+    }
+
+    // Whether the key of each row is before that of the next.
+    fn is_ascending(&self) -> bool
+        ensures { IsTrue result
+            ↔ AreKeysAscending (keys_of self.now.dims self.now.region.rows) }
+    {
+        order::are_ascending(self.shape, &self.numbers, &self.dims, self.len)
+    }
+
+    // Whether no row, of rows in order, is before the first key.
+    fn is_from_first(&self) -> bool
+        requires { AreKeysAscending (keys_of self.now.dims self.now.region.rows) }
+        ensures { IsTrue result
+            ↔ AreFrom self.now.region.first (keys_of self.now.dims self.now.region.rows) }
+    {
+        let len = self.len();
+        len == 0 || !self.key(0).is_before(&self.first)
     }
 
     /// Which rows lie in a box of the region's shape: bit i is 1 exactly where there is a row at index i, from 0, and it
@@ -251,7 +302,7 @@ impl RegionPage {
         } }
     {
         let len = self.len;
-        put_in(&mut self.keys, len, index, row.key(self.shape));
+        put_in(&mut self.numbers, len, index, row.number);
         put_point(&mut self.dims, len, index, &row.dims);
         put_values(&mut self.measures, len, index, &row.measures);
         self.len += 1;
@@ -269,7 +320,7 @@ impl RegionPage {
         } }
     {
         let len = self.len;
-        take_out(&mut self.keys, len, index);
+        take_out(&mut self.numbers, len, index);
         take_point_out(&mut self.dims, len, index);
         take_values_out(&mut self.measures, len, index);
         self.len -= 1;
@@ -290,7 +341,7 @@ impl RegionPage {
           };
         } }
     {
-        copy_in(&mut self.keys, at, &other.keys, from, count);
+        copy_in(&mut self.numbers, at, &other.numbers, from, count);
         copy_points(&mut self.dims, at, &other.dims, from, count);
         copy_values(&mut self.measures, at, &other.measures, from, count);
         self.len = at + count;
@@ -353,7 +404,7 @@ impl RegionPage {
         let count = self.len;
         draft.clear();
         put_head(draft, schema, self.first, count);
-        draft.put_numbers(&self.keys, count);
+        draft.put_words(&self.numbers, count);
         put_dims(draft, &self.dims, schema.dims() as usize, count);
         put_measures(draft, &self.measures, schema.measures() as usize, count);
     }
@@ -397,7 +448,7 @@ fn put_dims(draft: &mut Draft, columns: &Dims, dims: usize, count: usize)
     ensures len { length draft.new ≡ length draft.old + 4 * (count * dims) }
 {
     for dim in 0..dims {
-        draft.put_dim(&columns[dim], count);
+        draft.put_words(&columns[dim], count);
     }
 }
 
@@ -438,7 +489,7 @@ fn has_rows(shape: Shape, region: &RegionPage) -> bool
     ensures { IsTrue result
         ↔ (IsFirst shape region.now.region.first × AllByRecursion IsNumbered region.now.region.rows) }
 {
-    is_first(shape, &region.first()) && are_numbered(region.keys())
+    is_first(shape, &region.first()) && are_numbered(region.numbers())
 }
 
 fn is_first(shape: Shape, key: &Key) -> bool
@@ -447,37 +498,12 @@ fn is_first(shape: Shape, key: &Key) -> bool
     key.z <= last(shape) && key.number <= MAX_ROW_NUMBER
 }
 
-fn are_numbered(keys: &[Key]) -> bool
-    ensures { IsTrue result ↔ AllByRecursion IsKeyNumbered keys.now }
+fn are_numbered(numbers: &[u32]) -> bool
+    ensures { IsTrue result ↔ AllByRecursion IsRowNumber numbers.now }
 {
     let mut are_numbered = true;
-    for key in keys {
-        are_numbered &= (key.number >= 1) & (key.number <= MAX_ROW_NUMBER);
+    for number in numbers {
+        are_numbered &= (*number >= 1) & (*number <= MAX_ROW_NUMBER);
     }
     are_numbered
-}
-
-// Whether each key is before the next.
-fn are_ascending(keys: &[Key]) -> bool
-    ensures { IsTrue result ↔ AreKeysAscending keys.now }
-{
-    if keys.is_empty() {
-        return true;
-    }
-    let mut before = keys[0];
-    for i in 1..keys.len() {
-        if !before.is_before(&keys[i]) {
-            return false;
-        }
-        before = keys[i];
-    }
-    true
-}
-
-// Whether no key, of keys in order, is before the first.
-fn are_from(first: &Key, keys: &[Key]) -> bool
-    requires { AreKeysAscending keys.now }
-    ensures { IsTrue result ↔ AreFrom first.now keys.now }
-{
-    keys.is_empty() || !keys[0].is_before(first)
 }

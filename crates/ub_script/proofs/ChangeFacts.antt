@@ -94,9 +94,7 @@ change_left a b (fault.Page page f) left = (left.0, works_same a b left.2)
 change_left a b (fault.Store store.Device) (can, inl missed) = (can, subst (λ (t : TreeView). HasMetDevice a t) (sym missed) (inl (refl, refl)))
 change_left a b (fault.Store store.Device) (can, inr ended) =
     (can, inr (ap (λ (t : TreeView). t.is_failed) ended.same, ap (λ (t : TreeView). t.store) ended.same))
-change_left a b (fault.Store store.NoPage) (unsound, inl kept) = (unsound, inl (works_same a b kept.1))
-change_left a b (fault.Store store.NoPage) (unsound, inr (dishonest, ended)) =
-    (unsound, inr (dishonest, (ap (λ (t : TreeView). t.is_failed) ended.same, ap (λ (t : TreeView). t.store) ended.same)))
+change_left a b (fault.Store store.NoPage) left = (left.0, works_same a b left.2)
 change_left a b (fault.Store store.BadSize) left = (works_left a b left.1, a, left.0, left.1)
 change_left a b (fault.Store store.Memory) left = left
 

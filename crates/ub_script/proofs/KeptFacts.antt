@@ -1,7 +1,7 @@
 -- What a tree keeps over several statements.
 use Rattle.std.proofs.Common.{◌≡◌, ◌∙◌, inl, inr, ◌⊎◌, ℕ, Bool, true, false, IsTrue, Result, Ok, Err, subst, sym, ap, refl}
 use Rattle.std.specs.Result.{IsErrAnd}
-use Rattle.ub_exec.specs.Deleting.{HasLostPage, HasMetDevice}
+use Rattle.ub_exec.specs.Deleting.{HasMetDevice}
 use Rattle.ub_exec.proofs.Laws.{read_stand, stand_by, trees_stand_soundly}
 use Rattle.ub_script.specs.Basis.{Basis, on_stand, over_any, IsBasisOf, IsRestOf, Stands, asked_left}
 use Rattle.ub_script.specs.Faults.{IsGiven, IsRunLeft, Runs, RunsReading, counted}
@@ -95,7 +95,7 @@ left_reading A a b (run.Tree tree.Failed) same is = (is.0, works_traced a b same
 left_reading A a b (run.Tree tree.Memory) same is = absurd (is.1 refl)
 left_reading A a b (run.Tree (tree.Page page fault)) same is = (is.0.0, works_traced a b same)
 left_reading A a b (run.Tree (tree.Store store.Device)) same is = (is.0, missed a b same)
-left_reading A a b (run.Tree (tree.Store store.NoPage)) same is = (is.0.0, inl (works_traced a b same))
+left_reading A a b (run.Tree (tree.Store store.NoPage)) same is = (is.0.0, works_traced a b same)
 left_reading A a b (run.Tree (tree.Store store.BadSize)) same is = absurd is.0
 left_reading A a b (run.Tree (tree.Store store.Memory)) same is = absurd is.0
 
@@ -130,9 +130,6 @@ device_more a b c h (inl k) =
 device_more a b c h (inr k) =
     inr (k.0, k.1 ∙ ap (λ (s : StoreFacts). record s { pages = c.store.pages; synced = c.store.synced; failed_writes = raised s.failed_writes 1 }) h.1)
 
-lost_more : (a b c : TreeView) → Works a b → HasLostPage b c → HasLostPage a c
-lost_more a b c h k = (k.0, k.1 ∙ ap (λ (s : StoreFacts). record s { pages = c.store.pages; synced = c.store.synced }) h.1)
-
 pub honest_before : (a b : TreeView) → Works a b → IsHonest a.store → IsHonest b.store
 honest_before a b h honest = subst (λ (s : StoreFacts). IsHonest s) (sym h.1) honest
 
@@ -146,9 +143,7 @@ left_more a b c (run.Tree tree.Memory) sound h k = k
 left_more a b c (run.Tree (tree.Page page fault)) sound h k = (λ is. k.0 (sound is), works_more a b c h k.1)
 left_more a b c (run.Tree (tree.Store store.Device)) sound h k =
     (subst (λ (x : Bool). IsTrue x) (ap (λ (s : StoreFacts). s.can_fail) h.1) k.0, device_more a b c h k.1)
-left_more a b c (run.Tree (tree.Store store.NoPage)) sound h (unsound, inl k) = (λ is. unsound (sound is), inl (works_more a b c h k))
-left_more a b c (run.Tree (tree.Store store.NoPage)) sound h (unsound, inr (dishonest, k)) =
-    (λ is. unsound (sound is), inr (λ honest. dishonest (honest_before a b h honest), lost_more a b c h k))
+left_more a b c (run.Tree (tree.Store store.NoPage)) sound h k = (λ is. k.0 (sound is), works_more a b c h k.1)
 left_more a b c (run.Tree (tree.Store store.BadSize)) sound h (k, mid, full, leaves) = (works_more a b c h k, mid, full, leaves)
 left_more a b c (run.Tree (tree.Store store.Memory)) sound h k = k
 

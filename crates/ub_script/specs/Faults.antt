@@ -1,9 +1,9 @@
 -- Which fault of a run a fault of loading is, and which one of a tree; and what a run leaves of a tree.
 use Rattle.std.specs.Prelude.{◌≡◌, ◌≢◌, ◌⊎◌, ◌+◌, ℕ, Result, Err, IfErr, IsTrue, OnOk}
-use Rattle.ub_exec.specs.Deleting.{HasLostPage, HasMetDevice}
+use Rattle.ub_exec.specs.Deleting.{HasMetDevice}
 use Rattle.ub_load.specs.declared.fault.LoadFault.{LoadFault}
 use Rattle.ub_load.specs.declared.fault.LoadFault.TheVariants.{Memory as no_memory_to_load}
-use Rattle.ub_store.specs.Facts.{IsHonest, raised}
+use Rattle.ub_store.specs.Facts.{raised}
 use Rattle.ub_store.specs.declared.fault.StoreFault.TheVariants as store
 use Rattle.ub_table.specs.declared.row.TheConstants.{MAX_ROW_NUMBER}
 use Rattle.ub_tree.specs.Effects.{IsFull, IsIndexFull, IsReadFault, KeepsMark, Leaves, Works, raised_by}
@@ -50,9 +50,8 @@ pub record RunsReading {A : Type 0} (old new : TreeView) (result : Result A RunF
   pub same : new ≡ record old { store = record old.store { failed_reads = counted result old.store.failed_reads }; trace = new.trace }
   pub faults : IfErr result (IsGiven old)
 
--- what can end a run over a tree, and what it leaves then. The tree works on, but for a write, an extension or a sync that failed,
--- and for a store that isn't honest. Full comes where the last number is given, or the index has no room; BadSize where the store
--- has none for another region
+-- what can end a run over a tree, and what it leaves then. The tree works on, but for a write, an extension or a sync that failed.
+-- Full comes where the last number is given, or the index has no room; BadSize where the store has none for another region
 abbrev pub IsRunLeft : TreeView → TreeView → RunFault → Type 0
 IsRunLeft old new Memory = Works old new
 IsRunLeft old new Write = Works old new
@@ -62,8 +61,7 @@ IsRunLeft old new (Tree Failed) = IsTrue old.is_failed × Works old new
 IsRunLeft old new (Tree no_memory) = ⊥
 IsRunLeft old new (Tree (Page page fault)) = (¬ (IsSound old)) × Works old new
 IsRunLeft old new (Tree (Store store.Device)) = IsTrue old.store.can_fail × HasMetDevice old new
-IsRunLeft old new (Tree (Store store.NoPage)) =
-    (¬ (IsSound old)) × (Works old new ⊎ ((¬ (IsHonest old.store)) × HasLostPage old new))
+IsRunLeft old new (Tree (Store store.NoPage)) = (¬ (IsSound old)) × Works old new
 IsRunLeft old new (Tree (Store store.BadSize)) = Works old new × (mid : TreeView) × IsFull mid × Leaves mid new
 IsRunLeft old new (Tree (Store store.Memory)) = ⊥
 

@@ -1,24 +1,26 @@
 -- Where a region would be joined with one beside it: what the regions beside one answer, over an honest store.
 use Rattle.std.proofs.Common.{rules}
-use Rattle.std.proofs.Common.{◌≡◌, ◌<◌, ◌≤◌, ◌+◌, ◌/◌, ◌^◌, inl, ℕ, true, false, Option, Some, None, Result, Err, IfSome, MatchResult, length, nat_le, nat_lt, sym, ap, subst, refl, arith}
+use Rattle.std.proofs.Common.{◌≡◌, ◌<◌, ◌≤◌, ◌+◌, ◌/◌, ◌^◌, inl, ℕ, true, false, Option, Some, None, Result, Ok, Err, IfSome, MatchResult, length, nat_le, nat_lt, sym, ap, subst, refl, arith}
 use Rattle.std.proofs.lemmas.Bool.{leb-false, ltb-false}
 use Rattle.std.specs.Result.{IsErrAnd}
 use Rattle.ub_index.proofs.LeadFacts.{one_given}
 use Rattle.ub_index.specs.Searching.{GivesAny, IsWayFault, key_before}
 use Rattle.ub_index.specs.View.{IndexView}
 use Rattle.ub_index.specs.declared.fault.IndexFault.{IndexFault}
+use Rattle.ub_region.specs.RegionPage.{RegionView}
 use Rattle.ub_region.specs.declared.region.Region.{Region}
 use Rattle.ub_store.specs.Facts.{StoreFacts, IsHonest}
 use Rattle.ub_table.specs.Region.{RegionRows}
 use Rattle.ub_table.specs.declared.row.Key.{Key}
 use Rattle.ub_tree.proofs.CallFacts.{way_passing}
-use Rattle.ub_tree.proofs.HoldingFacts.{passing_by}
+use Rattle.ub_tree.proofs.HoldingFacts.{no_answer, passing_by, passing_fault}
 use Rattle.ub_tree.specs.Effects.{IsTakenIn}
 use Rattle.ub_tree.specs.Faults.{index_fault}
 use Rattle.ub_tree.specs.Holding.{Answers, CanFallInto, HasRoomAt, IsJoined}
 use Rattle.ub_tree.specs.Opened.{IsPassing}
 use Rattle.ub_tree.specs.View.{TreeView}
 use Rattle.ub_tree.specs.declared.fault.TreeFault.{TreeFault}
+use Rattle.ub_tree.specs.inner.Removing.{AnswersBeside}
 
 -- one region is given for a key, and none for none
 pub any_given : (i : IndexView) (facts : StoreFacts) (sought : Option Key) (a b : Option Region) → IsHonest facts → GivesAny i facts sought a → GivesAny i facts sought b → a ≡ b
@@ -46,7 +48,7 @@ any_refused i facts sought told r e small honest given is h = passing_by r (inde
 abbrev pub IsTold : TreeView → Option Key → Option Region → Type 0
 IsTold t sought told = GivesAny t.inner.index t.store sought told × IfSome told (λ span. (region : RegionRows) × IsTakenIn t span region)
 
-pub told_any : (t : TreeView) (sought : Option Key) → CanFallInto t sought → (told : Option Region) × IsTold t sought told
+told_any : (t : TreeView) (sought : Option Key) → CanFallInto t sought → (told : Option Region) × IsTold t sought told
 told_any t None can = (None, (refl, tt))
 told_any t (Some key) can = let into = can.2 in (Some into.span, (into.falls, (can.1, into.taken)))
 
@@ -54,7 +56,7 @@ pub room_any : (t : TreeView) (sought : Option Key) (count : ℕ) → HasRoomAt 
 room_any t sought count room = subst (CanFallInto t) (sym room.1) (room.2, room.3, room.4)
 
 -- the region where there is room, which was told otherwise
-pub room_taken : (t : TreeView) (sought : Option Key) (count : ℕ) (span : Region) → IsHonest t.store → HasRoomAt t sought count
+room_taken : (t : TreeView) (sought : Option Key) (count : ℕ) (span : Region) → IsHonest t.store → HasRoomAt t sought count
     → ((told : Option Region) → GivesAny t.inner.index t.store sought told → Some span ≡ told) → (region : RegionRows) × IsTakenIn t span region × (count + length region.rows ≤ t.schema.page_rows)
 room_taken t sought count span honest room found =
     let into = room.4 in
@@ -65,7 +67,7 @@ room_taken t sought count span honest room found =
     some_span a b h = cc
 
 -- there is a region where there is room
-pub room_some : (t : TreeView) (sought : Option Key) (count : ℕ) → HasRoomAt t sought count → ((told : Option Region) → GivesAny t.inner.index t.store sought told → None ≡ told) → ⊥
+room_some : (t : TreeView) (sought : Option Key) (count : ℕ) → HasRoomAt t sought count → ((told : Option Region) → GivesAny t.inner.index t.store sought told → None ≡ told) → ⊥
 room_some t sought count room found =
     let into = room.4 in
     none_span into.span (found (Some into.span) (subst (λ (o : Option Key). GivesAny t.inner.index t.store o (Some into.span)) (sym room.1) into.falls))
@@ -74,7 +76,7 @@ room_some t sought count room found =
     none_span s h = cc
 
 -- a region is read that may be given
-pub told_taken : (t : TreeView) (sought : Option Key) (span : Region) → CanFallInto t sought → ((told : Option Region) → GivesAny t.inner.index t.store sought told → Some span ≡ told)
+told_taken : (t : TreeView) (sought : Option Key) (span : Region) → CanFallInto t sought → ((told : Option Region) → GivesAny t.inner.index t.store sought told → Some span ≡ told)
     → (region : RegionRows) × IsTakenIn t span region
 told_taken t sought span h k = search (rules, told_any)
 
@@ -98,3 +100,36 @@ module _ (t : TreeView) (span : Region) (left : ℕ) (joined : IsJoined t span l
 
   pub before_room : (HasRoomAt t span.next left → ⊥) → HasRoomAt t (key_before span.first.z span.first.number) left
   before_room h = search rules
+
+-- a neighbour that is sought is joined with rows, or isn't
+module _ (t : TreeView) (sought : Option Key) (count : ℕ) where
+  -- it isn't found
+  pub unfound_beside : (r : Result (Option Region) TreeFault) (e : TreeFault) → IsErrAnd r (λ x. x ≡ e)
+      → ((told : Option Region) → IsHonest t.store → GivesAny t.inner.index t.store sought told → IsPassing e) → AnswersBeside t sought count r
+  unfound_beside r e is led = record {
+    led = λ honest can. (let any = told_any t sought can in passing_fault r e is (led any.0 honest any.1.0));
+    fits = λ honest room. no_answer r e _ is;
+  }
+
+  -- there is none
+  pub none_beside : ((told : Option Region) → IsHonest t.store → GivesAny t.inner.index t.store sought told → None ≡ told) → AnswersBeside t sought count (Ok None)
+  none_beside led = record { led = λ honest can. tt; fits = λ honest room. absurd (room_some t sought count room (λ told given. led told honest given)) }
+
+  module _ (m : TreeView) (beside : Region) (same : m ≡ t) (led : (told : Option Region) → IsHonest t.store → GivesAny t.inner.index t.store sought told → Some beside ≡ told) where
+    -- it isn't read
+    pub unread_beside : (r : Result (Option Region) TreeFault) (e : TreeFault) → IsErrAnd r (λ x. x ≡ e)
+        → (IsHonest m.store → (region : RegionRows) → IsTakenIn m beside region → IsPassing e) → AnswersBeside t sought count r
+    unread_beside r e is taken = record {
+      led = λ honest can.
+          let on = told_taken t sought beside can (λ told given. led told honest given) in
+          passing_fault r e is (taken (subst (λ (v : TreeView). IsHonest v.store) (sym same) honest) on.0 (subst (λ (v : TreeView). IsTakenIn v beside on.0) (sym same) on.1));
+      fits = λ honest room. no_answer r e _ is;
+    }
+
+    -- it was read, and where it has room the rows fit
+    pub room_fits : (page : RegionView) → (IsHonest m.store → (region : RegionRows) → IsTakenIn m beside region → page.region ≡ region) → IsHonest t.store → HasRoomAt t sought count
+        → count + length page.region.rows ≤ t.schema.page_rows
+    room_fits page taken honest room =
+        let on = room_taken t sought count beside honest room (λ told given. led told honest given) in
+        let read = taken (subst (λ (v : TreeView). IsHonest v.store) (sym same) honest) on.0 (subst (λ (v : TreeView). IsTakenIn v beside on.0) (sym same) on.1) in
+        rw read on.2

@@ -43,6 +43,10 @@ same_marked a = record { kept = λ honest unmarked m first lt. refl; marked = λ
 pub same_leaves : (a : TreeView) → Leaves a a
 same_leaves a = search rules
 
+-- a call that changed nothing
+pub all_same : {T : Type 0} (x : T) (a : TreeView) → Changes a a (Ok x)
+all_same x a = record { frame = refl; marked = same_marked a; done = (refl, refl); left = tt }
+
 -- a refusal after which all is as it was
 pub unchanged : {T : Type 0} (e : TreeFault) (a : TreeView) → IsLeft a a e → Changes {A = T} a a (Err e)
 unchanged e a left = record { frame = refl; marked = same_marked a; done = tt; left = left }
@@ -111,7 +115,7 @@ ready_left HasFailed a c h = (h.faults, h.same)
 ready_left Memory a c h = subst (λ (v : TreeView). Leaves a v) (sym h.same) (same_leaves a)
 ready_left (Page page fault) a c h = (h.faults.0, h.faults.1, h.same)
 ready_left (Store store.Device) a c h = (h.faults, inl h.same)
-ready_left (Store store.NoPage) a c h = (h.faults.0, inl (h.faults.1, h.same))
+ready_left (Store store.NoPage) a c h = (h.faults.0, h.faults.1, h.same)
 ready_left (Store store.BadSize) a c h = (h.faults, subst (λ (v : TreeView). Leaves a v) (sym h.same) (same_leaves a))
 ready_left (Store store.Memory) a c h = absurd h.faults
 

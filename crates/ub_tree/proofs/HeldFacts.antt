@@ -1,24 +1,19 @@
 -- The pages that a tree's pager holds stay checked.
 use Rattle.std.proofs.lemmas.Grind.{common_steps}
 use Rattle.std.proofs.Common.{rules}
-use Rattle.std.proofs.Common.{◌≡◌, ◌∙◌, ◌⊎◌, ℕ, List, Some, None, sym, subst, refl, arith}
+use Rattle.std.proofs.Common.{◌≡◌, ◌∙◌, ◌⊎◌, ℕ, List, Some, sym, refl, arith}
 use Rattle.std.specs.Prelude.{Contains}
 use Rattle.std.specs.List.{AllByRecursion}
-use Rattle.ub_index.proofs.HeldFacts.{keeps_gone}
-use Rattle.ub_index.proofs.StepFacts.{honest_back, same_honest}
 use Rattle.ub_index.specs.Held.{KeepsChecked}
 use Rattle.ub_index.specs.View.{IndexView}
 use Rattle.ub_page.specs.Index.{IsIndexKind}
 use Rattle.ub_bytes.specs.Bytes.{number_at, number_bytes}
 use Rattle.ub_page.specs.Header.{header_page, page_of}
-use Rattle.ub_region.specs.RegionPage.{region_page}
 use Rattle.ub_page.specs.declared.header.Header.{Header}
-use Rattle.ub_store.specs.Cache.{NoneMoreBut, Renews, SameBut, page_at}
+use Rattle.ub_store.specs.Cache.{NoneMoreBut, Renews, page_at}
 use Rattle.ub_store.specs.Facts.{IsHonest}
 use Rattle.ub_store.specs.View.{PagerView}
-use Rattle.ub_table.specs.Region.{RegionRows, IsRegion}
 use Rattle.ub_table.specs.declared.schema.Schema.{Schema}
-use Rattle.ub_tree.proofs.WayFacts.{region_no_kind}
 use Rattle.ub_tree.specs.Tree.{IsTree}
 use Rattle.ub_writing.specs.Puts.{IsPutPage}
 use Rattle.ub_writing.specs.declared.mark.Mark.{Mark}
@@ -32,19 +27,10 @@ module _ (schema : Schema) (index : IndexView) (count next rows : ℕ) (mark : M
   pub tree_written : (now : Mark) → (now ≡ mark) ⊎ (now ≡ Written) → IsTree schema index count next rows now new
   tree_written now h = search rules
 
--- where a region's page was brought, and taken in, or forgotten
+-- where a page was brought that doesn't begin as one of an index
 module _ (last n : ℕ) (old mid : PagerView) (reads : ℕ) (same : mid.store ≡ record old.store { failed_reads = reads }) (others : NoneMoreBut n old.cached mid.cached) where
   pub kind_checked : (page : List ℕ) → page_at mid.cached n ≡ Some page → ¬ (IsIndexKind page) → KeepsChecked last old mid
   kind_checked page h k = search rules
-
-  pub region_gone : (new : PagerView) → new ≡ record mid { cached = new.cached } → page_at new.cached n ≡ None → SameBut n mid.cached new.cached → KeepsChecked last old new
-  region_gone new forgot gone but =
-      keeps_gone last old new n (λ good. honest_back old.store mid.store reads same (same_honest mid new forgot good)) (λ m page ne h. others m page ne (sym (but m ne) ∙ h)) gone
-
-pub region_checked : (schema : Schema) (last n : ℕ) (old mid : PagerView) (reads : ℕ) → mid.store ≡ record old.store { failed_reads = reads } → NoneMoreBut n old.cached mid.cached
-    → (region : RegionRows) (page : List ℕ) → page_at mid.cached n ≡ Some page → IsRegion schema region → page ≡ region_page schema region → KeepsChecked last old mid
-region_checked schema last n old mid reads same others region page at is spelled =
-    kind_checked last n old mid reads same others page at (subst (λ (x : List ℕ). ¬ (IsIndexKind x)) (sym spelled) (region_no_kind schema region is))
 
 -- the page of a header doesn't begin as one of an index
 header_first : (header : Header) → number_at 1 0 (header_page header) ≡ 0x55

@@ -1,25 +1,29 @@
 -- A tree of which two neighbouring regions were joined into the first: the change of its index was made ready, the first one's page was put,
 -- and then the pages that the change spells.
 use Rattle.std.proofs.Common.{rules}
-use Rattle.std.proofs.Common.{◌≡◌, ◌≢◌, ◌<◌, ◌≤◌, ◌+◌, ◌-◌, ◌∙◌, inl, inr, ℕ, true, List, [], ◌∷◌, Some, Ok, Err, Result, IfErr, length, map, sym, ap, subst, arith}
+use Rattle.std.proofs.Common.{◌≡◌, ◌≢◌, ◌<◌, ◌≤◌, ◌+◌, ◌-◌, ◌^◌, ◌++◌, ◌⊎◌, ◌∙◌, inl, inr, slice_get, ℕ, true, List, [], ◌∷◌, Some, Ok, Err, Result, IfErr, length, map, sym, ap, subst, arith}
+use Rattle.std.proofs.lemmas.Bool.{cases_eq, cases_lt}
 use Rattle.std.proofs.lemmas.List.{length-map}
 use Rattle.std.proofs.lemmas.Option.{slice_get_past}
 use Rattle.std.specs.Result.{IsErrAnd}
-use Rattle.ub_check.proofs.StandingFacts.{each_get}
+use Rattle.ub_index.proofs.LeadFacts.{ways_hold}
 use Rattle.ub_index_change.specs.Changed.{Replaces}
 use Rattle.ub_index_change.specs.Changing.{AreOnce, IsUnspelled, Stand}
 use Rattle.ub_index.specs.Standing.{IsOutside}
-use Rattle.ub_index.specs.Index.{pages_under, top}
+use Rattle.ub_index.proofs.FitFacts.{page_is}
+use Rattle.ub_index.specs.Index.{IsIndexPage, page_in, pages_under, top}
+use Rattle.ub_index_change.proofs.BesideFacts.{IsKept, dropped_once, others_stay}
 use Rattle.ub_index_change.specs.Lowering.{IsDropFault}
 use Rattle.ub_index_change.specs.Making.{IsPutFault, PutsSheets, changed}
 use Rattle.ub_index_change.specs.Preparing.{ChangeView, MakesIndex}
-use Rattle.ub_index.specs.View.{IndexView, entries_in, entry_at}
+use Rattle.ub_index.specs.View.{IndexView, Leads, entries_in, entry_at}
 use Rattle.ub_index.specs.declared.fault.IndexFault.{IndexFault}
 use Rattle.ub_index.specs.declared.fault.IndexFault.TheVariants as index
 use Rattle.ub_region.specs.declared.region.Region.{Region}
 use Rattle.ub_index_change.specs.declared.sheet.Sheet.{Sheet}
 use Rattle.ub_region.proofs.Laws.{all_more}
 use Rattle.ub_region.specs.Joins.{put_rows}
+use Rattle.ub_region.specs.RegionPage.{region_page}
 use Rattle.ub_store.specs.Facts.{StoreFacts, IsHonest, page_count}
 use Rattle.ub_store.specs.declared.fault.StoreFault.TheVariants as store
 use Rattle.ub_table.specs.Keys.{IsBefore, origin}
@@ -32,18 +36,27 @@ use Rattle.ub_tree.proofs.EffectFacts.{left_by, writes_both, writes_told}
 use Rattle.ub_tree.proofs.IndexedFacts.{at_of_key}
 use Rattle.ub_tree.proofs.PutFacts.{view_placed}
 use Rattle.ub_tree.proofs.RoomFacts.{begins_before}
+use Rattle.ub_tree.proofs.WayFacts.{region_no_index}
 use Rattle.ub_tree.specs.Effects.{Changes, HasEnded, IsLeft}
 use Rattle.ub_tree.specs.Faults.{index_fault}
 use Rattle.ub_tree.specs.Indexed.{HasIndex, Inner, entries_on, reserved}
-use Rattle.ub_tree.specs.Others.{AreOthersKept, WritesIndex}
+use Rattle.ub_tree.specs.Others.{AreOthersKept, KeepsBeside, KeepsOthers, WritesIndex}
 use Rattle.ub_tree.specs.Placed.{Placed, ArePlaced, entry_of, placed_of, regions_in}
 use Rattle.ub_tree.specs.Removal.{IsRemovalFault}
 use Rattle.ub_tree.specs.Tree.{placed_in}
 use Rattle.ub_tree.specs.View.{TreeView, IsSound, region_count, regions}
 use Rattle.ub_tree.specs.declared.fault.TreeFault.{TreeFault}
-use Rattle.ub_tree.specs.inner.Change.{HasStopped, IsDropReady, IsElsewhereSame, IsIndexFault, IsPut, IsRegionIn, IsRegionThere, IsSpelledAt, IsStored, JoinsAt, Writes, placed_with}
-use Rattle.ub_tree.specs.Told.{IsRegionOf}
+use Rattle.ub_tree.specs.inner.Change.{HasStopped, IsDropReady, IsElsewhereSame, IsIndexFault, IsPut, IsRegionIn, IsRegionThere, IsSpelledAt, IsStored, Writes, placed_with}
+use Rattle.ub_tree.specs.inner.Removing.{JoinsAt}
+use Rattle.ub_tree.specs.Pages.{Spells}
+use Rattle.ub_tree.specs.Told.{FallsTo, IsRegionOf}
 use Rattle.ub_writing.specs.Marks.{HasMark}
+
+-- the first key of a region that a tree tells of falls there
+pub first_falls : (t : TreeView) (span : Region) → IsHonest t.store → IsRegionOf t span → FallsTo t span.first span
+first_falls t span honest told =
+    let ways = ways_hold t.inner.index t.store told.key span (told.falls.way honest) in
+    record { holds = ways.1; from = told.falls.from; to = told.falls.to; way = λ _. ways.2 span.first ways.1 }
 
 -- a key after another one is after the least of all
 after_origin : (key later : Key) → IsBefore key later → IsBefore origin later
@@ -89,8 +102,8 @@ module _ (b mid n : TreeView) (span next : Region) (change : ChangeView) (there 
   ended : (fault : TreeFault) → HasStopped fault mid n → HasEnded fault b n
   ended fault h = search (rules, writes_told, written_others)
 
-  no_page_missing : IsPutFault change.sheets mid.store store.NoPage → ¬ (IsHonest b.store)
-  no_page_missing h = search (rules, each_get)
+  no_page_missing : IsPutFault change.next change.sheets mid.store store.NoPage → ⊥
+  no_page_missing missing = let less = missing.0 in let next = ready.next in let same = wrote.count in omega arith
 
   index_left : (fault : TreeFault) → HasStopped fault mid n → IsIndexFault change mid.store fault → IsLeft b n fault
   index_left fault h k = search (rules, ended, no_page_missing)
@@ -114,8 +127,62 @@ module _ (b mid n : TreeView) (span next : Region) (change : ChangeView) (there 
     elsewhere : IsElsewhereSame b d
     elsewhere = whole ∙ ap (λ (v : TreeView). record b { placed = v.placed; store = v.store; is_changed = true; inner = v.inner }) (sym whole)
 
-    pub joined_at : 1 ≤ region_count b → JoinsAt span b d
-    joined_at h = search (rules, elsewhere, store_is, whole, written_others)
+    joined_others : WritesIndex span.page b d
+    joined_others = subst (λ (s : StoreFacts). KeepsOthers (reserved b.inner.index b.store.pages ++ span.page ∷ []) b.store s) (sym store_is) written_others
+
+    joined_count : 1 ≤ region_count b → region_count b ≡ region_count d + 1
+    joined_count h = let less = ap (λ (v : TreeView). v.inner.count) whole in omega arith
+
+    joined_pages : page_count d.store ≡ page_count b.store
+    joined_pages = ap (λ (s : StoreFacts). page_count s) store_is ∙ puts.count ∙ wrote.count
+
+    pub joined_at : (rows : List Row) → 1 ≤ region_count b → (IsHonest b.store → Spells d span.page span.first rows) → KeepsBeside span b d → JoinsAt span rows b d
+    joined_at rows h spells beside = record { same = elsewhere; others = joined_others; dropped = (joined_count h, joined_pages, beside); put = spells }
+
+    -- each region beside the two is told of as before
+    module _ (rows : List Row) (near : b.inner.index.last < 2 ^ 128) (good : IsRegion b.schema (record { first = span.first; rows = rows })) (told : IsRegionOf b next)
+        (stand : AreOnce change.sheets → IsHonest mid.store → Stand n.store.pages change.sheets) (spells : IsHonest b.store → Spells d span.page span.first rows) where
+      page_then : IsHonest b.store → slice_get n.store.pages span.page ≡ Some (region_page b.schema (record { first = span.first; rows = rows }))
+      page_then honest = sym (ap (λ (s : StoreFacts). slice_get s.pages span.page) store_is) ∙ spells honest
+          ∙ ap (λ (v : TreeView). Some (region_page v.schema (record { first = span.first; rows = rows }))) whole
+
+      kept : IsHonest b.store → IsKept b.inner.index.last b.store.pages n.store.pages change.sheets
+      kept honest m some free was = elim (cases_lt m (page_count b.store)) [
+        | inl less ↦ elim (cases_eq m span.page) [
+          | inl own ↦ absurd (no_index own was)
+          | inr other ↦ puts.others (honest_mid honest) m free ∙ wrote.kept.kept honest m ((λ none. omega (arith, some, none)), (other, tt)) less
+        ]
+        | inr past ↦
+            let count = puts.count in
+            let count_mid = wrote.count in
+            slice_get_past n.store.pages m (omega arith) ∙ sym (slice_get_past b.store.pages m past)
+      ]
+        where
+          no_index : m ≡ span.page → IsIndexPage b.inner.index.last (page_in b.store.pages m) ⊎ IsIndexPage b.inner.index.last (page_in n.store.pages m) → ⊥
+          no_index own (inl h) =
+              region_no_index b.inner.index.last near b.schema there.region there.on.0
+              (subst (IsIndexPage b.inner.index.last) (page_is b.store.pages span.page (region_page b.schema there.region) (there.on.2 honest))
+              (subst (λ (k : ℕ). IsIndexPage b.inner.index.last (page_in b.store.pages k)) own h))
+          no_index own (inr h) =
+              region_no_index b.inner.index.last near b.schema (record { first = span.first; rows = rows }) good
+              (subst (IsIndexPage b.inner.index.last) (page_is n.store.pages span.page (region_page b.schema (record { first = span.first; rows = rows })) (page_then honest))
+              (subst (λ (k : ℕ). IsIndexPage b.inner.index.last (page_in n.store.pages k)) own h))
+
+      leads_then : IsHonest b.store → (key : Key) (other : Region) → FallsTo b key other → other.next ≢ span.next → span.next ≢ Some other.first
+          → Leads (changed b.inner.index change) n.store key other
+      leads_then honest key other falls not_this not_next =
+          others_stay b.inner.index b.store n.store next.first key next other change near ready.bounds.1 ready.bounds.0 ready.bounds.2 (ready.made honest)
+          ((first_falls b next honest told).way honest) later (stand (dropped_once b.inner.index b.store next.first change (ready.made honest)) (honest_mid honest)) (kept honest) (falls.way honest)
+          (λ first_is. not_next (begins ∙ ap (λ (k : Key). Some k) (sym first_is))) (λ next_is. not_this (next_is ∙ sym begins))
+
+      pub joined_beside : KeepsBeside span b d
+      joined_beside honest key other falls not_this not_next =
+          subst (λ (v : TreeView). FallsTo v key other) (sym whole) (record {
+            holds = falls.holds;
+            from = falls.from;
+            to = falls.to;
+            way = λ _. leads_then honest key other falls not_this not_next;
+          })
 
     pub joined_effect : {T : Type 0} (x : T) → n.store ≡ record mid.store { pages = n.store.pages; synced = n.store.synced } → Changes b d (Ok x)
     joined_effect x h = search (rules, elsewhere, mark_then, store_is, whole)

@@ -33,7 +33,7 @@ pub use Rattle.ub_tree.proofs.EffectFacts.{mark_then}
 pub use Rattle.ub_tree.proofs.NewFacts.{new_values, numbered_row}
 pub use Rattle.ub_tree.proofs.TreeFacts.{firsts_placed}
 pub use Rattle.ub_tree.proofs.MeetFacts.{before, contained_at, contains_at, is_later, later_from, spans_long, take_all, those_next, those_up_to}
-pub use Rattle.ub_tree.proofs.ReadFacts.{IsTraced, Keeps, Keeps-by, Keeps-more, Keeps-none, begun_traced, given_before, read_fault_before, reads_by, reads_then, told_kept, traced_gives, traced_told, tree_reads, unchanged_trace, unchanged_traced, SearchesTree-regions, SearchesTree-sound}
+pub use Rattle.ub_tree.proofs.ReadFacts.{IsTraced, Keeps, Keeps-by, Keeps-more, Keeps-none, begun_traced, given_before, read_fault_before, reads_by, reads_then, searched_fault, told_kept, traced_gives, traced_told, tree_reads, unchanged_trace, unchanged_traced, SearchesTree-regions, SearchesTree-sound}
 pub use Rattle.ub_index.proofs.Laws.{region_first}
 
 -- the region of a span, with its page

@@ -30,6 +30,7 @@ pub mod RemovalFacts
 pub mod GrowFacts
 pub mod GrownFacts
 pub mod StandFacts
+pub mod LessenFacts
 pub mod ThereFacts
 pub mod ReadyFacts
 pub mod OpenedFacts

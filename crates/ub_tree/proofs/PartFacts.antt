@@ -4,7 +4,6 @@ use Rattle.std.proofs.Common.{rules}
 use Rattle.std.proofs.Common.{◌≡◌, ◌≢◌, ◌<◌, ◌≤◌, ◌+◌, ◌-◌, ◌∙◌, inr, ℕ, Bool, true, List, [], ◌∷◌, Ok, Err, Result, sym, ap, subst, refl, arith}
 use Rattle.std.specs.List.{AllByRecursion}
 use Rattle.std.specs.Result.{IsErrAnd}
-use Rattle.ub_check.proofs.StandingFacts.{each_get}
 use Rattle.ub_index.specs.Standing.{IsOutside}
 use Rattle.ub_index_change.specs.Changing.{IsUnspelled}
 use Rattle.ub_index.specs.Index.{pages_under, top}
@@ -160,8 +159,8 @@ module _ (a g h : TreeView) (span : Region) (of : IsRegionOf a span) (first : Ke
     put_ended : (fault : TreeFault) → HasStopped fault h n → HasEnded fault a n
     put_ended fault k = search (rules, halves_is, put_others, writes_told)
 
-    no_page_missing : IsPutFault change.sheets h.store store.NoPage → ¬ (IsHonest a.store)
-    no_page_missing k = search (rules, each_get)
+    no_page_missing : IsPutFault change.next change.sheets h.store store.NoPage → ⊥
+    no_page_missing missing = let less = missing.0 in let grown = grew.done.1 in let same = halves_count in let start = ready.start in let some = ready.some in omega arith
 
     put_left : (e : TreeFault) → HasStopped e h n → IsIndexFault change h.store e → IsLeft a n e
     put_left e k j = search (rules, halves_is, no_page_missing, put_ended)

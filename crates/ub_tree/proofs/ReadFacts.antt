@@ -5,13 +5,16 @@ use Rattle.std.specs.Result.{IsErrAnd}
 use Rattle.ub_bigmin.specs.Box.{Corners}
 use Rattle.ub_store.specs.Facts.{page_count}
 use Rattle.ub_store.specs.View.{Trace, emptied}
+use Rattle.ub_store.specs.declared.fault.StoreFault.TheVariants as store
 use Rattle.ub_table.specs.declared.fault.PageFault.{PageFault}
-use Rattle.ub_tree.specs.Effects.{IsReadFault, IsPageRefused, IsPageMissing, IsStopped, raised_by}
+use Rattle.ub_table.specs.declared.row.Key.{Key}
+use Rattle.ub_tree.specs.Effects.{IsReadFault, IsPageRefused, IsPageMissing, IsSearchFault, IsStopped, SearchesFor, raised_by}
 use Rattle.ub_tree.specs.Reading.{IsGiven, ReadsTree, SearchesTree, counted, fault_of_tree}
 use Rattle.ub_tree.specs.Spans.{Region}
 use Rattle.ub_tree.specs.Told.{GivesNext, IsRegionOf}
 use Rattle.ub_tree.specs.View.{TreeView, IsSound, KeepsRegions, KeepsTrace}
 use Rattle.ub_tree.specs.declared.fault.TreeFault.{TreeFault}
+use Rattle.ub_tree.specs.declared.fault.TreeFault.TheVariants as tree
 use Rattle.ub_tree.specs.declared.read_fault.ReadFault.{ReadFault}
 use Rattle.ub_tree.specs.declared.read_fault.ReadFault.TheVariants as read
 
@@ -80,6 +83,17 @@ pub given_before : (a b : TreeView) (fault : ReadFault) → IsTraced a b → IsG
 given_before a b read.Memory h is = tt
 given_before a b (read.Tree fault) h is = (read_fault_before a b fault h is.0, is.1)
 
+-- a search to some keys is refused as a search is
+pub searched_fault : (Sought : Key → Type 0) (t : TreeView) (e : TreeFault) → IsSearchFault Sought t e → IsReadFault t e
+searched_fault Sought t tree.Full h = absurd h
+searched_fault Sought t tree.Failed h = h
+searched_fault Sought t tree.Memory h = tt
+searched_fault Sought t (tree.Page n fault) h = (h.0, inl (λ honest. let way = h.1 honest in (way.0, way.2)))
+searched_fault Sought t (tree.Store store.Device) h = h
+searched_fault Sought t (tree.Store store.NoPage) h = (h.0, inl (h.1.0, h.1.1, λ honest. let way = h.1.2 honest in (way.0, way.2)))
+searched_fault Sought t (tree.Store store.BadSize) h = absurd h
+searched_fault Sought t (tree.Store store.Memory) h = absurd h
+
 -- ---- calls that read, one after the other
 
 -- reading after reading is reading
@@ -108,6 +122,15 @@ tree_reads {T = T} (Err f) e a b c is h same fault =
     }))
 
 -- ---- calls that search
+
+-- the fault of a search handed on, after others that changed nothing
+pub searches_by : {T U : Type 0} {Sought : Key → Type 0} (r : Result T ReadFault) (e : TreeFault) (a b c : TreeView) → IsErrAnd r (λ x. x ≡ fault_of_tree e) → b ≡ a
+    → SearchesFor {A = U} Sought b c (Err e) → SearchesTree a c r
+searches_by (Ok x) e a b c is same h = absurd is
+searches_by {T = T} {U = U} {Sought = Sought} (Err f) e a b c is same h = rw is (subst (λ (t : TreeView). SearchesTree {A = T} t c (Err (fault_of_tree e))) same (record {
+  same = h.same ∙ ap (λ (n : ℕ). record b { store = record b.store { failed_reads = n } }) (sym (counted_of T e b.store.failed_reads));
+  faults = given_of b e (searched_fault Sought b e h.faults);
+}))
 
 -- where only the count of failed reads has changed, a sound tree is sound
 retold : (t : TreeView) (n : ℕ) → IsSound t → IsSound (record t { store = record t.store { failed_reads = n } })

@@ -146,9 +146,6 @@ gone_alone last old key (suc level) entry end from to (named, below, next, falls
     by_news lower (Two left right) h m = absurd (nothing falls.before left (right ∷ falls.after) m.0)
 
 -- what is made ready for a region that goes
-pub drop_next : (index : IndexView) (store : StoreFacts) (key : Key) (change : ChangeView) → IsDropped index store key change → change.next ≡ page_count store
-drop_next index store key change h = search (rules, narrow)
-
 pub drop_spelled : (t : TreeView) (key : Key) (change : ChangeView) → 1 ≤ t.inner.index.root → IsDropped t.inner.index t.store key change → AllByRecursion (IsSpelledAt t (page_count t.store) change) change.sheets
 drop_spelled t key change h k = search (rules, all_more, all_spelled, narrow, spells)
 

@@ -1,6 +1,6 @@
 -- A row taken out of a tree: what becomes of the regions where the one that had it is left with few rows.
 use Rattle.std.proofs.Common.{rules}
-use Rattle.std.proofs.Common.{◌≡◌, ◌≢◌, ◌<◌, ◌+◌, ◌-◌, ◌/◌, ◌^◌, inr, ℕ, suc, Bool, true, false, List, [], ◌∷◌, ◌++◌, Some, Ok, Err, Result, IfErr, OnOk, length, map, nat_le, nat_lt, ◌∙◌, sym, ap, subst, refl, arith, slice_get, if◌then◌else◌}
+use Rattle.std.proofs.Common.{◌≡◌, ◌≢◌, ◌<◌, ◌+◌, ◌-◌, ◌/◌, ◌^◌, ℕ, suc, Bool, true, false, List, [], ◌∷◌, ◌++◌, Some, Ok, Err, Result, IfErr, OnOk, length, map, nat_le, nat_lt, ◌∙◌, sym, ap, subst, refl, arith, slice_get, if◌then◌else◌}
 use Rattle.std.proofs.lemmas.List.Sorted.{length_permutation}
 use Rattle.std.specs.List.{AllByRecursion}
 use Rattle.std.specs.Result.{IsErrAnd}
@@ -15,16 +15,17 @@ use Rattle.ub_table.specs.declared.row.Row.{Row}
 use Rattle.ub_tree.proofs.EffectFacts.{sound_stored}
 use Rattle.ub_tree.proofs.ShrinkFacts.{has_at, join_one, join_with, length-regions, put_alone, regions_put, removed_at, settle_before, settle_large, settle_next}
 use Rattle.ub_tree.proofs.TreeFacts.{firsts_placed, region_get, placed_there, within_placed}
-use Rattle.ub_tree.specs.Holding.{IsThatOrBefore, ShrinksAt}
+use Rattle.ub_tree.specs.Holding.{ShrinksAt}
 use Rattle.ub_tree.specs.Placed.{Placed, entry_of, regions_in}
 use Rattle.ub_tree.specs.Effects.{IsReadFault, IsTakenIn}
 use Rattle.ub_tree.specs.Removal.{IsRemovalFault, IsRemoved}
 use Rattle.ub_tree.specs.Spans.{first_keys, Region}
-use Rattle.ub_tree.specs.Told.{FallsTo, KeepsTold}
+use Rattle.ub_tree.specs.Told.{FallsTo}
 use Rattle.ub_tree.specs.View.{TreeView, IsSound, region_count, regions, tree_rows}
 use Rattle.ub_tree.specs.declared.fault.TreeFault.{TreeFault}
 use Rattle.ub_region.specs.RegionPage.{RegionView}
-use Rattle.ub_tree.specs.inner.Change.{HasReadAt, IsElsewhereSame, IsPut, IsRegionIn, IsRegionThere, IsStored, JoinsAt, TakesAt, Writes, placed_with, regions_with}
+use Rattle.ub_tree.specs.inner.Change.{HasReadAt, IsElsewhereSame, IsRegionIn, IsRegionThere, IsStored, placed_with, regions_with}
+use Rattle.ub_tree.specs.inner.Removing.{TakesAt}
 use Rattle.ub_writing.specs.Marks.{HasMark}
 use Rattle.ub_zaddr.specs.Address.{last_address}
 
@@ -131,20 +132,8 @@ module _ (a : TreeView) (i : ℕ) (span : Region) (rows : List Row) (stored : Is
       as_same d r (put_rows k true new (regions a)) settled same_k
       (subst (λ (v : TreeView). Joins r before span new v d) (two ∙ one) written k stored place.2 (subst (λ (n : ℕ). IsRegionIn a n span) up at) (subst (AllByRecursion (IsRegion a.schema)) (sym same_k) all))
 
-module _ {T : Type 0} (r : Result T TreeFault) (a b d : TreeView) (same : b ≡ a) where
-  on_ok : {P Q : Type 0} → (P → Q) → OnOk r P → OnOk r Q
-  on_ok k j = search rules
-
-  -- a region from which a row was taken, alone or joined with a neighbour
-  pub taken_alone : (span : Region) → OnOk r (IsPut b d) → OnOk r (KeepsTold b d) → Writes span b d r → OnOk r (TakesAt span a d)
-  taken_alone span k j l = search rules
-
-  pub taken_joined : (span first : Region) → IsThatOrBefore a span first → OnOk r (JoinsAt first b d) → OnOk r (TakesAt span a d)
-  taken_joined span first is joined = subst (λ (v : TreeView). IsThatOrBefore v span first → OnOk r (TakesAt span v d)) same
-      (λ here. on_ok (λ (h : JoinsAt first b d). record { same = h.same; shrunk = inr (first, here, h.others, h.dropped) }) joined) is
-
-pub shrinks_by : (a b mid d : TreeView) (key : Key) (span : Region) (n : ℕ) → b ≡ a → d ≡ record mid { rows = n } → FallsTo a key span → TakesAt span b mid → ShrinksAt key a d
-shrinks_by a b mid d key span n k j l m = search rules
+pub shrinks_by : (a b mid d : TreeView) (key : Key) (span : Region) (rows : List Row) (n : ℕ) → b ≡ a → d ≡ record mid { rows = n } → FallsTo a key span → TakesAt span rows b mid → ShrinksAt key a d
+shrinks_by a b mid d key span rows n k j l m = search rules
 
 -- the rows of the region that holds a key, which are those of a span
 pub record IsHolder (a : TreeView) (key : Key) (span : Region) (rows : List Row) : Type 0 where

@@ -13,16 +13,18 @@ use Rattle.ub_index.specs.Index.{top}
 use Rattle.ub_index.specs.Searching.{GoesDown, IsWayFault, store_after}
 use Rattle.ub_index.specs.View.{IndexView, Stops}
 use Rattle.ub_index.specs.Way.{HoldsKey}
+use Rattle.ub_index.specs.declared.fault.IndexFault.TheVariants as index
 use Rattle.ub_index.specs.declared.fault.IndexFault.{IndexFault}
 use Rattle.ub_region.specs.declared.region.Region.{Region}
 use Rattle.ub_store.specs.Facts.{StoreFacts, IsHonest}
 use Rattle.ub_store.specs.View.{PagerView}
+use Rattle.ub_store.specs.declared.fault.StoreFault.TheVariants as store
 use Rattle.ub_table.proofs.Laws.{before_of, before_trans, not_before_self, not_both_before, precedes_of}
 use Rattle.ub_table.specs.Keys.{IsBefore, precedes}
 use Rattle.ub_table.specs.declared.fault.PageFault.{PageFault}
 use Rattle.ub_table.specs.declared.row.Key.{Key}
 use Rattle.ub_table.specs.declared.schema.Schema.{Schema}
-use Rattle.ub_tree.specs.Effects.{IsIndexRefused, IsReadFault, Searches, read_store}
+use Rattle.ub_tree.specs.Effects.{IsIndexRefused, IsReadFault, IsSearchFault, Searches, SearchesFor, read_store}
 use Rattle.ub_tree.specs.Faults.{index_fault}
 use Rattle.ub_tree.specs.Told.{FallsTo}
 use Rattle.ub_tree.specs.Tree.{known_pages, tree_view}
@@ -84,6 +86,16 @@ pub search_fault : (t : TreeView) (Sought : Key → Type 0) → t.inner.index.la
     → IsWayFault t.inner.index t.store Sought e → IsReadFault t (index_fault e)
 search_fault t Sought h e k = search (rules, index_not_refused, no_stop)
 
+-- and by which keys
+pub sought_fault : (t : TreeView) (Sought : Key → Type 0) → t.inner.index.last < 2 ^ 128 → (e : IndexFault)
+    → IsWayFault t.inner.index t.store Sought e → IsSearchFault Sought t (index_fault e)
+sought_fault t Sought small (index.Page n fault) h = ((λ sound. let way = h sound.honest in no_stop t way.0 n (Some fault) small sound way.2), h)
+sought_fault t Sought small (index.Store store.Memory) h = tt
+sought_fault t Sought small (index.Store store.Device) h = h
+sought_fault t Sought small (index.Store store.NoPage) h = ((λ sound. let way = h.2 sound.honest in no_stop t way.0 h.0 None small sound way.2), h)
+sought_fault t Sought small (index.Store store.BadSize) h = absurd h
+sought_fault t Sought small index.Full h = absurd h
+
 -- a search, as one of the tree
 module _ (schema : Schema) (i : IndexView) (count next rows : ℕ) (changed failed : Bool) (old new : PagerView) (Sought : Key → Type 0) where
   abbrev before : TreeView
@@ -92,9 +104,6 @@ module _ (schema : Schema) (i : IndexView) (count next rows : ℕ) (changed fail
   abbrev after : TreeView
   after = tree_view schema i count next rows changed failed new
 
-  pub searched_there : {T : Type 0} (U : Type 0) (x : T) (y : U) → GoesDown {A = U} Sought i old new (Ok y) → Searches before after (Ok x)
-  searched_there U x y h = record { same = ap (λ (p : PagerView). tree_view schema i count next rows changed failed p) h.same; faults = tt }
-
   pub search_refused : {T : Type 0} (U : Type 0) (r : Result T TreeFault) (e : IndexFault) → i.last < 2 ^ 128 → AreChecked i.last old → IsErrAnd r (λ x. x ≡ index_fault e)
       → GoesDown {A = U} Sought i old new (Err e) → Searches before after r
   search_refused U (Ok x) e small sure is h = absurd is
@@ -102,4 +111,13 @@ module _ (schema : Schema) (i : IndexView) (count next rows : ℕ) (changed fail
     same = ap (λ (p : PagerView). tree_view schema i count next rows changed failed p) h.same
         ∙ ap (λ (s : StoreFacts). record before { store = s }) (stores_alike T U e old.store);
     faults = search_fault before Sought small e (h.faults sure);
+  })
+
+  pub sought_refused : {T : Type 0} (U : Type 0) (r : Result T TreeFault) (e : IndexFault) → i.last < 2 ^ 128 → AreChecked i.last old → IsErrAnd r (λ x. x ≡ index_fault e)
+      → GoesDown {A = U} Sought i old new (Err e) → SearchesFor Sought before after r
+  sought_refused U (Ok x) e small sure is h = absurd is
+  sought_refused {T} U (Err f) e small sure is h = rw is (record {
+    same = ap (λ (p : PagerView). tree_view schema i count next rows changed failed p) h.same
+        ∙ ap (λ (s : StoreFacts). record before { store = s }) (stores_alike T U e old.store);
+    faults = sought_fault before Sought small e (h.faults sure);
   })

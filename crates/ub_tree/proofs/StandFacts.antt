@@ -1,5 +1,5 @@
 -- What stands on the pages of a tree's regions once a row was put in, or taken out, over an honest store.
-use Rattle.std.proofs.Common.{◌≡◌, ◌≢◌, ◌<◌, ◌+◌, ◌^◌, ◌∙◌, inl, inr, ℕ, List, Result, Ok, Err, OnOk, IfSome, Some, length, sym, ap, subst, refl, arith, slice_get, ◌++◌}
+use Rattle.std.proofs.Common.{◌≡◌, ◌≢◌, ◌<◌, ◌+◌, ◌^◌, ◌∙◌, inl, inr, ℕ, List, Result, Ok, Err, OnOk, IfSome, Some, length, sym, ap, subst, refl, arith, slice_get}
 use Rattle.std.specs.List.{AllByRecursion}
 use Rattle.ub_index.proofs.LeadFacts.{ways_hold}
 use Rattle.ub_index_change.specs.Changing.{IsUnspelled}
@@ -24,11 +24,10 @@ use Rattle.ub_tree.specs.Effects.{IsTakenIn}
 use Rattle.ub_tree.specs.Holding.{FallsInto, GrowsAt}
 use Rattle.ub_tree.specs.Pages.{PutsRow, Spells, SpellsHalves, LeavesRows, TakesRow}
 use Rattle.ub_tree.specs.Told.{FallsTo, IsRegionOf, KeepsTold}
-use Rattle.ub_tree.specs.View.{TreeView, region_count}
+use Rattle.ub_tree.specs.View.{TreeView}
 use Rattle.ub_tree.specs.declared.fault.TreeFault.{TreeFault}
-use Rattle.ub_tree.specs.inner.Change.{CanStand, HasReadAt, IsAddReady, IsRegionThere, IsSpelledAt, StandAt, StoresAt, JoinsAt}
+use Rattle.ub_tree.specs.inner.Change.{CanStand, HasReadAt, IsAddReady, IsRegionThere, IsSpelledAt, StandAt, StoresAt}
 use Rattle.ub_writing.specs.Puts.{PutsTwo}
-use Rattle.ub_index.specs.Searching.{key_before}
 use Rattle.ub_tree.proofs.CallFacts.{one_falls}
 
 -- no page that a change of the index spells is that of a region: what stands there is none of an index
@@ -148,41 +147,6 @@ module _ (a mid d : TreeView) (next rows : ℕ) (row : Row) (span : Region) (pag
         (subst (λ (k : Key). SpellsHalves d number (page_count a.store) k (split a.schema.dims a.schema.page_rows new_rows)) (sym first_is)
         (subst (λ (m : ℕ). SpellsHalves d m (page_count a.store) span.first (split a.schema.dims a.schema.page_rows new_rows)) on.1 then));
   }
-
--- the first key of a region that a tree tells of falls there
-first_falls : (t : TreeView) (span : Region) → IsHonest t.store → IsRegionOf t span → FallsTo t span.first span
-first_falls t span honest told =
-    let ways = ways_hold t.inner.index t.store told.key span (told.falls.way honest) in
-    record { holds = ways.1; from = told.falls.from; to = told.falls.to; way = λ _. ways.2 span.first ways.1 }
-
--- what is left of a region stands alone on its page
-pub leaves_alone : {T : Type 0} (r : Result T TreeFault) (a b c : TreeView) (span : Region) (rows : List Row) → b ≡ a → OnOk r (KeepsTold b c)
-    → OnOk r (IsHonest b.store → Spells c span.page span.first rows) → OnOk r (IsHonest a.store → LeavesRows span rows a c)
-leaves_alone (Err e) a b c span rows same told put = tt
-leaves_alone (Ok x) a b c span rows same told put = λ honest.
-    inl (told.count ∙ ap (λ (v : TreeView). region_count v) same, put (subst (λ (v : TreeView). IsHonest v.store) (sym same) honest))
-
--- or with the rows of the next region behind it
-pub leaves_next : {T : Type 0} (r : Result T TreeFault) (a b c : TreeView) (span next : Region) (rows new : List Row) → b ≡ a → IsRegionOf a next → span.next ≡ Some next.first
-    → (other : RegionRows) × IsTakenIn a next other × (new ≡ rows ++ other.rows) → OnOk r (JoinsAt span b c)
-    → OnOk r (IsHonest b.store → Spells c span.page span.first new) → OnOk r (IsHonest a.store → LeavesRows span rows a c)
-leaves_next (Err e) a b c span next rows new same of begins taken joins put = tt
-leaves_next (Ok x) a b c span next rows new same of begins (other, on, made) joins put = λ honest.
-    let spells = subst (λ (rs : List Row). Spells c span.page span.first rs) made (put (subst (λ (v : TreeView). IsHonest v.store) (sym same) honest)) in
-    let into : FallsInto a next.first next.page other = record { span = next; falls = first_falls a next honest of; page_is = refl; taken = on } in
-    inr (subst (λ (v : TreeView). region_count v ≡ region_count c + 1) same joins.dropped.0, next.page, other, inl ((next.first, begins, into), spells))
-
--- or behind the rows of the one before, on that one's page
-pub leaves_before : {T : Type 0} (r : Result T TreeFault) (a b c : TreeView) (span before : Region) (rows new : List Row) → b ≡ a
-    → (k : Key) × (key_before span.first.z span.first.number ≡ Some k) × FallsTo a k before
-    → (other : RegionRows) × IsTakenIn a before other × (new ≡ other.rows ++ rows) → OnOk r (JoinsAt before b c)
-    → OnOk r (IsHonest b.store → Spells c before.page before.first new) → OnOk r (IsHonest a.store → LeavesRows span rows a c)
-leaves_before (Err e) a b c span before rows new same falls taken joins put = tt
-leaves_before (Ok x) a b c span before rows new same (key, is, falls) (other, on, made) joins put = λ honest.
-    let spells = subst (λ (rs : List Row). Spells c before.page before.first rs) made (put (subst (λ (v : TreeView). IsHonest v.store) (sym same) honest)) in
-    let named = subst (λ (k : Key). Spells c before.page k (other.rows ++ rows)) (sym on.1.0) spells in
-    let into : FallsInto a key before.page other = record { span = before; falls = falls; page_is = refl; taken = on } in
-    inr (subst (λ (v : TreeView). region_count v ≡ region_count c + 1) same joins.dropped.0, before.page, other, inr ((key, is, into), named))
 
 -- rows that were put stand so once the index is put
 pub joined_stand : (b mid n d : TreeView) (span : Region) (change : ChangeView) (rows : List Row) → IsRegionThere b span → b.inner.index.last < 2 ^ 128

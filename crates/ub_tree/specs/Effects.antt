@@ -1,7 +1,8 @@
 -- What the calls of a tree leave, in a few words: a call that searches, one that reads regions, one that changes the tree.
 use Rattle.std.specs.Prelude.{◌+◌, ◌≡◌, ◌<◌, ◌≤◌, ◌⊎◌, ℕ, true, IsTrue, Result, Ok, Err, IfErr, OnOk, List, Some, None}
 use Rattle.std.specs.List.{Contains}
-use Rattle.ub_check.specs.Standing.{IsHeldBy, IsRegionRefused}
+use Rattle.ub_check.specs.Standing as check
+use Rattle.ub_check.specs.Standing.{IsRegionRefused}
 use Rattle.ub_store.specs.Writing.{Grows}
 use Rattle.ub_index_change.specs.Lowering.{IsDropFault}
 use Rattle.ub_index_change.specs.Preparing.{HasFullWay, NeedsPages}
@@ -12,9 +13,8 @@ use Rattle.ub_store.specs.Facts.{StoreFacts, IsHonest, IsPage, page_count, raise
 use Rattle.ub_store.specs.View as trace
 use Rattle.ub_store.specs.View.{Notes}
 use Rattle.ub_table.specs.declared.row.TheConstants.{MAX_ROW_NUMBER}
-use Rattle.ub_region.specs.RegionPage.{region_page}
 use Rattle.ub_region.specs.Regions.{IsFree}
-use Rattle.ub_table.specs.Region.{RegionRows, IsRegion}
+use Rattle.ub_table.specs.Region.{RegionRows}
 use Rattle.ub_table.specs.declared.fault.PageFault.{PageFault}
 use Rattle.ub_table.specs.declared.fault.PageFault.TheVariants.{BadCount, BadOrder}
 use Rattle.ub_table.specs.declared.row.Key.{Key}
@@ -44,6 +44,32 @@ read_store result old = record old { failed_reads = counted result old.failed_re
 -- a store after a call with this result that only writes, extends and syncs, with the pages that it then has
 abbrev pub written_store : {A : Type 0} → Result A TreeFault → StoreFacts → StoreFacts → StoreFacts
 written_store result old new = record old { pages = new.pages; synced = new.synced; failed_writes = counted result old.failed_writes }
+
+-- a way to one of these keys stops at the page of this number, which is refused; over a sound tree none does
+abbrev pub IsWayRefused : (Key → Type 0) → TreeView → ℕ → PageFault → Type 0
+IsWayRefused Sought t number fault = IsHonest t.store → (key : Key) × Sought key × Stops t.inner.index t.store key number (Some fault)
+
+-- a way to one of these keys stops at a page that the store doesn't have
+abbrev pub IsWayMissing : (Key → Type 0) → TreeView → Type 0
+IsWayMissing Sought t =
+    (n : ℕ) × (page_count t.store ≤ n)
+    × (IsHonest t.store → (key : Key) × Sought key × Stops t.inner.index t.store key n None)
+
+-- what a search can answer that goes down to these keys alone: `Failed` where the tree has, the device's fault where the store can
+-- fail, and a fault of a page on the way to one of them, or that there is none, only where the tree isn't sound
+abbrev pub IsSearchFault : (Key → Type 0) → TreeView → TreeFault → Type 0
+IsSearchFault Sought old Full = ⊥
+IsSearchFault Sought old Failed = IsTrue old.is_failed
+IsSearchFault Sought old Memory = Unit {0}
+IsSearchFault Sought old (Page page fault) = (¬ (IsSound old)) × IsWayRefused Sought old page fault
+IsSearchFault Sought old (Store store.Device) = IsTrue old.store.can_fail
+IsSearchFault Sought old (Store store.NoPage) = (¬ (IsSound old)) × IsWayMissing Sought old
+IsSearchFault Sought old (Store _) = ⊥
+
+-- a search that goes down to these keys alone: with the device's fault the store has one failed read more, and else nothing has changed
+pub record SearchesFor {A : Type 0} (Sought : Key → Type 0) (old new : TreeView) (result : Result A TreeFault) : Type 0 where
+  pub same : new ≡ record old { store = read_store result old.store }
+  pub faults : IfErr result (IsSearchFault Sought old)
 
 -- a way to some key stops at the page of this number, which is refused; over a sound tree none does
 abbrev pub IsIndexRefused : TreeView → ℕ → PageFault → Type 0
@@ -79,14 +105,10 @@ IsReadFault old (Store store.Device) = IsTrue old.store.can_fail
 IsReadFault old (Store store.NoPage) = (¬ (IsSound old)) × IsPageMissing old
 IsReadFault old (Store _) = ⊥
 
--- a call that only searches: with the device's fault the store has one failed read more, and else nothing has changed
+-- a call within that only searches, or reads a region: with the device's fault the store has one failed read more, and else nothing has
+-- changed
 pub record Searches {A : Type 0} (old new : TreeView) (result : Result A TreeFault) : Type 0 where
   pub same : new ≡ record old { store = read_store result old.store }
-  pub faults : IfErr result (IsReadFault old)
-
--- a call that searches and reads regions: the trace can grow too
-pub record Reads {A : Type 0} (old new : TreeView) (result : Result A TreeFault) : Type 0 where
-  pub same : new ≡ record old { store = read_store result old.store; trace = new.trace }
   pub faults : IfErr result (IsReadFault old)
 
 -- a page was asked for: it stands in the trace, after the others
@@ -106,8 +128,7 @@ IsSpanFault span old _ = ⊥
 
 -- the region that is taken in is the one that this one's page spells; it begins as this one does, and stands before the next one
 abbrev pub IsTakenIn : TreeView → Region → RegionRows → Type 0
-IsTakenIn t span region =
-    IsRegion t.schema region × IsHeldBy t.schema.dims span.first span.next region × IsPage t.store span.page (region_page t.schema region)
+IsTakenIn t span region = check.IsTakenIn t.schema t.store span region
 
 -- a call that reads this region, whose page is noted first: want of memory comes before that only where the trace has no room;
 -- which region of the tree it is the caller says
@@ -189,16 +210,14 @@ IsChangeRefused t number fault =
     ⊎ ((number ≡ 0) × (fault ≡ BadCount) × ((t.rows ≡ 0) ⊎ ((region_count t ≡ 4294967295) ⊎ (region_count t ≡ 1))))
     ⊎ ((fault ≡ BadOrder) × IsNumberTaken t number)
 
--- what a call can answer that changes the tree, and what it leaves then; a store that isn't honest may have no page of a number that
--- the index is to be written on
+-- what a call can answer that changes the tree, and what it leaves then
 abbrev pub IsLeft : TreeView → TreeView → TreeFault → Type 0
 IsLeft old new Full = ((old.next ≡ MAX_ROW_NUMBER + 1) ⊎ IsIndexFull old) × (new ≡ old)
 IsLeft old new Failed = IsTrue old.is_failed × (new ≡ old)
 IsLeft old new Memory = Leaves old new
 IsLeft old new (Page page fault) = (¬ (IsSound old)) × IsChangeRefused old page fault × (new ≡ old)
 IsLeft old new (Store store.Device) = IsTrue old.store.can_fail × (HasMissed old new ⊎ HasEnded (Store store.Device) old new)
-IsLeft old new (Store store.NoPage) =
-    (¬ (IsSound old)) × ((IsChangeMissing old × (new ≡ old)) ⊎ ((¬ (IsHonest old.store)) × HasEnded (Store store.NoPage) old new))
+IsLeft old new (Store store.NoPage) = (¬ (IsSound old)) × IsChangeMissing old × (new ≡ old)
 IsLeft old new (Store store.BadSize) = IsFull old × Leaves old new
 IsLeft old new (Store store.Memory) = ⊥
 

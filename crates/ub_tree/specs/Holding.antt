@@ -43,13 +43,14 @@ abbrev pub IsThatOrBefore : TreeView → Region → Region → Type 0
 IsThatOrBefore t span first =
     (first ≡ span) ⊎ ((key : Key) × (key_before span.first.z span.first.number ≡ Some key) × FallsTo t key first)
 
--- a row was taken out of the region that a key falls to, of any tree: its page alone was written; or two neighbours, one of which is
--- that region, were joined into the first of them, whose page was written, and those of the index
+-- a row was taken out of the region that a key falls to, of any tree, which then counts as changed: its page alone was written; or two
+-- neighbours, one of which is that region, were joined into the first of them, whose page was written, and those of the index
 pub record ShrinksAt (key : Key) (old new : TreeView) : Type 0 where
   pub span : Region
   pub falls : FallsTo old key span
   pub others : (WritesPage span.page old new × KeepsEntries old new)
-      ⊎ ((first : Region) × IsThatOrBefore old span first × WritesIndex first.page old new × DropsEntry old new)
+      ⊎ ((first : Region) × IsThatOrBefore old span first × WritesIndex first.page old new × DropsEntry first old new)
+  pub changed : new.is_changed ≡ true
 
 -- the answer is this fault, unless memory was refused or the device failed
 abbrev pub Answers : {A : Type 0} → Result A TreeFault → TreeFault → Type 0

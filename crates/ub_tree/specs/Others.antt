@@ -1,12 +1,12 @@
 -- Which pages of its store a change of a tree leaves as they are, and what it does to the regions that the tree counts.
-use Rattle.std.specs.Prelude.{◌≡◌, ◌≤◌, ◌+◌, ◌<◌, ◌⊎◌, ◌++◌, ℕ, List, [], ◌∷◌, length, slice_get}
+use Rattle.std.specs.Prelude.{◌≡◌, ◌≢◌, ◌≤◌, ◌+◌, ◌<◌, ◌⊎◌, ◌++◌, ℕ, List, [], ◌∷◌, Some, length, slice_get}
 use Rattle.ub_index.specs.Standing.{IsOutside}
 use Rattle.ub_index_change.specs.Preparing.{NeedsPages}
 use Rattle.ub_page.specs.declared.header.TheConstants.{MAX_LEVEL}
 use Rattle.ub_store.specs.Facts.{StoreFacts, IsHonest, page_count}
 use Rattle.ub_table.specs.declared.row.Key.{Key}
 use Rattle.ub_tree.specs.Indexed.{reserved}
-use Rattle.ub_tree.specs.Told.{IsRegionOf, KeepsTold}
+use Rattle.ub_tree.specs.Told.{FallsTo, IsRegionOf, KeepsTold}
 use Rattle.ub_tree.specs.Spans.{Region}
 use Rattle.ub_tree.specs.View.{TreeView, region_count}
 
@@ -44,6 +44,12 @@ AddsEntry first old new =
     × (n : ℕ) × (page_count new.store ≡ page_count old.store + 1 + n) × (n ≤ MAX_LEVEL + 1)
     × (IsHonest old.store → NeedsPages old.inner.index old.store first n)
 
--- a region fewer is counted, and the store has as many pages
-abbrev pub DropsEntry : TreeView → TreeView → Type 0
-DropsEntry old new = (region_count old ≡ region_count new + 1) × (page_count new.store ≡ page_count old.store)
+-- each key falls where it fell, unless to this region, or to the one that follows it
+abbrev pub KeepsBeside : Region → TreeView → TreeView → Type 0
+KeepsBeside first old new =
+    IsHonest old.store → (key : Key) (span : Region) → FallsTo old key span → span.next ≢ first.next → first.next ≢ Some span.first → FallsTo new key span
+
+-- a region fewer is counted, and the store has as many pages; this one takes in the next, and the others are told of as before
+abbrev pub DropsEntry : Region → TreeView → TreeView → Type 0
+DropsEntry first old new =
+    (region_count old ≡ region_count new + 1) × (page_count new.store ≡ page_count old.store) × KeepsBeside first old new

@@ -1,15 +1,18 @@
 -- What a removal does to a tree.
-use Rattle.std.specs.Prelude.{◌≡◌, ◌+◌, ◌⊎◌, Bool, List, if◌then◌else◌}
+use Rattle.std.specs.Prelude.{◌≡◌, ◌+◌, ◌⊎◌, Bool, true, false, List, IsTrue, Result, Err, IfErr, IfOk, if◌then◌else◌}
 use Rattle.ub_region.specs.Regions.{AreTableRows, remove, without_number}
 use Rattle.ub_region.specs.Rows.{has_key}
+use Rattle.ub_store.specs.Facts.{IsHonest}
 use Rattle.ub_store.specs.declared.fault.StoreFault.TheVariants as store
 use Rattle.ub_table.specs.declared.row.Key.{Key}
 use Rattle.ub_table.specs.declared.row.Row.{Row}
 use Rattle.ub_table.specs.declared.fault.PageFault.TheVariants.{BadCount}
-use Rattle.ub_tree.specs.Effects.{IsDropRefused, IsPageRefused}
+use Rattle.ub_tree.specs.Effects.{Changes, IsDropRefused, IsPageRefused}
+use Rattle.ub_tree.specs.Holding.{AnswersRemoval, ShrinksAt}
+use Rattle.ub_tree.specs.Pages.{TakesRow}
 use Rattle.ub_tree.specs.View.{TreeView, IsSound, region_count, regions, tree_rows}
 use Rattle.ub_tree.specs.declared.fault.TreeFault.{TreeFault}
-use Rattle.ub_tree.specs.declared.fault.TreeFault.TheVariants.{Full, Page, Store}
+use Rattle.ub_tree.specs.declared.fault.TreeFault.TheVariants.{Failed, Full, Page, Store}
 
 -- whether a row of a sound tree has the key, and that row alone is taken out of the table
 pub record IsRemoved (key : Key) (found : Bool) (old new : TreeView) : Type 0 where
@@ -30,3 +33,25 @@ IsRemovalFault t (Page page fault) =
     IsPageRefused t page fault ⊎ IsDropRefused t page fault
     ⊎ ((page ≡ 0) × (fault ≡ BadCount) × ((t.rows ≡ 0) ⊎ (region_count t ≡ 1)))
 IsRemovalFault t _ = Unit {0}
+
+-- a row with this key was taken out of any tree: the next row gets the same number, one row fewer is counted, and the other rows of
+-- the region that the key falls to stand on its page, or with those of a region beside it
+pub record LosesRow (key : Key) (old new : TreeView) : Type 0 where
+  pub next : new.next ≡ old.next
+  pub rows : new.rows + 1 ≡ old.rows
+  pub shrunk : ShrinksAt key old new
+  pub put : TakesRow key old new
+
+-- a call that can take a row out of a tree, or a part of one: a table that was marked as changed stays so
+pub record Lessens {A : Type 0} (old new : TreeView) (result : Result A TreeFault) : Type 0 where
+  pub changes : Changes old new result
+  pub faults : IfErr result (IsRemovalFault old)
+  pub stays : old.is_changed ≡ true → new.is_changed ≡ true
+
+-- the row with a key was asked to be taken out of a tree, with this answer: what that did to a sound one, and to any; which answers
+-- must come; and what it leaves
+pub record Removes (key : Key) (old new : TreeView) (result : Result Bool TreeFault) : Type 0 where
+  pub removed : IsSound old → IfOk result (λ found. IsRemoved key found old new)
+  pub done : IfOk result (λ found. (found ≡ true → LosesRow key old new) × (found ≡ false → new ≡ old))
+  pub refused : (IsTrue old.is_failed → result ≡ Err Failed) × (old.is_failed ≡ false → IsHonest old.store → AnswersRemoval old key result)
+  pub leaves : Lessens old new result

@@ -3,7 +3,7 @@
 use Rattle.std.specs.Prelude.{◌≤◌, ◌<◌, ◌^◌, ℕ, List, [], ◌∷◌, Option, Some, None, IfSome, ◌↔◌, ◌≡◌}
 use Rattle.ub_bigmin.specs.Box.{Corners, HoldsAny}
 use Rattle.ub_bigmin.specs.Extremes.{LeastFrom}
-use Rattle.ub_index.specs.Searching.{Gives, GivesAfter}
+use Rattle.ub_index.specs.Searching.{Gives, GivesAfter, IsSought}
 use Rattle.ub_table.specs.declared.row.Key.{Key}
 use Rattle.ub_tree.specs.Spans.{IsLater, Region}
 use Rattle.ub_tree.specs.View.{TreeView, region_count}
@@ -34,6 +34,15 @@ GivesAt z t after found = GivesAfter t.inner.index t.store (λ _ to. to ≡ Some
 pub record GivesNext (boxes : List Corners) (t : TreeView) (after found : Option Region) : Type 0 where
   pub given : GivesAfter t.inner.index t.store (λ from. LeastFrom (HoldsAny boxes) from.z) after found
   pub found_after : IfSome found (IsFoundAfter t.inner.index.last after)
+
+-- the keys to which a search goes down for the next region that ends at this address or later, after one or from the beginning on: the
+-- first key of that one, and then the key from which the search goes on
+abbrev pub SeeksAt : ℕ → TreeView → Option Region → Key → Type 0
+SeeksAt z t after = IsSought t.inner.index t.store (λ _ to. to ≡ Some z) after
+
+-- and those to which it goes down for the next region that meets the boxes
+abbrev pub SeeksNext : List Corners → TreeView → Option Region → Key → Type 0
+SeeksNext boxes t after = IsSought t.inner.index t.store (λ from. LeastFrom (HoldsAny boxes) from.z) after
 
 -- what it gives, asked for the next one after each, until there is none
 abbrev pub AreAnswers : List Corners → TreeView → Option Region → List Region → Type 0

@@ -1,4 +1,5 @@
 ghost use Rattle.std.specs.Prelude.{ℕ, ◌≡◌, ◌≢◌, ◌≤◌, ◌+◌, ◌-◌, ◌<◌, ◌∷◌, [], true, false, IsTrue, Some, Err, length, slice_get, IfOk, IfErr, MatchResult, OnOk};
+ghost use Rattle.std.specs.List.{insert};
 ghost use Rattle.ub_index_change.specs.Changing.{AreIndexPages, AreOnce, Stand};
 ghost use Rattle.ub_index_change.specs.Making.{PutsSheets, changed};
 ghost use Rattle.ub_index_change.specs.Preparing.{IsWithinRegion};
@@ -23,10 +24,10 @@ ghost use Rattle.ub_writing.specs.Puts.{PutsTwo};
 
 use crate::fault::{TreeFault, bad_count};
 use crate::tree::Tree;
-use ub_check::take_region;
+use ub_check::read_region;
 use ub_index_change::{Change, commit};
 use ub_page::RegionPage;
-use ub_region::{Region, index_in};
+use ub_region::Region;
 use ub_store::{MAX_PAGES, PageStore, StoreFault};
 use ub_table::{Key, MAX_ROW_NUMBER, PageFault, Row, row_of};
 use ub_writing::{Drafts, Room, put_halves, put_region, take_room};
@@ -69,8 +70,7 @@ impl<S: PageStore> Tree<S> {
             → MatchResult result (λ _. page.new.region ≡ r) IsPassing }
         ensures effect { Searches self.old self.new result }
     {
-        self.pager.bring(region.page)?;
-        take_region(&mut self.pager, &self.schema, region, page)?;
+        read_region(&mut self.pager, &self.schema, region, page)?;
         Ok(())
     }
 
@@ -267,13 +267,15 @@ impl<S: PageStore> Tree<S> {
     fn store_with(
         &mut self,
         region: &Region,
-        key: &Key,
+        index: usize,
         row: &Row,
         room: &mut Room,
     ) -> Result<(), TreeFault>
         requires there { IsRegionOf self.old region.now
             × (region.now.page < page_count self.old.store) }
-        requires key { key.now ≡ key_of self.old.schema.dims row.now }
+        requires place { (index ≤ length room.old.region.region.rows)
+            × (insert_row self.old.schema.dims row.now room.old.region.region.rows
+            ≡ insert room.old.region.region.rows index row.now) }
         requires read { IsReadAt self.old region.now room.old.region }
         requires rows { CanStand self.old region.now
             (insert_row self.old.schema.dims row.now room.old.region.region.rows) }
@@ -291,7 +293,6 @@ impl<S: PageStore> Tree<S> {
             result }
         ensures effect { Changes self.old self.new result }
     {
-        let index = index_in(room.region.keys(), key);
         if room.region.len() == self.schema.page_rows() as usize {
             room.region.split_with(index, row, &mut room.other);
             return self.split(region, &room.region, &room.other, &mut room.drafts);
@@ -398,13 +399,13 @@ impl<S: PageStore> Tree<S> {
     {
         let key = row.key(self.schema.shape());
         let region = self.read_holding(&key, &mut room.region)?;
-        if room.region.has(&key) {
+        let Some(index) = room.region.place_of(row) else {
             return Err(TreeFault::Page {
                 page: region.page,
                 fault: PageFault::BadOrder,
             });
-        }
-        self.store_with(&region, &key, row, room)?;
+        };
+        self.store_with(&region, index, row, room)?;
         self.next = next_after(self.next, row.number);
         self.rows += 1;
         Ok(row.number)

@@ -1,22 +1,16 @@
-ghost use Rattle.std.specs.Prelude.{◌≡◌, ◌+◌, ◌++◌, ◌-◌, ◌/◌, ◌<◌, ◌≤◌, length, ℕ, true, false, IsTrue, Err, Some, is_some, IfOk, IfErr, IfSome, MatchOption, OnOk};
+ghost use Rattle.std.specs.Prelude.{◌≡◌, ◌+◌, length, ℕ, true, false, Err, is_some, IfOk, MatchOption, OnOk};
 ghost use Rattle.std.specs.List.{AllByRecursion};
 ghost use Rattle.ub_index.specs.Searching.{key_before};
 ghost use Rattle.ub_region.specs.Joins.{JoinsNext, JoinsBefore, put_rows};
 ghost use Rattle.ub_region.specs.Regions.{settle};
-ghost use Rattle.ub_store.specs.Facts as facts;
-ghost use Rattle.ub_store.specs.Facts.{page_count};
-ghost use Rattle.ub_store.specs.declared.fault.StoreFault.{StoreFault};
-ghost use Rattle.ub_table.specs.Region.{IsRegion, RegionRows};
+ghost use Rattle.ub_table.specs.Region.{IsRegion};
 ghost use Rattle.ub_table.specs.declared.fault.PageFault.{PageFault};
-ghost use Rattle.ub_table.specs.declared.row.Key as key;
-ghost use Rattle.ub_tree.specs.inner.Change.{IsMadeOf, IsRegionIn, IsRegionThere, IsStored, JoinsAt, TakesAt};
-ghost use Rattle.ub_tree.specs.Effects.{Searches, Changes, IsTakenIn};
-ghost use Rattle.ub_tree.specs.Holding.{Answers, AnswersRemoval, CanFallInto, HasRoomAt, IsJoined, ShrinksAt};
-ghost use Rattle.ub_tree.specs.Opened.{IsPassing};
-ghost use Rattle.ub_tree.specs.Pages.{LeavesRows, Spells, TakesRow};
-ghost use Rattle.ub_tree.specs.Removal.{IsRemoved, IsRemovalFault};
-ghost use Rattle.ub_tree.specs.Told.{FallsTo, IsRegionOf};
-ghost use Rattle.ub_tree.specs.View.{IsSound, region_count, regions};
+ghost use Rattle.ub_tree.specs.inner.Change.{IsMadeOf, IsRegionIn, IsRegionThere, IsStored};
+ghost use Rattle.ub_tree.specs.inner.Removing.{AnswersBeside, AnswersLeft, HasTakenBefore, HasTakenNext, IsPair, JoinsAt, TakesAt};
+ghost use Rattle.ub_tree.specs.Effects.{Searches};
+ghost use Rattle.ub_tree.specs.Removal.{Lessens, Removes};
+ghost use Rattle.ub_tree.specs.Told.{IsRegionOf};
+ghost use Rattle.ub_tree.specs.View.{region_count, regions};
 
 use crate::fault::{TreeFault, bad_count};
 use crate::tree::Tree;
@@ -37,12 +31,8 @@ impl<S: PageStore> Tree<S> {
         page: &RegionPage,
         drafts: &mut Drafts,
     ) -> Result<(), TreeFault>
-        requires there { IsRegionThere self.old region.now }
-        requires next { IsRegionOf self.old next.now × (region.now.next ≡ Some next.now.first) }
-        requires first { page.now.region.first ≡ region.now.first }
-        requires region { IsRegion self.old.schema
-            (record { first = region.now.first; rows = page.now.region.rows }) }
-        ensures same { OnOk result (JoinsAt region.now self.old self.new) }
+        requires { IsPair self.old region.now next.now page.now }
+        ensures joined { OnOk result (JoinsAt region.now page.now.region.rows self.old self.new) }
         ensures written { (i : ℕ) → IsStored self.old → IsRegionIn self.old i region.now
             → IsRegionIn self.old (i + 1) next.now
             → AllByRecursion (IsRegion self.old.schema)
@@ -50,13 +40,9 @@ impl<S: PageStore> Tree<S> {
             → OnOk result (IsStored self.new
             × (regions self.new
             ≡ put_rows i true page.now.region.rows (regions self.old))) }
-        ensures put { OnOk result (facts.IsHonest self.old.store → Spells self.new region.now.page
-            region.now.first page.now.region.rows) }
         ensures alone { region_count self.old ≡ 1
             → result ≡ Err (TreeFault.Page 0 PageFault.BadCount) }
-        ensures effect { Changes self.old self.new result }
-        ensures faults { IfErr result (IsRemovalFault self.old) }
-        ensures stays { self.old.is_changed ≡ true → self.new.is_changed ≡ true }
+        ensures leaves { Lessens self.old self.new result }
     {
         if self.count == 1 {
             return Err(self.uncounted());
@@ -71,27 +57,16 @@ impl<S: PageStore> Tree<S> {
     // Takes over the rows of the region after this one, if there is one and a page holds them
     // together with these, and then gives that.
     fn join_next(&mut self, region: &Region, room: &mut Room) -> Result<Option<Region>, TreeFault>
-        requires told { IsRegionOf self.old region.now }
+        requires there { IsRegionThere self.old region.now }
         requires rows { IsMadeOf self.old.schema region.now room.old.region }
-        ensures rows { IfOk result (λ found. MatchOption found
+        ensures found { IfOk result (λ found. MatchOption found
             (room.new.region ≡ room.old.region)
-            (λ _. (room.new.region.region.first ≡ region.now.first)
-            × IsRegion self.old.schema
-            (record { first = region.now.first; rows = room.new.region.region.rows }))) }
-        ensures found { IfOk result (λ found. IfSome found (λ next.
-            IsRegionOf self.old next × (region.now.next ≡ Some next.first))) }
-        ensures next { (i : ℕ) → IsStored self.old → IsRegionIn self.old i region.now
-            → IfOk result (λ found. IfSome found (IsRegionIn self.old (i + 1))) }
+            (HasTakenNext self.old region.now room.old.region.region.rows room.new.region)) }
         ensures joined { (i : ℕ) → IsStored self.old → IsRegionIn self.old i region.now
             → IfOk result (λ found. JoinsNext self.old.schema.page_rows i
             room.old.region.region.rows room.new.region.region.rows (is_some found) (regions self.old)) }
-        ensures taken { IfOk result (λ found. IfSome found (λ next. (other : RegionRows)
-            × IsTakenIn self.old next other
-            × (room.new.region.region.rows ≡ room.old.region.region.rows ++ other.rows))) }
-        ensures led { facts.IsHonest self.old.store → CanFallInto self.old region.now.next
-            → IfErr result IsPassing }
-        ensures fits { facts.IsHonest self.old.store → HasRoomAt self.old region.now.next
-            (length room.old.region.region.rows) → IfOk result (λ found. is_some found ≡ true) }
+        ensures refused { AnswersBeside self.old region.now.next
+            (length room.old.region.region.rows) result }
         ensures effect { Searches self.old self.new result }
     {
         let next = match self.region_after(region)? {
@@ -111,32 +86,15 @@ impl<S: PageStore> Tree<S> {
     fn join_before(&mut self, region: &Region, room: &mut Room) -> Result<Option<Region>, TreeFault>
         requires told { IsRegionOf self.old region.now }
         requires rows { IsMadeOf self.old.schema region.now room.old.region }
-        ensures rows { IfOk result (λ found. MatchOption found
+        ensures found { IfOk result (λ found. MatchOption found
             (room.new.region ≡ room.old.region)
-            (λ before. (room.new.region.region.first ≡ before.first)
-            × IsRegion self.old.schema
-            (record { first = before.first; rows = room.new.region.region.rows }))) }
-        ensures there { IfOk result (λ found. IfSome found (IsRegionThere self.old)) }
-        ensures ends { IfOk result (λ found. IfSome found
-            (λ before. before.next ≡ Some region.now.first)) }
-        ensures falls { IfOk result (λ found. IfSome found (λ before. (k : key.Key)
-            × (key_before region.now.first.z region.now.first.number ≡ Some k)
-            × FallsTo self.old k before)) }
-        ensures before { (i : ℕ) → IsStored self.old → IsRegionIn self.old i region.now
-            → IfOk result (λ found. IfSome found (λ before. (j : ℕ) × (i ≡ j + 1)
-            × IsRegionIn self.old j before)) }
+            (HasTakenBefore self.old region.now room.old.region.region.rows room.new.region)) }
         ensures joined { (i : ℕ) → IsStored self.old → IsRegionIn self.old i region.now
             → IfOk result (λ found. JoinsBefore self.old.schema.page_rows i
             room.old.region.region.rows room.new.region.region.rows (is_some found) (regions self.old)) }
-        ensures taken { IfOk result (λ found. IfSome found (λ before. (other : RegionRows)
-            × IsTakenIn self.old before other
-            × (room.new.region.region.rows ≡ other.rows ++ room.old.region.region.rows))) }
-        ensures led { facts.IsHonest self.old.store
-            → CanFallInto self.old (key_before region.now.first.z region.now.first.number)
-            → IfErr result IsPassing }
-        ensures fits { facts.IsHonest self.old.store → HasRoomAt self.old
+        ensures refused { AnswersBeside self.old
             (key_before region.now.first.z region.now.first.number)
-            (length room.old.region.region.rows) → IfOk result (λ found. is_some found ≡ true) }
+            (length room.old.region.region.rows) result }
         ensures effect { Searches self.old self.new result }
     {
         let before = match self.region_before(region)? {
@@ -157,7 +115,8 @@ impl<S: PageStore> Tree<S> {
     fn settle(&mut self, region: &Region, room: &mut Room) -> Result<(), TreeFault>
         requires there { IsRegionThere self.old region.now }
         requires rows { IsMadeOf self.old.schema region.now room.old.region }
-        ensures same { OnOk result (TakesAt region.now self.old self.new) }
+        ensures taken { OnOk result
+            (TakesAt region.now room.old.region.region.rows self.old self.new) }
         ensures written { (i : ℕ) → IsStored self.old → IsRegionIn self.old i region.now
             → AllByRecursion (IsRegion self.old.schema)
             (settle self.old.schema.page_rows i
@@ -165,16 +124,9 @@ impl<S: PageStore> Tree<S> {
             → OnOk result (IsStored self.new × (regions self.new
             ≡ settle self.old.schema.page_rows i
             (put_rows i false room.old.region.region.rows (regions self.old)))) }
-        ensures effect { Changes self.old self.new result }
-        ensures faults { IfErr result (IsRemovalFault self.old) }
-        ensures spare { self.old.schema.page_rows / 2 ≤ length room.old.region.region.rows
-            → IfErr result (λ fault. fault ≡ TreeFault.Store StoreFault.Device) }
-        ensures put { OnOk result (facts.IsHonest self.old.store
-            → LeavesRows region.now room.old.region.region.rows self.old self.new) }
-        ensures alone { facts.IsHonest self.old.store → region_count self.old ≡ 1
-            → IsJoined self.old region.now (length room.old.region.region.rows)
-            → Answers result (TreeFault.Page 0 PageFault.BadCount) }
-        ensures stays { self.old.is_changed ≡ true → self.new.is_changed ≡ true }
+        ensures refused { AnswersLeft self.old region.now
+            (length room.old.region.region.rows) result }
+        ensures leaves { Lessens self.old self.new result }
     {
         if !room.region.are_few(self.schema.page_rows()) {
             return self.rewrite(region, &room.region, &mut room.drafts);
@@ -197,20 +149,7 @@ impl<S: PageStore> Tree<S> {
     /// this call or has no such page. After Store with Device the tree may have failed; after another fault it is as it was. Once a
     /// table is marked as changed it stays so, and it is where a row was taken out.
     pub fn remove(&mut self, key: Key) -> Result<bool, TreeFault>
-        ensures removed { IsSound self.old
-            → IfOk result (λ found. IsRemoved key found self.old self.new) }
-        ensures untouched { IfOk result (λ found. found ≡ false → self.new ≡ self.old) }
-        ensures counted { IfOk result (λ found. found ≡ true → (self.new.next ≡ self.old.next)
-            × (self.new.rows + 1 ≡ self.old.rows)
-            × ShrinksAt key self.old self.new) }
-        ensures put { IfOk result (λ found. found ≡ true → TakesRow key self.old self.new) }
-        ensures failed { IsTrue self.old.is_failed → result ≡ Err TreeFault.Failed }
-        ensures refused { self.old.is_failed ≡ false → facts.IsHonest self.old.store
-            → AnswersRemoval self.old key result }
-        ensures effect { Changes self.old self.new result }
-        ensures faults { IfErr result (IsRemovalFault self.old) }
-        ensures stays { self.old.is_changed ≡ true → self.new.is_changed ≡ true }
-        ensures marks { IfOk result (λ found. found ≡ true → self.new.is_changed ≡ true) }
+        ensures { Removes key self.old self.new result }
     {
         if self.is_failed {
             return Err(TreeFault::Failed);
@@ -224,18 +163,7 @@ impl<S: PageStore> Tree<S> {
     // The same of a tree that works, in this room.
     fn remove_within(&mut self, key: &Key, room: &mut Room) -> Result<bool, TreeFault>
         requires { self.old.is_failed ≡ false }
-        ensures removed { IsSound self.old
-            → IfOk result (λ found. IsRemoved key.now found self.old self.new) }
-        ensures untouched { IfOk result (λ found. found ≡ false → self.new ≡ self.old) }
-        ensures counted { IfOk result (λ found. found ≡ true → (self.new.next ≡ self.old.next)
-            × (self.new.rows + 1 ≡ self.old.rows)
-            × ShrinksAt key.now self.old self.new) }
-        ensures put { IfOk result (λ found. found ≡ true → TakesRow key.now self.old self.new) }
-        ensures refused { facts.IsHonest self.old.store → AnswersRemoval self.old key.now result }
-        ensures effect { Changes self.old self.new result }
-        ensures faults { IfErr result (IsRemovalFault self.old) }
-        ensures stays { self.old.is_changed ≡ true → self.new.is_changed ≡ true }
-        ensures marks { IfOk result (λ found. found ≡ true → self.new.is_changed ≡ true) }
+        ensures { Removes key.now self.old self.new result }
     {
         let region = self.read_holding(key, &mut room.region)?;
         if !room.region.remove(key) {

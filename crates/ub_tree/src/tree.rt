@@ -4,9 +4,9 @@ ghost use Rattle.ub_region.specs.RegionPage.{empty_region};
 ghost use Rattle.ub_store.specs.View.{emptied};
 ghost use Rattle.ub_table.specs.declared.row.TheConstants.{MAX_ROW_NUMBER};
 ghost use Rattle.ub_tree.specs.Calls.{StandsAt};
-ghost use Rattle.ub_tree.specs.Effects.{IsTakenIn, ReadsRegion, Searches};
+ghost use Rattle.ub_tree.specs.Effects.{IsTakenIn, ReadsRegion, SearchesFor};
 ghost use Rattle.ub_tree.specs.Spans.{IsLater, Meets, First};
-ghost use Rattle.ub_tree.specs.Told.{GivesAt, GivesNext, IsRegionOf};
+ghost use Rattle.ub_tree.specs.Told.{GivesAt, GivesNext, IsRegionOf, SeeksAt, SeeksNext};
 ghost use Rattle.ub_tree.specs.Tree.{IsTree, tree_view};
 ghost use Rattle.ub_tree.specs.View.{IsSound, level_count, region_count, spans_of};
 ghost use Rattle.ub_writing.specs.Marks.{is_written};
@@ -15,7 +15,7 @@ use crate::fault::TreeFault;
 use std::alloc::Global;
 use std::marker::Model;
 use ub_bigmin::ZBox;
-use ub_check::take_region;
+use ub_check::fetch_region;
 use ub_index::Index;
 use ub_page::{Header, RegionPage};
 use ub_region::Region;
@@ -148,7 +148,9 @@ impl<S: PageStore> Tree<S> {
     }
 
     /// The first region later than `after`, if one is given, whose span ends at z or later; `None` exactly where a sound tree
-    /// has none. What is found of any tree begins later than `after`. Failed where the tree has failed.
+    /// has none. What is found of any tree begins later than `after`. Failed where the tree has failed; Page where a page of the
+    /// index is refused on the way to the first key of `after`, or then to the place from which the search goes on; Store where the
+    /// store failed in this call or has no such page; Memory where memory was refused.
     pub fn seek(&mut self, z: u128, after: Option<&Region>) -> Result<Option<Region>, TreeFault>
         ensures found { IsSound self.old → IfOk result
             (λ found. First (λ r. IsLater (option_copied after.entry) r × (z ≤ r.to))
@@ -157,7 +159,8 @@ impl<S: PageStore> Tree<S> {
             × IsLater (option_copied after.entry) r × (z ≤ r.to))) }
         ensures gives { IfOk result (GivesAt z self.old (option_copied after.entry)) }
         ensures failed { IsTrue self.old.is_failed → result ≡ Err TreeFault.Failed }
-        ensures effect { Searches self.old self.new result }
+        ensures effect { SearchesFor (SeeksAt z self.old (option_copied after.entry))
+            self.old self.new result }
     {
         if self.has_failed() {
             return Err(TreeFault::Failed);
@@ -167,8 +170,8 @@ impl<S: PageStore> Tree<S> {
     }
 
     /// The first region later than `after`, if one is given, that meets one of the boxes; `None` exactly where a sound tree
-    /// has none. What is found of any tree begins later than `after`, so that asking on from it comes to an end. Failed where
-    /// the tree has failed.
+    /// has none. What is found of any tree begins later than `after`, so that asking on from it comes to an end. Refused as
+    /// `seek` is.
     pub fn next_meeting(
         &mut self,
         boxes: &[ZBox],
@@ -180,7 +183,8 @@ impl<S: PageStore> Tree<S> {
         ensures later { IfOk result (λ found. IfSome found (IsLater (option_copied after.entry))) }
         ensures gives { IfOk result (GivesNext boxes.now self.old (option_copied after.entry)) }
         ensures failed { IsTrue self.old.is_failed → result ≡ Err TreeFault.Failed }
-        ensures effect { Searches self.old self.new result }
+        ensures effect { SearchesFor (SeeksNext boxes.now self.old (option_copied after.entry))
+            self.old self.new result }
     {
         if self.has_failed() {
             return Err(TreeFault::Failed);
@@ -216,8 +220,7 @@ impl<S: PageStore> Tree<S> {
         if self.has_failed() {
             return Err(TreeFault::Failed);
         }
-        self.pager.bring_region(region.page)?;
-        take_region(&mut self.pager, &self.schema, region, page)?;
+        fetch_region(&mut self.pager, &self.schema, region, page)?;
         Ok(())
     }
 }

@@ -1,4 +1,5 @@
 pub mod AddressFacts
+mod BelowFacts
 pub mod BitFacts
 mod Linear
 mod MovedFacts

@@ -1,5 +1,5 @@
 -- The address of a point on the Z-curve (Bayer 1997; the Morton code).
-use Rattle.std.specs.Prelude.{◌≡◌, ℕ, zero, suc, ◌+◌, ◌-◌, ◌*◌, ◌^◌, ◌<◌, ◌≤◌, List, length, slice_index, All}
+use Rattle.std.specs.Prelude.{◌≡◌, ℕ, zero, suc, ◌+◌, ◌-◌, ◌*◌, ◌^◌, ◌<◌, ◌≤◌, Bool, nat_lt, ◌==◌, ◌&&◌, ◌||◌, List, length, slice_index, All}
 use Rattle.std.specs.Int.{bit_at}
 
 -- f 0 + f 1 + .. + f (n - 1)
@@ -27,3 +27,7 @@ last_address d = 2 ^ (32 * d) - 1
 -- p is at most q in each coordinate
 abbrev pub IsAtMost : List ℕ → List ℕ → Type 0
 IsAtMost p q = (length p ≡ length q) × ((i : ℕ) → i < length p → slice_index p i ≤ slice_index q i)
+
+-- whether p has a lower address than q, or else, where both have one address, what is told of that
+abbrev pub is_below : List ℕ → List ℕ → Bool → Bool
+is_below p q same = nat_lt (address p) (address q) || ((address p == address q) && same)

@@ -1,4 +1,5 @@
 pub mod Address
+pub mod Higher
 pub mod Moved
 pub mod Padded
 pub mod Places

@@ -1,5 +1,5 @@
 -- What the steps of a change of one region do to a tree, and what they need.
-use Rattle.std.specs.Prelude.{IfSome, ◌≡◌, ◌≢◌, ◌+◌, ◌<◌, ◌≤◌, ◌++◌, ◌⊎◌, ℕ, suc, true, false, List, [], ◌∷◌, Option, IsTrue, Result, Err, IfErr, OnOk, Some, length, map, take, drop, slice_get}
+use Rattle.std.specs.Prelude.{IfSome, ◌≡◌, ◌≢◌, ◌+◌, ◌<◌, ◌≤◌, ◌^◌, ◌++◌, ◌⊎◌, ℕ, suc, true, false, List, [], ◌∷◌, Option, IsTrue, Result, Err, IfErr, OnOk, Some, length, map, take, drop, slice_get}
 use Rattle.std.specs.List.{AllByRecursion}
 use Rattle.ub_store.specs.Writing.{Grows}
 use Rattle.ub_index_change.specs.Changed.{Replaces}
@@ -7,6 +7,7 @@ use Rattle.ub_index_change.specs.Changing.{AreIndexPages}
 use Rattle.ub_index.specs.Index.{IsIndexPage}
 use Rattle.ub_index.specs.Standing.{IsOutside}
 use Rattle.ub_index_change.specs.Filling.{KeepsFilled}
+use Rattle.ub_index_change.specs.Lowering.{IsDropped}
 use Rattle.ub_index_change.specs.Making.{IsPutFault}
 use Rattle.ub_index_change.specs.Preparing.{ChangeView, IsWithinRegion, MakesIndex, TakesNeeded, added_at}
 use Rattle.ub_index.specs.View.{IsRegionAt, entries_in, entry_at}
@@ -23,9 +24,8 @@ use Rattle.ub_table.specs.declared.row.Row.{Row}
 use Rattle.ub_table.specs.declared.schema.Schema.{Schema}
 use Rattle.ub_tree.specs.Effects.{HasEnded, IsChangeMissing, IsChangeRefused, IsFull, IsIndexFull, IsReadFault, IsTakenIn, KeepsMark, Leaves, read_store, written_store, IsMarkedFirst}
 use Rattle.ub_tree.specs.Grown.{IsOnlyGrown}
-use Rattle.ub_tree.specs.Holding.{IsThatOrBefore}
 use Rattle.ub_tree.specs.Indexed.{HasIndex, reserved}
-use Rattle.ub_tree.specs.Others.{AddsEntry, DropsEntry, KeepsEntries, KeepsOthers, WritesIndex, WritesPage}
+use Rattle.ub_tree.specs.Others.{AddsEntry, KeepsEntries, KeepsOthers, WritesIndex, WritesPage}
 use Rattle.ub_tree.specs.Pages.{Spells, SpellsHalves}
 use Rattle.ub_tree.specs.Placed.{Placed, ArePlaced, entry_of}
 use Rattle.ub_tree.specs.Spans.{Region, first_keys}
@@ -64,18 +64,6 @@ pub record StoresAt (span : Region) (count : ℕ) (old new : TreeView) : Type 0 
 pub record StandAt (span : Region) (count : ℕ) (rows : List Row) (old new : TreeView) : Type 0 where
   pub alone : count < old.schema.page_rows → Spells new span.page span.first rows
   pub halved : count ≡ old.schema.page_rows → SpellsHalves new span.page (page_count old.store) span.first (split old.schema.dims old.schema.page_rows rows)
-
--- the same, and a region was written anew, with the rows of the next one, which is no more
-pub record JoinsAt (span : Region) (old new : TreeView) : Type 0 where
-  pub same : IsElsewhereSame old new
-  pub others : WritesIndex span.page old new
-  pub dropped : DropsEntry old new
-
--- the same, and a row was taken out of a region
-pub record TakesAt (span : Region) (old new : TreeView) : Type 0 where
-  pub same : IsElsewhereSame old new
-  pub shrunk : (WritesPage span.page old new × KeepsEntries old new)
-      ⊎ ((first : Region) × IsThatOrBefore old span first × WritesIndex first.page old new × DropsEntry old new)
 
 -- in place of the region at an index stand these
 abbrev pub placed_with : ℕ → List Placed → List Placed → List Placed
@@ -163,9 +151,11 @@ pub record IsAddReady (t : TreeView) (span : Region) (first : Key) (change : Cha
 
 -- what is prepared for a region that goes
 pub record IsDropReady (t : TreeView) (span : Region) (change : ChangeView) : Type 0 where
+  pub bounds : (1 ≤ t.inner.index.root) × (1 ≤ t.inner.index.levels) × (page_count t.store < 2 ^ 32)
+  pub made : IsHonest t.store → IsDropped t.inner.index t.store span.first change
   pub spelled : IsHonest t.store → AllByRecursion (IsSpelledAt t (page_count t.store) change) change.sheets
   pub pages : IsHonest t.store → AreIndexPages t.inner.index.last change.sheets
-  pub next : IsHonest t.store → change.next ≡ page_count t.store
+  pub next : change.next ≡ page_count t.store
   pub makes : (i : ℕ) → IsStored t → IsRegionIn t i span → IsBefore origin span.first
       → MakesIndex t.inner.index t.store (page_count t.store) change (Replaces (entry_at span) [] (entries_in t.inner.index t.store))
 
@@ -206,9 +196,10 @@ pub record WritesBoth {A : Type 0} (number : ℕ) (span : Region) (old new : Tre
   pub faults : IfErr result (IsWriteFault old new)
   pub others : KeepsOthers (0 ∷ number ∷ span.page ∷ []) old.store new.store
 
--- why the pages that a change spells aren't put: the store failed, which it then can; or it has no page of that number
+-- why the pages that a change spells aren't put: the store failed, which it then can; or it has fewer pages than the change needs, and
+-- none of that number
 abbrev pub IsIndexFault : ChangeView → StoreFacts → TreeFault → Type 0
-IsIndexFault change old (Store fault) = IsPutFault change.sheets old fault
+IsIndexFault change old (Store fault) = IsPutFault change.next change.sheets old fault
 IsIndexFault change old _ = ⊥
 
 -- where rows were only put in before, that is so still

@@ -7,33 +7,12 @@ loop-key-init g c = (0, (refl, refl))
 
 pub loop-key-preserved : goal.loop-key-preserved
 loop-key-preserved g c =
-    let said = c.in_ok-remove.ensures in
-    taken_next c.args.keys.now c.loop-key.key-index _ c.args.tree.now c.loop-key.tree c.remove.new.self c.in_ok-remove.field-0 c.loop-key-test.true c.loop-key.invariant (record {
-      removed = said.removed;
-      untouched = said.untouched;
-      counted = said.counted;
-      refused = said.refused;
-      failed = said.failed;
-      effect = said.effect;
-      faults = said.faults;
-      stays = said.stays;
-      marks = said.marks;
-    })
+    taken_next c.args.keys.now c.loop-key.key-index _ c.args.tree.now c.loop-key.tree c.remove.new.self c.in_ok-remove.field-0 c.loop-key-test.true c.loop-key.invariant c.in_ok-remove.ensures
 
 pub returns-in_err-remove : goal.returns-in_err-remove
 returns-in_err-remove g c =
-    let said = c.in_err-remove.ensures in
-    stopped_next c.args.keys.now c.loop-key.key-index _ c.args.tree.now c.loop-key.tree c.remove.new.self c.from_residual.result _ c.from_residual.ensures.1 c.loop-key-test.true c.loop-key.invariant (record {
-      removed = said.removed;
-      untouched = said.untouched;
-      counted = said.counted;
-      refused = said.refused;
-      failed = said.failed;
-      effect = said.effect;
-      faults = said.faults;
-      stays = said.stays;
-      marks = said.marks;
-    })
+    stopped_next c.args.keys.now c.loop-key.key-index _ c.args.tree.now c.loop-key.tree c.remove.new.self c.from_residual.result _ c.from_residual.ensures.1 c.loop-key-test.true c.loop-key.invariant
+    c.in_err-remove.ensures
 
 pub overflow_sub-result : goal.overflow_sub-result
 overflow_sub-result g c =

@@ -12,7 +12,8 @@ use Rattle.ub_query.specs.Posed.{IsPosed}
 use Rattle.ub_table.specs.declared.row.Row.{Row}
 use Rattle.ub_table.specs.declared.schema.Schema.{Schema}
 use Rattle.ub_tetris.proofs.Laws.{either_noted}
-use Rattle.ub_tree.specs.Effects.{IsTakenIn, ReadsRegion, Searches}
+use Rattle.ub_table.specs.declared.row.Key.{Key}
+use Rattle.ub_tree.specs.Effects.{IsTakenIn, ReadsRegion, SearchesFor}
 use Rattle.ub_tree.specs.Spans.{First, IsLater, Meets, Region}
 use Rattle.ub_tree.specs.Told.{GivesNext, IsRegionOf}
 use Rattle.ub_tree.specs.View.{TreeView, spans_of}
@@ -20,7 +21,7 @@ use Rattle.ub_tree.specs.declared.fault.TreeFault.{TreeFault}
 use Rattle.ub_exec.proofs.walking.visit_next.Goals as goal
 
 -- a search and the reading of a region leave the schema as it was
-schema_read : {A B : Type 0} (r : Result A TreeFault) (q : Result B TreeFault) (span : Region) (a b c : TreeView) → Searches a b r → ReadsRegion span b c q → c.schema ≡ a.schema
+schema_read : {A B : Type 0} {Sought : Key → Type 0} (r : Result A TreeFault) (q : Result B TreeFault) (span : Region) (a b c : TreeView) → SearchesFor Sought a b r → ReadsRegion span b c q → c.schema ≡ a.schema
 schema_read r q span a b c searches reads = ap (λ (t : TreeView). t.schema) reads.same ∙ ap (λ (t : TreeView). t.schema) searches.same
 
 pub returns-in_default-clause-rows : goal.returns-in_default-clause-rows

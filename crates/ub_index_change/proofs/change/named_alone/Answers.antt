@@ -1,4 +1,4 @@
-use Rattle.std.proofs.Common.{◌≡◌, ◌∙◌, None, ℕ}
+use Rattle.std.proofs.Common.{None}
 use Rattle.ub_index.specs.Index.{top}
 use Rattle.ub_index.proofs.StepFacts.{step_misfits}
 use Rattle.ub_index_change.proofs.change.named_alone.Goals as goal

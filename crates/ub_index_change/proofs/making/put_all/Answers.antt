@@ -36,10 +36,10 @@ returns-in_err-put-clause-checked g c = λ last good.
     (inv.checked last good) (inr c.in_err-put.ensures.forgotten) c.in_err-put.ensures.others
 
 pub returns-in_err-put-clause-refused : goal.returns-in_err-put-clause-refused
-returns-in_err-put-clause-refused g c =
+returns-in_err-put-clause-refused g c = λ count below.
     let inv = c.loop-sheet.invariant in
     let at : slice_get c.args.sheets.now c.loop-sheet.sheet-index ≡ Some (slice_index_or c.args.sheets.now c.loop-sheet.sheet-index (record { number = 0; page = [] })) =
     slice_get-get_or c.args.sheets.now c.loop-sheet.sheet-index (record { number = 0; page = [] }) c.loop-sheet-test.true in
-    if_err (IsPutFault c.args.sheets.now c.args.pager.now.store) c.from_residual.result c.in_err-put.field-0.0 c.from_residual.ensures.1
+    if_err (IsPutFault count c.args.sheets.now c.args.pager.now.store) c.from_residual.result c.in_err-put.field-0.0 c.from_residual.ensures.1
     (put_fault (Unit {0}) c.args.sheets.now c.loop-sheet.sheet-index _ c.args.pager.now.store c.loop-sheet.pager.store c.in_err-put.field-0.0 at inv.same inv.kept.count
-    c.in_err-put.ensures.faults c.in_err-put.ensures.effect.device c.in_err-put.ensures.missing)
+    c.in_err-put.ensures.faults c.in_err-put.ensures.effect.device c.in_err-put.ensures.missing count below)

@@ -1,10 +1,11 @@
-use Rattle.std.proofs.Common.{◌+◌, ◌-◌, ◌≤◌, ◌<◌, ◌∙◌, length, List, ap, arith, subst, sym, ℕ}
+use Rattle.std.proofs.Common.{◌+◌, ◌-◌, ◌≤◌, ◌∙◌, length, List, ap, arith, subst, sym}
 use Rattle.ub_index_change.specs.Changing.{Mends, NeedsNoGrowth, Turns}
 use Rattle.ub_index_change.specs.declared.told.Told.{Told}
 use Rattle.ub_index_change.specs.declared.turning.Opened.{Opened}
 use Rattle.ub_region.specs.declared.entry.Entry.{Entry}
 use Rattle.ub_store.specs.Facts.{StoreFacts, IsHonest}
 use Rattle.ub_store.specs.View.{PagerView}
+use Rattle.ub_index_change.proofs.BelowFacts.{still_on}
 use Rattle.ub_index_change.proofs.ClimbFacts.{below_refused, mend_refused, open_refused, turned_so, turns_on}
 use Rattle.ub_index.proofs.HeldFacts.{both_on}
 use Rattle.ub_index.proofs.StepFacts.{pager_so, steps_keep}
@@ -55,3 +56,8 @@ returns-clause-effect g t c =
     (both_on c.args.last c.args.pager.now c.open.new.pager c.turn.new.pager (steps_keep c.in_ok-opened.ensures.effect) (c.in_ok-news.ensures.effect.checked, c.in_ok-news.ensures.effect.more))
     c.mend.ensures.refused c.mend.ensures.narrow
     (subst (λ (xs : List Entry). length c.in_ok-opened.opened.before.items + length xs + 2 ≤ 170 → NeedsNoGrowth c.mend.result) c.deref.ensures.value c.mend.ensures.fits)
+
+pub returns-clause-still : goal.returns-clause-still
+returns-clause-still g t c = λ none.
+    still_on c.args.level c.args.place.now.entry c.in_ok-opened.opened.before.items c.in_ok-opened.opened.below.entry c.deref.result.now c.in_ok-news.news c.args.sheets.now c.turn.new.sheets c.mend.new.self
+    c.mend.result c.mend.ensures.told (c.mend.ensures.narrow (c.in_ok-news.ensures.narrow none).0).0 (c.in_ok-news.ensures.still none)

@@ -20,4 +20,4 @@ returns c =
     let in_hi = subst (λ (hi : List ℕ). IsMaskBelow p.len p.dims zbox.lo hi (length zbox.lo) mask) hi_is in_lo in
     let in_box = subst (λ (n : ℕ). IsMaskBelow p.len p.dims zbox.lo zbox.hi n mask) lo_long in_hi in
     rw (← c.self.view_is)
-    (IsMaskBelow-all p.shape p.len p.first p.keys p.dims p.measures zbox mask some within c.self.invariant.few lo_long hi_long c.self.invariant.dims_long in_box)
+    (IsMaskBelow-all p.shape p.len p.first p.numbers p.dims p.measures zbox mask some within c.self.invariant.few lo_long hi_long c.self.invariant.dims_long in_box)

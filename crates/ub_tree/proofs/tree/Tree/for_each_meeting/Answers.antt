@@ -1,6 +1,7 @@
 use Rattle.std.proofs.Common.{◌++◌, ◌∷◌, []}
 use Rattle.ub_tree.proofs.MeetFacts.{takes_more, walks_down, walks_ended, walks_on}
 use Rattle.ub_tree.proofs.AnswerFacts.{next_later}
+use Rattle.ub_tree.proofs.ReadFacts.{searches_by}
 use Rattle.ub_tree.proofs.tree.Tree.for_each_meeting.Goals as goal
 
 pub push-requires-clause-meets : goal.push-requires-clause-meets
@@ -29,3 +30,8 @@ returns-clause-met g c =
           c.in_ok-region.field-0 _ c.in_default.not-Some c.as_ref.ensures.value c.in_ok-region.ensures.gives,
       takes,
     )
+
+pub returns-in_err-region-clause-effect : goal.returns-in_err-region-clause-effect
+returns-in_err-region-clause-effect g c =
+    let (found, walks, takes) = c.loop-region.invariant in
+    searches_by c.from_residual.result c.in_err-region.field-0.0 c.args.self.now c.loop-region.self c.next_meeting.new.self c.from_residual.ensures.1 walks.same c.in_err-region.ensures.effect

@@ -6,7 +6,7 @@ use Rattle.ub_table.specs.declared.fault.PageFault.TheVariants.{BadOrder}
 use Rattle.ub_table.specs.declared.row.Key.{Key}
 use Rattle.ub_tree.proofs.EffectFacts.{changes_of, counted_anew, left_by, marked_sound, refused_none, searched_by, then_changed, unchanged_of}
 use Rattle.ub_tree.proofs.GrowFacts.{added_answers, grown, grows_by, key_there, passing_answers_key, answers_err_at, answers_ok_at}
-use Rattle.ub_tree.proofs.HoldingFacts.{has_told, key_is_there, next_key}
+use Rattle.ub_tree.proofs.HoldingFacts.{key_is_there, next_key}
 use Rattle.ub_tree.proofs.RemovalFacts.{holder}
 use Rattle.ub_tree.proofs.RoomFacts.{can_stand, rows_on}
 use Rattle.ub_tree.specs.Effects.{ChangesOf}
@@ -27,8 +27,8 @@ returns-in_err-region-clause-refused g c =
     λ honest number region into. passing_answers_key c.args.self.now _ c.from_residual.result c.in_err-region.field-0.0 c.from_residual.ensures.1
     (c.in_err-region.ensures.led number region honest (subst (λ (k : Key). FallsInto c.args.self.now k number region) (sym is) into)) number region into
 
-pub returns-then-has-clause-refused : goal.returns-then-has-clause-refused
-returns-then-has-clause-refused g c =
+pub returns-in_default-clause-refused : goal.returns-in_default-clause-refused
+returns-in_default-clause-refused g c =
     let a = c.args.self.now in
     let row = c.args.row.now in
     let span = c.in_ok-region.region in
@@ -36,11 +36,11 @@ returns-then-has-clause-refused g c =
     let is = next_key _ a c.shape.result row c.key-key.result c.self.view_is c.shape.ensures c.key-key.ensures in
     let read = subst (λ (k : Key). HasReadAt a k span page) is c.in_ok-region.ensures.read in
     let has : has_key a.schema.dims (key_of a.schema.dims row) page.region.rows ≡ true =
-    has_told page.region.rows read.read.dims is c.has.ensures c.if-has.true in
+    subst (λ (d : ℕ). has_key d (key_of d row) page.region.rows ≡ true) read.read.dims c.in_default.ensures.none in
     key_is_there a (key_of a.schema.dims row) span page read ℕ has
 
-pub returns-then-has-clause-effect : goal.returns-then-has-clause-effect
-returns-then-has-clause-effect g c =
+pub returns-in_default-clause-effect : goal.returns-in_default-clause-effect
+returns-in_default-clause-effect g c =
     let a = c.args.self.now in
     let row = c.args.row.now in
     let span = c.in_ok-region.region in
@@ -48,7 +48,7 @@ returns-then-has-clause-effect g c =
     let is = next_key _ a c.shape.result row c.key-key.result c.self.view_is c.shape.ensures c.key-key.ensures in
     let read = subst (λ (k : Key). HasReadAt a k span page) is c.in_ok-region.ensures.read in
     let has : has_key a.schema.dims (key_of a.schema.dims row) page.region.rows ≡ true =
-    has_told page.region.rows read.read.dims is c.has.ensures c.if-has.true in
+    subst (λ (d : ℕ). has_key d (key_of d row) page.region.rows ≡ true) read.read.dims c.in_default.ensures.none in
     let taken = key_there a (key_of a.schema.dims row) span page.region read.falls read.read.on has (holder a (key_of a.schema.dims row) span page read) in
     subst (λ (v : TreeView). ChangesOf row.number {A = ℕ} a v (Err (Page span.page BadOrder))) (sym c.in_ok-region.ensures.effect.same)
     (unchanged_of row.number (Page span.page BadOrder) a (taken.0, inr (refl, taken.1), refl))
@@ -62,7 +62,7 @@ store_with-requires-clause-rows g c =
     let is = next_key _ a c.shape.result row c.key-key.result c.self.view_is c.shape.ensures c.key-key.ensures in
     let read = subst (λ (k : Key). HasReadAt a k span page) is c.in_ok-region.ensures.read in
     let has : has_key a.schema.dims (key_of a.schema.dims row) page.region.rows ≡ false =
-    has_told page.region.rows read.read.dims is c.has.ensures c.if-has.false in
+    subst (λ (d : ℕ). has_key d (key_of d row) page.region.rows ≡ false) read.read.dims c.in-Some.ensures.place.0 in
     let good : IsRow a.schema.dims (measures_of a.schema) row = c.requires.row in
     let last : a.inner.index.last ≡ last_address a.schema.dims = subst (λ (v : TreeView). v.inner.index.last ≡ last_address v.schema.dims) c.self.view_is c.self.invariant.last_is in
     subst (λ (v : TreeView). CanStand v span (insert_row v.schema.dims row page.region.rows)) (sym c.in_ok-region.ensures.effect.same)
@@ -77,7 +77,7 @@ returns-in_err-store_with-clause-refused g c =
     let is = next_key _ a c.shape.result row c.key-key.result c.self.view_is c.shape.ensures c.key-key.ensures in
     let read = subst (λ (k : Key). HasReadAt a k span page) is c.in_ok-region.ensures.read in
     let has : has_key a.schema.dims (key_of a.schema.dims row) page.region.rows ≡ false =
-    has_told page.region.rows read.read.dims is c.has.ensures c.if-has.false in
+    subst (λ (d : ℕ). has_key d (key_of d row) page.region.rows ≡ false) read.read.dims c.in-Some.ensures.place.0 in
     let b = c.read_holding.new.self in
     added_answers a b (key_of a.schema.dims row) span page c.from_residual-in_err-store_with.result c.in_ok-region.ensures.effect.same read has
     (answers_err_at {U = Unit {0}} (length page.region.rows ≡ b.schema.page_rows) b span c.from_residual-in_err-store_with.result c.in_err-store_with.field-0.0 c.from_residual-in_err-store_with.ensures.1
@@ -147,7 +147,7 @@ returns-clause-refused g c =
     let is = next_key _ a c.shape.result row c.key-key.result c.self.view_is c.shape.ensures c.key-key.ensures in
     let read = subst (λ (k : Key). HasReadAt a k span page) is c.in_ok-region.ensures.read in
     let has : has_key a.schema.dims (key_of a.schema.dims row) page.region.rows ≡ false =
-    has_told page.region.rows read.read.dims is c.has.ensures c.if-has.false in
+    subst (λ (d : ℕ). has_key d (key_of d row) page.region.rows ≡ false) read.read.dims c.in-Some.ensures.place.0 in
     let b = c.read_holding.new.self in
     added_answers a b (key_of a.schema.dims row) span page (Ok c.args.row.now.number) c.in_ok-region.ensures.effect.same read has
     (answers_ok_at (length page.region.rows ≡ b.schema.page_rows) b span tt c.args.row.now.number c.in_ok-store_with.ensures.counted)
@@ -168,8 +168,8 @@ returns-clause-effect g c =
 pub returns-in_err-region-clause-put : goal.returns-in_err-region-clause-put
 returns-in_err-region-clause-put g c = refused_none _ c.from_residual.result c.in_err-region.field-0.0 c.from_residual.ensures.1
 
-pub returns-then-has-clause-put : goal.returns-then-has-clause-put
-returns-then-has-clause-put g c = tt
+pub returns-in_default-clause-put : goal.returns-in_default-clause-put
+returns-in_default-clause-put g c = tt
 
 pub returns-in_err-store_with-clause-put : goal.returns-in_err-store_with-clause-put
 returns-in_err-store_with-clause-put g c = refused_none _ c.from_residual-in_err-store_with.result c.in_err-store_with.field-0.0 c.from_residual-in_err-store_with.ensures.1
@@ -183,7 +183,7 @@ returns-clause-put g c =
     let is = next_key _ a c.shape.result row c.key-key.result c.self.view_is c.shape.ensures c.key-key.ensures in
     let read = subst (λ (k : Key). HasReadAt a k span page) is c.in_ok-region.ensures.read in
     let has : has_key a.schema.dims (key_of a.schema.dims row) page.region.rows ≡ false =
-    has_told page.region.rows read.read.dims is c.has.ensures c.if-has.false in
+    subst (λ (d : ℕ). has_key d (key_of d row) page.region.rows ≡ false) read.read.dims c.in-Some.ensures.place.0 in
     let good : IsRow a.schema.dims (measures_of a.schema) row = c.requires.row in
     let last : a.inner.index.last ≡ last_address a.schema.dims = subst (λ (v : TreeView). v.inner.index.last ≡ last_address v.schema.dims) c.self.view_is c.self.invariant.last_is in
     let can = can_stand a span row page.region.rows last (rows_on a span page.region read.read.on) read.falls.holds good has in

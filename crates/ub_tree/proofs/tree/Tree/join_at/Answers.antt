@@ -1,43 +1,53 @@
-use Rattle.std.proofs.Common.{◌≡◌, ◌+◌, ◌-◌, ◌≤◌, true, ◌∙◌, Ok, inl, inr, sym, ap, subst, refl, Err, ◌<◌, ◌^◌}
+use Rattle.std.proofs.Common.{◌≡◌, ◌+◌, ◌-◌, ◌≤◌, ◌∙◌, true, Ok, sym, ap, subst, refl, Err, ◌<◌, ◌^◌}
 use Rattle.ub_region.specs.Joins.{put_rows}
+use Rattle.ub_store.specs.Facts.{IsHonest}
+use Rattle.ub_store.specs.declared.fault.StoreFault.TheVariants as store
 use Rattle.ub_table.specs.Region.{IsRegion}
-use Rattle.ub_table.specs.declared.fault.PageFault.TheVariants.{BadCount}
+use Rattle.ub_tree.specs.Pages.{Spells}
+use Rattle.ub_tree.specs.Removal.{IsRemovalFault}
+use Rattle.ub_tree.specs.Told.{IsRegionOf}
 use Rattle.ub_tree.specs.Tree.{placed_in, tree_view}
 use Rattle.ub_tree.specs.View.{TreeView, region_count, regions}
-use Rattle.ub_tree.specs.declared.fault.TreeFault.TheVariants.{Page}
-use Rattle.ub_tree.specs.inner.Change.{IsDropReady, IsRegionIn, IsRegionThere, IsStored, JoinsAt}
-use Rattle.ub_tree.specs.Told.{IsRegionOf}
-use Rattle.ub_tree.proofs.EffectFacts.{changes_by, ready_by, refused_none, then_changed, unchanged}
-use Rattle.ub_tree.proofs.JoinFacts.{alone_not_sound, index_failed, joined_at, joined_effect, joined_written}
-use Rattle.ub_writing.specs.Marks.{is_written}
 use Rattle.ub_tree.specs.declared.fault.TreeFault.{TreeFault}
-use Rattle.ub_store.specs.Facts.{IsHonest}
+use Rattle.ub_tree.specs.declared.fault.TreeFault.TheVariants.{Store}
+use Rattle.ub_tree.specs.inner.Change.{IsDropReady, IsRegionIn, IsRegionThere, IsStored}
+use Rattle.ub_tree.specs.inner.Removing.{JoinsAt}
 use Rattle.ub_tree.proofs.CallFacts.{last_small}
+use Rattle.ub_tree.proofs.EffectFacts.{changes_by, ready_by}
+use Rattle.ub_tree.proofs.JoinFacts.{alone_not_sound, index_failed, joined_at, joined_beside, joined_effect, joined_written}
+use Rattle.ub_tree.proofs.LessenFacts.{alone_lessens, device_removal, fault_by, put_removal, then_lessens}
 use Rattle.ub_tree.proofs.StandFacts.{joined_stand}
-use Rattle.ub_tree.specs.Pages.{Spells}
+use Rattle.ub_writing.specs.Marks.{is_written}
 use Rattle.ub_tree.proofs.tree.Tree.join_at.Goals as goal
 
-pub returns-then-self-eq1-clause-effect : goal.returns-then-self-eq1-clause-effect
-returns-then-self-eq1-clause-effect g c =
+pub returns-then-self-eq1-clause-leaves : goal.returns-then-self-eq1-clause-leaves
+returns-then-self-eq1-clause-leaves g c =
     let a = c.args.self.now in
     let one : region_count a ≡ 1 = sym (ap (λ (v : TreeView). region_count v) c.self.view_is) ∙ c.if-self-eq1.true in
     rw c.uncounted.ensures.fault
-    (unchanged (Page 0 BadCount) a (alone_not_sound a c.args.region.now c.args.next.now one c.requires.there.told c.requires.next.1, inr (inr (inl (refl, refl, inr (inr one)))), refl))
+    (alone_lessens a (alone_not_sound a c.args.region.now c.args.next.now one c.requires.there.told c.requires.ends) one)
 
-pub returns-in_err-change-clause-effect : goal.returns-in_err-change-clause-effect
-returns-in_err-change-clause-effect g c =
-    ready_by c.from_residual.result c.in_err-change.field-0.0 c.args.self.now c.prepare_drop.new.self c.from_residual.ensures.1 c.in_err-change.ensures.effect
+pub returns-in_err-change-clause-leaves : goal.returns-in_err-change-clause-leaves
+returns-in_err-change-clause-leaves g c = record {
+  changes = ready_by c.from_residual.result c.in_err-change.field-0.0 c.args.self.now c.prepare_drop.new.self c.from_residual.ensures.1 c.in_err-change.ensures.effect;
+  faults = fault_by c.from_residual.result c.in_err-change.field-0.0 (IsRemovalFault c.args.self.now) c.from_residual.ensures.1 c.in_err-change.ensures.faults;
+  stays = λ was. ap (λ (v : TreeView). v.is_changed) c.in_err-change.ensures.effect.same ∙ was;
+}
 
-pub returns-in_err-rewrite-clause-effect : goal.returns-in_err-rewrite-clause-effect
-returns-in_err-rewrite-clause-effect g c =
+pub returns-in_err-rewrite-clause-leaves : goal.returns-in_err-rewrite-clause-leaves
+returns-in_err-rewrite-clause-leaves g c =
     let b = c.prepare_drop.new.self in
+    let r = c.from_residual-in_err-rewrite.result in
     let same = c.in_ok-change.ensures.effect.same in
     let of = subst (λ (v : TreeView). IsRegionOf v c.args.region.now) (sym same) c.requires.there.told in
-    then_changed c.from_residual-in_err-rewrite.result c.args.self.now b c.rewrite.new.self same
-    (changes_by b c.rewrite.new.self c.args.region.now of c.from_residual-in_err-rewrite.result c.in_err-rewrite.field-0.0 c.from_residual-in_err-rewrite.ensures.1 c.in_err-rewrite.ensures.effect)
+    then_lessens r c.args.self.now b c.rewrite.new.self same (record {
+      changes = changes_by b c.rewrite.new.self c.args.region.now of r c.in_err-rewrite.field-0.0 c.from_residual-in_err-rewrite.ensures.1 c.in_err-rewrite.ensures.effect;
+      faults = device_removal r b (fault_by r c.in_err-rewrite.field-0.0 (λ e. e ≡ Store store.Device) c.from_residual-in_err-rewrite.ensures.1 c.in_err-rewrite.ensures.faults);
+      stays = c.rewrite.ensures.stays;
+    })
 
-pub returns-in_err-put_index-clause-effect : goal.returns-in_err-put_index-clause-effect
-returns-in_err-put_index-clause-effect g c =
+pub returns-in_err-put_index-clause-leaves : goal.returns-in_err-put_index-clause-leaves
+returns-in_err-put_index-clause-leaves g c =
     let b = c.prepare_drop.new.self in
     let span = c.args.region.now in
     let next = c.args.next.now in
@@ -45,12 +55,16 @@ returns-in_err-put_index-clause-effect g c =
     let same = c.in_ok-change.ensures.effect.same in
     let there = subst (λ (v : TreeView). IsRegionThere v span) (sym same) c.requires.there in
     let ready = subst (λ (v : TreeView). IsDropReady v next change) (sym same) c.in_ok-change.ensures.ready in
-    then_changed c.from_residual-in_err-put_index.result c.args.self.now b c.put_index.new.self same
-    (index_failed b c.rewrite.new.self c.put_index.new.self span next change there c.requires.next.1 ready c.in_ok-rewrite.ensures.same c.in_ok-rewrite.ensures.effect c.put_index.ensures.kept
-    c.from_residual-in_err-put_index.result c.in_err-put_index.field-0.0 c.from_residual-in_err-put_index.ensures.1 c.put_index.ensures.marked c.in_err-put_index.ensures.stopped.0 c.in_err-put_index.ensures.stopped.1)
+    then_lessens c.from_residual-in_err-put_index.result c.args.self.now b c.put_index.new.self same (record {
+      changes = index_failed b c.rewrite.new.self c.put_index.new.self span next change there c.requires.ends ready c.in_ok-rewrite.ensures.same c.in_ok-rewrite.ensures.effect c.put_index.ensures.kept
+          c.from_residual-in_err-put_index.result c.in_err-put_index.field-0.0 c.from_residual-in_err-put_index.ensures.1 c.put_index.ensures.marked c.in_err-put_index.ensures.stopped.0 c.in_err-put_index.ensures.stopped.1;
+      faults = fault_by c.from_residual-in_err-put_index.result c.in_err-put_index.field-0.0 (IsRemovalFault b) c.from_residual-in_err-put_index.ensures.1
+          (put_removal b change c.rewrite.new.self.store c.in_err-put_index.field-0.0 c.in_err-put_index.ensures.stopped.1);
+      stays = λ _. c.put_index.ensures.marked ∙ ap (λ (v : TreeView). v.is_changed) c.in_ok-rewrite.ensures.same;
+    })
 
-pub returns-clause-same : goal.returns-clause-same
-returns-clause-same g c =
+pub returns-clause-joined : goal.returns-clause-joined
+returns-clause-joined g c =
     let b = c.prepare_drop.new.self in
     let span = c.args.region.now in
     let next = c.args.next.now in
@@ -62,9 +76,19 @@ returns-clause-same g c =
     let d : TreeView = tree_view u.schema u.index (u.count - 1) u.next u.rows (is_written u.mark) u.is_failed u.pager in
     let is = ap (λ (v : TreeView). record v { inner = record v.inner { count = v.inner.count - 1 } }) c.self-2.view_is in
     let some : 1 ≤ region_count b = subst (λ (v : TreeView). 1 ≤ region_count v) (c.self.view_is ∙ sym same) c.self.invariant.some in
-    subst (λ (v : TreeView). JoinsAt span v d) same
-    (joined_at b c.rewrite.new.self c.put_index.new.self span next change there c.requires.next.1 ready c.in_ok-rewrite.ensures.same c.in_ok-rewrite.ensures.effect c.put_index.ensures.kept
-    d c.in_ok-put_index.ensures.now is some)
+    let small = subst (λ n. n < 2 ^ 128) (sym c.self.invariant.last_is) (last_small c.self.inside.schema.dims c.self.inside.schema.counts.few_dims) in
+    let near = subst (λ (v : TreeView). v.inner.index.last < 2 ^ 128) (c.self.view_is ∙ sym same) small in
+    let rows = c.args.page.now.region.rows in
+    let told = subst (λ (v : TreeView). IsRegionOf v next) (sym same) c.requires.told in
+    let good = subst (λ (v : TreeView). IsRegion v.schema (record { first = span.first; rows = rows })) (sym same) c.requires.region in
+    let put : IsHonest b.store → Spells d span.page span.first rows = joined_stand b c.rewrite.new.self c.put_index.new.self d span change rows there near ready.spelled
+    (λ honest. ap (λ (v : TreeView). v.store.honest) c.in_ok-rewrite.ensures.effect.frame ∙ honest) c.put_index.ensures.kept c.in_ok-rewrite.ensures.put
+    (ap (λ (v : TreeView). v.store) is) (ap (λ (v : TreeView). v.schema) is ∙ ap (λ (v : TreeView). v.schema) c.in_ok-put_index.ensures.now) in
+    subst (λ (v : TreeView). JoinsAt span rows v d) same
+    (joined_at b c.rewrite.new.self c.put_index.new.self span next change there c.requires.ends ready c.in_ok-rewrite.ensures.same c.in_ok-rewrite.ensures.effect c.put_index.ensures.kept
+    d c.in_ok-put_index.ensures.now is rows some put
+    (joined_beside b c.rewrite.new.self c.put_index.new.self span next change there c.requires.ends ready c.in_ok-rewrite.ensures.same c.in_ok-rewrite.ensures.effect c.put_index.ensures.kept
+    d c.in_ok-put_index.ensures.now is rows near good told c.in_ok-put_index.ensures.stand put))
 
 pub returns-clause-written : goal.returns-clause-written
 returns-clause-written g c = λ i stored at at_next each.
@@ -86,11 +110,11 @@ returns-clause-written g c = λ i stored at at_next each.
     let at_next_b = subst (λ (v : TreeView). IsRegionIn v (i + 1) next) (sym same) at_next in
     let good = subst (λ (v : TreeView). IsRegion v.schema (record { first = span.first; rows = rows })) (sym same) c.requires.region in
     subst (λ (v : TreeView). IsStored d × (regions d ≡ put_rows i true rows (regions v))) same
-    (joined_written b c.rewrite.new.self c.put_index.new.self span next change there c.requires.next.1 ready c.in_ok-rewrite.ensures.same c.in_ok-rewrite.ensures.effect c.put_index.ensures.kept
+    (joined_written b c.rewrite.new.self c.put_index.new.self span next change there c.requires.ends ready c.in_ok-rewrite.ensures.same c.in_ok-rewrite.ensures.effect c.put_index.ensures.kept
     d c.in_ok-put_index.ensures.now is i rows viewed refl c.in_ok-put_index.ensures.works stored_b at_b at_next_b good (c.in_ok-rewrite.ensures.written i stored_b at_b) c.in_ok-put_index.ensures.stand)
 
-pub returns-clause-effect : goal.returns-clause-effect
-returns-clause-effect g c =
+pub returns-clause-leaves : goal.returns-clause-leaves
+returns-clause-leaves g c =
     let b = c.prepare_drop.new.self in
     let span = c.args.region.now in
     let next = c.args.next.now in
@@ -101,9 +125,12 @@ returns-clause-effect g c =
     let u = c.self-2.inside in
     let d : TreeView = tree_view u.schema u.index (u.count - 1) u.next u.rows (is_written u.mark) u.is_failed u.pager in
     let is = ap (λ (v : TreeView). record v { inner = record v.inner { count = v.inner.count - 1 } }) c.self-2.view_is in
-    then_changed (Ok tt) c.args.self.now b d same
-    (joined_effect b c.rewrite.new.self c.put_index.new.self span next change there c.requires.next.1 ready c.in_ok-rewrite.ensures.same c.in_ok-rewrite.ensures.effect c.put_index.ensures.kept
-    d c.in_ok-put_index.ensures.now is tt c.in_ok-put_index.ensures.works)
+    then_lessens (Ok tt) c.args.self.now b d same (record {
+      changes = joined_effect b c.rewrite.new.self c.put_index.new.self span next change there c.requires.ends ready c.in_ok-rewrite.ensures.same c.in_ok-rewrite.ensures.effect c.put_index.ensures.kept
+          d c.in_ok-put_index.ensures.now is tt c.in_ok-put_index.ensures.works;
+      faults = tt;
+      stays = λ _. ap (λ (v : TreeView). v.is_changed) is ∙ c.put_index.ensures.marked ∙ ap (λ (v : TreeView). v.is_changed) c.in_ok-rewrite.ensures.same;
+    })
 
 pub returns-then-self-eq1-clause-alone : goal.returns-then-self-eq1-clause-alone
 returns-then-self-eq1-clause-alone g c = λ one. ap (λ (fault : TreeFault). Err fault) c.uncounted.ensures.fault
@@ -119,35 +146,3 @@ returns-in_err-put_index-clause-alone g c = λ one. absurd (c.if-self-eq1.false 
 
 pub returns-clause-alone : goal.returns-clause-alone
 returns-clause-alone g c = λ one. absurd (c.if-self-eq1.false (ap (λ (v : TreeView). region_count v) c.self.view_is ∙ one))
-
-pub returns-then-self-eq1-clause-put : goal.returns-then-self-eq1-clause-put
-returns-then-self-eq1-clause-put g c = tt
-
-pub returns-in_err-change-clause-put : goal.returns-in_err-change-clause-put
-returns-in_err-change-clause-put g c = refused_none _ c.from_residual.result c.in_err-change.field-0.0 c.from_residual.ensures.1
-
-pub returns-in_err-rewrite-clause-put : goal.returns-in_err-rewrite-clause-put
-returns-in_err-rewrite-clause-put g c = refused_none _ c.from_residual-in_err-rewrite.result c.in_err-rewrite.field-0.0 c.from_residual-in_err-rewrite.ensures.1
-
-pub returns-in_err-put_index-clause-put : goal.returns-in_err-put_index-clause-put
-returns-in_err-put_index-clause-put g c = refused_none _ c.from_residual-in_err-put_index.result c.in_err-put_index.field-0.0 c.from_residual-in_err-put_index.ensures.1
-
-pub returns-clause-put : goal.returns-clause-put
-returns-clause-put g c =
-    let b = c.prepare_drop.new.self in
-    let span = c.args.region.now in
-    let next = c.args.next.now in
-    let change = c.in_ok-change.change in
-    let same = c.in_ok-change.ensures.effect.same in
-    let there = subst (λ (v : TreeView). IsRegionThere v span) (sym same) c.requires.there in
-    let ready = subst (λ (v : TreeView). IsDropReady v next change) (sym same) c.in_ok-change.ensures.ready in
-    let t = c.self.inside in
-    let u = c.self-2.inside in
-    let d : TreeView = tree_view u.schema u.index (u.count - 1) u.next u.rows (is_written u.mark) u.is_failed u.pager in
-    let is = ap (λ (v : TreeView). record v { inner = record v.inner { count = v.inner.count - 1 } }) c.self-2.view_is in
-    let small = subst (λ n. n < 2 ^ 128) (sym c.self.invariant.last_is) (last_small t.schema.dims t.schema.counts.few_dims) in
-    let near = subst (λ (v : TreeView). v.inner.index.last < 2 ^ 128) (c.self.view_is ∙ sym same) small in
-    subst (λ (v : TreeView). IsHonest v.store → Spells d span.page span.first c.args.page.now.region.rows) same
-    (joined_stand b c.rewrite.new.self c.put_index.new.self d span change c.args.page.now.region.rows there near ready.spelled
-    (λ honest. ap (λ (v : TreeView). v.store.honest) c.in_ok-rewrite.ensures.effect.frame ∙ honest) c.put_index.ensures.kept c.in_ok-rewrite.ensures.put
-    (ap (λ (v : TreeView). v.store) is) (ap (λ (v : TreeView). v.schema) is ∙ ap (λ (v : TreeView). v.schema) c.in_ok-put_index.ensures.now))

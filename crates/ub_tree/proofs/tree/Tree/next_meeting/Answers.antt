@@ -3,7 +3,7 @@ use Rattle.ub_bigmin.specs.Box.{HoldsAny}
 use Rattle.ub_bigmin.specs.Extremes.{LeastFrom}
 use Rattle.ub_index.specs.Searching.{GivesAfter}
 use Rattle.ub_tree.proofs.CallFacts.{gives_next, last_small}
-use Rattle.ub_tree.proofs.SearchFacts.{search_refused}
+use Rattle.ub_tree.proofs.SearchFacts.{sought_refused}
 use Rattle.ub_tree.specs.Spans.{Region}
 use Rattle.ub_tree.specs.View.{TreeView}
 use Rattle.ub_writing.specs.Marks.{is_written}
@@ -18,5 +18,5 @@ pub returns-in_err-found-clause-effect : goal.returns-in_err-found-clause-effect
 returns-in_err-found-clause-effect g c =
     let t = c.self.inside in
     let small = subst (λ n. n < 2 ^ 128) (sym c.self.invariant.last_is) (last_small t.schema.dims t.schema.counts.few_dims) in
-    rw (← c.self.view_is) (search_refused t.schema t.index t.count t.next t.rows (is_written t.mark) t.is_failed t.pager c.next_meeting.new.pager _ (Option Region) c.from_residual.result c.in_err-found.field-0.0 small c.self.invariant.checked
+    rw (← c.self.view_is) (sought_refused t.schema t.index t.count t.next t.rows (is_written t.mark) t.is_failed t.pager c.next_meeting.new.pager _ (Option Region) c.from_residual.result c.in_err-found.field-0.0 small c.self.invariant.checked
     c.from_residual.ensures.1 c.in_err-found.ensures.effect)

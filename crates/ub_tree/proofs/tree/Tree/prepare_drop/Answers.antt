@@ -8,7 +8,7 @@ use Rattle.ub_store.specs.Facts.{page_count}
 use Rattle.ub_tree.proofs.CallFacts.{last_small, stored_on}
 use Rattle.ub_tree.proofs.IndexedFacts.{reached_once, at_of_key, sound_index}
 use Rattle.ub_tree.proofs.JoinFacts.{drop_removal}
-use Rattle.ub_tree.proofs.ReadyFacts.{drop_fault, drop_next, drop_spelled, not_ready}
+use Rattle.ub_tree.proofs.ReadyFacts.{drop_fault, drop_spelled, not_ready}
 use Rattle.ub_tree.specs.Placed.{entry_of}
 use Rattle.ub_tree.specs.Spans.{first_keys}
 use Rattle.ub_tree.specs.Tree.{tree_view}
@@ -22,8 +22,10 @@ returns-clause-ready g c =
     let t = c.self.inside in
     let old : TreeView = tree_view t.schema t.index t.count t.next t.rows (is_written t.mark) t.is_failed t.pager in
     rw (← c.self.view_is) (record {
+      bounds = (c.root-root.ensures.some, c.root-root.ensures.low, (let fits = c.pages-pages.type_inv in let same = c.pages-pages.ensures in omega arith));
+      made = λ honest. c.in_ok-change.ensures.made honest;
       spelled = λ honest. drop_spelled old c.args.region.now.first c.in_ok-change.change c.root-root.ensures.some (c.in_ok-change.ensures.made honest);
-      next = λ honest. drop_next t.index t.pager.store c.args.region.now.first c.in_ok-change.change (c.in_ok-change.ensures.made honest);
+      next = c.in_ok-change.ensures.next;
       pages = λ honest. c.in_ok-change.ensures.pages honest;
       makes = λ i stored at behind. c.in_ok-change.ensures.ready i (stored_on old stored) (reached_once t.index t.pager.store _ stored.placed_are.own)
           (subst (λ (es : List Entry). IsRegionAt es i c.args.region.now) (sym stored.indexed.entries_are) at) behind;

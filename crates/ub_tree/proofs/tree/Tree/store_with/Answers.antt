@@ -2,13 +2,11 @@ use Rattle.std.proofs.Common.{◌≡◌, ◌<◌, ◌≤◌, ◌∙◌, [], ◌�
 use Rattle.std.proofs.lemmas.Bool.{le-leb, lt-leb}
 use Rattle.std.proofs.lemmas.List.Edits.{length-insert}
 use Rattle.ub_region.specs.Rows.{Halves, split}
-use Rattle.std.proofs.lemmas.List.{length-map}
 use Rattle.std.specs.List.{insert}
 use Rattle.ub_region.specs.RegionPage.{RegionView}
 use Rattle.ub_region.proofs.Laws.{length-insert_row}
 use Rattle.ub_region.specs.Rows.{insert_row}
-use Rattle.ub_table.specs.Region.{IsRegion, RegionRows, key_of, keys_of}
-use Rattle.ub_table.specs.declared.row.Key.{Key}
+use Rattle.ub_table.specs.Region.{IsRegion, RegionRows}
 use Rattle.ub_table.specs.declared.row.Row.{Row}
 use Rattle.ub_tree.proofs.EffectFacts.{changed_by}
 use Rattle.ub_tree.proofs.FilledFacts.{writes_grown}
@@ -30,8 +28,7 @@ returns-clause-written g c = λ i stored at all.
     let row = c.args.row.now in
     let rows = c.args.room.now.region.region.rows in
     let new = insert_row b.schema.dims row rows in
-    let keys = c.keys.ensures.keys ∙ ap (λ (d : ℕ). keys_of d rows) c.requires.read.dims in
-    let made : new ≡ insert rows c.index_in-index.result row = c.index_in-index.ensures.index b.schema.dims row rows keys c.requires.key in
+    let made : insert_row b.schema.dims row rows ≡ insert rows c.args.index row = c.requires.place.1 in
     let same : c.page_rows.result ≡ b.schema.page_rows = c.page_rows.ensures.page_rows ∙ ap (λ (v : TreeView). v.schema.page_rows) c.self.view_is in
     let few = c.requires.read.on.0.few in
     let less : length rows < b.schema.page_rows = (let long = c.len.ensures.len in let other = c.if-len-page_rows.false in omega arith) in
@@ -48,15 +45,12 @@ split-requires-clause-right g c =
     let b = c.args.self.now in
     let row = c.args.row.now in
     let before = c.args.room.now.region.region.rows in
-    let keys = c.keys.ensures.keys ∙ ap (λ (d : ℕ). keys_of d before) c.requires.read.dims in
-    let made = c.index_in-index.ensures.index b.schema.dims row before keys c.requires.key in
-    let rows = insert before c.index_in-index.result row in
+    let made : insert_row b.schema.dims row before ≡ insert before c.args.index row = c.requires.place.1 in
+    let rows = insert before c.args.index row in
     let full = sym c.len.ensures.len ∙ c.if-len-page_rows.true ∙ c.page_rows.ensures.page_rows ∙ ap (λ (v : TreeView). v.schema.page_rows) c.self.view_is in
     let stand : CanStand b c.args.region.now rows = subst (λ (rs : List Row). CanStand b c.args.region.now rs) made c.requires.rows in
-    let region = c.args.room.now.region in
-    let long = ap (λ (ks : List Key). length ks) c.keys.ensures.keys ∙ length-map region.region.rows (key_of region.dims) in
-    let within : c.index_in-index.result ≤ length before = subst (λ (n : ℕ). c.index_in-index.result ≤ n) long c.index_in-index.ensures.within in
-    let more : length rows ≡ length before + 1 = length-insert before c.index_in-index.result row within in
+    let within = c.requires.place.0 in
+    let more : length rows ≡ length before + 1 = length-insert before c.args.index row within in
     let right = ap (λ (v : RegionView). v.region) c.split_with.ensures.right
     ∙ ap (λ (h : Halves). record { first = h.first; rows = h.right }) (same_split c.requires.read.dims full refl) in
     subst (λ (r : RegionRows). IsRegion b.schema r) (sym right) (two_stand b c.args.region.now rows stand (omega arith)).1
@@ -66,15 +60,12 @@ returns-then-len-page_rows-clause-written g c =
     let b = c.args.self.now in
     let row = c.args.row.now in
     let before = c.args.room.now.region.region.rows in
-    let keys = c.keys.ensures.keys ∙ ap (λ (d : ℕ). keys_of d before) c.requires.read.dims in
-    let made = c.index_in-index.ensures.index b.schema.dims row before keys c.requires.key in
-    let rows = insert before c.index_in-index.result row in
+    let made : insert_row b.schema.dims row before ≡ insert before c.args.index row = c.requires.place.1 in
+    let rows = insert before c.args.index row in
     let full = sym c.len.ensures.len ∙ c.if-len-page_rows.true ∙ c.page_rows.ensures.page_rows ∙ ap (λ (v : TreeView). v.schema.page_rows) c.self.view_is in
     let stand : CanStand b c.args.region.now rows = subst (λ (rs : List Row). CanStand b c.args.region.now rs) made c.requires.rows in
-    let region = c.args.room.now.region in
-    let long = ap (λ (ks : List Key). length ks) c.keys.ensures.keys ∙ length-map region.region.rows (key_of region.dims) in
-    let within : c.index_in-index.result ≤ length before = subst (λ (n : ℕ). c.index_in-index.result ≤ n) long c.index_in-index.ensures.within in
-    let more : length rows ≡ length before + 1 = length-insert before c.index_in-index.result row within in
+    let within = c.requires.place.0 in
+    let more : length rows ≡ length before + 1 = length-insert before c.args.index row within in
     let over : nat_le (length rows) b.schema.page_rows ≡ false = lt-leb (length rows) b.schema.page_rows (omega arith) in
     let written = rw (c.split_with.ensures.left, c.split_with.ensures.right, c.requires.read.dims, full) at c.split.ensures.written in
     subst (λ (rs : List Row). StoresRows c.args.region.now rs b c.split.new.self c.split.result) (sym made)
@@ -86,8 +77,7 @@ rewrite-requires-clause-region g c =
     let row = c.args.row.now in
     let rows = c.args.room.now.region.region.rows in
     let new = insert_row b.schema.dims row rows in
-    let keys = c.keys.ensures.keys ∙ ap (λ (d : ℕ). keys_of d rows) c.requires.read.dims in
-    let made : new ≡ insert rows c.index_in-index.result row = c.index_in-index.ensures.index b.schema.dims row rows keys c.requires.key in
+    let made : insert_row b.schema.dims row rows ≡ insert rows c.args.index row = c.requires.place.1 in
     let same : c.page_rows.result ≡ b.schema.page_rows = c.page_rows.ensures.page_rows ∙ ap (λ (v : TreeView). v.schema.page_rows) c.self.view_is in
     let few = c.requires.read.on.0.few in
     let long = c.len.ensures.len in
@@ -103,8 +93,7 @@ returns-clause-put g c =
     let span = c.args.region.now in
     let rows = c.args.room.now.region.region.rows in
     let new = insert_row b.schema.dims row rows in
-    let keys = c.keys.ensures.keys ∙ ap (λ (d : ℕ). keys_of d rows) c.requires.read.dims in
-    let made : new ≡ insert rows c.index_in-index.result row = c.index_in-index.ensures.index b.schema.dims row rows keys c.requires.key in
+    let made : insert_row b.schema.dims row rows ≡ insert rows c.args.index row = c.requires.place.1 in
     let same = c.page_rows.ensures.page_rows ∙ ap (λ (v : TreeView). v.schema.page_rows) c.self.view_is in
     let rows_are : c.insert_at.new.self.region.rows ≡ new = ap (λ (v : RegionView). v.region.rows) c.insert_at.ensures ∙ sym made in
     stand_alone c.rewrite.result span (length rows) new b c.rewrite.new.self (λ full. c.if-len-page_rows.false (c.len.ensures.len ∙ full ∙ sym same))
@@ -116,9 +105,8 @@ returns-then-len-page_rows-clause-put g c =
     let row = c.args.row.now in
     let span = c.args.region.now in
     let before = c.args.room.now.region.region.rows in
-    let keys = c.keys.ensures.keys ∙ ap (λ (d : ℕ). keys_of d before) c.requires.read.dims in
-    let made = c.index_in-index.ensures.index b.schema.dims row before keys c.requires.key in
-    let rows = insert before c.index_in-index.result row in
+    let made : insert_row b.schema.dims row before ≡ insert before c.args.index row = c.requires.place.1 in
+    let rows = insert before c.args.index row in
     let full = sym c.len.ensures.len ∙ c.if-len-page_rows.true ∙ c.page_rows.ensures.page_rows ∙ ap (λ (v : TreeView). v.schema.page_rows) c.self.view_is in
     let halves = rw (c.split_with.ensures.left, c.split_with.ensures.right, c.requires.read.dims, full) at c.split.ensures.halves in
     stand_halved c.split.result span (length before) (insert_row b.schema.dims row before) b c.split.new.self full

@@ -1,0 +1,195 @@
+ghost use Rattle.std.specs.Prelude.{ℕ, length, IfOk};
+ghost use Rattle.ub_query.specs.Posed.{IsPosed};
+ghost use Rattle.ub_query.specs.Shape.{asked};
+
+use crate::asking::add_word;
+use crate::reply::{Missed, Reply, say, words_of};
+use crate::tables::Store;
+use std::alloc::{AllocError, Global};
+use ub_exec::{Answer, delete, execute};
+use ub_lexer::lex;
+use ub_parser::{Statement, parse};
+use ub_plan::explain;
+use ub_planning::{Plan, plan};
+use ub_query::{Cell, Query};
+use ub_table::{Row, Schema};
+use ub_tetris::{Sweep, SweepFault};
+use ub_tree::Tree;
+
+// The plan of the query of a statement.
+fn planned(alloc: Global, schema: &Schema, text: &str) -> Result<Plan, Missed>
+    ensures { IfOk result (λ p. IsPosed (length schema.now.columns) p.asked) }
+{
+    let source = text.as_bytes();
+    let tokens = lex(alloc, source)?;
+    if tokens.is_empty() {
+        return Err(Missed::Words);
+    }
+    match parse(alloc, source, tokens.as_slice(), schema) {
+        Ok(Statement::Select(query)) => plan_of(alloc, schema, &query),
+        Ok(Statement::Explain(query)) => plan_of(alloc, schema, &query),
+        Ok(Statement::Delete(query)) => plan_of(alloc, schema, &query),
+        _ => Err(Missed::Words),
+    }
+}
+
+// The plan of a query.
+fn plan_of(alloc: Global, schema: &Schema, query: &Query) -> Result<Plan, Missed>
+    ensures { (columns : ℕ) → IsPosed columns (asked query.now)
+        → IfOk result (λ p. IsPosed columns p.asked) }
+{
+    Ok(plan(alloc, query, schema)?)
+}
+
+/// How many pages are read for a query, how many rows it gives, and the rows where they are few.
+pub fn select_by(alloc: Global, tree: &mut Tree<Store>, text: &str) -> Reply {
+    let plan = planned(alloc, tree.schema(), text)?;
+    let answer = execute(alloc, tree, &plan)?;
+    Ok(answered(alloc, &answer)?)
+}
+
+// The words of an answer.
+fn answered(alloc: Global, answer: &Answer) -> Result<String, AllocError> {
+    let rows = &answer.rows;
+    let count = rows.len();
+    let mut words = format!(in alloc; "pages {} rows {count}", answer.fetched)?;
+    if count < 9 {
+        for i in 0..count {
+            words.push_str(if i == 0 { ": " } else { " " })?;
+            add_cells(alloc, &mut words, rows.row(i))?;
+        }
+    }
+    Ok(words)
+}
+
+// Adds the cells of a row, with commas between them.
+fn add_cells(alloc: Global, words: &mut String, cells: &[Cell]) -> Result<(), AllocError> {
+    for (i, cell) in cells.iter().enumerate() {
+        if i != 0 {
+            words.push(',')?;
+        }
+        if let Cell::Number(number) = cell {
+            let word = format!(in alloc; "{number}")?;
+            words.push_str(word.as_str())?;
+        }
+    }
+    Ok(())
+}
+
+/// The lines that explain a query, with ` | ` between them.
+pub fn explain_by(alloc: Global, tree: &mut Tree<Store>, text: &str) -> Reply {
+    let plan = planned(alloc, tree.schema(), text)?;
+    let lines = explain(alloc, &plan, tree)?;
+    let mut words = String::new(alloc);
+    for line in std::str::from_utf8(lines.as_slice()).unwrap_or("").lines() {
+        add_word(&mut words, " | ", line)?;
+    }
+    Ok(words)
+}
+
+/// How many rows a statement deletes.
+pub fn delete_by(alloc: Global, tree: &mut Tree<Store>, text: &str) -> Reply {
+    let plan = planned(alloc, tree.schema(), text)?;
+    let count = delete(alloc, tree, &plan)?;
+    Ok(format!(in alloc; "{count}")?)
+}
+
+/// What so many turns of the sweep of a query give, each with how many pages were read up to then, and how many rows are held. Before
+/// the first one nothing is read and held.
+pub fn sweep_by(alloc: Global, tree: &mut Tree<Store>, text: &str, turns: u32) -> Reply {
+    let columns = tree.schema().columns().len();
+    let plan = planned(alloc, tree.schema(), text)?;
+    swept(alloc, tree, columns, &plan, turns)
+}
+
+// The same by the plan, over a table of so many columns.
+fn swept(alloc: Global, tree: &mut Tree<Store>, columns: usize, plan: &Plan, turns: u32) -> Reply
+    requires { IsPosed columns plan.now.asked }
+{
+    match Sweep::new(alloc, tree, plan) {
+        Ok(mut sweep) => take_turns(alloc, &mut sweep, tree, columns, plan, turns),
+        Err(fault) => refused(alloc, fault),
+    }
+}
+
+// The same of a sweep that has begun.
+fn take_turns(
+    alloc: Global,
+    sweep: &mut Sweep,
+    tree: &mut Tree<Store>,
+    columns: usize,
+    plan: &Plan,
+    turns: u32,
+) -> Reply
+    requires { IsPosed columns plan.now.asked }
+{
+    if !tree.trace().is_empty() || sweep.held() != 0 {
+        return say(alloc, "the sweep has begun");
+    }
+    let mut words = String::new(alloc);
+    for _ in 0..turns {
+        let given = turn(alloc, sweep, tree, columns, plan)?;
+        let (read, held) = (tree.trace().len(), sweep.held());
+        add_turn(alloc, &mut words, given.as_str(), read, held)?;
+    }
+    Ok(words)
+}
+
+// Adds what a turn gives.
+fn add_turn(
+    alloc: Global,
+    words: &mut String,
+    given: &str,
+    read: usize,
+    held: usize,
+) -> Result<(), AllocError> {
+    let word = format!(in alloc; "{given} ({read} {held})")?;
+    add_word(words, ", ", word.as_str())
+}
+
+// What the next turn of a sweep over a table of so many columns gives: the measure of a row, or where the query has groups the numbers of
+// the rows of a value.
+fn turn(
+    alloc: Global,
+    sweep: &mut Sweep,
+    tree: &mut Tree<Store>,
+    columns: usize,
+    plan: &Plan,
+) -> Reply
+    requires { IsPosed columns plan.now.asked }
+{
+    if tree.schema().columns().len() != columns {
+        return Err(Missed::Words);
+    }
+    if plan.query().has_groups() {
+        return match sweep.next_value(tree, plan) {
+            Ok(Some(rows)) => Ok(numbers(alloc, rows.as_slice())?),
+            Ok(None) => say(alloc, "none"),
+            Err(fault) => refused(alloc, fault),
+        };
+    }
+    match sweep.next(tree, plan) {
+        Ok(Some(row)) => Ok(format!(in alloc; "{}", row.measures[0])?),
+        Ok(None) => say(alloc, "none"),
+        Err(fault) => refused(alloc, fault),
+    }
+}
+
+// The numbers of rows, with a plus between them.
+fn numbers(alloc: Global, rows: &[Row]) -> Result<String, AllocError> {
+    let mut words = String::new(alloc);
+    for row in rows {
+        let word = format!(in alloc; "{}", row.number)?;
+        add_word(&mut words, "+", word.as_str())?;
+    }
+    Ok(words)
+}
+
+// The words of a sweep's fault.
+fn refused(alloc: Global, fault: SweepFault) -> Reply {
+    match fault {
+        SweepFault::Tree(fault) => Ok(words_of(alloc, Err(Missed::Tree(fault)))?),
+        SweepFault::Memory => Err(Missed::Memory),
+        SweepFault::Failed => say(alloc, "Failed"),
+    }
+}

@@ -1,0 +1,124 @@
+use crate::bytes::cut;
+use crate::reply::{Missed, Reply, number, say, short};
+use crate::tables::Store;
+use std::alloc::{AllocError, Global};
+use ub_bigmin::ZBox;
+use ub_page::RegionPage;
+use ub_table::Key;
+use ub_tree::{Region, Tree, TreeFault};
+use ub_zaddr::{Point, Shape, last};
+
+/// Whether there is a region whose span ends at z or later.
+pub fn seek(alloc: Global, tree: &mut Tree<Store>, z: u128) -> Reply {
+    match tree.seek(z, None)? {
+        Some(_) => say(alloc, "ok"),
+        None => Err(Missed::Nothing),
+    }
+}
+
+/// The span of the region that ends at an address or later, and its first row and its last, read from its page or from another one.
+/// The word for the last address is `last`; `span least on 1` is the least key alone, with no search before it.
+pub fn span(alloc: Global, tree: &mut Tree<Store>, words: &str) -> Reply {
+    let (word, rest) = cut(words);
+    let mut region = match word {
+        "least" => least(),
+        "last" => sought(tree, last_of(tree))?,
+        _ => sought(tree, number(word)?)?,
+    };
+    if !rest.is_empty() {
+        region.page = short(rest.strip_prefix("on ").unwrap_or(""))?;
+    }
+    let mut held = tree.empty_region();
+    tree.read_region(&region, &mut held)?;
+    let to = address(alloc, region.to, last_of(tree))?;
+    let rows = rows(alloc, &held)?;
+    Ok(format!(in alloc; "{}..{to} {rows}", region.from)?)
+}
+
+// An address, or the word for the last one.
+fn address(alloc: Global, z: u128, end: u128) -> Result<String, AllocError> {
+    if z == end {
+        String::from_str(alloc, "last")
+    } else {
+        format!(in alloc; "{z}")
+    }
+}
+
+// The numbers of the first row and the last of a region.
+fn rows(alloc: Global, held: &RegionPage) -> Result<String, AllocError> {
+    let count = held.len();
+    if count == 0 {
+        return String::from_str(alloc, "no row");
+    }
+    let (first, end) = (held.row(0).number, held.row(count - 1).number);
+    format!(in alloc; "rows {first}..{end}")
+}
+
+// The first region whose span ends at z or later.
+fn sought(tree: &mut Tree<Store>, z: u128) -> Result<Region, Missed> {
+    match tree.seek(z, None)? {
+        Some(region) => Ok(region),
+        None => Err(Missed::Nothing),
+    }
+}
+
+// The region of the least key alone, on no page.
+fn least() -> Region {
+    Region {
+        first: Key { z: 0, number: 0 },
+        next: None,
+        from: 0,
+        to: 0,
+        page: 0,
+    }
+}
+
+// The last address of a tree.
+fn last_of(tree: &Tree<Store>) -> u128 {
+    last(tree.schema().shape())
+}
+
+// The first region after another one that meets the box; where all regions are walked, `Full` if it isn't the first of all.
+fn next_region(
+    tree: &mut Tree<Store>,
+    corner: ZBox,
+    after: Option<&Region>,
+    is_walk: bool,
+) -> Result<Option<Region>, TreeFault> {
+    let met = tree.next_meeting(&[corner], after)?;
+    if is_walk && tree.seek(0, after)? != met {
+        return Err(TreeFault::Full);
+    }
+    Ok(met)
+}
+
+/// How many regions follow each other that meet the box from a corner with these coordinates on, and where the first and the last of
+/// them begin; where all are walked, each is also the first one after the one before it.
+pub fn meet(alloc: Global, tree: &mut Tree<Store>, low: u32, is_walk: bool) -> Reply {
+    let Some(corner) = box_from(low) else {
+        return Err(Missed::Words);
+    };
+    let mut after: Option<Region> = None;
+    let (mut count, mut first, mut end) = (0u32, 0, 0);
+    for turn in 0..=tree.regions() {
+        let Some(region) = next_region(tree, corner, after.as_ref(), is_walk)? else {
+            break;
+        };
+        if turn == 0 {
+            first = region.from;
+        }
+        count = turn.saturating_add(1);
+        end = region.from;
+        after = Some(region);
+    }
+    let all = tree.regions();
+    Ok(format!(in alloc; "{count} of {all} from {first} to {end}")?)
+}
+
+// The box of the points of two dimensions both of whose coordinates are at least this.
+fn box_from(low: u32) -> Option<ZBox> {
+    let shape = Shape::new(2).ok()?;
+    let lo = Point::new(shape, &[low; 2]).ok()?;
+    let hi = Point::new(shape, &[u32::MAX; 2]).ok()?;
+    ZBox::new(shape, &lo, &hi)
+}

@@ -1,6 +1,0 @@
-use Rattle.std.proofs.Common.{◌≡◌, ◌*◌, ◌++◌, drop}
-use Rattle.ub_bytes.specs.Numbers.{first_numbers, number_in}
-use Rattle.ub_bytes.proofs.spelling.write_numbers.Given as goal
-
-abbrev pub invariant-loop-i : goal.invariant-loop-i
-invariant-loop-i l = l.target ≡ first_numbers 4 (number_in l.keys) l.i ++ drop (4 * l.i) l.initial.target

@@ -1,0 +1,68 @@
+-- What the steps of a removal do to a tree, and what they need.
+use Rattle.std.specs.Prelude.{◌≡◌, ◌+◌, ◌++◌, ◌/◌, ◌≤◌, ◌⊎◌, ℕ, true, List, Option, Some, Result, IfErr, IfOk, is_some}
+use Rattle.ub_index.specs.Searching.{key_before}
+use Rattle.ub_region.specs.RegionPage.{RegionView}
+use Rattle.ub_store.specs.Facts.{IsHonest}
+use Rattle.ub_store.specs.declared.fault.StoreFault.TheVariants as store
+use Rattle.ub_table.specs.Region.{RegionRows, IsRegion}
+use Rattle.ub_table.specs.declared.fault.PageFault.TheVariants.{BadCount}
+use Rattle.ub_table.specs.declared.row.Key.{Key}
+use Rattle.ub_table.specs.declared.row.Row.{Row}
+use Rattle.ub_tree.specs.Effects.{IsTakenIn}
+use Rattle.ub_tree.specs.Holding.{Answers, CanFallInto, HasRoomAt, IsJoined, IsThatOrBefore}
+use Rattle.ub_tree.specs.Opened.{IsPassing}
+use Rattle.ub_tree.specs.Others.{DropsEntry, KeepsEntries, WritesIndex, WritesPage}
+use Rattle.ub_tree.specs.Pages.{LeavesRows, Spells}
+use Rattle.ub_tree.specs.Spans.{Region}
+use Rattle.ub_tree.specs.Told.{FallsTo, IsRegionOf}
+use Rattle.ub_tree.specs.View.{TreeView, region_count}
+use Rattle.ub_tree.specs.declared.fault.TreeFault.{TreeFault}
+use Rattle.ub_tree.specs.declared.fault.TreeFault.TheVariants.{Page, Store}
+use Rattle.ub_tree.specs.inner.Change.{IsElsewhereSame, IsRegionIn, IsRegionThere, IsStored}
+
+-- two neighbours of which the tree tells, and a region in memory that can stand in the place of the first
+pub record IsPair (t : TreeView) (first second : Region) (page : RegionView) : Type 0 where
+  pub there : IsRegionThere t first
+  pub told : IsRegionOf t second
+  pub ends : first.next ≡ Some second.first
+  pub begins : page.region.first ≡ first.first
+  pub region : IsRegion t.schema (record { first = first.first; rows = page.region.rows })
+
+-- a region was written anew with these rows, and the next one is no more; all else is as it was
+pub record JoinsAt (span : Region) (rows : List Row) (old new : TreeView) : Type 0 where
+  pub same : IsElsewhereSame old new
+  pub others : WritesIndex span.page old new
+  pub dropped : DropsEntry span old new
+  pub put : IsHonest old.store → Spells new span.page span.first rows
+
+-- these rows are left of a region, alone or with those of a neighbour; all else is as it was
+pub record TakesAt (span : Region) (rows : List Row) (old new : TreeView) : Type 0 where
+  pub same : IsElsewhereSame old new
+  pub shrunk : (WritesPage span.page old new × KeepsEntries old new)
+      ⊎ ((first : Region) × IsThatOrBefore old span first × WritesIndex first.page old new × DropsEntry first old new)
+  pub put : IsHonest old.store → LeavesRows span rows old new
+
+-- what must be answered where so many rows are left of a region: no page is refused where no neighbour is needed; and BadCount of the
+-- first page, where one region is counted, and it would be joined
+pub record AnswersLeft {A : Type 0} (t : TreeView) (span : Region) (left : ℕ) (result : Result A TreeFault) : Type 0 where
+  pub spare : t.schema.page_rows / 2 ≤ left → IfErr result (λ fault. fault ≡ Store store.Device)
+  pub alone : IsHonest t.store → region_count t ≡ 1 → IsJoined t span left → Answers result (Page 0 BadCount)
+
+-- what must be answered where a neighbour is read, to which this key falls, if there is one, to be joined with so many rows: no page is
+-- refused where it falls into a region, and a region is given where that has room for them
+pub record AnswersBeside (t : TreeView) (sought : Option Key) (count : ℕ) (result : Result (Option Region) TreeFault) : Type 0 where
+  pub led : IsHonest t.store → CanFallInto t sought → IfErr result IsPassing
+  pub fits : IsHonest t.store → HasRoomAt t sought count → IfOk result (λ found. is_some found ≡ true)
+
+-- the rows of the next region were put behind those of this one
+pub record HasTakenNext (t : TreeView) (span : Region) (rows : List Row) (page : RegionView) (next : Region) : Type 0 where
+  pub pair : IsPair t span next page
+  pub stored : (i : ℕ) → IsStored t → IsRegionIn t i span → IsRegionIn t (i + 1) next
+  pub taken : (other : RegionRows) × IsTakenIn t next other × (page.region.rows ≡ rows ++ other.rows)
+
+-- the rows of this region were put behind those of the one before
+pub record HasTakenBefore (t : TreeView) (span : Region) (rows : List Row) (page : RegionView) (before : Region) : Type 0 where
+  pub pair : IsPair t before span page
+  pub falls : (key : Key) × (key_before span.first.z span.first.number ≡ Some key) × FallsTo t key before
+  pub stored : (i : ℕ) → IsStored t → IsRegionIn t i span → (j : ℕ) × (i ≡ j + 1) × IsRegionIn t j before
+  pub taken : (other : RegionRows) × IsTakenIn t before other × (page.region.rows ≡ other.rows ++ rows)
