@@ -52,6 +52,14 @@ class Table:
         put(self.regions, self.size, self.key(number), row)
         return number
 
+    def append(self, rows):
+        """Puts rows in in the order of their keys, each with the number of its place."""
+        numbers = range(self.next, self.next + len(rows))
+        self.next += len(rows)
+        self.rows.update(zip(numbers, rows))
+        for number in sorted(numbers, key=self.key):
+            put(self.regions, self.size, self.key(number), self.rows[number])
+
     def delete(self, is_doomed):
         numbers = sorted(number for number, row in self.rows.items() if is_doomed(row))
         for number in numbers:
@@ -80,8 +88,7 @@ def appending(rng, table):
     rows = [new_row(rng, table.dims) for _ in range(rng.choice([0, 1, 1, 2, 5]))]
     order = rng.sample(range(table.dims + 1), table.dims + 1)
     names = names_of(table.dims)
-    for row in rows:
-        table.insert(tuple(row))
+    table.append([tuple(row) for row in rows])
     lines = [",".join(names[place] for place in order)] + [",".join(str(row[place]) for place in order) for row in rows]
     return "\n".join(lines) + "\n", f"-- appended {len(rows)}, rows {len(table.rows)}\n"
 

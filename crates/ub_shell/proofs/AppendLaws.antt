@@ -1,5 +1,5 @@
 -- The laws of rows that are appended, as specs/Laws.antt states them.
-use Rattle.std.proofs.Common.{append-nil, ◌≡◌, ◌≤◌, ◌⊎◌, ◌∙◌, ◌+◌, ℕ, Bool, false, true, List, [], ◌∷◌, Result, Ok, Err, inl, inr, ap, arith, length, refl, subst, suc, sym}
+use Rattle.std.proofs.Common.{append-nil, ◌≡◌, ◌≤◌, ◌⊎◌, ◌∙◌, ◌+◌, ◌++◌, ℕ, Bool, false, true, List, [], ◌∷◌, Result, Ok, Err, inl, inr, ap, arith, length, refl, subst, suc, sym}
 use Rattle.std.proofs.lemmas.Bool.{lt-ltb}
 use Rattle.std.specs.Prelude.{IfErr, IsOk, IsTrue, nat_lt}
 use Rattle.ub_exec.proofs.Laws.{trees_stand_soundly}
