@@ -1,7 +1,7 @@
-// Tests across crates that no transcript can show (those that one can stand in the crate `transcripts`): the words of faults as
-// they are displayed, loads into stores that fail and scripts over them, a changed file that isn't closed, outputs that fail, scripts of any bytes and of many
-// statements, where the regions of a signed dimension begin and end, and the help of each command. The values come from worked sources and
-// hand arithmetic, never from the program's own output.
+//! Tests across crates that no transcript can show (those that one can stand in the crate `transcripts`): the words of faults as
+//! they are displayed, loads into stores that fail and scripts over them, a changed file that isn't closed, outputs that fail, scripts of any bytes and of many
+//! statements, where the regions of a signed dimension begin and end, and the help of each command. The values come from worked sources and
+//! hand arithmetic, never from the program's own output.
 #![tactic(auto)]
 
 #[cfg(test)]

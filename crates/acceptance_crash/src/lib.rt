@@ -1,5 +1,5 @@
-// Tests of a table's changes, crashed after each call of the place, and healed with a crash after each call of that; of changes
-// that are held in memory until then; and of the pages of a journal.
+//! Tests of a table's changes, crashed after each call of the place, and healed with a crash after each call of that; of changes
+//! that are held in memory until then; and of the pages of a journal.
 #![tactic(auto)]
 
 #[cfg(test)]

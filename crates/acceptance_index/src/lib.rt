@@ -1,6 +1,6 @@
-// Tests of an index of several levels, by its public calls alone: searches in hand-made indexes, changes of them, and stores that
-// fail at one call; and of the index that is built of a directory of format 1. `trial` has the steps that they are made of. The values come from hand
-// arithmetic and from models that are written apart, never from the index's own answers.
+//! Tests of an index of several levels, by its public calls alone: searches in hand-made indexes, changes of them, and stores that
+//! fail at one call; and of the index that is built of a directory of format 1. `trial` has the steps that they are made of. The values come from hand
+//! arithmetic and from models that are written apart, never from the index's own answers.
 #![tactic(auto)]
 
 #[cfg(test)]

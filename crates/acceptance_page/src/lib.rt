@@ -1,6 +1,6 @@
-// Tests of addresses, tables, regions, pages, stores and files, by their public calls alone. A
-// module is named after the crate that it tests; `page` has three more beside it. The values come
-// from worked rows and hand arithmetic, never from the program's own output.
+//! Tests of addresses, tables, regions, pages, stores and files, by their public calls alone. A
+//! module is named after the crate that it tests; `page` has three more beside it. The values come
+//! from worked rows and hand arithmetic, never from the program's own output.
 #![tactic(auto)]
 
 #[cfg(test)]

@@ -1,32 +1,32 @@
-// What bench/run.sh times from outside, and trials of the tree by random changes.
-//
-// `bench N [D [WAY]]` calls `next_in_box` on boxes and addresses from a fixed generator, N times for each number of
-// dimensions (or for D alone), and prints a checksum of the answers, which bench/checksum.py finds by another way. WAY
-// `bits` takes `next_by_bits` instead, `making` makes the boxes and addresses alone, `events` calls `least_value` on one box and
-// spans like the regions of 200,000 rows, `interleave` makes addresses of points, and `spread` points of addresses.
-//
-// `bench fill N D [ORDER]` puts N rows of D dimensions, 2 or 3, into a UB-tree over a store in memory, in random order, or where ORDER is
-// `ascending` or `clustered` in that, and prints how many regions there are.
-//
-// `bench pages D N` reads a page of 64 rows with D dimensions and one measure into one region N times, filters it by a box each time,
-// and prints a checksum of the masks.
-//
-// `bench held N` puts N rows of three dimensions in random order into such a tree, and prints for cubes of a hundredth, a tenth and all
-// of the space what a sweep comes to with LIMIT 10 and with none: its rows, its pages, the most rows that it held, and its nanoseconds, the
-// least of some runs; and what a walk over the regions that meet the cube comes to.
-//
-// `bench count N` prints the same of SELECT COUNT(*) over all such rows, and of a walk over all regions. `bench orders N` prints it of
-// all rows in the order of a dimension, by a sweep, and in that of a measure that orders them alike, by a scan.
-//
-// `bench boxes N` makes the boxes of a condition of 64 comparisons and 4096 cells N times, and prints how many they were.
-//
-// `bench trial` tries a UB-tree beside its definition, which is worked on plain lists: by changes at random, each of which is compared;
-// by tables that are closed and opened again; and by a store that fails at each of its calls in turn. It prints a line for each series.
-// `bench trial tall` tries one table too whose index gets a third level, and loses it again, and `bench trial levels` only such tables:
-// three, whose rows come in three orders, and each one's rows are taken out again in three orders. The first wrong answer, or refusal,
-// ends it with a line that begins with `!` and with status 1.
-//
-// `bench` alone does what the lines of standard input ask for, each of which has such words.
+//! What bench/run.sh times from outside, and trials of the tree by random changes.
+//!
+//! `bench N [D [WAY]]` calls `next_in_box` on boxes and addresses from a fixed generator, N times for each number of
+//! dimensions (or for D alone), and prints a checksum of the answers, which bench/checksum.py finds by another way. WAY
+//! `bits` takes `next_by_bits` instead, `making` makes the boxes and addresses alone, `events` calls `least_value` on one box and
+//! spans like the regions of 200,000 rows, `interleave` makes addresses of points, and `spread` points of addresses.
+//!
+//! `bench fill N D [ORDER]` puts N rows of D dimensions, 2 or 3, into a UB-tree over a store in memory, in random order, or where ORDER is
+//! `ascending` or `clustered` in that, and prints how many regions there are.
+//!
+//! `bench pages D N` reads a page of 64 rows with D dimensions and one measure into one region N times, filters it by a box each time,
+//! and prints a checksum of the masks.
+//!
+//! `bench held N` puts N rows of three dimensions in random order into such a tree, and prints for cubes of a hundredth, a tenth and all
+//! of the space what a sweep comes to with LIMIT 10 and with none: its rows, its pages, the most rows that it held, and its nanoseconds, the
+//! least of some runs; and what a walk over the regions that meet the cube comes to.
+//!
+//! `bench count N` prints the same of SELECT COUNT(*) over all such rows, and of a walk over all regions. `bench orders N` prints it of
+//! all rows in the order of a dimension, by a sweep, and in that of a measure that orders them alike, by a scan.
+//!
+//! `bench boxes N` makes the boxes of a condition of 64 comparisons and 4096 cells N times, and prints how many they were.
+//!
+//! `bench trial` tries a UB-tree beside its definition, which is worked on plain lists: by changes at random, each of which is compared;
+//! by tables that are closed and opened again; and by a store that fails at each of its calls in turn. It prints a line for each series.
+//! `bench trial tall` tries one table too whose index gets a third level, and loses it again, and `bench trial levels` only such tables:
+//! three, whose rows come in three orders, and each one's rows are taken out again in three orders. The first wrong answer, or refusal,
+//! ends it with a line that begins with `!` and with status 1.
+//!
+//! `bench` alone does what the lines of standard input ask for, each of which has such words.
 #![tactic(auto)]
 
 mod addresses;

@@ -1,9 +1,9 @@
-// Pages of a store in a file.
-//
-// Below the store stands a medium: a length in bytes, and whole pages that are read and written by their place. The store
-// on it is proved over any medium. One medium lies in memory and fails when a test wants it to (`memory`); the other lies on a
-// file (`host`), and is proved over any that has the four calls of the standard library (`raw`). The one file of these that the
-// program uses is the system's (`system`): that it gives back what was written to it is a premise.
+//! Pages of a store in a file.
+//!
+//! Below the store stands a medium: a length in bytes, and whole pages that are read and written by their place. The store
+//! on it is proved over any medium. One medium lies in memory and fails when a test wants it to (`memory`); the other lies on a
+//! file (`host`), and is proved over any that has the four calls of the standard library (`raw`). The one file of these that the
+//! program uses is the system's (`system`): that it gives back what was written to it is a premise.
 
 #![tactic(auto)]
 

@@ -1,8 +1,8 @@
-// Which rows of a page a plan takes, and the one loop that tells them from the others: whatever is made of a query's rows, they
-// go to a sink (`RowSink`) through here.
-//
-// A `Choice`, made once for a plan, says by what they are told: by the masks of the plan's boxes, or by the query's condition
-// (`choice`). `push_chosen` hands those of one page to a sink (`chosen`). Which pages are read stands elsewhere.
+//! Which rows of a page a plan takes, and the one loop that tells them from the others: whatever is made of a query's rows, they
+//! go to a sink (`RowSink`) through here.
+//!
+//! A `Choice`, made once for a plan, says by what they are told: by the masks of the plan's boxes, or by the query's condition
+//! (`choice`). `push_chosen` hands those of one page to a sink (`chosen`). Which pages are read stands elsewhere.
 #![tactic(auto)]
 
 mod choice;

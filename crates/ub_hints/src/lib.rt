@@ -1,12 +1,12 @@
-// What people are told beside a refusal, where they sit at a terminal: where in which file it is, what stands there, and for words
-// that other databases have what to write here in their place. Nothing is promised of these texts but that making them changes no
-// file.
-//
-// `telling` is the whole of it: it asks the words again what was asked, and reads anew what that names (`reading`). Of a CSV text
-// `data` tells the first thing that is wrong, by its `heading` and one of its records (`record`); of a script `statements` tells its
-// first refused statements, `excerpt` shows the line with a mark below it, and `advice` says what to write instead. `shown` is how bytes
-// of a file are shown, `names` how columns are listed, and `told` a text in the making, into which all of them put their parts. The
-// refusals are those of the crates below, found again by the calls that found them first.
+//! What people are told beside a refusal, where they sit at a terminal: where in which file it is, what stands there, and for words
+//! that other databases have what to write here in their place. Nothing is promised of these texts but that making them changes no
+//! file.
+//!
+//! `telling` is the whole of it: it asks the words again what was asked, and reads anew what that names (`reading`). Of a CSV text
+//! `data` tells the first thing that is wrong, by its `heading` and one of its records (`record`); of a script `statements` tells its
+//! first refused statements, `excerpt` shows the line with a mark below it, and `advice` says what to write instead. `shown` is how bytes
+//! of a file are shown, `names` how columns are listed, and `told` a text in the making, into which all of them put their parts. The
+//! refusals are those of the crates below, found again by the calls that found them first.
 #![tactic(auto)]
 
 mod advice;

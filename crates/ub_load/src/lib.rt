@@ -1,6 +1,6 @@
-// From the text of a CSV file to the rows of a table: what a field says (field), the header as a schema (header), a record
-// as a row (row), the records one after the other (reading), and the whole text: as a table, whose rows are put into a UB-tree
-// (table), or as rows for a table that there is (rows). Reading a file, keeping pages and answering queries belong elsewhere.
+//! From the text of a CSV file to the rows of a table: what a field says (field), the header as a schema (header), a record
+//! as a row (row), the records one after the other (reading), and the whole text: as a table, whose rows are put into a UB-tree
+//! (table), or as rows for a table that there is (rows). Reading a file, keeping pages and answering queries belong elsewhere.
 #![tactic(auto)]
 
 pub mod fault;

@@ -1,5 +1,5 @@
-// EXPLAIN: how a plan reads a tree, told without fetching any region. The plan itself, which is passed on here, stands in
-// `ub_planning`, and how it is carried out elsewhere. Numbers are put in lines here (`numbers`), for the lines of a script too.
+//! EXPLAIN: how a plan reads a tree, told without fetching any region. The plan itself, which is passed on here, stands in
+//! `ub_planning`, and how it is carried out elsewhere. Numbers are put in lines here (`numbers`), for the lines of a script too.
 #![tactic(auto)]
 
 mod explaining;

@@ -1,8 +1,8 @@
-// Pages of 4096 bytes by number, and who keeps them.
-//
-// A store holds the pages: one in memory, and one that fails when a test wants it to. A pager stands before a store with a
-// cache of the pages last used, and notes which region pages were asked for. The bytes of a page mean nothing here: the
-// crates ub_region and ub_page spell and read them, and the crates above say which page holds what.
+//! Pages of 4096 bytes by number, and who keeps them.
+//!
+//! A store holds the pages: one in memory, and one that fails when a test wants it to. A pager stands before a store with a
+//! cache of the pages last used, and notes which region pages were asked for. The bytes of a page mean nothing here: the
+//! crates ub_region and ub_page spell and read them, and the crates above say which page holds what.
 
 #![tactic(auto)]
 

@@ -1,8 +1,8 @@
-// Syntax: which lists of tokens are statements, and how a statement is built from its tokens.
-//
-// This crate knows the grammar and nothing of tables: it says where the tokens stop being the front of a statement, and it
-// builds a statement's syntax, whose names and numbers are still the tokens that spell them. The grammar stands in specs/
-// (`Grammar`), and so does what a refusal says (`Stop`). What names mean, and which of them a table has, is the parser's part.
+//! Syntax: which lists of tokens are statements, and how a statement is built from its tokens.
+//!
+//! This crate knows the grammar and nothing of tables: it says where the tokens stop being the front of a statement, and it
+//! builds a statement's syntax, whose names and numbers are still the tokens that spell them. The grammar stands in specs/
+//! (`Grammar`), and so does what a refusal says (`Stop`). What names mean, and which of them a table has, is the parser's part.
 #![tactic(auto)]
 
 mod builder;

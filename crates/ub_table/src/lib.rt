@@ -1,10 +1,10 @@
-// The types that every layer speaks of, and the rules that they keep: a name is spelled as the language spells names, a
-// schema has its numbers in range and no two columns of one name. A row is plain data, and so is the key by which the
-// tree orders it. `Items` is a list that contracts see as a list.
-//
-// What belongs here is what a table is, and what a region of it is (the definitions stand in specs/). How pages are
-// spelled, how addresses are computed, how texts are read and how rows are found stands elsewhere. Nothing in this crate
-// takes memory.
+//! The types that every layer speaks of, and the rules that they keep: a name is spelled as the language spells names, a
+//! schema has its numbers in range and no two columns of one name. A row is plain data, and so is the key by which the
+//! tree orders it. `Items` is a list that contracts see as a list.
+//!
+//! What belongs here is what a table is, and what a region of it is (the definitions stand in specs/). How pages are
+//! spelled, how addresses are computed, how texts are read and how rows are found stands elsewhere. Nothing in this crate
+//! takes memory.
 
 #![tactic(auto)]
 

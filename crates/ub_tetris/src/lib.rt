@@ -1,14 +1,14 @@
-// The Tetris sweep (Markl, Zirkel and Bayer 1999): the rows of a plan in the order of a dimension, each given as soon as no
-// region that isn't fetched yet can hold an earlier one; or, for groups along that dimension, all rows of a value together; or
-// all that are left, region after region.
-//
-// A sweep goes over the regions that meet the plan's boxes in the order of their event values, and holds the selected rows of
-// those that it has fetched: these are the sink that `ub_filter` hands them to (`held`). It borrows nothing: each call is given
-// the plan and the tree.
-//
-// Held rows stand in a heap (`held`), of which an element (`ranked`) is the first of a row's values and
-// a pointer: a row given costs some comparisons and moves for each power of two of those held, and
-// few go to the row. The memory of a row that was given is kept for the next one held.
+//! The Tetris sweep (Markl, Zirkel and Bayer 1999): the rows of a plan in the order of a dimension, each given as soon as no
+//! region that isn't fetched yet can hold an earlier one; or, for groups along that dimension, all rows of a value together; or
+//! all that are left, region after region.
+//!
+//! A sweep goes over the regions that meet the plan's boxes in the order of their event values, and holds the selected rows of
+//! those that it has fetched: these are the sink that `ub_filter` hands them to (`held`). It borrows nothing: each call is given
+//! the plan and the tree.
+//!
+//! Held rows stand in a heap (`held`), of which an element (`ranked`) is the first of a row's values and
+//! a pointer: a row given costs some comparisons and moves for each power of two of those held, and
+//! few go to the row. The memory of a row that was given is kept for the next one held.
 #![tactic(auto)]
 
 mod awaiting;

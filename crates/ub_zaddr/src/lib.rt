@@ -1,7 +1,7 @@
-// Addresses on the Z-curve (Bayer 1997; Morton's order): a point of one to four dimensions, its address by the
-// interleaving of the bits of its coordinates, and back, and which of two points has the lower one. What belongs here is
-// only the map between points and addresses; boxes of addresses and steps along the curve stand in the crates above.
-// Nothing allocates.
+//! Addresses on the Z-curve (Bayer 1997; Morton's order): a point of one to four dimensions, its address by the
+//! interleaving of the bits of its coordinates, and back, and which of two points has the lower one. What belongs here is
+//! only the map between points and addresses; boxes of addresses and steps along the curve stand in the crates above.
+//! Nothing allocates.
 #![tactic(auto)]
 
 mod address;

@@ -1,6 +1,6 @@
-// The program `ubq`: what touches the process, its words, its standard output, the notes of a query on standard error, the status that
-// it ends with, and two things that are for people, on standard error: a line where a file couldn't be had, and, where that is a
-// terminal, hints on what was refused. All else is `run_program` of the crate `ub_shell`, and `hint` of `ub_hints`.
+//! The program `ubq`: what touches the process, its words, its standard output, the notes of a query on standard error, the status that
+//! it ends with, and two things that are for people, on standard error: a line where a file couldn't be had, and, where that is a
+//! terminal, hints on what was refused. All else is `run_program` of the crate `ub_shell`, and `hint` of `ub_hints`.
 #![tactic(auto)]
 
 use std::io::{self, IsTerminal};
