@@ -1,11 +1,13 @@
 -- A change of an index: one region's entry becomes none, one or two, and each page on the way to it what follows from that.
-use Rattle.std.specs.Prelude.{◌≡◌, ◌⊎◌, ◌++◌, ℕ, zero, suc, List, [], ◌∷◌, Option, None, IfSome, length, take, drop}
+use Rattle.std.specs.Prelude.{◌≡◌, ◌⊎◌, ◌++◌, ◌+◌, ℕ, zero, suc, List, [], ◌∷◌, Option, None, IfSome, length, take, drop}
 use Rattle.std.specs.List.{flat_map}
 use Rattle.ub_index.specs.Index.{first_or, entries_of, AscendTo, EachTo, IsUnder, pages_under, IsTold}
 use Rattle.ub_region.specs.declared.entry.Entry.{Entry}
 use Rattle.ub_table.specs.Keys.{IsBefore}
 use Rattle.ub_table.specs.declared.row.Key.{Key}
 use Rattle.ub_index.specs.Standing.{PagesStay}
+use Rattle.ub_page.specs.declared.entries.TheConstants.{MAX_ENTRIES}
+use Rattle.ub_index_change.specs.declared.sheets.TheConstants.{LEFT_ENTRIES}
 
 -- these entries stand on the page n, and `told` are the entries by which the page above names them: none stand nowhere; one
 -- more than a page has stand on two, the first 86 of them on n
@@ -13,8 +15,8 @@ abbrev pub StandOn : ℕ → List (List ℕ) → ℕ → ℕ → List Entry → 
 StandOn last pages level n entries told =
     ((entries ≡ []) × (told ≡ []))
     ⊎ (((e : Entry) × (told ≡ e ∷ []) × (e.page ≡ n) × IsTold last pages level entries e)
-    ⊎ ((e : Entry) × (f : Entry) × (length entries ≡ 171) × (told ≡ e ∷ f ∷ []) × (e.page ≡ n)
-    × IsTold last pages level (take 86 entries) e × IsTold last pages level (drop 86 entries) f))
+    ⊎ ((e : Entry) × (f : Entry) × (length entries ≡ MAX_ENTRIES + 1) × (told ≡ e ∷ f ∷ []) × (e.page ≡ n)
+    × IsTold last pages level (take LEFT_ENTRIES entries) e × IsTold last pages level (drop LEFT_ENTRIES entries) f))
 
 -- where the region's entry f, after which `next` begins, became fs, an entry of this level has become what is told
 abbrev pub Becomes : ℕ → List (List ℕ) → List (List ℕ) → Entry → List Entry → Option Key → ℕ → Entry → Option Key → List Entry → Type 0

@@ -21,6 +21,9 @@ use Rattle.ub_store.specs.Facts.{StoreFacts, IsHonest, page_count}
 use Rattle.ub_store.specs.View.{PagerView}
 use Rattle.ub_store.specs.declared.fault.StoreFault.TheVariants as store
 use Rattle.ub_table.specs.declared.row.Key.{Key}
+use Rattle.ub_page.specs.declared.entries.TheConstants.{MAX_ENTRIES}
+use Rattle.ub_store.specs.declared.store.TheConstants.{MAX_PAGES}
+use Rattle.ub_index_change.specs.declared.sheets.TheConstants.{LEFT_ENTRIES}
 
 -- the entries by which what an entry led to is named from then on
 abbrev pub named_as : Told → Entry → List Entry
@@ -76,16 +79,16 @@ pub record NamesPage (number : ℕ) (entries : List Entry) (entry : Entry) : Typ
 -- nowhere, where there are none; or 171 on two, the first 86 on its page, and the others on a new one, which is put before it
 abbrev pub Spreads : ℕ → Entry → List Entry → Spelled → Spelled → Told → Type 0
 Spreads level entry entries old new Same =
-    (length entries ≤ 170) × (first_or entries None ≡ Some entry.first)
+    (length entries ≤ MAX_ENTRIES) × (first_or entries None ≡ Some entry.first)
     × (new ≡ so_far (old.sheets ++ sheet_of entry.page level entries ∷ []) old.next)
 Spreads level entry entries old new Gone = (entries ≡ []) × (new ≡ old)
 Spreads level entry entries old new (One other) =
-    (length entries ≤ 170) × (other.first ≢ entry.first) × NamesPage entry.page entries other
+    (length entries ≤ MAX_ENTRIES) × (other.first ≢ entry.first) × NamesPage entry.page entries other
     × (new ≡ so_far (old.sheets ++ sheet_of entry.page level entries ∷ []) old.next)
 Spreads level entry entries old new (Two left right) =
-    (length entries ≡ 171) × (old.next < 4294967295)
-    × NamesPage entry.page (take 86 entries) left × NamesPage old.next (drop 86 entries) right
-    × (new ≡ so_far (old.sheets ++ sheet_of old.next level (drop 86 entries) ∷ sheet_of entry.page level (take 86 entries) ∷ [])
+    (length entries ≡ MAX_ENTRIES + 1) × (old.next < MAX_PAGES)
+    × NamesPage entry.page (take LEFT_ENTRIES entries) left × NamesPage old.next (drop LEFT_ENTRIES entries) right
+    × (new ≡ so_far (old.sheets ++ sheet_of old.next level (drop LEFT_ENTRIES entries) ∷ sheet_of entry.page level (take LEFT_ENTRIES entries) ∷ [])
     (old.next + 1))
 
 -- an entry whose page has these entries before and after one that became `news`: it is as it was where that one is, and
@@ -107,7 +110,7 @@ Turns last pages key added (suc level) entry end old new told =
 -- why a page more isn't spelled: memory was refused, or there are as many pages as there can be
 abbrev pub IsSpreadFault : Spelled → IndexFault → Type 0
 IsSpreadFault old (Store store.Memory) = Unit {0}
-IsSpreadFault old (Store store.BadSize) = 4294967295 ≤ old.next
+IsSpreadFault old (Store store.BadSize) = MAX_PAGES ≤ old.next
 IsSpreadFault old _ = ⊥
 
 -- the page that an entry names fits, and has these entries before and after the one to which the key falls
@@ -126,8 +129,8 @@ IsTurnFault last old key level entry end next (Store store.Device) = IsTrue old.
 IsTurnFault last old key level entry end next (Store store.NoPage) =
     (n : ℕ) × (page_count old ≤ n) × (IsHonest old → StopsAt last old.pages key level entry end n None)
 IsTurnFault last old key level entry end next (Store store.BadSize) =
-    (4294967295 < next + level)
-    × (IsHonest old → (full : ℕ) × EndsFull last old.pages key level entry end full × (4294967295 < next + full))
+    (MAX_PAGES < next + level)
+    × (IsHonest old → (full : ℕ) × EndsFull last old.pages key level entry end full × (MAX_PAGES < next + full))
 IsTurnFault last old key level entry end next (Page n fault) = IsHonest old → StopsAt last old.pages key level entry end n (Some fault)
 IsTurnFault last old key level entry end next Full = ⊥
 

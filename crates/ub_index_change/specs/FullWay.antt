@@ -4,13 +4,14 @@ use Rattle.ub_index.specs.Fitting.{FallsTo}
 use Rattle.ub_index.specs.Index.{entries_of, NamesFitting}
 use Rattle.ub_region.specs.declared.entry.Entry.{Entry}
 use Rattle.ub_table.specs.declared.row.Key.{Key}
+use Rattle.ub_page.specs.declared.entries.TheConstants.{MAX_ENTRIES}
 
 -- from an entry of this level each page on the way to the key fits, and has 170 entries
 abbrev pub IsFullWay : ℕ → List (List ℕ) → Key → ℕ → Entry → Option Key → Type 0
 IsFullWay last pages key zero entry end = Unit {0}
 IsFullWay last pages key (suc level) entry end =
     NamesFitting last pages (suc level) entry end
-    × (length (entries_of pages entry.page) ≡ 170)
+    × (length (entries_of pages entry.page) ≡ MAX_ENTRIES)
     × (below : Entry) × (after : Option Key) × FallsTo key (entries_of pages entry.page) end below after
     × IsFullWay last pages key level below after
 
@@ -21,6 +22,6 @@ EndsFull last pages key zero entry end full = full ≡ 0
 EndsFull last pages key (suc level) entry end full =
     ((full ≡ suc level) × IsFullWay last pages key (suc level) entry end)
     ⊎ (NamesFitting last pages (suc level) entry end
-    × (full ≡ level → length (entries_of pages entry.page) < 170)
+    × (full ≡ level → length (entries_of pages entry.page) < MAX_ENTRIES)
     × (below : Entry) × (after : Option Key) × FallsTo key (entries_of pages entry.page) end below after
     × EndsFull last pages key level below after full)

@@ -90,7 +90,7 @@ DroppedPagesAreOwn = (index : IndexView) (old filled new : StoreFacts) (change :
 -- which its root gives way
 abbrev pub RootsAreTaken : Type 0
 RootsAreTaken = (index : IndexView) (store : StoreFacts) (i : ℕ) (region : Region) (change : ChangeView) (n : ℕ) (fault : Option PageFault)
-    → index.last < 2 ^ 128 → index.levels ≤ 16 → page_count store < 2 ^ 32 → IsIndexOn index store → IsReachedOnce index store
+    → index.last < 2 ^ 128 → index.levels ≤ MAX_LEVEL → page_count store < 2 ^ 32 → IsIndexOn index store → IsReachedOnce index store
     → IsRegionAt (entries_in index store) i region → IsBefore origin region.first
     → IsPrepared index store region.first None (page_count store) (so_far [] (page_count store)) change
     → ¬ (IsRootRefused index.last store.pages change n fault)

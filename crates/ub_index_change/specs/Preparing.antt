@@ -110,7 +110,7 @@ HasFullWay index store key = IsFullWay index.last store.pages key index.levels (
 abbrev pub NeedsPages : IndexView → StoreFacts → Key → ℕ → Type 0
 NeedsPages index store key n =
     (full : ℕ) × EndsFull index.last store.pages key index.levels (top index.root) None full
-    × (((full ≡ index.levels → 16 ≤ index.levels) × (n ≡ full)) ⊎ ((full ≡ index.levels) × (index.levels < 16) × (n ≡ full + 1)))
+    × (((full ≡ index.levels → MAX_LEVEL ≤ index.levels) × (n ≡ full)) ⊎ ((full ≡ index.levels) × (index.levels < MAX_LEVEL) × (n ≡ full + 1)))
 
 -- a change begins with so many pages, and its next one has this number at least, and is so much further at most
 pub record TakesFew (start next most : ℕ) (change : ChangeView) : Type 0 where
@@ -123,8 +123,8 @@ pub record TakesFew (start next most : ℕ) (change : ChangeView) : Type 0 where
 pub record TakesNeeded (index : IndexView) (old : StoreFacts) (key : Key) (change : ChangeView) : Type 0 where
   pub all : (n : ℕ) → NeedsPages index old key n → page_count old + 1 + n ≤ change.next
   pub only : (n : ℕ) × NeedsPages index old key n × (change.next ≡ page_count old + 1 + n)
-  pub room : change.next ≤ 4294967295
-  pub level : index.levels ≡ 16 → ¬ (HasFullWay index old key)
+  pub room : change.next ≤ MAX_PAGES
+  pub level : index.levels ≡ MAX_LEVEL → ¬ (HasFullWay index old key)
 
 -- why a change isn't prepared: as a search to the key is refused; BadSize, where the store would have too many pages; Full,
 -- where it wouldn't, but the root would get a level that there isn't; and BadCount of the root, where no region would be left
@@ -134,13 +134,13 @@ IsChangeFault index old key added from (Store store.Device) = IsTrue old.can_fai
 IsChangeFault index old key added from (Store store.NoPage) =
     (n : ℕ) × (page_count old ≤ n) × (IsHonest old → Stops index old key n None)
 IsChangeFault index old key added from (Store store.BadSize) =
-    (4294967295 < from.next + (index.levels + 1))
-    × ((4294967295 < from.next) ⊎ (IsHonest old → (n : ℕ) × NeedsPages index old key n × (4294967295 < from.next + n)))
+    (MAX_PAGES < from.next + (index.levels + 1))
+    × ((MAX_PAGES < from.next) ⊎ (IsHonest old → (n : ℕ) × NeedsPages index old key n × (MAX_PAGES < from.next + n)))
 IsChangeFault index old key added from (Page n fault) =
     IsHonest old → Stops index old key n (Some fault)
     ⊎ ((n ≡ index.root) × (fault ≡ BadCount) × (to : Spelled) × TurnsRoot index old key added from to Gone)
 IsChangeFault index old key added from Full =
-    (index.levels ≡ 16) × (IsHonest old → HasFullWay index old key × (from.next + 16 ≤ 4294967295))
+    (index.levels ≡ MAX_LEVEL) × (IsHonest old → HasFullWay index old key × (from.next + MAX_LEVEL ≤ MAX_PAGES))
 
 -- a change that is prepared with this result: with the device's fault the store has one failed read more, and else nothing has
 -- changed but the pages that the pager holds, each of which was checked, if they were before; none that it holds more is that of

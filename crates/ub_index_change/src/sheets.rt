@@ -14,8 +14,8 @@ use ub_page::{Draft, Entry, MAX_ENTRIES, Page, write_index};
 use ub_region::is_equal;
 use ub_store::StoreFault;
 
-// How many entries of a page that is parted stay on it.
-const LEFT: usize = 86;
+/// How many entries of a page that is parted stay on it, where it has one more than a page holds.
+pub const LEFT_ENTRIES: usize = 86;
 
 /// The pages that are spelled so far, in the order in which they are put, and the number of the next page that the store gets, which
 /// is above all of theirs.
@@ -138,7 +138,7 @@ impl Sheets {
         ensures refused { IfErr result (IsSpreadFault self.old) }
     {
         let page = self.take_number()?;
-        let (left, right) = entries.split_at(LEFT);
+        let (left, right) = entries.split_at(LEFT_ENTRIES);
         self.spell(page, level, right)?;
         self.spell(entry.page, level, left)?;
         Ok(Told::Two(

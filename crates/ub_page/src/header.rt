@@ -10,7 +10,7 @@ use crate::entries::MAX_ENTRIES;
 use ub_bytes::page::{are_equal, is_same, u8_at, u32_at};
 use ub_bytes::{Draft, Page};
 use ub_table::name::MAX_NAME_LEN;
-use ub_table::schema::is_mask;
+use ub_table::schema::{MAX_ROWS, is_mask};
 use ub_table::{Columns, MAX_ROW_NUMBER, Name, PageFault, Schema};
 
 // 'UBTR', with which each header begins.
@@ -296,7 +296,7 @@ fn has_counts(numbers: &Numbers) -> bool
 {
     let counts = (1..=4).contains(&numbers.dims)
         && numbers.measures <= 4
-        && (2..=64).contains(&numbers.page_rows);
+        && (2..=MAX_ROWS as u8).contains(&numbers.page_rows);
     counts && is_mask(u32::from(numbers.dims), u32::from(numbers.signed))
 }
 

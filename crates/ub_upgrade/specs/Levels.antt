@@ -1,5 +1,5 @@
 -- The pages of a level of an index that is built from below: they have numbers that follow each other.
-use Rattle.std.specs.Prelude.{◌≡◌, ◌≤◌, ◌<◌, ◌+◌, ◌^◌, ◌/◌, ◌++◌, ℕ, zero, suc, List, [], ◌∷◌, Some, None, length, slice_get, if◌then◌else◌, nat_eq, nat_le}
+use Rattle.std.specs.Prelude.{◌≡◌, ◌≤◌, ◌<◌, ◌+◌, ◌-◌, ◌^◌, ◌/◌, ◌++◌, ℕ, zero, suc, List, [], ◌∷◌, Some, None, length, slice_get, if◌then◌else◌, nat_eq, nat_le}
 use Rattle.std.specs.List.{AllByRecursion, IsDistinct, flat_map}
 use Rattle.ub_index.specs.Index.{AscendTo, EachTo, IsUnder, first_or, page_in, pages_under, top, under}
 use Rattle.ub_page.specs.Index.{index_page}
@@ -30,7 +30,7 @@ Cut pages level n (suc count) entries =
 
 -- how many pages so many entries fill, 170 on each but the last
 abbrev pub pages_for : ℕ → ℕ
-pages_for count = (count + 169) / 170
+pages_for count = (count + (MAX_ENTRIES - 1)) / MAX_ENTRIES
 
 -- how many pages stand above a level of so many pages, on so many levels at most, up to one that has one page alone
 unfoldable pub pages_above : ℕ → ℕ → ℕ
