@@ -15,12 +15,12 @@ use Rattle.ub_table.specs.Region.{RegionRows}
 use Rattle.ub_tetris.specs.Effects.{Sweeps, fetches_then}
 use Rattle.ub_tetris.specs.Sweep.{AreItsRegions, AwaitedRegion, IsSweepOf, SweepView}
 use Rattle.ub_tetris.specs.declared.fault.SweepFault.{SweepFault}
-use Rattle.ub_tree.proofs.Laws.{HasAnswers, HasAnswers-none, HasAnswers-more, IsTraced, answers_ended, left_after, left_less, next_is_later, traced_gives, traced_told}
+use Rattle.ub_tree.proofs.Laws.{IsTraced, answers_ended, first_more, left_after, left_less, next_is_later, traced_gives, traced_told}
 use Rattle.ub_store.specs.View.{Trace}
 use Rattle.ub_tree.specs.Effects.{HasNoted, IsTakenIn}
 use Rattle.ub_tree.specs.Handing.{AreMetBy}
 use Rattle.ub_tree.specs.Spans.{Region}
-use Rattle.ub_tree.specs.Told.{GivesNext, IsRegionOf}
+use Rattle.ub_tree.specs.Told.{AreFirst, GivesNext, IsRegionOf}
 use Rattle.ub_tree.specs.View.{TreeView, KeepsTrace}
 use Rattle.ub_tree.specs.declared.read_fault.ReadFault.{ReadFault}
 
@@ -118,7 +118,7 @@ read_next boxes of_plan after old mid new span region alike same gives noted tak
 
 pub record HasReadUpTo (boxes : List Corners) (start now : TreeView) (after : Option Region) : Type 0 where
   pub spans : List Region
-  pub answers : HasAnswers boxes start spans after
+  pub answers : AreFirst boxes start None spans after
   pub there : AllByRecursion (IsRegionOf start) spans
   pub taken : AllByRecursion (IsIn start) spans
   pub trace_is : now.trace.pages ≡ start.trace.pages ++ map (λ span. span.page) spans
@@ -128,7 +128,7 @@ pub HasReadUpTo-begun : (boxes : List Corners) (t : TreeView) → (first : HasRe
 HasReadUpTo-begun boxes t = (
   record {
     spans = [];
-    answers = HasAnswers-none boxes t;
+    answers = refl;
     there = tt;
     taken = tt;
     trace_is = sym (append-nil t.trace.pages);
@@ -168,7 +168,7 @@ module _ (boxes : List Corners) (start now new : TreeView) (traced : IsTraced st
 
   -- as they are where the tree gives no more
   pub all_told : (copied : Option Region) → copied ≡ after → HasReadNext boxes copied now new None → AreMetBy boxes start come.spans
-  all_told copied same next = answers_ended boxes start come.spans after come.answers (given_at_start None copied same next.0)
+  all_told copied same next = answers_ended boxes start None come.spans after come.answers (given_at_start None copied same next.0)
 
   pub whole_by : (found copied : Option Region) → copied ≡ after → ((span : Region) → found ≡ Some span → ⊥) → HasReadNext boxes copied now new found → HasReadAll boxes start new
   whole_by None copied same none next = whole next.1 (all_told copied same next)
@@ -184,7 +184,7 @@ module _ (boxes : List Corners) (start now new : TreeView) (traced : IsTraced st
   come_further span gives noted taken = (
     record {
       spans = come.spans ++ span ∷ [];
-      answers = HasAnswers-more boxes start come.spans after come.answers span gives;
+      answers = first_more boxes start None come.spans after span come.answers gives;
       there = all_joined (IsRegionOf start) come.spans (span ∷ []) come.there ((next_is_later start boxes after span gives).0, tt);
       taken = all_joined (IsIn start) come.spans (span ∷ []) come.taken (taken, tt);
       trace_is = noted.pages_are ∙ ap (λ (trace : List ℕ). trace ++ span.page ∷ []) come.trace_is ∙ append_assoc start.trace.pages (map (λ (s : Region). s.page) come.spans) (span.page ∷ [])

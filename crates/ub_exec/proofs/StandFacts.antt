@@ -1,5 +1,5 @@
 -- Where a tree stands once rows of its table were taken out.
-use Rattle.std.proofs.Common.{◌≡◌, ◌<◌, ◌++◌, ◌∷◌, ◌∙◌, ◌||◌, inl, inr, ℕ, zero, suc, Bool, true, false, not, if◌then◌else◌, IsTrue, List, [], Err, Contains, length, map, take, nat_eq, refl, sym, ap, subst, arith}
+use Rattle.std.proofs.Common.{◌≡◌, ◌<◌, ◌++◌, ◌∷◌, ◌∙◌, ◌||◌, inl, inr, ℕ, zero, suc, Bool, true, false, not, if◌then◌else◌, IsTrue, List, [], Result, Err, Contains, length, map, take, nat_eq, refl, sym, ap, subst, arith}
 use Rattle.std.proofs.lemmas.Bool.{cases_Bool, eq-eqb, eqb-true, true≢false}
 use Rattle.std.specs.List.{AllByRecursion}
 use Rattle.ub_exec.specs.Deleting.{StopsAt, TakesOut}
@@ -16,10 +16,10 @@ use Rattle.ub_table.specs.Table.{IsInOrder}
 use Rattle.ub_table.specs.declared.row.Key.{Key}
 use Rattle.ub_table.specs.declared.row.Row.{Row}
 use Rattle.ub_table.specs.declared.schema.Schema.{Schema}
-use Rattle.ub_tree.proofs.Laws.{Keeps, Keeps-by, SearchesTree-regions, SearchesTree-sound}
+use Rattle.ub_tree.proofs.Laws.{Keeps, Keeps-by, searched_regions, searched_sound}
 use Rattle.ub_tree.specs.Effects.{HasMissed, IsLeft, Leaves}
 use Rattle.ub_tree.specs.Placed.{Placed, regions_in}
-use Rattle.ub_tree.specs.Reading.{ReadsTree, SearchesTree, read_store}
+use Rattle.ub_tree.specs.Reading.{ReadsTree, read_store}
 use Rattle.ub_tree.specs.Removal.{IsRemoved}
 use Rattle.ub_tree.specs.View.{TreeView, IsSound, KeepsRegions, regions, tree_rows}
 use Rattle.ub_tree.specs.declared.fault.TreeFault.{TreeFault}
@@ -111,9 +111,6 @@ rows_out (row ∷ rows) old new s count stand up there (found, mid, more, one, r
 
 -- ---- a change that was ended by a fault
 
-missed_reads : (a b : TreeView) → IsTrue a.store.can_fail → HasMissed a b → SearchesTree {A = Unit {0}} a b (Err (read.Tree (Store store.Device)))
-missed_reads a b can missed = record { same = missed; faults = (can, λ e. cc) }
-
 left_stand : (a b : TreeView) (s : Stand) → Leaves a b → IsStandOf a s → IsStandOf b s
 left_stand a b s left stand =
     let sound = left.sound stand.sound in
@@ -133,8 +130,8 @@ change_stand a b s Failed stand left working = stand_same a b s left.1 stand
 change_stand a b s Memory stand left working = left_stand a b s left stand
 change_stand a b s (Page page fault) stand left working = stand_same a b s left.2 stand
 change_stand a b s (Store store.Device) stand (can, inl missed) working =
-    let reads = missed_reads a b can missed in
-    stand_kept a b s (SearchesTree-sound a b (Err (read.Tree (Store store.Device))) reads stand.sound) (SearchesTree-regions a b (Err (read.Tree (Store store.Device))) reads) stand
+    let e : Result (Unit {0}) ReadFault = Err (read.Tree (Store store.Device)) in
+    stand_kept a b s (searched_sound a b e missed stand.sound) (searched_regions a b e missed) stand
 change_stand a b s (Store store.Device) stand (can, inr ended) working =
     let failed : b.is_failed ≡ true = ap (λ (t : TreeView). t.is_failed) ended.same in absurd (true≢false (sym failed ∙ working))
 change_stand a b s (Store store.NoPage) stand left working = absurd (left.0 stand.sound)
@@ -184,9 +181,9 @@ first_out rows a c s fault stand up there stops working =
 pub read_stand : {A : Type 0} (old new : TreeView) (s : Stand) (e : ReadFault) → ReadsTree {A = A} old new (Err e) → IsStandOf old s → IsStandOf new s
 read_stand {A = A} old new s e reads stand =
     let mid : TreeView = record old { store = read_store {A = A} (Err e) old.store } in
-    let searched : SearchesTree {A = A} old mid (Err e) = record { same = refl; faults = reads.faults } in
+    let r : Result A ReadFault = Err e in
     stand_by mid new s (Keeps-by mid new reads.same)
-    (stand_kept old mid s (SearchesTree-sound old mid (Err e) searched stand.sound) (SearchesTree-regions old mid (Err e) searched) stand)
+    (stand_kept old mid s (searched_sound old mid r refl stand.sound) (searched_regions old mid r refl) stand)
 
 -- ---- the rows that a deletion selects
 

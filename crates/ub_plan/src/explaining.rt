@@ -28,7 +28,7 @@ pub fn explain<S: PageStore>(
     ensures text { IsSound tree.old
         → IfOk result (λ text. IsExplained tree.old.schema plan.now (regions tree.old) text.items) }
     ensures failed { IsTrue tree.old.is_failed → result ≡ Err (ReadFault.Tree TreeFault.Failed) }
-    ensures effect { SearchesTree tree.old tree.new result }
+    ensures effect { SearchesTree plan.now.covering.boxes tree.old tree.new result }
 {
     if tree.has_failed() {
         return Err(ReadFault::Tree(TreeFault::Failed));
@@ -42,7 +42,7 @@ fn count_met<S: PageStore>(tree: &mut Tree<S>, boxes: &[ZBox]) -> Result<u64, Re
     ensures counted { IfOk result (AreCounted boxes.now tree.old) }
     ensures met { IsSound tree.old → IfOk result (AreMet tree.old.schema boxes.now
         (regions tree.old)) }
-    ensures effect { SearchesTree tree.old tree.new result }
+    ensures effect { SearchesTree boxes.now tree.old tree.new result }
 {
     let mut met = Counter { count: 0 };
     tree.for_each_meeting(boxes, &mut met)?;

@@ -10,7 +10,7 @@ use Rattle.ub_script.specs.declared.fault.RunFault.TheVariants as run
 use Rattle.ub_table.specs.declared.row.Row.{Row}
 use Rattle.ub_tree.specs.Change.{IsInserted}
 use Rattle.ub_tree.specs.Effects.{Changes}
-use Rattle.ub_tree.specs.Reading.{ReadsTree, SearchesTree, read_store}
+use Rattle.ub_tree.specs.Reading.{ReadsTree}
 use Rattle.ub_tree.specs.View.{TreeView, IsSound}
 use Rattle.ub_tree.specs.declared.fault.TreeFault.{TreeFault}
 use Rattle.ub_tree.specs.declared.fault.TreeFault.TheVariants as tree
@@ -90,14 +90,6 @@ pub reads_refused : {A T : Type 0} (r : Result T RunFault) (e : ReadFault) (a b 
 reads_refused (Ok x) e a b is h failed = absurd is
 reads_refused {A = A} {T = T} (Err f) e a b is h failed = rw is (reads_left A T e a b h failed)
 
-pub searches_refused : {A T : Type 0} (r : Result T RunFault) (e : ReadFault) (a b : TreeView) → IsErrAnd r (λ x. x ≡ fault_of_read e) → SearchesTree {A = A} a b (Err e)
-    → (IsTrue a.is_failed → ends A e ≡ fails A) → RunsReading a b r
-searches_refused {A = A} r e a b is h failed =
-    reads_refused {A = A} r e a b is (record {
-      same = h.same ∙ ap (λ (t : TreeView). record a { store = read_store {A = A} (Err e) a.store; trace = t.trace }) (sym h.same);
-      faults = h.faults;
-    }) failed
-
 -- it was read to the end
 pub reads_done : {A T : Type 0} (x : A) (y : T) (a b : TreeView) → ReadsTree a b (Ok x) → RunsReading a b (Ok y)
 reads_done x y a b h = record { same = h.same; faults = tt }
@@ -106,9 +98,6 @@ reads_done x y a b h = record { same = h.same; faults = tt }
 pub reads_untold : {A T : Type 0} (r : Result T RunFault) (x : A) (a b : TreeView) → IsErrAnd r (λ e. e ≡ run.Memory) → ReadsTree a b (Ok x) → RunsReading a b r
 reads_untold (Ok y) x a b is h = absurd is
 reads_untold (Err e) x a b is h = rw is (record { same = h.same; faults = tt })
-
-pub searches_done : {A T : Type 0} (x : A) (y : T) (a b : TreeView) → SearchesTree a b (Ok x) → RunsReading a b (Ok y)
-searches_done x y a b h = record { same = h.same ∙ ap (λ (t : TreeView). record a { trace = t.trace }) (sym h.same); faults = tt }
 
 -- a row was put in
 pub runs_put : {T : Type 0} (x : T) (n : ℕ) (row : Row) (a b : TreeView) → (IsSound a → IsInserted row a b) → Changes a b (Ok n) → Runs a b (Ok x)

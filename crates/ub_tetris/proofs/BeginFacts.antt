@@ -22,7 +22,7 @@ use Rattle.ub_tetris.specs.declared.fault.SweepFault.{SweepFault}
 use Rattle.ub_tetris.specs.declared.fault.SweepFault.TheVariants as sweep
 use Rattle.ub_tetris.specs.inner.Events.{AreQueued, regions_awaited}
 use Rattle.ub_tetris.specs.inner.Turns.{awaited_of, begun_view}
-use Rattle.ub_tree.proofs.Laws.{Keeps-by, begun_traced, given_before, unchanged_traced}
+use Rattle.ub_tree.proofs.Laws.{Keeps-by, begun_traced, given_before, unchanged_traced, walk_given}
 use Rattle.ub_tree.specs.Reading.{IsGiven, SearchesTree, counted}
 use Rattle.ub_store.specs.View.{emptied}
 use Rattle.ub_tree.specs.Told.{IsRegionOf}
@@ -32,10 +32,11 @@ use Rattle.ub_tree.specs.declared.read_fault.ReadFault.{ReadFault}
 use Rattle.ub_tree.specs.declared.read_fault.ReadFault.TheVariants as read
 
 -- a search after the trace began anew, whose fault is handed on
-pub begins_by : {T U : Type 0} (r : Result T SweepFault) (e : ReadFault) (old mid new : TreeView) → IsErrAnd r (λ x. x ≡ of_read e) → mid ≡ record old { trace = emptied old.trace }
-    → SearchesTree {A = U} mid new (Err e) → Begins old new r
-begins_by (Ok x) e old mid new is began searches = absurd is
-begins_by {T = T} (Err f) e old mid new is began searches = rw is (begins e same (given_before old mid e (begun_traced old mid began) searches.faults))
+pub begins_by : {T U : Type 0} (r : Result T SweepFault) (e : ReadFault) (boxes : List Corners) (old mid new : TreeView) → IsErrAnd r (λ x. x ≡ of_read e) → mid ≡ record old { trace = emptied old.trace }
+    → SearchesTree {A = U} boxes mid new (Err e) → Begins old new r
+begins_by (Ok x) e boxes old mid new is began searches = absurd is
+begins_by {T = T} (Err f) e boxes old mid new is began searches =
+    rw is (begins e same (given_before old mid e (begun_traced old mid began) (walk_given boxes mid e searches.faults)))
   where
     same : new ≡ record old { store = record old.store { failed_reads = counted {A = T} (Err e) old.store.failed_reads }; trace = emptied old.trace }
     same = searches.same ∙ ap (λ (t : TreeView). record t { store = record t.store { failed_reads = counted {A = T} (Err e) t.store.failed_reads } }) began

@@ -19,7 +19,7 @@ pub fn await_regions<S: PageStore>(
 ) -> Result<Vec<Awaited>, ReadFault>
     requires { All (λ b. course.dim < length b.lo) boxes.now }
     ensures queued { IfOk result (λ awaited. AreQueued boxes.now course tree.old awaited.items) }
-    ensures effect { SearchesTree tree.old tree.new result }
+    ensures effect { SearchesTree boxes.now tree.old tree.new result }
 {
     let mut awaited = meet(alloc, tree, boxes, course)?;
     sort_events(&mut awaited, course.is_descending);
@@ -35,7 +35,7 @@ fn meet<S: PageStore>(
 ) -> Result<Vec<Awaited>, ReadFault>
     requires { All (λ b. course.dim < length b.lo) boxes.now }
     ensures met { IfOk result (λ awaited. AreMet boxes.now course tree.old awaited.items) }
-    ensures effect { SearchesTree tree.old tree.new result }
+    ensures effect { SearchesTree boxes.now tree.old tree.new result }
 {
     let mut met = MetRegions {
         course,

@@ -1,8 +1,7 @@
 -- What a tree answers that is asked for the next region that meets some boxes again and again, over any pages: each answer is later than
 -- the one before it, and begins with a key of the space, so fewer keys are left after each.
 use Rattle.std.proofs.Common.{rules}
-use Rattle.std.proofs.Common.{◌≡◌, ◌<◌, ◌≤◌, ◌+◌, ◌-◌, ◌*◌, ◌^◌, ◌++◌, ◌∷◌, ◌⊎◌, ℕ, zero, suc, List, [], Option, Some, None, IfSome, if◌then◌else◌, nat_lt, slice_get, ap, ◌∙◌, subst, arith, append_assoc}
-use Rattle.std.proofs.lemmas.List.{append-nil}
+use Rattle.std.proofs.Common.{◌≡◌, ◌<◌, ◌≤◌, ◌+◌, ◌-◌, ◌*◌, ◌^◌, ◌++◌, ◌∷◌, ◌⊎◌, ℕ, zero, suc, List, [], Option, Some, None, IfSome, if◌then◌else◌, nat_lt, slice_get, ap, ◌∙◌, refl, subst, sym, arith}
 use Rattle.std.specs.List.{AllByRecursion}
 use Rattle.ub_bigmin.specs.Box.{Corners, HoldsAny}
 use Rattle.ub_bigmin.specs.Extremes.{LeastFrom}
@@ -12,7 +11,7 @@ use Rattle.ub_table.proofs.Laws.{before_parts, before_trans}
 use Rattle.ub_table.specs.Keys.{IsBefore}
 use Rattle.ub_table.specs.declared.row.Key.{Key}
 use Rattle.ub_tree.specs.Spans.{IsLater, Meets, Region}
-use Rattle.ub_tree.specs.Told.{AreAnswers, GivesNext, IsRegionOf}
+use Rattle.ub_tree.specs.Told.{AreAnswers, AreFirst, GivesNext, IsRegionOf}
 use Rattle.ub_tree.specs.View.{TreeView}
 
 -- ---- how many keys of a space are later than a region's first one
@@ -72,10 +71,6 @@ given_met boxes t (Some from) span (key, (z, least, le, aim), given) =
     let to_is = given.to in
     (record { key = key; falls = given }, (z, least.0, omega arith, omega arith))
 
--- these are the first answers, and the last of them
-pub record HasAnswers (boxes : List Corners) (t : TreeView) (found : List Region) (after : Option Region) : Type 0 where
-  pub answers : (more : List Region) → AreAnswers boxes t after more → AreAnswers boxes t None (found ++ more)
-
 module _ (boxes : List Corners) (t : TreeView) where
   pub next_later : (after : Option Region) (span : Region) → GivesNext boxes t after (Some span) → IsRegionOf t span × IsLater after span × Meets boxes span
   next_later after span h = search (rules, given_met)
@@ -116,16 +111,15 @@ module _ (boxes : List Corners) (t : TreeView) where
       subst (λ (s : Region). IsBefore s.first b.first) same (later_at found more (answers_later found more rest) j b at_j)
   answers_up after (found ∷ more) (gives, rest) (suc i) (suc j) a b lt at_i at_j = answers_up (Some found) more rest i j a b (omega arith) at_i at_j
 
-  -- ---- the answers so far
+  -- ---- the first answers
 
-  pub HasAnswers-none : HasAnswers boxes t [] None
-  HasAnswers-none = record { answers = λ more are. are }
+  -- one more came
+  pub first_more : (from : Option Region) (found : List Region) (after : Option Region) (span : Region) → AreFirst boxes t from found after → GivesNext boxes t after (Some span)
+      → AreFirst boxes t from (found ++ span ∷ []) (Some span)
+  first_more from [] after span first gives = (subst (λ (a : Option Region). GivesNext boxes t a (Some span)) (sym first) gives, refl)
+  first_more from (x ∷ found) after span (given, first) gives = (given, first_more (Some x) found after span first gives)
 
-  module _ (found : List Region) (after : Option Region) (so_far : HasAnswers boxes t found after) where
-    -- one more came
-    pub HasAnswers-more : (span : Region) → GivesNext boxes t after (Some span) → HasAnswers boxes t (found ++ span ∷ []) (Some span)
-    HasAnswers-more span h = search (rules, append_assoc)
-
-    -- they are all where none is left
-    pub answers_ended : GivesNext boxes t after None → AreAnswers boxes t None found
-    answers_ended none = subst (λ (all : List Region). AreAnswers boxes t None all) (append-nil found) (so_far.answers [] none)
+  -- they are all where none is left
+  pub answers_ended : (from : Option Region) (found : List Region) (after : Option Region) → AreFirst boxes t from found after → GivesNext boxes t after None → AreAnswers boxes t from found
+  answers_ended from [] after first none = subst (λ (a : Option Region). GivesNext boxes t a None) (sym first) none
+  answers_ended from (x ∷ found) after (given, first) none = (given, answers_ended (Some x) found after first none)

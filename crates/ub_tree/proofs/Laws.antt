@@ -28,12 +28,12 @@ use Rattle.ub_tree.specs.Spans.{first_keys, regions_of, First, IsLater, Meets, R
 use Rattle.ub_tree.specs.View.{TreeView, IsSound, regions, spans_of}
 use Rattle.ub_tree.proofs.WellFacts.{opened_pages, opened_sound, sound_well}
 use Rattle.ub_zaddr.specs.Address.{last_address}
-pub use Rattle.ub_tree.proofs.AnswerFacts.{HasAnswers, HasAnswers-none, HasAnswers-more, answers_ended, answers_later, answers_there, left_after, left_less}
+pub use Rattle.ub_tree.proofs.AnswerFacts.{answers_ended, answers_later, answers_there, first_more, left_after, left_less}
 pub use Rattle.ub_tree.proofs.EffectFacts.{mark_then}
 pub use Rattle.ub_tree.proofs.NewFacts.{new_values, numbered_row}
 pub use Rattle.ub_tree.proofs.TreeFacts.{firsts_placed}
 pub use Rattle.ub_tree.proofs.MeetFacts.{before, contained_at, contains_at, is_later, later_from, spans_long, take_all, those_next, those_up_to}
-pub use Rattle.ub_tree.proofs.ReadFacts.{IsTraced, Keeps, Keeps-by, Keeps-more, Keeps-none, begun_traced, given_before, read_fault_before, reads_by, reads_then, searched_fault, told_kept, traced_gives, traced_told, tree_reads, unchanged_trace, unchanged_traced, SearchesTree-regions, SearchesTree-sound}
+pub use Rattle.ub_tree.proofs.ReadFacts.{IsTraced, Keeps, Keeps-by, Keeps-more, Keeps-none, begun_traced, given_before, read_fault_before, reads_by, reads_then, searched_fault, searched_read, told_kept, traced_gives, traced_told, tree_reads, unchanged_trace, unchanged_traced, searched_regions, searched_sound, walk_given}
 pub use Rattle.ub_index.proofs.Laws.{region_first}
 
 -- the region of a span, with its page

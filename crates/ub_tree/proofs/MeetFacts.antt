@@ -9,11 +9,11 @@ use Rattle.ub_bigmin.specs.Box.{Corners}
 use Rattle.ub_region.specs.Those.{AreThose}
 use Rattle.ub_table.proofs.Laws.{not_both_before, not_before_self}
 use Rattle.ub_table.specs.Keys.{IsBefore}
-use Rattle.ub_tree.proofs.AnswerFacts.{HasAnswers, HasAnswers-more, answers_ended, left_after, left_less}
+use Rattle.ub_tree.proofs.AnswerFacts.{answers_ended, first_more, left_after, left_less}
 use Rattle.ub_tree.specs.Handing.{AreMetBy, Began, TakesThese}
 use Rattle.ub_tree.specs.Placed.{Placed, entry_of}
 use Rattle.ub_tree.specs.Spans.{IsLater, regions_of, Region}
-use Rattle.ub_tree.specs.Told.{GivesNext}
+use Rattle.ub_tree.specs.Told.{AreFirst, GivesNext}
 use Rattle.ub_tree.specs.View.{TreeView}
 
 -- the span before the one at a place, if there is one
@@ -114,7 +114,7 @@ spans_long last (p ∷ placed) = ap suc (spans_long last placed)
 -- so far as a walk has come, in which nothing changes
 pub record Walks (boxes : List Corners) (t now : TreeView) (found : List Region) (after : Option Region) : Type 0 where
   pub same : now ≡ t
-  pub come : HasAnswers boxes t found after
+  pub come : AreFirst boxes t None found after
 
 module _ (boxes : List Corners) (t now : TreeView) (found : List Region) (after : Option Region) (walks : Walks boxes t now found after) where
   -- what the tree tells next, of one that is the same
@@ -123,12 +123,13 @@ module _ (boxes : List Corners) (t now : TreeView) (found : List Region) (after 
       subst (λ (a : Option Region). GivesNext boxes t a next) is (subst (λ (x : TreeView). GivesNext boxes x copied next) walks.same gives)
 
   pub walks_ended : (next copied : Option Region) → ((x : Region) → next ≡ Some x → ⊥) → copied ≡ after → GivesNext boxes now copied next → AreMetBy boxes t found
-  walks_ended None copied none is gives = answers_ended boxes t found after walks.come (told None copied is gives)
+  walks_ended None copied none is gives = answers_ended boxes t None found after walks.come (told None copied is gives)
   walks_ended (Some span) copied none is gives = absurd (none span refl)
 
   pub walks_on : (new : TreeView) (copied : Option Region) (span : Region) → new ≡ now → copied ≡ after → GivesNext boxes now copied (Some span)
       → Walks boxes t new (found ++ span ∷ []) (Some span)
-  walks_on new copied span h k l = search (rules, HasAnswers-more, told)
+  walks_on new copied span same is gives =
+      record { same = same ∙ walks.same; come = first_more boxes t None found after span walks.come (told (Some span) copied is gives) }
 
   -- and fewer regions are left after it
   pub walks_down : (copied : Option Region) (span : Region) → copied ≡ after → GivesNext boxes now copied (Some span) → left_after t (Some span) < left_after t after

@@ -1,6 +1,6 @@
 -- What a tree keeps over several calls that read it.
 use Rattle.std.proofs.Common.{rules}
-use Rattle.std.proofs.Common.{◌≡◌, ◌≤◌, ◌∙◌, inl, inr, ℕ, List, Option, Result, Ok, Err, subst, sym, ap, refl}
+use Rattle.std.proofs.Common.{◌≡◌, ◌≤◌, ◌∙◌, inl, inr, ℕ, List, Option, None, Result, Ok, Err, IfErr, subst, sym, ap, refl}
 use Rattle.std.specs.Result.{IsErrAnd}
 use Rattle.ub_bigmin.specs.Box.{Corners}
 use Rattle.ub_store.specs.Facts.{page_count}
@@ -9,9 +9,9 @@ use Rattle.ub_store.specs.declared.fault.StoreFault.TheVariants as store
 use Rattle.ub_table.specs.declared.fault.PageFault.{PageFault}
 use Rattle.ub_table.specs.declared.row.Key.{Key}
 use Rattle.ub_tree.specs.Effects.{IsReadFault, IsPageRefused, IsPageMissing, IsSearchFault, IsStopped, SearchesFor, raised_by}
-use Rattle.ub_tree.specs.Reading.{IsGiven, ReadsTree, SearchesTree, counted, fault_of_tree}
+use Rattle.ub_tree.specs.Reading.{IsGiven, IsWalkFault, ReadsTree, SearchesTree, counted, fault_of_tree, read_store}
 use Rattle.ub_tree.specs.Spans.{Region}
-use Rattle.ub_tree.specs.Told.{GivesNext, IsRegionOf}
+use Rattle.ub_tree.specs.Told.{AreFirst, GivesNext, IsRegionOf, SeeksNext}
 use Rattle.ub_tree.specs.View.{TreeView, IsSound, KeepsRegions, KeepsTrace}
 use Rattle.ub_tree.specs.declared.fault.TreeFault.{TreeFault}
 use Rattle.ub_tree.specs.declared.fault.TreeFault.TheVariants as tree
@@ -123,22 +123,45 @@ tree_reads {T = T} (Err f) e a b c is h same fault =
 
 -- ---- calls that search
 
+-- a walk is refused as a search is
+pub walk_given : (boxes : List Corners) (t : TreeView) (e : ReadFault) → IsWalkFault boxes t e → IsGiven t e
+walk_given boxes t read.Memory h = tt
+walk_given boxes t (read.Tree fault) (other, found, after, first, h) = (searched_fault (SeeksNext boxes t after) t fault h, other)
+
+walk_of : (boxes : List Corners) (t : TreeView) (found : List Region) (after : Option Region) (e : TreeFault) → AreFirst boxes t None found after → IsSearchFault (SeeksNext boxes t after) t e
+    → IsWalkFault boxes t (fault_of_tree e)
+walk_of boxes t found after e first h = search rules
+
 -- the fault of a search handed on, after others that changed nothing
-pub searches_by : {T U : Type 0} {Sought : Key → Type 0} (r : Result T ReadFault) (e : TreeFault) (a b c : TreeView) → IsErrAnd r (λ x. x ≡ fault_of_tree e) → b ≡ a
-    → SearchesFor {A = U} Sought b c (Err e) → SearchesTree a c r
-searches_by (Ok x) e a b c is same h = absurd is
-searches_by {T = T} {U = U} {Sought = Sought} (Err f) e a b c is same h = rw is (subst (λ (t : TreeView). SearchesTree {A = T} t c (Err (fault_of_tree e))) same (record {
-  same = h.same ∙ ap (λ (n : ℕ). record b { store = record b.store { failed_reads = n } }) (sym (counted_of T e b.store.failed_reads));
-  faults = given_of b e (searched_fault Sought b e h.faults);
-}))
+pub searches_by : {T U : Type 0} (r : Result T ReadFault) (e : TreeFault) (boxes : List Corners) (a b c : TreeView) (found : List Region) (after copied : Option Region)
+    → IsErrAnd r (λ x. x ≡ fault_of_tree e) → b ≡ a → copied ≡ after → AreFirst boxes a None found after → SearchesFor {A = U} (SeeksNext boxes b copied) b c (Err e)
+    → SearchesTree boxes a c r
+searches_by (Ok x) e boxes a b c found after copied is same alike first h = absurd is
+searches_by {T = T} (Err f) e boxes a b c found after copied is same alike first h =
+    rw is (subst (λ (t : TreeView). SearchesTree {A = T} boxes t c (Err (fault_of_tree e))) same (record {
+      same = h.same ∙ ap (λ (n : ℕ). record b { store = record b.store { failed_reads = n } }) (sym (counted_of T e b.store.failed_reads));
+      faults = walk_of boxes b found after e (subst (λ (t : TreeView). AreFirst boxes t None found after) (sym same) first)
+          (subst (λ (o : Option Region). IsSearchFault (SeeksNext boxes b o) b e) alike h.faults);
+    }))
+
+-- a walk reads no more than what a tree is searched for
+pub searched_read : {A : Type 0} {boxes : List Corners} (old new : TreeView) (r : Result A ReadFault) → SearchesTree boxes old new r → ReadsTree old new r
+searched_read {A = A} {boxes = boxes} old new r h = record {
+  same = h.same ∙ ap (λ (t : TreeView). record old { store = read_store r old.store; trace = t.trace }) (sym h.same);
+  faults = given r h.faults;
+}
+  where
+    given : (r : Result A ReadFault) → IfErr r (IsWalkFault boxes old) → IfErr r (IsGiven old)
+    given (Ok x) faults = tt
+    given (Err e) faults = walk_given boxes old e faults
 
 -- where only the count of failed reads has changed, a sound tree is sound
 retold : (t : TreeView) (n : ℕ) → IsSound t → IsSound (record t { store = record t.store { failed_reads = n } })
 retold t n h = search rules
 
-pub SearchesTree-sound : {A : Type 0} (old new : TreeView) (r : Result A ReadFault) → SearchesTree old new r → IsSound old → IsSound new
-SearchesTree-sound old new r searched sound = subst IsSound (sym searched.same) (retold old (counted r old.store.failed_reads) sound)
+module _ {A : Type 0} (old new : TreeView) (r : Result A ReadFault) (same : new ≡ record old { store = read_store r old.store }) where
+  pub searched_sound : IsSound old → IsSound new
+  searched_sound sound = subst IsSound (sym same) (retold old (counted r old.store.failed_reads) sound)
 
-pub SearchesTree-regions : {A : Type 0} (old new : TreeView) (r : Result A ReadFault) → SearchesTree old new r → KeepsRegions old new
-SearchesTree-regions old new r searched =
-    subst (λ (t : TreeView). KeepsRegions old t) (sym searched.same) (record { schema = refl; placed = refl; rows = refl; next = refl })
+  pub searched_regions : KeepsRegions old new
+  searched_regions = subst (λ (t : TreeView). KeepsRegions old t) (sym same) (record { schema = refl; placed = refl; rows = refl; next = refl })

@@ -1,7 +1,10 @@
 -- What a call can answer that reads a tree, as often as it likes, and what it leaves of the tree.
-use Rattle.std.specs.Prelude.{◌≡◌, ◌≢◌, ℕ, Result, Err, IfErr}
+use Rattle.std.specs.Prelude.{◌≡◌, ◌≢◌, ℕ, List, Option, None, Result, Err, IfErr}
+use Rattle.ub_bigmin.specs.Box.{Corners}
 use Rattle.ub_store.specs.Facts.{StoreFacts}
-use Rattle.ub_tree.specs.Effects.{IsReadFault, raised_by}
+use Rattle.ub_tree.specs.Effects.{IsReadFault, IsSearchFault, raised_by}
+use Rattle.ub_tree.specs.Spans.{Region}
+use Rattle.ub_tree.specs.Told.{AreFirst, SeeksNext}
 use Rattle.ub_tree.specs.View.{TreeView}
 use Rattle.ub_tree.specs.declared.fault.TreeFault.{TreeFault}
 use Rattle.ub_tree.specs.declared.fault.TreeFault.TheVariants.{Memory as no_memory}
@@ -27,12 +30,20 @@ counted _ n = n
 abbrev pub read_store : {A : Type 0} → Result A ReadFault → StoreFacts → StoreFacts
 read_store result old = record old { failed_reads = counted result old.failed_reads }
 
+-- a walk over the regions that meet some boxes was refused as it asked for the next one, after some of them
+abbrev pub IsWalkFault : List Corners → TreeView → ReadFault → Type 0
+IsWalkFault boxes old Memory = Unit {0}
+IsWalkFault boxes old (Tree fault) =
+    (fault ≢ no_memory) × (found : List Region) × (after : Option Region) × AreFirst boxes old None found after
+    × IsSearchFault (SeeksNext boxes old after) old fault
+
 -- the tree is read and no more
 pub record ReadsTree {A : Type 0} (old new : TreeView) (result : Result A ReadFault) : Type 0 where
   pub same : new ≡ record old { store = read_store result old.store; trace = new.trace }
   pub faults : IfErr result (IsGiven old)
 
--- the tree is searched and no more: no region is fetched, and the trace is as it was
-pub record SearchesTree {A : Type 0} (old new : TreeView) (result : Result A ReadFault) : Type 0 where
+-- the tree is searched for the regions that meet some boxes, one after the other, and no more: no region is fetched, and the trace is as it
+-- was
+pub record SearchesTree {A : Type 0} (boxes : List Corners) (old new : TreeView) (result : Result A ReadFault) : Type 0 where
   pub same : new ≡ record old { store = read_store result old.store }
-  pub faults : IfErr result (IsGiven old)
+  pub faults : IfErr result (IsWalkFault boxes old)

@@ -49,6 +49,11 @@ abbrev pub AreAnswers : List Corners → TreeView → Option Region → List Reg
 AreAnswers boxes t after [] = GivesNext boxes t after None
 AreAnswers boxes t after (found ∷ more) = GivesNext boxes t after (Some found) × AreAnswers boxes t (Some found) more
 
+-- these are the first that it gives, asked so after one or from the beginning on, and this one the last of them
+abbrev pub AreFirst : List Corners → TreeView → Option Region → List Region → Option Region → Type 0
+AreFirst boxes t after [] last = after ≡ last
+AreFirst boxes t after (found ∷ more) last = GivesNext boxes t after (Some found) × AreFirst boxes t (Some found) more last
+
 -- the new tree tells of each region of which the old one tells, and counts as many
 pub record TellsStill (old new : TreeView) : Type 0 where
   pub count : region_count new ≡ region_count old

@@ -14,7 +14,8 @@ impl<S: PageStore> Tree<S> {
     /// tree just those that `next_meeting` answers, asked after each of them until there is none. No region is fetched, and the
     /// trace stays.
     ///
-    /// `Memory` where memory was refused, here or by the sink; `Tree` where the tree refused.
+    /// `Memory` where memory was refused, here or by the sink; `Tree` where the tree refused the search for the next region, after
+    /// some of them.
     pub fn for_each_meeting<T: RegionSink>(
         &mut self,
         boxes: &[ZBox],
@@ -23,7 +24,7 @@ impl<S: PageStore> Tree<S> {
         requires { Began (T.Takes boxes.now) sink.old }
         ensures met { OnOk result ((met : List Region) × AreMetBy boxes.now self.old met
             × TakesThese (T.Takes boxes.now) sink.old sink.new met) }
-        ensures effect { SearchesTree self.old self.new result }
+        ensures effect { SearchesTree boxes.now self.old self.new result }
     {
         let mut after = None;
         while let Some(region) = self.next_meeting(boxes, after.as_ref())? {

@@ -2,7 +2,8 @@ use Rattle.std.proofs.Common.{true, ap}
 use Rattle.ub_script.proofs.FormedFacts.{explained_on}
 use Rattle.ub_script.proofs.StartFacts.{on_err, starts_none}
 use Rattle.ub_tree.specs.View.{TreeView}
-use Rattle.ub_script.proofs.EndFacts.{no_answer, no_write_by, no_write_ok, read_no_write, searches_done, searches_refused}
+use Rattle.ub_script.proofs.EndFacts.{no_answer, no_write_by, no_write_ok, read_no_write, reads_done, reads_refused}
+use Rattle.ub_tree.proofs.Laws.{searched_read}
 use Rattle.ub_script.proofs.script.explain_query.Goals as goal
 
 pub returns-clause-answer : goal.returns-clause-answer
@@ -21,7 +22,8 @@ pub returns-in_err-explain-clause-no_write : goal.returns-in_err-explain-clause-
 returns-in_err-explain-clause-no_write g c = no_write_by c.from_residual.result _ c.from_residual.ensures.1 (read_no_write _)
 
 pub returns-in_err-explain-clause-effect : goal.returns-in_err-explain-clause-effect
-returns-in_err-explain-clause-effect g c = searches_refused c.from_residual.result _ _ _ c.from_residual.ensures.1 c.in_err-explain.ensures.effect c.in_err-explain.ensures.failed
+returns-in_err-explain-clause-effect g c =
+    reads_refused c.from_residual.result _ _ _ c.from_residual.ensures.1 (searched_read _ _ _ c.in_err-explain.ensures.effect) c.in_err-explain.ensures.failed
 
 pub returns-clause-stopped : goal.returns-clause-stopped
 returns-clause-stopped g c basis is = tt
@@ -30,4 +32,4 @@ pub returns-clause-no_write : goal.returns-clause-no_write
 returns-clause-no_write g c = no_write_ok _
 
 pub returns-clause-effect : goal.returns-clause-effect
-returns-clause-effect g c = searches_done _ _ _ _ c.in_ok-explain.ensures.effect
+returns-clause-effect g c = reads_done _ _ _ _ (searched_read _ _ _ c.in_ok-explain.ensures.effect)

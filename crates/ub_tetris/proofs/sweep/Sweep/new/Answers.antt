@@ -17,7 +17,7 @@ returns-in_default-clause-met g c dim is_descending (planned, kind) =
 
 pub returns-in_err-queue-clause-effect : goal.returns-in_err-queue-clause-effect
 returns-in_err-queue-clause-effect g c =
-    begins_by c.from_residual.result _ c.args.tree.now c.begin.new.self c.await_regions.new.tree c.from_residual.ensures.1 c.begin.ensures c.in_err-queue.ensures.effect
+    begins_by c.from_residual.result _ c.boxes.result.now c.args.tree.now c.begin.new.self c.await_regions.new.tree c.from_residual.ensures.1 c.begin.ensures c.in_err-queue.ensures.effect
 
 pub returns-clause-started : goal.returns-clause-started
 returns-clause-started g c =

@@ -34,4 +34,5 @@ returns-clause-met g c =
 pub returns-in_err-region-clause-effect : goal.returns-in_err-region-clause-effect
 returns-in_err-region-clause-effect g c =
     let (found, walks, takes) = c.loop-region.invariant in
-    searches_by c.from_residual.result c.in_err-region.field-0.0 c.args.self.now c.loop-region.self c.next_meeting.new.self c.from_residual.ensures.1 walks.same c.in_err-region.ensures.effect
+    searches_by c.from_residual.result c.in_err-region.field-0.0 c.args.boxes.now c.args.self.now c.loop-region.self c.next_meeting.new.self found c.loop-region.after _ c.from_residual.ensures.1
+    walks.same c.as_ref.ensures.value walks.come c.in_err-region.ensures.effect
