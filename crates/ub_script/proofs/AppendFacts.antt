@@ -13,8 +13,9 @@ use Rattle.std.specs.Result.{IsErrAnd}
 use Rattle.ub_region.proofs.Laws.{AreNew, all_append, all_more, all_take, append_table, below_number, differ_from, from_number, later_regions, nat_eq_flips, new_moved, new_step, numbered_new}
 use Rattle.ub_region.specs.Regions.{AreRegions, IsFree, insert, insert_all, numbered, numbered_from}
 use Rattle.ub_script.proofs.KeptFacts.{honest_before, works_more}
-use Rattle.ub_script.specs.Appending.{AreAppended, ArePut, ArePutUpTo, IsNoDamage, IsOrderOf, AreLater, PutsRows}
+use Rattle.ub_script.specs.Appending.{AreAppended, AreByKey, ArePut, ArePutUpTo, IsNoDamage, IsOrderOf, PutsRows}
 use Rattle.ub_script.specs.Faults.{Runs}
+use Rattle.ub_script.specs.inner.Appending.{AreLater}
 use Rattle.ub_store.specs.declared.fault.StoreFault.TheVariants as store
 use Rattle.ub_table.specs.Region.{IsRow, RegionRows, measures_of}
 use Rattle.ub_table.specs.declared.row.Row.{Row}
@@ -235,11 +236,15 @@ rows_from dims measures n (row ∷ rows) suit some few = (
     renumbered : (dims measures n : ℕ) (row : Row) → Suits dims measures row → Suits dims measures (numbered n row)
     renumbered dims measures n row h = record { dims_rest = h.dims_rest; dims_words = h.dims_words; measures_rest = h.measures_rest; measures_words = h.measures_words }
 
+pub order_is : (t : TreeView) (dims first : ℕ) (rows items order : List Row) → dims ≡ t.schema.dims → first ≡ t.next → order ≡ items → AreByKey dims first rows items → IsOrderOf t rows order
+order_is t dims first rows items order same next is by =
+    subst (λ (d : ℕ). AreByKey d t.next rows order) same (subst (λ (n : ℕ). AreByKey dims n rows order) next (subst (λ (rs : List Row). AreByKey dims first rows rs) (sym is) by))
+
 pub order_rows : (t : TreeView) (rows order : List Row) → All (Suits t.schema.dims (measures_of t.schema)) rows → 1 ≤ t.next → t.next + length rows ≤ MAX_ROW_NUMBER + 1 → IsOrderOf t rows order
     → All (IsRow t.schema.dims (measures_of t.schema)) order
 order_rows t rows order suit some few is =
     let all = recursion_from_All (Suits t.schema.dims (measures_of t.schema)) rows suit in
-    All-permutation (IsRow t.schema.dims (measures_of t.schema)) (numbered_from t.next rows) order is
+    All-permutation (IsRow t.schema.dims (measures_of t.schema)) (numbered_from t.next rows) order is.same
     (All-from_recursion (IsRow t.schema.dims (measures_of t.schema)) (numbered_from t.next rows) (rows_from t.schema.dims (measures_of t.schema) t.next rows all some few))
 
 length-numbered : (n : ℕ) (rows : List Row) → length (numbered_from n rows) ≡ length rows
@@ -285,12 +290,12 @@ module _ (a b : TreeView) (rows order : List Row) (suit : All (Suits a.schema.di
   good = rows_from a.schema.dims (measures_of a.schema) a.next rows (recursion_from_All (Suits a.schema.dims (measures_of a.schema)) rows suit) some few
 
   order_new : IsSound a → AreNew a.schema later order (regions a)
-  order_new sound = new_moved a.schema later (numbered_from a.next rows) order (regions a) is (numbered_new a.schema a.next rows (regions a) sound.regions_are good)
+  order_new sound = new_moved a.schema later (numbered_from a.next rows) order (regions a) is.same (numbered_new a.schema a.next rows (regions a) sound.regions_are good)
 
   appended : ArePut a order b → IsSound a → AreAppended rows a b
   appended put sound =
       let new = put_new later order [] a b sound (omega arith) (rw (append-nil order) (order_new sound)) put in
-      let long : length order ≡ length (numbered_from a.next rows) = length_permutation (numbered_from a.next rows) order is in
+      let long : length order ≡ length (numbered_from a.next rows) = length_permutation (numbered_from a.next rows) order is.same in
       let same = length-numbered a.next rows in
       let counted = new.counted in
       record {
@@ -298,16 +303,16 @@ module _ (a b : TreeView) (rows order : List Row) (suit : All (Suits a.schema.di
         order = order;
         is = is;
         regions_are = new.regions_are;
-        table = λ before table. rw new.regions_are (append_table a.schema a.next rows order (regions a) before sound.regions_are table good is);
+        table = λ before table. rw new.regions_are (append_table a.schema a.next rows order (regions a) before sound.regions_are table good is.same);
         counted = omega arith;
         sound = new.sound;
       }
 
   appended_next : ArePut a order b → b.next ≡ a.next + length rows
   appended_next put =
-      let below = moved_along (λ row. row.number < later) (numbered_from a.next rows) order is (below_number a.next later rows (omega arith)) in
+      let below = moved_along (λ row. row.number < later) (numbered_from a.next rows) order is.same (below_number a.next later rows (omega arith)) in
       let (up, upto, past) = put_bounds a b later order put (omega arith) below in
-      let last = last_number a.next b.next rows up (moved_back b.next (numbered_from a.next rows) order is past) in
+      let last = last_number a.next b.next rows up (moved_back b.next (numbered_from a.next rows) order is.same past) in
       omega arith
 
   appended_runs : ArePut a order b → Runs {A = Unit {0}} a b (Ok tt)
@@ -326,9 +331,9 @@ module _ (a b : TreeView) (rows order : List Row) (suit : All (Suits a.schema.di
 
   pub order_later : AreLater a.next order
   order_later = (
-    moved_along (λ (row : Row). a.next ≤ row.number) (numbered_from a.next rows) order is (from_number a.next a.next rows (omega arith)),
+    moved_along (λ (row : Row). a.next ≤ row.number) (numbered_from a.next rows) order is.same (from_number a.next a.next rows (omega arith)),
     IsDistinct-IsPermutation nat_eq nat_eq_flips (map (λ (row : Row). row.number) (numbered_from a.next rows)) (map (λ (row : Row). row.number) order)
-        (IsPermutation-map (λ (row : Row). row.number) (numbered_from a.next rows) order is) (differ_from a.next rows),
+        (IsPermutation-map (λ (row : Row). row.number) (numbered_from a.next rows) order is.same) (differ_from a.next rows),
   )
 
   pub puts_all : (r : Result (Unit {0}) TreeFault) → OnOk r (ArePut a order b) → IfErr r (λ fault. ArePutUpTo a order fault b) → PutsRows a b rows r

@@ -15,3 +15,4 @@ pub mod PartFacts
 pub mod AnswerFacts
 pub mod ExportFacts
 pub mod Laws
+pub mod ByKeyFacts

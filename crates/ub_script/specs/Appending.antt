@@ -1,11 +1,11 @@
 -- What rows that are put into a tree behind those that it has make of its table, and of any tree.
-use Rattle.std.specs.Prelude.{◌≡◌, ◌⊎◌, ◌+◌, ◌<◌, ◌≤◌, ℕ, List, [], ◌∷◌, ◌++◌, Some, Result, Ok, Err, IfErr, OnOk, length, map, slice_get, take}
-use Rattle.std.specs.Bool.{nat_eq}
-use Rattle.std.specs.List.{AllByRecursion, IsDistinct}
-use Rattle.std.specs.List.Sorted.{IsPermutation}
+use Rattle.std.specs.Prelude.{◌≡◌, ◌⊎◌, ◌+◌, ◌<◌, ℕ, List, [], ◌∷◌, ◌++◌, Some, Result, Ok, Err, IfErr, OnOk, length, slice_get, take}
+use Rattle.std.specs.List.Sorted.{IsPermutation, IsSortedBy}
 use Rattle.ub_region.specs.Regions.{AreTableRows, insert_all, numbered_from}
 use Rattle.ub_script.specs.Faults.{Runs}
 use Rattle.ub_store.specs.declared.fault.StoreFault.TheVariants.{NoPage}
+use Rattle.ub_table.specs.Keys.{precedes}
+use Rattle.ub_table.specs.Region.{key_of}
 use Rattle.ub_table.specs.declared.row.Row.{Row}
 use Rattle.ub_table.specs.declared.row.TheConstants.{MAX_ROW_NUMBER}
 use Rattle.ub_tree.specs.Inserted.{InsertsAs}
@@ -13,13 +13,14 @@ use Rattle.ub_tree.specs.View.{TreeView, IsSound, KeepsTrace, regions}
 use Rattle.ub_tree.specs.declared.fault.TreeFault.{TreeFault}
 use Rattle.ub_tree.specs.declared.fault.TreeFault.TheVariants.{Full, Memory, Page, Store}
 
--- these rows, with the numbers from the next one on in the order in which they came, are put in in some order
-abbrev pub IsOrderOf : TreeView → List Row → List Row → Type 0
-IsOrderOf t rows order = IsPermutation (numbered_from t.next rows) order
+-- rows, with the numbers from this one on in the order in which they came, stand in the order of their keys
+pub record AreByKey (dims first : ℕ) (rows order : List Row) : Type 0 where
+  pub same : IsPermutation (numbered_from first rows) order
+  pub sorted : IsSortedBy (λ a b. precedes (key_of dims a) (key_of dims b)) order
 
--- rows of which each has a number of its own, that comes no sooner than this one
-abbrev pub AreLater : ℕ → List Row → Type 0
-AreLater n rows = AllByRecursion (λ row. n ≤ row.number) rows × IsDistinct nat_eq (map (λ row. row.number) rows)
+-- so do the rows that are put into a tree: they get the numbers from the next one on
+abbrev pub IsOrderOf : TreeView → List Row → List Row → Type 0
+IsOrderOf t rows order = AreByKey t.schema.dims t.next rows order
 
 -- rows were put into a tree one after the other, each with its own number: of each what `Tree::insert_numbered` says
 abbrev pub ArePut : TreeView → List Row → TreeView → Type 0
@@ -50,7 +51,7 @@ IsNoDamage (Store NoPage) = ⊥
 IsNoDamage fault = Unit {0}
 
 -- rows were put into a sound tree: its table has them as its last, in the order in which they came, with the numbers from the next one on;
--- in which regions they stand depends on the order in which they were put in
+-- its regions are those into which they were put in the order of their keys
 pub record AreAppended (rows : List Row) (old new : TreeView) : Type 0 where
   pub schema : new.schema ≡ old.schema
   pub order : List Row

@@ -11,3 +11,4 @@ pub mod Appending
 pub mod Run
 pub mod Loop
 pub mod Laws
+pub mod inner

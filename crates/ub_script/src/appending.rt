@@ -2,9 +2,9 @@
 
 ghost use Rattle.std.specs.Prelude.{◌≡◌, ◌<◌, ◌≤◌, ◌+◌, IfErr, IfOk, OnOk, length};
 ghost use Rattle.std.specs.List.{All};
-ghost use Rattle.std.specs.List.Sorted.{IsPermutation};
 ghost use Rattle.ub_region.specs.Regions.{numbered_from};
-ghost use Rattle.ub_script.specs.Appending.{AreLater, ArePut, ArePutUpTo, PutsRows};
+ghost use Rattle.ub_script.specs.Appending.{AreByKey, ArePut, ArePutUpTo, PutsRows};
+ghost use Rattle.ub_script.specs.inner.Appending.{AreLater};
 ghost use Rattle.ub_table.specs.Region.{IsRow, measures_of};
 ghost use Rattle.ub_tree.specs.Change.{Suits};
 
@@ -46,8 +46,7 @@ fn in_key_order(
     first: u32,
 ) -> Result<Vec<Row>, AllocError>
     requires { first + length rows.now ≤ MAX_ROW_NUMBER + 1 }
-    ensures { IfOk result (λ ordered. IsPermutation (numbered_from first rows.now)
-        ordered.items) }
+    ensures { IfOk result (λ ordered. AreByKey shape first rows.now ordered.items) }
 {
     let mut ordered = numbered(alloc, rows, first)?;
     ordered.sort_by_cached_key(|row: &Row| {
