@@ -17,7 +17,7 @@ import re
 import shutil
 import sys
 
-from sizes import crates, edits_of
+from sizes import HEADS, crates, edits_of
 
 TOP = pathlib.Path(__file__).resolve().parent.parent
 KINDS = ("proof", "tests", "edits")
@@ -44,7 +44,7 @@ def minutes_told():
     told = {}
     for line in (TOP / "docs" / "GATE.md").read_text().splitlines():
         cells = [cell.strip() for cell in line.strip("|").split("|")]
-        if len(cells) == 10 and re.fullmatch(r"`\w+`", cells[0]):
+        if len(cells) == 4 + len(HEADS) and re.fullmatch(r"`\w+`", cells[0]):
             told[cells[0].strip("`")] = [float(cell or 0) for cell in cells[1:4]]
     return told
 

@@ -1,5 +1,6 @@
 #!/usr/bin/env python3
-"""Prints what docs/GATE.md has of each crate's size: functions, lines, must-fail edits and plants, in the order of crates.txt.
+"""Prints what docs/GATE.md has of each crate's size, in the order of crates.txt: functions, and those with more than five clauses; lines,
+of which those of clauses; must-fail edits and plants.
 
     docs/sizes.py
 
@@ -10,8 +11,12 @@ import pathlib
 import re
 
 TOP = pathlib.Path(__file__).resolve().parent.parent
-HEADS = ("Functions", "src", "specs", "proofs", "Edits", "Plants")
-Size = collections.namedtuple("Size", "functions src specs proofs edits plants")
+HEADS = ("Functions", "of many clauses", "src", "clauses", "specs", "proofs", "Edits", "Plants")
+Size = collections.namedtuple("Size", "functions many src clauses specs proofs edits plants")
+FUNCTION = re.compile(r"\s*(?:pub(?:\([a-z]+\))? )?fn ")
+CLAUSE = re.compile(r"\s*(?:requires|ensures)\b.*\{")
+# Who reads a function takes in so many clauses.
+MOST_CLAUSES = 5
 
 
 def crates():
@@ -22,6 +27,23 @@ def crates():
 
 def lines(folder, pattern):
     return sum(len(file.read_text().splitlines()) for file in folder.rglob(pattern)) if folder.is_dir() else 0
+
+
+def clauses(source):
+    """Of each function how many clauses it has, and how many lines these take."""
+    counts, is_within = [], False
+    for line in source.splitlines():
+        if FUNCTION.match(line):
+            counts.append([0, 0])
+            is_within = False
+        elif counts and CLAUSE.match(line):
+            counts[-1][0] += 1
+            is_within = True
+        elif line.strip() in ("{", "{}") or line.rstrip().endswith(";") and not line.startswith("    " * 3):
+            is_within = False
+        if is_within:
+            counts[-1][1] += 1
+    return counts
 
 
 def edits(folder):
@@ -36,9 +58,12 @@ def edits_of(name):
 def size(name):
     crate = TOP / "crates" / name
     source = "".join(file.read_text() for file in (crate / "src").rglob("*.rt"))
+    counts = clauses(source)
     return Size(
-        len(re.findall(r"^\s*(?:pub(?:\([a-z]+\))? )?fn ", source, re.M)),
+        len(counts),
+        sum(of > MOST_CLAUSES for of, _ in counts),
         lines(crate / "src", "*.rt"),
+        sum(taken for _, taken in counts),
         lines(crate / "specs", "*.antt"),
         lines(crate / "proofs", "*.antt"),
         len(edits_of(name)),
