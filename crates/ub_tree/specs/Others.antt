@@ -36,13 +36,17 @@ WritesOneRegion old new =
 abbrev pub KeepsEntries : TreeView → TreeView → Type 0
 KeepsEntries old new = KeepsTold old new × (page_count new.store ≡ page_count old.store)
 
+-- each key falls where it fell, unless to the region that begins with this key
+abbrev pub KeepsAllBut : Key → TreeView → TreeView → Type 0
+KeepsAllBut first old new = IsHonest old.store → (key : Key) (span : Region) → FallsTo old key span → span.first ≢ first → FallsTo new key span
+
 -- a region more is counted; the store has a page more for it, and those that the index needs where it comes behind the one that
--- begins with this key
+-- begins with this key; each other region is told of as before
 abbrev pub AddsEntry : Key → TreeView → TreeView → Type 0
 AddsEntry first old new =
     (region_count new ≡ region_count old + 1)
     × (n : ℕ) × (page_count new.store ≡ page_count old.store + 1 + n) × (n ≤ MAX_LEVEL + 1)
-    × (IsHonest old.store → NeedsPages old.inner.index old.store first n)
+    × (IsHonest old.store → NeedsPages old.inner.index old.store first n) × KeepsAllBut first old new
 
 -- each key falls where it fell, unless to this region, or to the one that follows it
 abbrev pub KeepsBeside : Region → TreeView → TreeView → Type 0

@@ -3,13 +3,13 @@ use Rattle.std.specs.Prelude.{IfSome, ◌≡◌, ◌≢◌, ◌+◌, ◌<◌, �
 use Rattle.std.specs.List.{AllByRecursion}
 use Rattle.ub_store.specs.Writing.{Grows}
 use Rattle.ub_index_change.specs.Changed.{Replaces}
-use Rattle.ub_index_change.specs.Changing.{AreIndexPages}
+use Rattle.ub_index_change.specs.Changing.{AreIndexPages, so_far}
 use Rattle.ub_index.specs.Index.{IsIndexPage}
 use Rattle.ub_index.specs.Standing.{IsOutside}
 use Rattle.ub_index_change.specs.Filling.{KeepsFilled}
 use Rattle.ub_index_change.specs.Lowering.{IsDropped}
 use Rattle.ub_index_change.specs.Making.{IsPutFault}
-use Rattle.ub_index_change.specs.Preparing.{ChangeView, IsWithinRegion, MakesIndex, TakesNeeded, added_at}
+use Rattle.ub_index_change.specs.Preparing.{ChangeView, IsPrepared, IsWithinRegion, MakesIndex, TakesNeeded, added_at}
 use Rattle.ub_index.specs.View.{IsRegionAt, entries_in, entry_at}
 use Rattle.ub_index_change.specs.declared.sheet.Sheet.{Sheet}
 use Rattle.ub_region.specs.RegionPage.{RegionView}
@@ -140,6 +140,7 @@ pub record IsAddReady (t : TreeView) (span : Region) (first : Key) (change : Cha
   pub some : page_count t.store + 1 ≤ change.next
   pub few : change.next ≤ page_count t.store + 1 + (t.inner.index.levels + 1)
   pub needed : IsHonest t.store → TakesNeeded t.inner.index t.store span.first change
+  pub made : IsHonest t.store → IsPrepared t.inner.index t.store span.first (Some (added_at first t.store)) (page_count t.store) (so_far [] (page_count t.store + 1)) change
   pub spelled : IsHonest t.store → AllByRecursion (IsSpelledAt t (page_count t.store + 1) change) change.sheets
   pub pages : IsHonest t.store → FallsTo t span.first span → IsWithinRegion t.inner.index.last span.first span.next first
       → AreIndexPages t.inner.index.last change.sheets

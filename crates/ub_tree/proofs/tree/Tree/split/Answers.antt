@@ -9,7 +9,7 @@ use Rattle.ub_table.specs.declared.schema.Schema.{Schema}
 use Rattle.ub_tree.proofs.AddFacts.{parts_stored}
 use Rattle.ub_tree.proofs.RoomFacts.{ready_for}
 use Rattle.ub_tree.proofs.EffectFacts.{ready_by, refused_none}
-use Rattle.ub_tree.proofs.PartFacts.{halves_refused, index_refused, parts_at, parts_effect, unready_answers}
+use Rattle.ub_tree.proofs.PartFacts.{halves_refused, index_refused, parted_beside, parts_at, parts_effect, unready_answers}
 use Rattle.ub_tree.specs.Tree.{placed_in, tree_view}
 use Rattle.ub_tree.specs.View.{TreeView}
 use Rattle.ub_tree.specs.inner.Change.{GrowsTo}
@@ -49,15 +49,26 @@ pub returns-clause-same : goal.returns-clause-same
 returns-clause-same g c =
     let change = c.in_ok-change.change in
     let u = c.self-2.inside in
+    let t = c.self.inside in
+    let a = c.args.self.now in
+    let h = c.put_halves.new.self in
     let n = c.put_index.new.self in
+    let span = c.args.region.now in
+    let first = c.args.right.now.region.first in
     let d : TreeView = tree_view u.schema u.index (u.count + 1) u.next u.rows (is_written u.mark) u.is_failed u.pager in
     let grew = subst (λ (v : TreeView). GrowsTo {A = Unit {0}} (page_count v.store + (change.next - change.start)) v c.grow.new.self (Ok tt)) c.in_ok-change.ensures.effect.same c.in_ok-grow.ensures in
-    parts_at c.args.self.now c.grow.new.self c.put_halves.new.self c.args.region.now c.requires.there.told c.args.right.now.region.first change c.page.result c.requires.there.there
-    (ready_for c.first.ensures c.in_ok-change.ensures.ready) c.page.ensures grew n c.in_ok-put_halves.ensures.effect c.in_ok-put_halves.ensures.same c.in_ok-put_halves.ensures.put.count
-    c.in_ok-put_index.ensures.kept d _ c.in_ok-put_index.ensures.now
-    (ap (λ (v : TreeView). v.inner.count) c.in_ok-put_halves.ensures.same ∙ (ap (λ (v : TreeView). v.inner.count) grew.frame))
-    c.in_ok-put_index.ensures.works (ap (λ (v : TreeView). record v { inner = record v.inner { count = v.inner.count + 1 } }) c.self-2.view_is)
-    (subst (λ (v : TreeView). v.inner.index.levels ≤ MAX_LEVEL) c.self.view_is c.root-root.ensures.high)
+    let ready = ready_for c.first.ensures c.in_ok-change.ensures.ready in
+    let same = c.in_ok-put_halves.ensures.same in
+    let count_is = ap (λ (v : TreeView). v.inner.count) same ∙ ap (λ (v : TreeView). v.inner.count) grew.frame in
+    let index_is = ap (λ (v : TreeView). changed v.inner.index change) same ∙ ap (λ (v : TreeView). changed v.inner.index change) grew.frame in
+    let d_is = ap (λ (v : TreeView). record v { inner = record v.inner { count = v.inner.count + 1 } }) c.self-2.view_is in
+    let small = subst (λ n. n < 2 ^ 128) (sym c.self.invariant.last_is) (last_small t.schema.dims t.schema.counts.few_dims) in
+    let near = subst (λ (v : TreeView). v.inner.index.last < 2 ^ 128) c.self.view_is small in
+    parts_at a c.grow.new.self h span c.requires.there.told first change c.page.result c.requires.there.there ready c.page.ensures grew n c.in_ok-put_halves.ensures.effect same c.in_ok-put_halves.ensures.put.count
+    c.in_ok-put_index.ensures.kept d _ c.in_ok-put_index.ensures.now count_is c.in_ok-put_index.ensures.works d_is (subst (λ (v : TreeView). v.inner.index.levels ≤ MAX_LEVEL) c.self.view_is c.root-root.ensures.high)
+    (parted_beside a c.grow.new.self h span c.requires.there.told first change c.page.result c.requires.there.there ready c.page.ensures grew n c.in_ok-put_halves.ensures.effect same
+    c.in_ok-put_halves.ensures.put.count c.in_ok-put_index.ensures.kept d _ c.in_ok-put_index.ensures.now count_is c.in_ok-put_index.ensures.works d_is
+    (subst (λ (v : TreeView). 1 ≤ v.inner.index.levels) c.self.view_is c.root-root.ensures.low) near c.requires.there c.requires.within index_is c.in_ok-put_index.ensures.stand)
 
 pub returns-clause-written : goal.returns-clause-written
 returns-clause-written g c = λ i stored at.
