@@ -478,14 +478,30 @@ module _ (last : ℕ) (small : last < 2 ^ 128) (old later : List (List ℕ)) (k 
         leads = down level right end half.0 x a (names_told last later (suc level) (drop 86 entries) right end t.4 (ascend_right (take 86 entries) (drop 86 entries) end up_parts)) (t.4.entries_are ∙ half.1) to_it leads;
       }
 
-  -- where a region's entry f goes, or gets another one behind it, a way to another one leads to it still, unless that stood before f, which goes
-  module _ (key : Key) (added : Option Entry) (f : Entry) (nf : Option Key) (fine : IsFine last added f nf) (other_e : e.first ≢ f.first) (other_n : added ≡ None → n ≢ Some f.first) where
+  -- where a way to the region e0 is to lead, once the region's entry f has gone, or got another one behind it: there still, unless it is f, or stood before f, which goes; from f
+  -- to itself, up to the key of the other one, or to that one
+  abbrev IsAim : Key → Option Entry → Entry → Option Key → Entry → Option Key → Type 0
+  IsAim key added f nf e0 n0 =
+      ((e0 ≡ e) × (n0 ≡ n) × (e.first ≢ f.first) × (added ≡ None → n ≢ Some f.first))
+      ⊎ ((key ≡ f.first) × (e0 ≡ f) × (¬ (IsBefore k f.first)) × (a : Entry) × (added ≡ Some a) × (((e ≡ f) × (n ≡ Some a.first) × IsBefore k a.first) ⊎ ((e ≡ a) × (n ≡ nf))))
+
+  module _ (key : Key) (added : Option Entry) (f : Entry) (nf : Option Key) (fine : IsFine last added f nf) (e0 : Entry) (n0 : Option Key) (aim : IsAim key added f nf e0 n0) where
+    -- at the region's entry
+    at_entry : (entry : Entry) (end : Option Key) (told : Told) → told ≡ with_added added entry → LeadsTo last old key zero entry end f nf → LeadsTo last old k zero entry end e0 n0
+        → LeadsStill last later k zero entry end told e n
+    at_entry entry end told told_is leads_f leads_k = elim aim [
+      | inl same ↦ absurd (same.2 (ap (λ (x : Entry). x.first) (sym same.0 ∙ leads_k.0 ∙ sym leads_f.0)))
+      | inr half ↦ subst (λ (t : Told). LeadsStill last later k zero entry end t e n) (sym (told_is ∙ ap (λ (o : Option Entry). with_added o entry) half.4)) (elim half.5 [
+        | inl left ↦ record { before = []; below = entry; after = half.3 ∷ []; parts = refl; to = left.2; leads = (left.0 ∙ leads_f.0, left.1) }
+        | inr right ↦ record { before = entry ∷ []; below = half.3; after = []; parts = refl; to = tt; leads = (right.0, right.1 ∙ leads_f.1) }
+      ])
+    ]
+
     beside : (level : ℕ) (entry : Entry) (end : Option Key) (from to : Spelled) (told : Told) (more : List Sheet) → from.sheets ≡ [] → 1 ≤ from.next → length old ≤ from.next
         → IsEntry last entry → IfSome end (IsBefore entry.first) → Turns last old key added level entry end from to told → LeadsTo last old key level entry end f nf
-        → LeadsTo last old k level entry end e n → AllByRecursion (λ s. IsHigher old level s.number) more → Stand later (to.sheets ++ more)
+        → LeadsTo last old k level entry end e0 n0 → AllByRecursion (λ s. IsHigher old level s.number) more → Stand later (to.sheets ++ more)
         → KeepsIndex last old later (to.sheets ++ more) → LeadsStill last later k level entry end told e n
-    beside zero entry end from to told more empty some room is before h leads_f leads_k high_more stand stay =
-        absurd (other_e (ap (λ (x : Entry). x.first) (leads_k.0 ∙ sym leads_f.0)))
+    beside zero entry end from to told more empty some room is before h leads_f leads_k high_more stand stay = at_entry entry end told h.0 leads_f leads_k
     beside (suc level) entry end from to told more empty some room is before (named, below, next, falls, middle, news, turns, mends) (named_f, bf, xf, falls_f, leads_f)
         (named_k, xk, ok, falls_k, leads_k) high_more stand stay =
         elim (compare falls_k.before xk falls_k.after falls.before below falls.after (sym falls_k.parts ∙ falls.parts)) [
@@ -494,8 +510,14 @@ module _ (last : ℕ) (small : last < 2 ^ 128) (old later : List (List ℕ)) (k 
               beside level below next from middle news (new.0 ++ more) empty some room below_is below_end turns leads_below way rest_high
               (subst (λ (xs : List Sheet). Stand later xs) rest_is stand) (λ m some_m less free fits. stay m some_m less (subst (λ (xs : List Sheet). IsUnspelled m xs) (sym rest_is) free) fits)) same.0 same.1
           | inr apart ↦ elim apart [
-            | inl first ↦ sooner first.0 first.1
-            | inr behind ↦ further behind.0 behind.1
+            | inl first ↦ elim aim [
+              | inl same ↦ sooner first.0 first.1 (subst (λ (o : Option Key). LeadsTo last old k level xk ok e o) same.1 (subst (λ (x : Entry). LeadsTo last old k level xk ok x n0) same.0 leads_k)) same.3
+              | inr half ↦ absurd (not_sooner first.0 first.1 half.2)
+            ]
+            | inr behind ↦ elim aim [
+              | inl same ↦ further behind.0 behind.1 (subst (λ (o : Option Key). LeadsTo last old k level xk ok e o) same.1 (subst (λ (x : Entry). LeadsTo last old k level xk ok x n0) same.0 leads_k))
+              | inr half ↦ absurd (not_further behind.0 behind.1 (half.0 ∙ ap (λ (x : Entry). x.first) (sym half.1)))
+            ]
           ]
         ]
       where
@@ -598,11 +620,11 @@ module _ (last : ℕ) (small : last < 2 ^ 128) (old later : List (List ℕ)) (k 
         ]
 
         -- the way goes down where the entry goes
-        within : (LeadsTo last old k level below next e n → LeadsStill last later k level below next news e n) → xk ≡ below → falls_k.after ≡ falls.after
+        within : (LeadsTo last old k level below next e0 n0 → LeadsStill last later k level below next news e n) → xk ≡ below → falls_k.after ≡ falls.after
             → LeadsStill last later k (suc level) entry end told e n
         within go same after_is =
             let nexts : ok ≡ next = falls_k.next_is ∙ (ap (λ (xs : List Entry). first_or xs end) after_is ∙ sym falls.next_is) in
-            let r = go (subst (λ (o : Option Key). LeadsTo last old k level below o e n) nexts (subst (λ (x : Entry). LeadsTo last old k level x ok e n) same leads_k)) in
+            let r = go (subst (λ (o : Option Key). LeadsTo last old k level below o e0 n0) nexts (subst (λ (x : Entry). LeadsTo last old k level x ok e0 n0) same leads_k)) in
             ends (falls.before ++ r.before) r.below (r.after ++ falls.after)
             (ap (λ (xs : List Entry). falls.before ++ (xs ++ falls.after)) r.parts ∙ ap (λ (xs : List Entry). falls.before ++ xs) (append_assoc r.before (r.below ∷ r.after) falls.after)
             ∙ sym (append_assoc falls.before r.before (r.below ∷ (r.after ++ falls.after))))
@@ -614,11 +636,11 @@ module _ (last : ℕ) (small : last < 2 ^ 128) (old later : List (List ℕ)) (k 
             by_rest (x ∷ xs) h j = h
 
         -- the way goes down before that
-        sooner : (m : List Entry) → falls_k.after ≡ m ++ (below ∷ falls.after) → LeadsStill last later k (suc level) entry end told e n
-        sooner m after_is =
+        sooner : (m : List Entry) → falls_k.after ≡ m ++ (below ∷ falls.after) → LeadsTo last old k level xk ok e n → (added ≡ None → n ≢ Some f.first) → LeadsStill last later k (suc level) entry end told e n
+        sooner m after_is leads other_n =
             let ns = named_as news below in
             let ok_is : ok ≡ first_or (m ++ (below ∷ falls.after)) end = falls_k.next_is ∙ ap (λ (xs : List Entry). first_or xs end) after_is in
-            let way : LeadsTo last old k level xk (first_or (m ++ (below ∷ falls.after)) end) e n = subst (λ (o : Option Key). LeadsTo last old k level xk o e n) ok_is leads_k in
+            let way : LeadsTo last old k level xk (first_or (m ++ (below ∷ falls.after)) end) e n = subst (λ (o : Option Key). LeadsTo last old k level xk o e n) ok_is leads in
             let up_m : AscendTo (m ++ (below ∷ falls.after)) end = subst (λ (xs : List Entry). AscendTo xs end) after_is up_k.1 in
             let later_end = rest_later m (below ∷ falls.after) (ns ++ falls.after) end end (not_before below ns falls.after end orderly.later up.0) in
             let later_none = rest_later m (below ∷ falls.after) (ns ++ falls.after) None None (not_before below ns falls.after None orderly.later (first_none falls.after end below.first up.0)) in
@@ -643,8 +665,8 @@ module _ (last : ℕ) (small : last < 2 ^ 128) (old later : List (List ℕ)) (k 
             ]
 
         -- the way goes down behind that
-        further : (m : List Entry) → falls.after ≡ m ++ (xk ∷ falls_k.after) → LeadsStill last later k (suc level) entry end told e n
-        further m after_is =
+        further : (m : List Entry) → falls.after ≡ m ++ (xk ∷ falls_k.after) → LeadsTo last old k level xk ok e n → LeadsStill last later k (suc level) entry end told e n
+        further m after_is leads =
             let ns = named_as news below in
             let parts : falls.before ++ (ns ++ falls.after) ≡ (falls.before ++ (ns ++ m)) ++ (xk ∷ falls_k.after) =
             ap (λ (xs : List Entry). falls.before ++ (ns ++ xs)) after_is ∙ ap (λ (xs : List Entry). falls.before ++ xs) (sym (append_assoc ns m (xk ∷ falls_k.after)))
@@ -654,8 +676,23 @@ module _ (last : ℕ) (small : last < 2 ^ 128) (old later : List (List ℕ)) (k 
             let near = first_up_to m xk falls_k.after end (subst (λ (xs : List Entry). AscendTo xs end) after_is up.1) first.0 first.1 in
             ends (falls.before ++ (ns ++ m)) xk falls_k.after parts falls_k.to
             (subst (λ (o : Option Key). LeadsTo last later k level xk o e n) falls_k.next_is
-            (way_stays last old later k e n level xk ok ok leads_k (same_end ok) (λ same_n. refl) (subst (λ (o : Option Key). IfSome o (IsBefore xk.first)) (sym falls_k.next_is) up_k.0) whole_k
+            (way_stays last old later k e n level xk ok ok leads (same_end ok) (λ same_n. refl) (subst (λ (o : Option Key). IfSome o (IsBefore xk.first)) (sym falls_k.next_is) up_k.0) whole_k
             (λ l x p le entry_x fits from_x to_x. stays_off l x p le entry_x fits (inr (first.0, next_is, le_trans first.0 xk.first x.first near from_x)))))
+
+        -- the way to f itself doesn't part from that of the change
+        not_sooner : (m : List Entry) → falls_k.after ≡ m ++ (below ∷ falls.after) → ¬ (IsBefore k f.first) → ⊥
+        not_sooner m after_is from_f =
+            let first = first_there m below falls.after end in
+            let near = first_up_to m below falls.after end (subst (λ (xs : List Entry). AscendTo xs end) after_is up_k.1) first.0 first.1 in
+            let sooner_k : IsBefore k first.0 = subst (λ (o : Option Key). IfSome o (IsBefore k)) (sym (with_none m below falls.after end) ∙ first.1) (subst (λ (xs : List Entry). IfSome (first_or xs None) (IsBefore k)) after_is falls_k.to) in
+            le_trans below.first f.first k (ends_from last old key level below next f nf leads_below) from_f (before_le k first.0 below.first sooner_k near)
+
+        not_further : (m : List Entry) → falls.after ≡ m ++ (xk ∷ falls_k.after) → key ≡ e0.first → ⊥
+        not_further m after_is key_is =
+            let first = first_there m xk falls_k.after end in
+            let near = first_up_to m xk falls_k.after end (subst (λ (xs : List Entry). AscendTo xs end) after_is up.1) first.0 first.1 in
+            let sooner_key : IsBefore key first.0 = subst (λ (o : Option Key). IfSome o (IsBefore key)) (sym (with_none m xk falls_k.after end) ∙ first.1) (subst (λ (xs : List Entry). IfSome (first_or xs None) (IsBefore key)) after_is falls.to) in
+            ends_from last old k level xk ok e0 n0 leads_k (subst (λ (j : Key). IsBefore j xk.first) key_is (before_le key first.0 xk.first sooner_key near))
 
 -- ---- the whole way
 
@@ -718,13 +755,17 @@ module _ (index : IndexView) (old : StoreFacts) (key : Key) (added : Option Entr
           subst (λ (c : ChangeView). AreOnce c.sheets) (sym h.2) (once_join middle.sheets (sheet_of middle.next (index.levels + 1) (left ∷ right ∷ []) ∷ []) once (tt, tt)
           (next_unspelled index.last old.pages index.levels origin None next middle.next middle.sheets room in_it.1 in_it.0, tt))
 
-  -- the way to each other region leads there still, unless that stood before the one that goes
-  module _ (new : StoreFacts) (other : Key) (region found : Region) (small : index.last < 2 ^ 128) (low : 1 ≤ index.levels) (some : 1 ≤ index.root) (few : page_count old < 2 ^ 32)
+  -- the way to each region leads where it is to
+  module _ (new : StoreFacts) (other : Key) (region found : Region) (e : Entry) (n : Option Key) (small : index.last < 2 ^ 128) (low : 1 ≤ index.levels) (some : 1 ≤ index.root)
       (fine : index.root < page_count old → IsFine index.last added (entry_at region) region.next) (behind : added ≡ None → IsBefore origin region.first) (leads : Leads index old key region)
-      (way : Leads index old other found) (other_e : found.first ≢ region.first) (other_n : added ≡ None → found.next ≢ Some region.first) where
-    prepared_stay : IsPrepared index old key added start (so_far [] next) change → Stand new.pages change.sheets → KeepsIndex index.last old.pages new.pages change.sheets
-        → Leads (changed index change) new other found
-    prepared_stay (middle, told, turns, settles) stand stay = by_told told refl settles
+      (way : Leads index old other found) (k_from : ¬ (IsBefore other e.first))
+      (aim : IsAim index.last small old.pages new.pages other e n k_from key added (entry_at region) region.next (entry_at found) found.next) where
+    abbrev LeadsThen : ℕ → ℕ → Type 0
+    LeadsThen levels root = LeadsTo index.last new.pages other levels (top root) None e n
+
+    prepared_lead : page_count old < 2 ^ 32 → IsPrepared index old key added start (so_far [] next) change → Stand new.pages change.sheets → KeepsIndex index.last old.pages new.pages change.sheets
+        → LeadsThen change.levels change.root
+    prepared_lead few (middle, told, turns, settles) stand stay = by_told told refl settles
       where
         less : index.root < page_count old
         less = root_less index.last old.pages key index.levels index.root (entry_at region) region.next low leads
@@ -739,19 +780,19 @@ module _ (index : IndexView) (old : StoreFacts) (key : Key) (added : Option Entr
         ]
 
         still : (more : List Sheet) → AllByRecursion (λ s. IsHigher old.pages index.levels s.number) more → change.sheets ≡ middle.sheets ++ more
-            → LeadsStill index.last new.pages other index.levels (top index.root) None told (entry_at found) found.next
+            → LeadsStill index.last new.pages other index.levels (top index.root) None told e n
         still more high sheets_are =
-            beside index.last small old.pages new.pages other (entry_at found) found.next (ways_hold index old other found way).0.from key added (entry_at region) region.next (fine less) other_e other_n
+            beside index.last small old.pages new.pages other e n k_from key added (entry_at region) region.next (fine less) (entry_at found) found.next aim
             index.levels (top index.root) None (so_far [] next) middle told more refl (let l = less in omega (arith, l, room)) room root_whole tt turns leads way high
             (subst (λ (xs : List Sheet). Stand new.pages xs) sheets_are stand) (subst (λ (xs : List Sheet). KeepsIndex index.last old.pages new.pages xs) sheets_are stay)
 
-        by_told : (t : Told) → told ≡ t → Settles index.root index.levels t start middle change → Leads (changed index change) new other found
+        by_told : (t : Told) → told ≡ t → Settles index.root index.levels t start middle change → LeadsThen change.levels change.root
         by_told Same is h =
             let r = still [] tt (ap (λ (c : ChangeView). c.sheets) h ∙ sym (append-nil middle.sheets)) in
             let one = one_alone r.before r.below r.after (top index.root) (ap (λ (t : Told). named_as t (top index.root)) (sym is) ∙ r.parts) in
-            subst (λ (c : ChangeView). Leads (changed index c) new other found) (sym h)
-            (subst (λ (x : Entry). LeadsTo index.last new.pages other index.levels x None (entry_at found) found.next) one.0
-            (subst (λ (xs : List Entry). LeadsTo index.last new.pages other index.levels r.below (first_or xs None) (entry_at found) found.next) one.1 r.leads))
+            subst (λ (c : ChangeView). LeadsThen c.levels c.root) (sym h)
+            (subst (λ (x : Entry). LeadsTo index.last new.pages other index.levels x None e n) one.0
+            (subst (λ (xs : List Entry). LeadsTo index.last new.pages other index.levels r.below (first_or xs None) e n) one.1 r.leads))
         by_told Gone is h = absurd h
         by_told (One x) is h = absurd (subst (λ (t : Told). BeginsStill t (top index.root)) is begins)
         by_told (Two left right) is h =
@@ -764,9 +805,9 @@ module _ (index : IndexView) (old : StoreFacts) (key : Key) (added : Option Entr
             let stands = all_right (λ (s : Sheet). slice_get new.pages s.number ≡ Some s.page) middle.sheets (sheet ∷ []) (subst (λ (c : ChangeView). Stand new.pages c.sheets) h.2 stand) in
             let t = root_told index.last small new.pages middle.next index.levels left right h.0 o.all o.up (subst (λ (t : Told). BeginsStill t (top index.root)) is begins) stands in
             let one : suc index.levels ≡ index.levels + 1 = omega arith in
-            subst (λ (c : ChangeView). Leads (changed index c) new other found) (sym h.2)
-            (subst (λ (l : ℕ). LeadsTo index.last new.pages other l (top middle.next) None (entry_at found) found.next) one
-            (down index.last small old.pages new.pages other (entry_at found) found.next (ways_hold index old other found way).0.from index.levels (top middle.next) None r.before r.below r.after
+            subst (λ (c : ChangeView). LeadsThen c.levels c.root) (sym h.2)
+            (subst (λ (l : ℕ). LeadsThen l middle.next) one
+            (down index.last small old.pages new.pages other e n k_from index.levels (top middle.next) None r.before r.below r.after
             (names_told index.last new.pages (suc index.levels) (left ∷ right ∷ []) (top middle.next) None t o.up)
             (t.entries_are ∙ ap (λ (t : Told). named_as t (top index.root)) (sym is) ∙ r.parts) r.to r.leads))
 
@@ -776,8 +817,8 @@ pub others_stay : (index : IndexView) (old new : StoreFacts) (key other : Key) (
     → IsKept index.last old.pages new.pages change.sheets → Leads index old other found → found.first ≢ region.first → found.next ≢ Some region.first → Leads (changed index change) new other found
 others_stay index old new key other region found change small low some few (first, made, lowers) leads behind stand stay way other_e other_n =
     lowers_lead index.last old.pages new.pages first.sheets stand_first stay_first other (entry_at found) found.next first.levels first.root change.root change.levels (some_root made) lowers.lowers
-    (prepared_stay index old key None (page_count old) (page_count old) first (omega arith) new other region found small low some few (λ _. record { up = tt; later = tt; entries = tt }) (λ _. behind) leads way other_e (λ _. other_n)
-    made stand_first (λ m some_m less free fits. stay_first m some_m free (inl fits)))
+    (prepared_lead index old key None (page_count old) (page_count old) first (omega arith) new other region found (entry_at found) found.next small low some (λ _. record { up = tt; later = tt; entries = tt }) (λ _. behind)
+    leads way (ways_hold index old other found way).0.from (inl (refl, refl, other_e, (λ _. other_n))) few made stand_first (λ m some_m less free fits. stay_first m some_m free (inl fits)))
   where
     sheets_are : change.sheets ≡ first.sheets
     sheets_are = ap (λ (c : ChangeView). c.sheets) lowers.same
@@ -801,14 +842,31 @@ pub dropped_once : (index : IndexView) (store : StoreFacts) (key : Key) (change 
 dropped_once index store key change (first, made, lowers) =
     subst (λ (c : ChangeView). AreOnce c.sheets) (sym lowers.same) (prepared_once index store key None (page_count store) (page_count store) first (omega arith) made)
 
--- once the entry of a region has come behind another one, the way to each region but that one leads there still
-pub others_stay_added : (index : IndexView) (old new : StoreFacts) (other : Key) (region found : Region) (first : Key) (change : ChangeView) → index.last < 2 ^ 128 → 1 ≤ index.levels → 1 ≤ index.root
-    → page_count old < 2 ^ 32 → IsPrepared index old region.first (Some (added_at first old)) (page_count old) (so_far [] (page_count old + 1)) change → Leads index old region.first region
-    → IsWithinRegion index.last region.first region.next first → Stand new.pages change.sheets → KeepsIndex index.last old.pages new.pages change.sheets → Leads index old other found
-    → found.first ≢ region.first → Leads (changed index change) new other found
-others_stay_added index old new other region found first change small low some few made leads inside stand stay way other_e =
-    prepared_stay index old region.first (Some (added_at first old)) (page_count old) (page_count old + 1) change (omega arith) new other region found small low some few
-    (λ less. added_fine_at index old region first some few leads inside less) (λ none. cc) leads way other_e (λ none. cc) made stand stay
+-- once the entry of a region has come behind another one
+module _ (index : IndexView) (old new : StoreFacts) (other : Key) (region : Region) (first : Key) (change : ChangeView) (small : index.last < 2 ^ 128) (low : 1 ≤ index.levels) (some : 1 ≤ index.root)
+    (few : page_count old < 2 ^ 32) (made : IsPrepared index old region.first (Some (added_at first old)) (page_count old) (so_far [] (page_count old + 1)) change)
+    (leads : Leads index old region.first region) (inside : IsWithinRegion index.last region.first region.next first) (stand : Stand new.pages change.sheets)
+    (stay : KeepsIndex index.last old.pages new.pages change.sheets) where
+  aimed : (found : Region) (e : Entry) (n : Option Key) → Leads index old other found → (k_from : ¬ (IsBefore other e.first))
+      → IsAim index.last small old.pages new.pages other e n k_from region.first (Some (added_at first old)) (entry_at region) region.next (entry_at found) found.next
+      → LeadsTo index.last new.pages other change.levels (top change.root) None e n
+  aimed found e n way k_from aim =
+      prepared_lead index old region.first (Some (added_at first old)) (page_count old) (page_count old + 1) change (omega arith) new other region found e n small low some
+      (λ less. added_fine_at index old region first some few leads inside less) (λ none. cc) leads way k_from aim few made stand stay
+
+  -- the way to each region but that one leads there still
+  pub others_stay_added : (found : Region) → Leads index old other found → found.first ≢ region.first → Leads (changed index change) new other found
+  others_stay_added found way other_e = aimed found (entry_at found) found.next way (ways_hold index old other found way).0.from (inl (refl, refl, other_e, (λ none. cc)))
+
+  -- and that to that one leads to it where the key is before the new one's first, and else to the new one
+  pub halves_lead : Leads index old other region
+      → (IsBefore other first → LeadsTo index.last new.pages other change.levels (top change.root) None (entry_at region) (Some first))
+      × (¬ (IsBefore other first) → LeadsTo index.last new.pages other change.levels (top change.root) None (added_at first old) region.next)
+  halves_lead way =
+      let from = (ways_hold index old other region way).0.from in (
+        λ less. aimed region (entry_at region) (Some first) way from (inr (refl, refl, from, added_at first old, refl, inl (refl, refl, less))),
+        λ more. aimed region (added_at first old) region.next way more (inr (refl, refl, from, added_at first old, refl, inr (refl, refl))),
+      )
 
 pub added_once : (index : IndexView) (store : StoreFacts) (region : Region) (first : Key) (change : ChangeView)
     → IsPrepared index store region.first (Some (added_at first store)) (page_count store) (so_far [] (page_count store + 1)) change → AreOnce change.sheets
