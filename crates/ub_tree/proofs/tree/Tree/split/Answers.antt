@@ -9,7 +9,8 @@ use Rattle.ub_table.specs.declared.schema.Schema.{Schema}
 use Rattle.ub_tree.proofs.AddFacts.{parts_stored}
 use Rattle.ub_tree.proofs.RoomFacts.{ready_for}
 use Rattle.ub_tree.proofs.EffectFacts.{ready_by, refused_none}
-use Rattle.ub_tree.proofs.PartFacts.{halves_refused, index_refused, parted_beside, parts_at, parts_effect, unready_answers}
+use Rattle.ub_tree.proofs.PartFacts.{halves_refused, index_refused, parts_at, parts_effect, unready_answers}
+use Rattle.ub_tree.specs.Pages.{Spells}
 use Rattle.ub_tree.specs.Tree.{placed_in, tree_view}
 use Rattle.ub_tree.specs.View.{TreeView}
 use Rattle.ub_tree.specs.inner.Change.{GrowsTo}
@@ -64,11 +65,15 @@ returns-clause-same g c =
     let d_is = ap (λ (v : TreeView). record v { inner = record v.inner { count = v.inner.count + 1 } }) c.self-2.view_is in
     let small = subst (λ n. n < 2 ^ 128) (sym c.self.invariant.last_is) (last_small t.schema.dims t.schema.counts.few_dims) in
     let near = subst (λ (v : TreeView). v.inner.index.last < 2 ^ 128) c.self.view_is small in
+    let honest_g = λ (honest : IsHonest a.store). ap (λ (v : TreeView). v.store.honest) grew.frame ∙ honest in
+    let honest_h = λ (honest : IsHonest a.store). ap (λ (v : TreeView). v.store.honest) c.in_ok-put_halves.ensures.effect.frame ∙ honest_g honest in
+    let schemas = ap (λ (v : TreeView). v.schema) d_is ∙ ap (λ (v : TreeView). v.schema) c.in_ok-put_index.ensures.now ∙ ap (λ (v : TreeView). v.schema) same in
+    let spells : IsHonest a.store → Spells d (page_count a.store) first c.args.right.now.region.rows = λ honest.
+    (halves_stand a c.grow.new.self h n span c.requires.there first change c.page.result near ready c.page.ensures c.args.left.now.region c.args.right.now.region c.in_ok-put_halves.ensures.put
+    c.in_ok-put_index.ensures.kept honest (honest_g honest) (honest_h honest) d (ap (λ (v : TreeView). v.store) d_is) schemas c.requires.first).1 in
     parts_at a c.grow.new.self h span c.requires.there.told first change c.page.result c.requires.there.there ready c.page.ensures grew n c.in_ok-put_halves.ensures.effect same c.in_ok-put_halves.ensures.put.count
     c.in_ok-put_index.ensures.kept d _ c.in_ok-put_index.ensures.now count_is c.in_ok-put_index.ensures.works d_is (subst (λ (v : TreeView). v.inner.index.levels ≤ MAX_LEVEL) c.self.view_is c.root-root.ensures.high)
-    (parted_beside a c.grow.new.self h span c.requires.there.told first change c.page.result c.requires.there.there ready c.page.ensures grew n c.in_ok-put_halves.ensures.effect same
-    c.in_ok-put_halves.ensures.put.count c.in_ok-put_index.ensures.kept d _ c.in_ok-put_index.ensures.now count_is c.in_ok-put_index.ensures.works d_is
-    (subst (λ (v : TreeView). 1 ≤ v.inner.index.levels) c.self.view_is c.root-root.ensures.low) near c.requires.there c.requires.within index_is c.in_ok-put_index.ensures.stand)
+    (subst (λ (v : TreeView). 1 ≤ v.inner.index.levels) c.self.view_is c.root-root.ensures.low) near c.requires.there c.requires.within index_is c.in_ok-put_index.ensures.stand c.args.right.now.region.rows spells
 
 pub returns-clause-written : goal.returns-clause-written
 returns-clause-written g c = λ i stored at.
