@@ -9,7 +9,7 @@ use Rattle.ub_region.specs.declared.entry.Entry.{Entry}
 use Rattle.ub_region.specs.declared.region.Region.{Region}
 use Rattle.ub_store.specs.Facts.{StoreFacts, page_count}
 use Rattle.ub_region.proofs.Laws.{all_append, all_left, all_more, all_right}
-use Rattle.ub_table.proofs.Laws.{before_trans, not_before_self}
+use Rattle.ub_table.proofs.Laws.{before_trans, not_before_self, not_both_before}
 use Rattle.ub_table.specs.Keys.{IsBefore, origin}
 use Rattle.ub_table.specs.declared.row.Key.{Key}
 use Rattle.ub_index.specs.Index.{AscendTo, IsIndexPage, IsTold, NamesFitting, entries_of, first_or, page_in, top}
@@ -24,11 +24,12 @@ use Rattle.ub_index_change.specs.declared.told.Told.{Told}
 use Rattle.ub_index_change.specs.declared.told.Told.TheVariants.{Same, Gone, One, Two}
 use Rattle.ub_index.proofs.KeptFacts.{kept_named, same_entries, same_page}
 use Rattle.ub_index.proofs.FitFacts.{page_is}
-use Rattle.ub_index.proofs.KeyFacts.{before_le, le_trans}
-use Rattle.ub_index.proofs.LeadFacts.{ways_hold}
+use Rattle.ub_index.proofs.KeyFacts.{before_le, le_before, le_trans}
+use Rattle.ub_index.proofs.LeadFacts.{before_next, ways_hold}
 use Rattle.ub_index.proofs.Lists.{IsNotBefore, ascend_first, ascend_later, ascend_left, ascend_right, first_append, if_later}
+use Rattle.ub_index.proofs.WayFacts.{before_found}
 use Rattle.ub_index.proofs.WaysFacts.{compare, ends_from, first_up_to}
-use Rattle.ub_index_change.proofs.Changes.{not_before}
+use Rattle.ub_index_change.proofs.Changes.{no_end, not_before}
 use Rattle.ub_index_change.proofs.DropFacts.{narrow, sole_is, spelled_then}
 use Rattle.ub_index_change.proofs.ReadyFacts.{entry_is}
 use Rattle.ub_index_change.proofs.FullFacts.{falls_once, mends_next}
@@ -73,11 +74,22 @@ no_parts (y ∷ b) x a e = cc
 first_gone : (b : List Entry) (x : Entry) (a ns : List Entry) (first : Key) → first_or (b ++ (x ∷ a)) None ≡ Some first → (x.first ≡ first) ⊎ (first_or (b ++ ns) None ≡ Some first)
 first_gone [] x a ns first h = inl (let same : Some x.first ≡ Some first = h in cc)
 first_gone (y ∷ b) x a ns first h = inr h
+first_end : (xs : List Entry) (first : Key) (end : Option Key) → first_or xs None ≡ Some first → first_or xs end ≡ Some first
+first_end [] first end h = cc
+first_end (x ∷ xs) first end h = h
+
 -- and they begin as they did where those do
 first_kept : (b : List Entry) (x : Entry) (a ns : List Entry) (first : Key) → first_or (b ++ (x ∷ a)) None ≡ Some first → first_or ns None ≡ Some x.first → first_or (b ++ (ns ++ a)) None ≡ Some first
 first_kept [] x a [] first h k = cc
 first_kept [] x a (y ∷ ns) first h k = k ∙ h
 first_kept (y ∷ b) x a ns first h k = h
+
+-- nothing stands before an entry that isn't after the first
+first_alone : (b : List Entry) (x : Entry) (a : List Entry) (end : Option Key) (first : Key) → AscendTo (b ++ (x ∷ a)) end → first_or (b ++ (x ∷ a)) None ≡ Some first → ¬ (IsBefore first x.first) → b ≡ []
+first_alone [] x a end first up begins h = refl
+first_alone (y ∷ b) x a end first up begins h =
+    let same : y.first ≡ first = cc in
+    absurd (h (subst (λ (k : Key). IsBefore k x.first) same (before_found y b x a (ascend_later (y ∷ (b ++ (x ∷ a))) end None up (no_end end)))))
 
 -- an entry of two lists in a row is one of the first, or of the second
 parted : (xs ys b : List Entry) (x : Entry) (a : List Entry) → xs ++ ys ≡ b ++ (x ∷ a)
@@ -108,6 +120,14 @@ spread_still level entry entries from to (One other) h begins = absurd (h.1 (let
 spread_still level entry entries from to (Two left right) h begins =
     let e : Some left.first ≡ Some entry.first = sym (first_named entry.page (take 86 entries) (drop 86 entries) left None h.2) ∙ ap (λ (xs : List Entry). first_or xs None) (take-append-drop 86 entries) ∙ begins in
     cc
+
+-- what is spread begins as its entries do
+spread_begins : (level : ℕ) (entry : Entry) (entries : List Entry) (end : Option Key) (from to : Spelled) (told : Told) → Spreads level entry entries from to told → first_or (named_as told entry) end ≡ first_or entries end
+spread_begins level entry entries end from to Same h = sym (first_end entries entry.first end h.1)
+spread_begins level entry entries end from to Gone h = ap (λ (xs : List Entry). first_or xs end) (sym h.0)
+spread_begins level entry entries end from to (One other) h = sym (first_end entries other.first end h.2.begins)
+spread_begins level entry entries end from to (Two left right) h =
+    sym (first_named entry.page (take 86 entries) (drop 86 entries) left end h.2) ∙ ap (λ (xs : List Entry). first_or xs end) (take-append-drop 86 entries)
 
 -- a page's entries, one of which became what is told, are as they were, or are spread
 mends_or : (level : ℕ) (entry : Entry) (before : List Entry) (below : Entry) (after : List Entry) (news : Told) (middle to : Spelled) (told : Told) → Mends level entry before below after news middle to told
@@ -270,6 +290,41 @@ module _ (last : ℕ) (old : List (List ℕ)) where
         | inr stays ↦ inl (still stays)
       ]
 
+  -- where the region's entry goes that was the first, what an entry becomes begins where that ended
+  turned_end : (key : Key) (added : Option Entry) (level : ℕ) (entry : Entry) (end : Option Key) (from to : Spelled) (told : Told) (f : Entry) (nf : Option Key) → added ≡ None
+      → Turns last old key added level entry end from to told → LeadsTo last old key level entry end f nf → f.first ≡ entry.first → first_or (named_as told entry) end ≡ nf
+  turned_end key added zero entry end from to told f nf gone h leads first = ap (λ (t : Told). first_or (named_as t entry) end) (h.0 ∙ ap (λ (o : Option Entry). with_added o entry) gone) ∙ sym leads.1
+  turned_end key added (suc level) entry end from to told f nf gone (named, below, next, falls, middle, news, turns, mends) (named_f, bf, xf, falls_f, leads_f) first =
+      by_below (turned_end key added level below next from middle news f nf gone turns leads_below)
+    where
+      one : (bf ≡ below) × (xf ≡ next)
+      one = falls_once key (entries_of old entry.page) end bf xf below next named.fits.ascends falls_f falls
+
+      leads_below : LeadsTo last old key level below next f nf
+      leads_below = subst (λ (o : Option Key). LeadsTo last old key level below o f nf) one.1 (subst (λ (e : Entry). LeadsTo last old key level e xf f nf) one.0 leads_f)
+
+      begins : first_or (falls.before ++ (below ∷ falls.after)) None ≡ Some entry.first
+      begins = subst (λ (xs : List Entry). first_or xs None ≡ Some entry.first) falls.parts named.fits.begins
+
+      before_is : falls.before ≡ []
+      before_is = first_alone falls.before below falls.after end entry.first (subst (λ (xs : List Entry). AscendTo xs end) falls.parts named.fits.ascends) begins
+          (subst (λ (k : Key). ¬ (IsBefore k below.first)) first (ends_from last old key level below next f nf leads_below))
+
+      below_first : below.first ≡ entry.first
+      below_first = let e : Some below.first ≡ Some entry.first = ap (λ (b : List Entry). first_or (b ++ (below ∷ falls.after)) None) (sym before_is) ∙ begins in cc
+
+      by_below : (f.first ≡ below.first → first_or (named_as news below) next ≡ nf) → first_or (named_as told entry) end ≡ nf
+      by_below in_it =
+          let ends = in_it (first ∙ sym below_first) in
+          elim (mends_or (suc level) entry falls.before below falls.after news middle to told mends) [
+            | inl same ↦
+                ap (λ (t : Told). first_or (named_as t entry) end) same.1 ∙ ap (λ (k : Key). Some k) (sym below_first) ∙ ap (λ (t : Told). first_or (named_as t below) next) (sym same.0) ∙ ends
+            | inr spread ↦
+                spread_begins (suc level) entry (falls.before ++ (named_as news below ++ falls.after)) end middle to told spread
+                ∙ ap (λ (b : List Entry). first_or (b ++ (named_as news below ++ falls.after)) end) before_is ∙ first_append (named_as news below) falls.after end
+                ∙ ap (λ (o : Option Key). first_or (named_as news below) o) (sym falls.next_is) ∙ ends
+          ]
+
   -- no page is spelled twice: each is of another level, or new
   turned_once : (key : Key) (added : Option Entry) (level : ℕ) (entry : Entry) (end : Option Key) (from to : Spelled) (told : Told) → from.sheets ≡ [] → length old ≤ from.next → IfSome end (IsBefore entry.first)
       → Turns last old key added level entry end from to told → AreOnce to.sheets
@@ -328,12 +383,16 @@ abbrev pub IsKept : ℕ → List (List ℕ) → List (List ℕ) → List Sheet �
 IsKept last old later sheets =
     (m : ℕ) → 1 ≤ m → IsUnspelled m sheets → IsIndexPage last (page_in old m) ⊎ IsIndexPage last (page_in later m) → slice_get later m ≡ slice_get old m
 
-module _ (last : ℕ) (old later : List (List ℕ)) (k : Key) (e : Entry) (n : Option Key) where
+-- what ends at n ends at n2 then, whether that is the end, which becomes o2, or a key before it
+abbrev EndsThen : Option Key → Option Key → Option Key → Option Key → Type 0
+EndsThen n n2 o o2 = (n ≡ o → n2 ≡ o2) × ((z : Key) → IfSome o (IsBefore z) → n ≡ Some z → n2 ≡ Some z)
+
+module _ (last : ℕ) (old later : List (List ℕ)) (k : Key) (e : Entry) (n n2 : Option Key) where
   -- a way leads where it led, through pages none of which is put, to an end that may be later
-  way_stays : (level : ℕ) (y : Entry) (o o2 : Option Key) → LeadsTo last old k level y o e n → IsNotBefore o o2 → (n ≡ o → o2 ≡ o) → IfSome o (IsBefore y.first) → IsEntry last y
+  way_stays : (level : ℕ) (y : Entry) (o o2 : Option Key) → LeadsTo last old k level y o e n → IsNotBefore o o2 → EndsThen n n2 o o2 → IfSome o (IsBefore y.first) → IsEntry last y
       → ((l : ℕ) (x : Entry) (p : Option Key) → l ≤ level → IsEntry last x → NamesFitting last old l x p → ¬ (IsBefore x.first y.first) → IfSome o (IsBefore x.first) → slice_get later x.page ≡ slice_get old x.page)
-      → LeadsTo last later k level y o2 e n
-  way_stays zero y o o2 leads up is before whole free = (leads.0, leads.1 ∙ sym (is leads.1))
+      → LeadsTo last later k level y o2 e n2
+  way_stays zero y o o2 leads up is before whole free = (leads.0, is.0 leads.1)
   way_stays (suc level) y o o2 (named, below, beyond, falls, leads) up is before whole free = (
     record {
       there = kept.there;
@@ -350,7 +409,7 @@ module _ (last : ℕ) (old later : List (List ℕ)) (k : Key) (e : Entry) (n : O
       to = falls.to;
     },
     way_stays level below (first_or falls.after o) (first_or falls.after o2) (subst (λ (q : Option Key). LeadsTo last old k level below q e n) falls.next_is leads)
-        (rest_up falls.after) (rest_is falls.after) from_below.0 below_whole_here
+        (rest_up falls.after) (rest_is falls.after from_below.1) from_below.0 below_whole_here
         (λ l x p le entry fits from to. free l x p (omega arith) entry fits (le_trans y.first below.first x.first from_entry from) (end_up falls.after o x.first from_below.1 to)),
   )
     where
@@ -377,9 +436,10 @@ module _ (last : ℕ) (old later : List (List ℕ)) (k : Key) (e : Entry) (n : O
       rest_up [] = up
       rest_up (z ∷ a) = not_before_self z.first
 
-      rest_is : (a : List Entry) → n ≡ first_or a o → first_or a o2 ≡ first_or a o
-      rest_is [] same_n = is same_n
-      rest_is (z ∷ a) same_n = refl
+      rest_is : (a : List Entry) → AscendTo a o → EndsThen n n2 (first_or a o) (first_or a o2)
+      rest_is [] up_a = is
+      rest_is (z ∷ a) up_a = (is.1 z.first (ascend_first z a o up_a), λ w less. is.1 w (end_up (z ∷ a) o w up_a less))
+
 -- ---- a way to another key
 
 -- one of the entries by which an entry is named from then on leads on
@@ -401,10 +461,6 @@ names_told last later level entries y end t up = record {
     ascends = subst (λ (xs : List Entry). AscendTo xs end) (sym t.entries_are) up;
   };
 }
-first_end : (xs : List Entry) (first : Key) (end : Option Key) → first_or xs None ≡ Some first → first_or xs end ≡ Some first
-first_end [] first end h = cc
-first_end (x ∷ xs) first end h = h
-
 module _ (last : ℕ) (small : last < 2 ^ 128) (old later : List (List ℕ)) (k : Key) (e : Entry) (n : Option Key) (k_from : ¬ (IsBefore k e.first)) where
   -- down from a page that tells these entries
   down : (level : ℕ) (y : Entry) (end : Option Key) (b : List Entry) (x : Entry) (a : List Entry) → NamesFitting last later (suc level) y end → entries_of later y.page ≡ b ++ (x ∷ a)
@@ -479,29 +535,35 @@ module _ (last : ℕ) (small : last < 2 ^ 128) (old later : List (List ℕ)) (k 
       }
 
   -- where a way to the region e0 is to lead, once the region's entry f has gone, or got another one behind it: there still, unless it is f, or stood before f, which goes; from f
-  -- to itself, up to the key of the other one, or to that one
+  -- to itself, up to the key of the other one, or to that one; or to the one that stood before f, which goes, up to where f ended
   abbrev IsAim : Key → Option Entry → Entry → Option Key → Entry → Option Key → Type 0
   IsAim key added f nf e0 n0 =
       ((e0 ≡ e) × (n0 ≡ n) × (e.first ≢ f.first) × (added ≡ None → n ≢ Some f.first))
-      ⊎ ((key ≡ f.first) × (e0 ≡ f) × (¬ (IsBefore k f.first)) × (a : Entry) × (added ≡ Some a) × (((e ≡ f) × (n ≡ Some a.first) × IsBefore k a.first) ⊎ ((e ≡ a) × (n ≡ nf))))
+      ⊎ (((key ≡ f.first) × (e0 ≡ f) × (¬ (IsBefore k f.first)) × (a : Entry) × (added ≡ Some a) × (((e ≡ f) × (n ≡ Some a.first) × IsBefore k a.first) ⊎ ((e ≡ a) × (n ≡ nf))))
+      ⊎ ((added ≡ None) × (key ≡ f.first) × (e0 ≡ e) × (n0 ≡ Some f.first) × (n ≡ nf)))
 
   module _ (key : Key) (added : Option Entry) (f : Entry) (nf : Option Key) (fine : IsFine last added f nf) (e0 : Entry) (n0 : Option Key) (aim : IsAim key added f nf e0 n0) where
     -- at the region's entry
-    at_entry : (entry : Entry) (end : Option Key) (told : Told) → told ≡ with_added added entry → LeadsTo last old key zero entry end f nf → LeadsTo last old k zero entry end e0 n0
-        → LeadsStill last later k zero entry end told e n
-    at_entry entry end told told_is leads_f leads_k = elim aim [
+    at_entry : (entry : Entry) (end : Option Key) (told : Told) → told ≡ with_added added entry → IfSome end (IsBefore entry.first) → LeadsTo last old key zero entry end f nf
+        → LeadsTo last old k zero entry end e0 n0 → LeadsStill last later k zero entry end told e n
+    at_entry entry end told told_is before leads_f leads_k = elim aim [
       | inl same ↦ absurd (same.2 (ap (λ (x : Entry). x.first) (sym same.0 ∙ leads_k.0 ∙ sym leads_f.0)))
-      | inr half ↦ subst (λ (t : Told). LeadsStill last later k zero entry end t e n) (sym (told_is ∙ ap (λ (o : Option Entry). with_added o entry) half.4)) (elim half.5 [
-        | inl left ↦ record { before = []; below = entry; after = half.3 ∷ []; parts = refl; to = left.2; leads = (left.0 ∙ leads_f.0, left.1) }
-        | inr right ↦ record { before = entry ∷ []; below = half.3; after = []; parts = refl; to = tt; leads = (right.0, right.1 ∙ leads_f.1) }
-      ])
+      | inr others ↦ elim others [
+        | inl half ↦ subst (λ (t : Told). LeadsStill last later k zero entry end t e n) (sym (told_is ∙ ap (λ (o : Option Entry). with_added o entry) half.4)) (elim half.5 [
+          | inl left ↦ record { before = []; below = entry; after = half.3 ∷ []; parts = refl; to = left.2; leads = (left.0 ∙ leads_f.0, left.1) }
+          | inr right ↦ record { before = entry ∷ []; below = half.3; after = []; parts = refl; to = tt; leads = (right.0, right.1 ∙ leads_f.1) }
+        ])
+        | inr joined ↦
+            absurd (not_before_self f.first (subst (λ (x : Entry). IsBefore x.first f.first) (sym leads_f.0)
+            (subst (λ (o : Option Key). IfSome o (IsBefore entry.first)) (sym leads_k.1 ∙ joined.3) before)))
+      ]
     ]
 
     beside : (level : ℕ) (entry : Entry) (end : Option Key) (from to : Spelled) (told : Told) (more : List Sheet) → from.sheets ≡ [] → 1 ≤ from.next → length old ≤ from.next
         → IsEntry last entry → IfSome end (IsBefore entry.first) → Turns last old key added level entry end from to told → LeadsTo last old key level entry end f nf
         → LeadsTo last old k level entry end e0 n0 → AllByRecursion (λ s. IsHigher old level s.number) more → Stand later (to.sheets ++ more)
         → KeepsIndex last old later (to.sheets ++ more) → LeadsStill last later k level entry end told e n
-    beside zero entry end from to told more empty some room is before h leads_f leads_k high_more stand stay = at_entry entry end told h.0 leads_f leads_k
+    beside zero entry end from to told more empty some room is before h leads_f leads_k high_more stand stay = at_entry entry end told h.0 before leads_f leads_k
     beside (suc level) entry end from to told more empty some room is before (named, below, next, falls, middle, news, turns, mends) (named_f, bf, xf, falls_f, leads_f)
         (named_k, xk, ok, falls_k, leads_k) high_more stand stay =
         elim (compare falls_k.before xk falls_k.after falls.before below falls.after (sym falls_k.parts ∙ falls.parts)) [
@@ -511,12 +573,22 @@ module _ (last : ℕ) (small : last < 2 ^ 128) (old later : List (List ℕ)) (k 
               (subst (λ (xs : List Sheet). Stand later xs) rest_is stand) (λ m some_m less free fits. stay m some_m less (subst (λ (xs : List Sheet). IsUnspelled m xs) (sym rest_is) free) fits)) same.0 same.1
           | inr apart ↦ elim apart [
             | inl first ↦ elim aim [
-              | inl same ↦ sooner first.0 first.1 (subst (λ (o : Option Key). LeadsTo last old k level xk ok e o) same.1 (subst (λ (x : Entry). LeadsTo last old k level xk ok x n0) same.0 leads_k)) same.3
-              | inr half ↦ absurd (not_sooner first.0 first.1 half.2)
+              | inl same ↦ sooner first.0 first.1 (subst (λ (x : Entry). LeadsTo last old k level xk ok x n0) same.0 leads_k) (kept_end first.0 same.1 same.3)
+              | inr others ↦ elim others [
+                | inl half ↦ absurd (not_sooner first.0 first.1 half.2)
+                | inr joined ↦
+                    sooner first.0 first.1 (subst (λ (x : Entry). LeadsTo last old k level xk ok x n0) joined.2 leads_k)
+                    (joined_end first.0 (subst (λ (xs : List Entry). AscendTo xs end) first.1 up_k.1) joined.0 joined.3 joined.4)
+              ]
             ]
             | inr behind ↦ elim aim [
               | inl same ↦ further behind.0 behind.1 (subst (λ (o : Option Key). LeadsTo last old k level xk ok e o) same.1 (subst (λ (x : Entry). LeadsTo last old k level xk ok x n0) same.0 leads_k))
-              | inr half ↦ absurd (not_further behind.0 behind.1 (half.0 ∙ ap (λ (x : Entry). x.first) (sym half.1)))
+              | inr others ↦ elim others [
+                | inl half ↦ absurd (not_further behind.0 behind.1 (subst (λ (j : Key). ¬ (IsBefore key j)) (half.0 ∙ ap (λ (x : Entry). x.first) (sym half.1)) (not_before_self key)))
+                | inr joined ↦
+                    absurd (not_further behind.0 behind.1 (λ down. not_both_before e0.first key (subst (λ (j : Key). IsBefore e0.first j) (sym joined.1)
+                    (subst (λ (o : Option Key). IfSome o (IsBefore e0.first)) joined.3 (before_next last old k level xk ok e0 n0 xk_before leads_k))) down))
+              ]
             ]
           ]
         ]
@@ -583,6 +655,9 @@ module _ (last : ℕ) (small : last < 2 ^ 128) (old later : List (List ℕ)) (k 
         stays_off l x p le entry_x fits off =
             stay x.page entry_x.some_page (slice_get_within old x.page (page_in old x.page) fits.there) (off_spelled last old level below.first next (to.sheets ++ more) l x p le fits off placed) fits.fits.is
 
+        xk_before : IfSome ok (IsBefore xk.first)
+        xk_before = subst (λ (o : Option Key). IfSome o (IsBefore xk.first)) (sym falls_k.next_is) up_k.0
+
         whole_k : IsEntry last xk
         whole_k = (all_right (IsEntry last) falls_k.before (xk ∷ falls_k.after) (subst (λ (xs : List Entry). AllByRecursion (IsEntry last) xs) falls_k.parts named.fits.is.is.entries)).0
 
@@ -636,11 +711,12 @@ module _ (last : ℕ) (small : last < 2 ^ 128) (old later : List (List ℕ)) (k 
             by_rest (x ∷ xs) h j = h
 
         -- the way goes down before that
-        sooner : (m : List Entry) → falls_k.after ≡ m ++ (below ∷ falls.after) → LeadsTo last old k level xk ok e n → (added ≡ None → n ≢ Some f.first) → LeadsStill last later k (suc level) entry end told e n
-        sooner m after_is leads other_n =
+        sooner : (m : List Entry) → falls_k.after ≡ m ++ (below ∷ falls.after) → LeadsTo last old k level xk ok e n0
+            → EndsThen n0 n (first_or (m ++ (below ∷ falls.after)) end) (first_or (m ++ (named_as news below ++ falls.after)) end) → LeadsStill last later k (suc level) entry end told e n
+        sooner m after_is leads so =
             let ns = named_as news below in
             let ok_is : ok ≡ first_or (m ++ (below ∷ falls.after)) end = falls_k.next_is ∙ ap (λ (xs : List Entry). first_or xs end) after_is in
-            let way : LeadsTo last old k level xk (first_or (m ++ (below ∷ falls.after)) end) e n = subst (λ (o : Option Key). LeadsTo last old k level xk o e n) ok_is leads in
+            let way : LeadsTo last old k level xk (first_or (m ++ (below ∷ falls.after)) end) e n0 = subst (λ (o : Option Key). LeadsTo last old k level xk o e n0) ok_is leads in
             let up_m : AscendTo (m ++ (below ∷ falls.after)) end = subst (λ (xs : List Entry). AscendTo xs end) after_is up_k.1 in
             let later_end = rest_later m (below ∷ falls.after) (ns ++ falls.after) end end (not_before below ns falls.after end orderly.later up.0) in
             let later_none = rest_later m (below ∷ falls.after) (ns ++ falls.after) None None (not_before below ns falls.after None orderly.later (first_none falls.after end below.first up.0)) in
@@ -653,9 +729,13 @@ module _ (last : ℕ) (small : last < 2 ^ 128) (old later : List (List ℕ)) (k 
             let near = first_up_to m below falls.after end up_m first.0 first.1 in
             ends falls_k.before xk (m ++ (ns ++ falls.after)) parts
             (if_later k (first_or (m ++ (below ∷ falls.after)) None) (first_or (m ++ (ns ++ falls.after)) None) (subst (λ (xs : List Entry). IfSome (first_or xs None) (IsBefore k)) after_is falls_k.to) later_none)
-            (way_stays last old later k e n level xk (first_or (m ++ (below ∷ falls.after)) end) (first_or (m ++ (ns ++ falls.after)) end) way later_end (end_stays m)
+            (way_stays last old later k e n0 n level xk (first_or (m ++ (below ∷ falls.after)) end) (first_or (m ++ (ns ++ falls.after)) end) way later_end so
             (subst (λ (xs : List Entry). IfSome (first_or xs end) (IsBefore xk.first)) after_is up_k.0) whole_k
             (λ l x p le entry_x fits from_x to_x. stays_off l x p le entry_x fits (inl (before_le x.first first.0 below.first (subst (λ (o : Option Key). IfSome o (IsBefore x.first)) first.1 to_x) near))))
+
+        -- that ends there still, or where f ended
+        kept_end : (m : List Entry) → n0 ≡ n → (added ≡ None → n ≢ Some f.first) → EndsThen n0 n (first_or (m ++ (below ∷ falls.after)) end) (first_or (m ++ (named_as news below ++ falls.after)) end)
+        kept_end m n_is other_n = (λ same. sym n_is ∙ same ∙ sym (end_stays m (sym n_is ∙ same)), λ z less same. sym n_is ∙ same)
           where
             end_stays : (m : List Entry) → n ≡ first_or (m ++ (below ∷ falls.after)) end → first_or (m ++ (named_as news below ++ falls.after)) end ≡ first_or (m ++ (below ∷ falls.after)) end
             end_stays (z ∷ m) same_n = refl
@@ -663,6 +743,31 @@ module _ (last : ℕ) (small : last < 2 ^ 128) (old later : List (List ℕ)) (k 
               | inl still ↦ still_first news below falls.after end still
               | inr gone ↦ absurd (other_n gone.0 (same_n ∙ ap (λ (x : Key). Some x) (sym gone.1)))
             ]
+
+        joined_end : (m : List Entry) → AscendTo (m ++ (below ∷ falls.after)) end → added ≡ None → n0 ≡ Some f.first → n ≡ nf
+            → EndsThen n0 n (first_or (m ++ (below ∷ falls.after)) end) (first_or (m ++ (named_as news below ++ falls.after)) end)
+        joined_end m up_m gone n0_is n_is = (
+          λ same. n_is ∙ sym (joined_first m up_m (sym n0_is ∙ same)),
+          λ z less same.
+              let first = first_there m below falls.after end in
+              let near = first_up_to m below falls.after end up_m first.0 first.1 in
+              let key_is : f.first ≡ z = (let both : Some f.first ≡ Some z = sym n0_is ∙ same in cc) in
+              absurd (from_f (subst (λ (j : Key). IsBefore j below.first) (sym key_is) (before_le z first.0 below.first (subst (λ (o : Option Key). IfSome o (IsBefore z)) first.1 less) near))),
+        )
+          where
+            from_f : ¬ (IsBefore f.first below.first)
+            from_f = ends_from last old key level below next f nf leads_below
+
+            joined_first : (m : List Entry) → AscendTo (m ++ (below ∷ falls.after)) end → Some f.first ≡ first_or (m ++ (below ∷ falls.after)) end
+                → first_or (m ++ (named_as news below ++ falls.after)) end ≡ nf
+            joined_first [] up_m same =
+                let key_is : f.first ≡ below.first = cc in
+                first_append (named_as news below) falls.after end ∙ ap (λ (o : Option Key). first_or (named_as news below) o) (sym falls.next_is)
+                ∙ turned_end last old key added level below next from middle news f nf gone turns leads_below key_is
+            joined_first (z ∷ m) up_m same =
+                let key_is : f.first ≡ z.first = cc in
+                absurd (from_f (subst (λ (j : Key). IsBefore j below.first) (sym key_is)
+                (before_found z m below falls.after (ascend_later (z ∷ (m ++ (below ∷ falls.after))) end None up_m (no_end end)))))
 
         -- the way goes down behind that
         further : (m : List Entry) → falls.after ≡ m ++ (xk ∷ falls_k.after) → LeadsTo last old k level xk ok e n → LeadsStill last later k (suc level) entry end told e n
@@ -676,10 +781,10 @@ module _ (last : ℕ) (small : last < 2 ^ 128) (old later : List (List ℕ)) (k 
             let near = first_up_to m xk falls_k.after end (subst (λ (xs : List Entry). AscendTo xs end) after_is up.1) first.0 first.1 in
             ends (falls.before ++ (ns ++ m)) xk falls_k.after parts falls_k.to
             (subst (λ (o : Option Key). LeadsTo last later k level xk o e n) falls_k.next_is
-            (way_stays last old later k e n level xk ok ok leads (same_end ok) (λ same_n. refl) (subst (λ (o : Option Key). IfSome o (IsBefore xk.first)) (sym falls_k.next_is) up_k.0) whole_k
+            (way_stays last old later k e n n level xk ok ok leads (same_end ok) ((λ same. same), (λ z less same. same)) xk_before whole_k
             (λ l x p le entry_x fits from_x to_x. stays_off l x p le entry_x fits (inr (first.0, next_is, le_trans first.0 xk.first x.first near from_x)))))
 
-        -- the way to f itself doesn't part from that of the change
+        -- the way to f itself doesn't part from that of the change; nor does one that ends before it go down behind that
         not_sooner : (m : List Entry) → falls_k.after ≡ m ++ (below ∷ falls.after) → ¬ (IsBefore k f.first) → ⊥
         not_sooner m after_is from_f =
             let first = first_there m below falls.after end in
@@ -687,12 +792,12 @@ module _ (last : ℕ) (small : last < 2 ^ 128) (old later : List (List ℕ)) (k 
             let sooner_k : IsBefore k first.0 = subst (λ (o : Option Key). IfSome o (IsBefore k)) (sym (with_none m below falls.after end) ∙ first.1) (subst (λ (xs : List Entry). IfSome (first_or xs None) (IsBefore k)) after_is falls_k.to) in
             le_trans below.first f.first k (ends_from last old key level below next f nf leads_below) from_f (before_le k first.0 below.first sooner_k near)
 
-        not_further : (m : List Entry) → falls.after ≡ m ++ (xk ∷ falls_k.after) → key ≡ e0.first → ⊥
-        not_further m after_is key_is =
+        not_further : (m : List Entry) → falls.after ≡ m ++ (xk ∷ falls_k.after) → ¬ (IsBefore key e0.first) → ⊥
+        not_further m after_is up_to =
             let first = first_there m xk falls_k.after end in
             let near = first_up_to m xk falls_k.after end (subst (λ (xs : List Entry). AscendTo xs end) after_is up.1) first.0 first.1 in
             let sooner_key : IsBefore key first.0 = subst (λ (o : Option Key). IfSome o (IsBefore key)) (sym (with_none m xk falls_k.after end) ∙ first.1) (subst (λ (xs : List Entry). IfSome (first_or xs None) (IsBefore key)) after_is falls.to) in
-            ends_from last old k level xk ok e0 n0 leads_k (subst (λ (j : Key). IsBefore j xk.first) key_is (before_le key first.0 xk.first sooner_key near))
+            ends_from last old k level xk ok e0 n0 leads_k (le_before e0.first key xk.first up_to (before_le key first.0 xk.first sooner_key near))
 
 -- ---- the whole way
 
@@ -811,32 +916,42 @@ module _ (index : IndexView) (old : StoreFacts) (key : Key) (added : Option Entr
             (names_told index.last new.pages (suc index.levels) (left ∷ right ∷ []) (top middle.next) None t o.up)
             (t.entries_are ∙ ap (λ (t : Told). named_as t (top index.root)) (sym is) ∙ r.parts) r.to r.leads))
 
--- once a region's entry has gone, the way to each other one leads there still, unless that stood before it
-pub others_stay : (index : IndexView) (old new : StoreFacts) (key other : Key) (region found : Region) (change : ChangeView) → index.last < 2 ^ 128 → 1 ≤ index.levels → 1 ≤ index.root
-    → page_count old < 2 ^ 32 → IsDropped index old key change → Leads index old key region → IsBefore origin region.first → Stand new.pages change.sheets
-    → IsKept index.last old.pages new.pages change.sheets → Leads index old other found → found.first ≢ region.first → found.next ≢ Some region.first → Leads (changed index change) new other found
-others_stay index old new key other region found change small low some few (first, made, lowers) leads behind stand stay way other_e other_n =
-    lowers_lead index.last old.pages new.pages first.sheets stand_first stay_first other (entry_at found) found.next first.levels first.root change.root change.levels (some_root made) lowers.lowers
-    (prepared_lead index old key None (page_count old) (page_count old) first (omega arith) new other region found (entry_at found) found.next small low some (λ _. record { up = tt; later = tt; entries = tt }) (λ _. behind)
-    leads way (ways_hold index old other found way).0.from (inl (refl, refl, other_e, (λ _. other_n))) few made stand_first (λ m some_m less free fits. stay_first m some_m free (inl fits)))
-  where
-    sheets_are : change.sheets ≡ first.sheets
-    sheets_are = ap (λ (c : ChangeView). c.sheets) lowers.same
+-- once a region's entry has gone
+module _ (index : IndexView) (old new : StoreFacts) (key other : Key) (region found : Region) (change : ChangeView) (small : index.last < 2 ^ 128) (low : 1 ≤ index.levels) (some : 1 ≤ index.root)
+    (few : page_count old < 2 ^ 32) (dropped : IsDropped index old key change) (leads : Leads index old key region) (behind : IsBefore origin region.first) (stand : Stand new.pages change.sheets)
+    (stay : IsKept index.last old.pages new.pages change.sheets) (way : Leads index old other found) where
+  k_from : ¬ (IsBefore other found.first)
+  k_from = (ways_hold index old other found way).0.from
 
-    stand_first : Stand new.pages first.sheets
-    stand_first = subst (λ (xs : List Sheet). Stand new.pages xs) sheets_are stand
+  lead_on : (n : Option Key) → IsAim index.last small old.pages new.pages other (entry_at found) n k_from key None (entry_at region) region.next (entry_at found) found.next
+      → LeadsTo index.last new.pages other change.levels (top change.root) None (entry_at found) n
+  lead_on n aim = by_parts dropped
+    where
+      by_parts : IsDropped index old key change → LeadsTo index.last new.pages other change.levels (top change.root) None (entry_at found) n
+      by_parts (first, made, lowers) =
+          let sheets_are : change.sheets ≡ first.sheets = ap (λ (c : ChangeView). c.sheets) lowers.same in
+          let stand_first : Stand new.pages first.sheets = subst (λ (xs : List Sheet). Stand new.pages xs) sheets_are stand in
+          let stay_first : IsKept index.last old.pages new.pages first.sheets = subst (λ (xs : List Sheet). IsKept index.last old.pages new.pages xs) sheets_are stay in
+          lowers_lead index.last old.pages new.pages first.sheets stand_first stay_first other (entry_at found) n first.levels first.root change.root change.levels (some_root first made) lowers.lowers
+          (prepared_lead index old key None (page_count old) (page_count old) first (omega arith) new other region found (entry_at found) n small low some (λ _. record { up = tt; later = tt; entries = tt }) (λ _. behind)
+          leads way k_from aim few made stand_first (λ m some_m less free fits. stay_first m some_m free (inl fits)))
+        where
+          some_root : (first : ChangeView) → IsPrepared index old key None (page_count old) (so_far [] (page_count old)) first → 1 ≤ first.root
+          some_root first (middle, told, turns, settles) = by_told told (narrow index.last old.pages key index.levels (top index.root) None (so_far [] (page_count old)) middle told turns).0 settles
+            where
+              by_told : (t : Told) → IsAtMostOne t → Settles index.root index.levels t (page_count old) middle first → 1 ≤ first.root
+              by_told Same n h = subst (λ (c : ChangeView). 1 ≤ c.root) (sym h) some
+              by_told Gone n h = absurd h
+              by_told (One x) n h = subst (λ (c : ChangeView). 1 ≤ c.root) (sym h) some
+              by_told (Two left right) n h = absurd n
 
-    stay_first : IsKept index.last old.pages new.pages first.sheets
-    stay_first = subst (λ (xs : List Sheet). IsKept index.last old.pages new.pages xs) sheets_are stay
+  -- the way to each other one leads there still, unless that stood before it
+  pub others_stay : found.first ≢ region.first → found.next ≢ Some region.first → Leads (changed index change) new other found
+  others_stay other_e other_n = lead_on found.next (inl (refl, refl, other_e, (λ _. other_n)))
 
-    some_root : IsPrepared index old key None (page_count old) (so_far [] (page_count old)) first → 1 ≤ first.root
-    some_root (middle, told, turns, settles) = by_told told (narrow index.last old.pages key index.levels (top index.root) None (so_far [] (page_count old)) middle told turns).0 settles
-      where
-        by_told : (t : Told) → IsAtMostOne t → Settles index.root index.levels t (page_count old) middle first → 1 ≤ first.root
-        by_told Same n h = subst (λ (c : ChangeView). 1 ≤ c.root) (sym h) some
-        by_told Gone n h = absurd h
-        by_told (One x) n h = subst (λ (c : ChangeView). 1 ≤ c.root) (sym h) some
-        by_told (Two left right) n h = absurd n
+  -- and that to the one that stood before it leads to that, which ends where the other one ended
+  pub joined_lead : key ≡ region.first → found.next ≡ Some region.first → LeadsTo index.last new.pages other change.levels (top change.root) None (entry_at found) region.next
+  joined_lead key_is ends = lead_on region.next (inr (inr (refl, key_is, refl, ends, refl)))
 
 pub dropped_once : (index : IndexView) (store : StoreFacts) (key : Key) (change : ChangeView) → IsDropped index store key change → AreOnce change.sheets
 dropped_once index store key change (first, made, lowers) =
@@ -864,8 +979,8 @@ module _ (index : IndexView) (old new : StoreFacts) (other : Key) (region : Regi
       × (¬ (IsBefore other first) → LeadsTo index.last new.pages other change.levels (top change.root) None (added_at first old) region.next)
   halves_lead way =
       let from = (ways_hold index old other region way).0.from in (
-        λ less. aimed region (entry_at region) (Some first) way from (inr (refl, refl, from, added_at first old, refl, inl (refl, refl, less))),
-        λ more. aimed region (added_at first old) region.next way more (inr (refl, refl, from, added_at first old, refl, inr (refl, refl))),
+        λ less. aimed region (entry_at region) (Some first) way from (inr (inl (refl, refl, from, added_at first old, refl, inl (refl, refl, less)))),
+        λ more. aimed region (added_at first old) region.next way more (inr (inl (refl, refl, from, added_at first old, refl, inr (refl, refl)))),
       )
 
 pub added_once : (index : IndexView) (store : StoreFacts) (region : Region) (first : Key) (change : ChangeView)
