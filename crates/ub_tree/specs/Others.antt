@@ -1,6 +1,7 @@
 -- Which pages of its store a change of a tree leaves as they are, and what it does to the regions that the tree counts.
 use Rattle.std.specs.Prelude.{◌≡◌, ◌≢◌, ◌≤◌, ◌+◌, ◌<◌, ◌⊎◌, ◌++◌, ℕ, List, [], ◌∷◌, Some, length, slice_get}
 use Rattle.ub_index.specs.Standing.{IsOutside}
+use Rattle.ub_index.specs.Way.{HoldsKey}
 use Rattle.ub_index_change.specs.Preparing.{NeedsPages}
 use Rattle.ub_page.specs.declared.header.TheConstants.{MAX_LEVEL}
 use Rattle.ub_region.specs.RegionPage.{region_page}
@@ -70,7 +71,13 @@ abbrev pub KeepsBeside : Region → TreeView → TreeView → Type 0
 KeepsBeside first old new =
     IsHonest old.store → (key : Key) (span : Region) → FallsTo old key span → span.next ≢ first.next → first.next ≢ Some span.first → FallsTo new key span
 
+-- this region has taken in the one that follows it: it ends where that ended, and each key that is in it then falls to it
+abbrev pub JoinsKeys : Region → TreeView → TreeView → Type 0
+JoinsKeys first old new =
+    IsHonest old.store → (second : Region) × IsRegionOf old second × (first.next ≡ Some second.first)
+    × ((key : Key) → HoldsKey key first.first second.next → FallsTo new key (record first { next = second.next; to = second.to }))
+
 -- a region fewer is counted, and the store has as many pages; this one takes in the next, and the others are told of as before
 abbrev pub DropsEntry : Region → TreeView → TreeView → Type 0
 DropsEntry first old new =
-    (region_count old ≡ region_count new + 1) × (page_count new.store ≡ page_count old.store) × KeepsBeside first old new
+    (region_count old ≡ region_count new + 1) × (page_count new.store ≡ page_count old.store) × KeepsBeside first old new × JoinsKeys first old new

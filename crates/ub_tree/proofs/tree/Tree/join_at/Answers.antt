@@ -14,7 +14,7 @@ use Rattle.ub_tree.specs.inner.Change.{IsDropReady, IsRegionIn, IsRegionThere, I
 use Rattle.ub_tree.specs.inner.Removing.{JoinsAt}
 use Rattle.ub_tree.proofs.CallFacts.{last_small}
 use Rattle.ub_tree.proofs.EffectFacts.{changes_by, ready_by}
-use Rattle.ub_tree.proofs.JoinFacts.{alone_not_sound, index_failed, joined_at, joined_beside, joined_effect, joined_written}
+use Rattle.ub_tree.proofs.JoinFacts.{alone_not_sound, index_failed, joined_at, joined_effect, joined_written}
 use Rattle.ub_tree.proofs.LessenFacts.{alone_lessens, device_removal, fault_by, put_removal, then_lessens}
 use Rattle.ub_tree.proofs.StandFacts.{joined_stand}
 use Rattle.ub_writing.specs.Marks.{is_written}
@@ -86,9 +86,7 @@ returns-clause-joined g c =
     (ap (λ (v : TreeView). v.store) is) (ap (λ (v : TreeView). v.schema) is ∙ ap (λ (v : TreeView). v.schema) c.in_ok-put_index.ensures.now) in
     subst (λ (v : TreeView). JoinsAt span rows v d) same
     (joined_at b c.rewrite.new.self c.put_index.new.self span next change there c.requires.ends ready c.in_ok-rewrite.ensures.same c.in_ok-rewrite.ensures.effect c.put_index.ensures.kept
-    d c.in_ok-put_index.ensures.now is rows some put
-    (joined_beside b c.rewrite.new.self c.put_index.new.self span next change there c.requires.ends ready c.in_ok-rewrite.ensures.same c.in_ok-rewrite.ensures.effect c.put_index.ensures.kept
-    d c.in_ok-put_index.ensures.now is rows near good told c.in_ok-put_index.ensures.stand put))
+    d c.in_ok-put_index.ensures.now is rows near good told c.in_ok-put_index.ensures.stand put some)
 
 pub returns-clause-written : goal.returns-clause-written
 returns-clause-written g c = λ i stored at at_next each.
