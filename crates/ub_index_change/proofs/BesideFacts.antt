@@ -12,6 +12,7 @@ use Rattle.ub_region.proofs.Laws.{all_append, all_left, all_more, all_right}
 use Rattle.ub_table.proofs.Laws.{before_trans, not_before_self, not_both_before}
 use Rattle.ub_table.specs.Keys.{IsBefore, origin}
 use Rattle.ub_table.specs.declared.row.Key.{Key}
+use Rattle.ub_index.specs.Fitting.{FallsTo}
 use Rattle.ub_index.specs.Index.{AscendTo, IsIndexPage, IsTold, NamesFitting, entries_of, first_or, page_in, top}
 use Rattle.ub_index.specs.View.{IndexView, Leads, entry_at}
 use Rattle.ub_index.specs.Way.{LeadsTo}
@@ -256,6 +257,13 @@ module _ (last : ℕ) (old : List (List ℕ)) where
       apart n same (inl h) = omega (arith, h.there, same, room, grown)
       apart n same (inr h) = omega (arith, h.1, same)
 
+  -- a way to the key goes down where the change does
+  way_below : (key : Key) (level : ℕ) (entry : Entry) (end : Option Key) (below : Entry) (next : Option Key) (f : Entry) (nf : Option Key) → FallsTo key (entries_of old entry.page) end below next
+      → LeadsTo last old key (suc level) entry end f nf → LeadsTo last old key level below next f nf
+  way_below key level entry end below next f nf falls (named, bf, xf, falls_f, leads) =
+      let one = falls_once key (entries_of old entry.page) end bf xf below next named.fits.ascends falls_f falls in
+      subst (λ (o : Option Key). LeadsTo last old key level below o f nf) one.1 (subst (λ (e : Entry). LeadsTo last old key level e xf f nf) one.0 leads)
+
   -- what an entry becomes begins where it began, unless a region's entry goes that was the first
   turned_first : (key : Key) (added : Option Entry) (level : ℕ) (entry : Entry) (end : Option Key) (from to : Spelled) (told : Told) (f : Entry) (nf : Option Key)
       → Turns last old key added level entry end from to told → LeadsTo last old key level entry end f nf → BeginsStill told entry ⊎ ((added ≡ None) × (f.first ≡ entry.first))
@@ -264,14 +272,11 @@ module _ (last : ℕ) (old : List (List ℕ)) where
       by_added : (a : Option Entry) → told ≡ with_added a entry → BeginsStill told entry ⊎ ((a ≡ None) × (f.first ≡ entry.first))
       by_added None is = inr (refl, ap (λ (e : Entry). e.first) leads.0)
       by_added (Some other) is = inl (subst (λ (t : Told). BeginsStill t entry) (sym is) refl)
-  turned_first key added (suc level) entry end from to told f nf (named, below, next, falls, middle, news, turns, mends) (named_f, bf, xf, falls_f, leads_f) =
+  turned_first key added (suc level) entry end from to told f nf (named, below, next, falls, middle, news, turns, mends) leads =
       by_below (turned_first key added level below next from middle news f nf turns leads_below)
     where
-      one : (bf ≡ below) × (xf ≡ next)
-      one = falls_once key (entries_of old entry.page) end bf xf below next named.fits.ascends falls_f falls
-
       leads_below : LeadsTo last old key level below next f nf
-      leads_below = subst (λ (o : Option Key). LeadsTo last old key level below o f nf) one.1 (subst (λ (e : Entry). LeadsTo last old key level e xf f nf) one.0 leads_f)
+      leads_below = way_below key level entry end below next f nf falls leads
 
       begins : first_or (falls.before ++ (below ∷ falls.after)) None ≡ Some entry.first
       begins = subst (λ (xs : List Entry). first_or xs None ≡ Some entry.first) falls.parts named.fits.begins
@@ -294,14 +299,11 @@ module _ (last : ℕ) (old : List (List ℕ)) where
   turned_end : (key : Key) (added : Option Entry) (level : ℕ) (entry : Entry) (end : Option Key) (from to : Spelled) (told : Told) (f : Entry) (nf : Option Key) → added ≡ None
       → Turns last old key added level entry end from to told → LeadsTo last old key level entry end f nf → f.first ≡ entry.first → first_or (named_as told entry) end ≡ nf
   turned_end key added zero entry end from to told f nf gone h leads first = ap (λ (t : Told). first_or (named_as t entry) end) (h.0 ∙ ap (λ (o : Option Entry). with_added o entry) gone) ∙ sym leads.1
-  turned_end key added (suc level) entry end from to told f nf gone (named, below, next, falls, middle, news, turns, mends) (named_f, bf, xf, falls_f, leads_f) first =
+  turned_end key added (suc level) entry end from to told f nf gone (named, below, next, falls, middle, news, turns, mends) leads first =
       by_below (turned_end key added level below next from middle news f nf gone turns leads_below)
     where
-      one : (bf ≡ below) × (xf ≡ next)
-      one = falls_once key (entries_of old entry.page) end bf xf below next named.fits.ascends falls_f falls
-
       leads_below : LeadsTo last old key level below next f nf
-      leads_below = subst (λ (o : Option Key). LeadsTo last old key level below o f nf) one.1 (subst (λ (e : Entry). LeadsTo last old key level e xf f nf) one.0 leads_f)
+      leads_below = way_below key level entry end below next f nf falls leads
 
       begins : first_or (falls.before ++ (below ∷ falls.after)) None ≡ Some entry.first
       begins = subst (λ (xs : List Entry). first_or xs None ≡ Some entry.first) falls.parts named.fits.begins
@@ -534,8 +536,9 @@ module _ (last : ℕ) (small : last < 2 ^ 128) (old later : List (List ℕ)) (k 
         leads = down level right end half.0 x a (names_told last later (suc level) (drop 86 entries) right end t.4 (ascend_right (take 86 entries) (drop 86 entries) end up_parts)) (t.4.entries_are ∙ half.1) to_it leads;
       }
 
-  -- where a way to the region e0 is to lead, once the region's entry f has gone, or got another one behind it: there still, unless it is f, or stood before f, which goes; from f
-  -- to itself, up to the key of the other one, or to that one; or to the one that stood before f, which goes, up to where f ended
+  -- where a way to the region's entry e0 is to lead, once f has gone, or got another one behind it: there still, unless e0 is f,
+  -- or stood before f, which goes; from f to f itself, up to the other one's key, or to the other one; or to what stood before f,
+  -- which goes, up to where f ended
   abbrev IsAim : Key → Option Entry → Entry → Option Key → Entry → Option Key → Type 0
   IsAim key added f nf e0 n0 =
       ((e0 ≡ e) × (n0 ≡ n) × (e.first ≢ f.first) × (added ≡ None → n ≢ Some f.first))
@@ -564,7 +567,7 @@ module _ (last : ℕ) (small : last < 2 ^ 128) (old later : List (List ℕ)) (k 
         → LeadsTo last old k level entry end e0 n0 → AllByRecursion (λ s. IsHigher old level s.number) more → Stand later (to.sheets ++ more)
         → KeepsIndex last old later (to.sheets ++ more) → LeadsStill last later k level entry end told e n
     beside zero entry end from to told more empty some room is before h leads_f leads_k high_more stand stay = at_entry entry end told h.0 before leads_f leads_k
-    beside (suc level) entry end from to told more empty some room is before (named, below, next, falls, middle, news, turns, mends) (named_f, bf, xf, falls_f, leads_f)
+    beside (suc level) entry end from to told more empty some room is before (named, below, next, falls, middle, news, turns, mends) leads_f
         (named_k, xk, ok, falls_k, leads_k) high_more stand stay =
         elim (compare falls_k.before xk falls_k.after falls.before below falls.after (sym falls_k.parts ∙ falls.parts)) [
           | inl same ↦
@@ -599,11 +602,8 @@ module _ (last : ℕ) (small : last < 2 ^ 128) (old later : List (List ℕ)) (k 
         below_end : IfSome next (IsBefore below.first)
         below_end = below_before last small old key level entry end from middle to told some is before named below next falls
 
-        one : (bf ≡ below) × (xf ≡ next)
-        one = falls_once key (entries_of old entry.page) end bf xf below next named.fits.ascends falls_f falls
-
         leads_below : LeadsTo last old key level below next f nf
-        leads_below = subst (λ (o : Option Key). LeadsTo last old key level below o f nf) one.1 (subst (λ (x : Entry). LeadsTo last old key level x xf f nf) one.0 leads_f)
+        leads_below = way_below last old key level entry end below next f nf falls leads_f
 
         orderly : IsOrderly last below next news
         orderly = (turned last small old key added level below next from middle news some below_is below_end (fine_found last old key added level below next f nf fine leads_below)
