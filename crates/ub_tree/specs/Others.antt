@@ -49,8 +49,8 @@ IsHalfOf span middle page half =
     ((half.first ≡ span.first) × (half.page ≡ span.page) × (half.next ≡ Some middle))
     ⊎ ((half.first ≡ middle) × (half.page ≡ page) × (half.next ≡ span.next))
 
--- the region that begins with this key was split at another one, with which the region begins that the first page spells that the
--- store hadn't: each key that fell there falls to one of its halves
+-- the region that begins with this key was split at another key, with which the region begins that stands on the first page that the
+-- store hadn't: each key that fell to it falls to one of its halves
 abbrev pub SplitsKeys : Key → TreeView → TreeView → Type 0
 SplitsKeys first old new =
     IsHonest old.store → (middle : Key) × (rows : List Row)
