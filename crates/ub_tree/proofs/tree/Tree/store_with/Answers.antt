@@ -1,4 +1,4 @@
-use Rattle.std.proofs.Common.{◌≡◌, ◌<◌, ◌≤◌, ◌∙◌, [], ◌∷◌, ℕ, List, OnOk, true, nat_le, ap, subst, sym, length, arith, false, refl, ◌+◌, rules}
+use Rattle.std.proofs.Common.{◌≡◌, ◌<◌, ◌∙◌, [], ◌∷◌, List, OnOk, true, nat_le, ap, subst, sym, length, arith, false, refl, ◌+◌, rules}
 use Rattle.std.proofs.lemmas.Bool.{le-leb, lt-leb}
 use Rattle.std.proofs.lemmas.List.Edits.{length-insert}
 use Rattle.ub_region.specs.Rows.{Halves, split}
