@@ -1,10 +1,8 @@
 ghost use Rattle.std.specs.Prelude.{◌≡◌, Err, IfOk, IfErr};
-ghost use Rattle.ub_store.specs.Facts.{page_count, IsHonest};
+ghost use Rattle.ub_store.specs.Facts.{page_count};
 ghost use Rattle.ub_store.specs.View.{pager_view, untouched};
-ghost use Rattle.ub_tree.specs.Calls.{IsCreated, IsCreateFault};
-ghost use Rattle.ub_tree.specs.Effects.{written_store};
+ghost use Rattle.ub_tree.specs.Calls.{Creates};
 ghost use Rattle.ub_tree.specs.inner.Opening.{LaysOut};
-ghost use Rattle.ub_writing.specs.Creation.{IsUncreated};
 
 use crate::fault::TreeFault;
 use crate::tree::Tree;
@@ -31,12 +29,7 @@ impl<S: PageStore> Tree<S> {
         schema: &Schema,
     ) -> Result<Tree<S>, Rejected<S, TreeFault>>
         requires { page_count (S.facts store) ≡ 0 }
-        ensures made { IfOk result (λ t. IsCreated (S.facts store) schema.now t) }
-        ensures first { IsHonest (S.facts store)
-            → IfErr result (λ refused. IsUncreated schema.now (S.facts refused.store)) }
-        ensures refused { IfErr result (λ refused. IsCreateFault (S.facts store) refused.fault) }
-        ensures left { IfErr result (λ r. S.facts r.store ≡ written_store {A = S} (Err r.fault)
-            (S.facts store) (S.facts r.store)) }
+        ensures { Creates S.facts (S.facts store) schema.now result }
     {
         let mut pager = match pager_over(alloc, store) {
             Ok(pager) => pager,

@@ -1,11 +1,8 @@
 // A table of an older format, over a new store: its pages are brought over by `ub_upgrade`, and then all of them are checked.
-ghost use Rattle.std.specs.Prelude.{◌≡◌, Err, IfOk, IfErr, OnOk};
-ghost use Rattle.ub_store.specs.Facts.{page_count, IsHonest};
-ghost use Rattle.ub_tree.specs.Checking.{IsCheckFault, IsWell};
-ghost use Rattle.ub_tree.specs.Effects.{read_store};
-ghost use Rattle.ub_tree.specs.Opened.{IsPassing};
-ghost use Rattle.ub_tree.specs.View.{IsSound};
+ghost use Rattle.std.specs.Prelude.{◌≡◌, Err};
+ghost use Rattle.ub_store.specs.Facts.{page_count};
 ghost use Rattle.ub_tree.specs.Upgrade.{Upgrades};
+ghost use Rattle.ub_tree.specs.inner.Upgrading.{HandsOn};
 
 use crate::creation::pager_over;
 use crate::fault::TreeFault;
@@ -54,12 +51,7 @@ impl<S: PageStore> Tree<S> {
 
     // The tree, where its pages are well.
     fn checked(self) -> Result<Tree<S>, Rejected<S, TreeFault>>
-        ensures same { IfOk result (λ t. t ≡ self) }
-        ensures well { IsHonest self.store → OnOk result (IsWell self) }
-        ensures sound { IsSound self → IfErr result (λ refused. IsPassing refused.fault) }
-        ensures refused { IfErr result (λ refused. IsCheckFault self refused.fault) }
-        ensures left { IfErr result (λ r. S.facts r.store ≡ read_store {A = S} (Err r.fault)
-            self.store) }
+        ensures { HandsOn S.facts self result }
     {
         let mut tree = self;
         match tree.check() {

@@ -1,7 +1,8 @@
 -- What the steps of a removal do to a tree, and what they need.
-use Rattle.std.specs.Prelude.{◌≡◌, ◌+◌, ◌++◌, ◌/◌, ◌≤◌, ◌⊎◌, ℕ, true, false, List, Option, Some, Result, Err, IfErr, IfOk, MatchOption, OnOk, is_some, length}
+use Rattle.std.specs.Prelude.{◌≡◌, ◌+◌, ◌++◌, ◌/◌, ◌≤◌, ◌⊎◌, ℕ, true, false, List, Option, Some, None, Result, Err, IfErr, IfOk, IfSome, MatchOption, MatchResult, OnOk, is_some, length, map}
 use Rattle.std.specs.List.{AllByRecursion}
-use Rattle.ub_index.specs.Searching.{key_before}
+use Rattle.ub_index.specs.Searching.{GivesAny, key_before}
+use Rattle.ub_index.specs.View.{IsNextRegion, IsPreviousRegion}
 use Rattle.ub_region.specs.Joins.{JoinsBefore, JoinsNext, put_rows}
 use Rattle.ub_region.specs.RegionPage.{RegionView}
 use Rattle.ub_region.specs.Regions.{settle}
@@ -16,6 +17,7 @@ use Rattle.ub_tree.specs.Holding.{Answers, CanFallInto, HasRoomAt, IsJoined, IsT
 use Rattle.ub_tree.specs.Opened.{IsPassing}
 use Rattle.ub_tree.specs.Others.{DropsEntry, KeepsEntries, WritesIndex, WritesPage}
 use Rattle.ub_tree.specs.Pages.{LeavesRows, Spells}
+use Rattle.ub_tree.specs.Placed.{entry_of}
 use Rattle.ub_tree.specs.Removal.{Lessens}
 use Rattle.ub_tree.specs.Spans.{Region}
 use Rattle.ub_tree.specs.Told.{FallsTo, IsRegionOf}
@@ -45,6 +47,24 @@ pub record TakesAt (span : Region) (rows : List Row) (old new : TreeView) : Type
   pub shrunk : (WritesPage span.page old new × KeepsEntries old new)
       ⊎ ((first : Region) × IsThatOrBefore old span first × WritesIndex first.page old new × DropsEntry first old new)
   pub put : IsHonest old.store → LeavesRows span rows old new
+
+-- the region after another one was sought, if there is one: it begins where that one tells; of stored regions it is the next one
+pub record FindsNext (span : Region) (old new : TreeView) (result : Result (Option Region) TreeFault) : Type 0 where
+  pub begins : IfOk result (λ found. IfSome found (λ next. span.next ≡ Some next.first))
+  pub falls : IfOk result (λ found. IfSome found (IsRegionOf old))
+  pub last : IfOk result (λ found. found ≡ None → span.next ≡ None)
+  pub led : (told : Option Region) → IsHonest old.store → GivesAny old.inner.index old.store span.next told → MatchResult result (λ found. found ≡ told) IsPassing
+  pub after : (i : ℕ) → IsStored old → IsRegionIn old i span → IfOk result (IsNextRegion (map entry_of old.placed) i)
+  pub effect : Searches old new result
+
+-- the region before another one was sought, if there is one: it ends where that one begins; of stored regions it is the one before
+pub record FindsPrevious (span : Region) (old new : TreeView) (result : Result (Option Region) TreeFault) : Type 0 where
+  pub ends : IfOk result (λ found. IfSome found (λ before. before.next ≡ Some span.first))
+  pub falls : IfOk result (λ found. IfSome found (λ before. (key : Key) × (key_before span.first.z span.first.number ≡ Some key) × FallsTo old key before))
+  pub led : (told : Option Region) → IsHonest old.store → GivesAny old.inner.index old.store (key_before span.first.z span.first.number) told
+      → MatchResult result (λ found. found ≡ told) IsPassing
+  pub before : (i : ℕ) → IsStored old → IsRegionIn old i span → IfOk result (IsPreviousRegion (map entry_of old.placed) i)
+  pub effect : Searches old new result
 
 -- what must be answered where so many rows are left of a region: no page is refused where no neighbour is needed; and BadCount of the
 -- first page, where one region is counted, and it would be joined
