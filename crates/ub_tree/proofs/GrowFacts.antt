@@ -4,6 +4,7 @@ use Rattle.std.proofs.lemmas.Bool.{cases_Bool, ltb-true, ltb-false}
 use Rattle.std.proofs.lemmas.List.Sorted.{length_permutation}
 use Rattle.std.specs.List.{AllByRecursion}
 use Rattle.std.specs.Result.{IsErrAnd}
+pub use Rattle.ub_check.proofs.CheckingFacts.{drop_at}
 use Rattle.ub_index.proofs.KeyFacts.{before_le, le_trans}
 use Rattle.ub_index.proofs.LeadFacts.{ways_hold}
 use Rattle.ub_index.proofs.WaysFacts.{ends_from, ends_to}
@@ -74,11 +75,6 @@ module _ (old new : TreeView) (i : ℕ) (span : Region) (rows : List Row) where
         ∙ rw over refl,
     h.2,
   )
-
-drop_at : {X : Type 0} (xs : List X) (i : ℕ) (x : X) → slice_get xs i ≡ Some x → drop i xs ≡ x ∷ drop (suc i) xs
-drop_at [] i x at = cc
-drop_at (y ∷ xs) zero x at = let same : y ≡ x = cc in ap (λ z. z ∷ xs) same
-drop_at (y ∷ xs) (suc i) x at = drop_at xs i x at
 
 -- insertion changes the region at the index of the row's key
 insert_at_index : (dims c : ℕ) (row : Row) (rs : List RegionRows) (index : ℕ) (r : RegionRows) → slice_get rs index ≡ Some r → index ≡ index_holding (key_of dims row) (firsts_of rs)

@@ -4,7 +4,6 @@ ghost use Rattle.ub_page.specs.declared.header.TheConstants.{MAX_LEVEL};
 ghost use Rattle.ub_region.specs.Regions.{index_holding};
 ghost use Rattle.ub_store.specs.Facts.{IsHonest};
 ghost use Rattle.ub_table.specs.Keys.{IsBefore, origin};
-ghost use Rattle.ub_table.specs.declared.row.Key as key;
 ghost use Rattle.ub_tree.specs.Effects.{Searches};
 ghost use Rattle.ub_tree.specs.Holding.{HasNoRoom, IsRoomFault};
 ghost use Rattle.ub_tree.specs.Opened.{IsPassing};

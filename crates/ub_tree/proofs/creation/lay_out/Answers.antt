@@ -5,7 +5,7 @@ use Rattle.ub_region.specs.RegionPage.{region_page}
 use Rattle.ub_store.specs.Facts.{StoreFacts}
 use Rattle.ub_tree.proofs.CreationFacts.{empty_is_region}
 use Rattle.ub_tree.proofs.HeldFacts.{written_checked}
-use Rattle.ub_tree.proofs.WayFacts.{region_no_kind}
+use Rattle.ub_check.proofs.ReadingFacts.{region_no_kind}
 use Rattle.ub_writing.specs.Creation.{empty_region}
 use Rattle.ub_zaddr.specs.Address.{last_address}
 use Rattle.ub_tree.proofs.creation.lay_out.Goals as goal

@@ -13,7 +13,7 @@ use Rattle.ub_tree.specs.View.{TreeView}
 use Rattle.ub_tree.specs.declared.fault.TreeFault.TheVariants.{Store}
 use Rattle.ub_tree.specs.inner.Change.{IsRegionThere}
 use Rattle.ub_tree.proofs.HeldFacts.{tree_written, written_checked}
-use Rattle.ub_tree.proofs.WayFacts.{region_no_kind}
+use Rattle.ub_check.proofs.ReadingFacts.{region_no_kind}
 use Rattle.ub_writing.specs.Marks.{is_written}
 use Rattle.ub_tree.proofs.tree.Tree.rewrite.Goals as goal
 
