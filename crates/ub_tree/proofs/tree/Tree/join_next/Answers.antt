@@ -27,55 +27,50 @@ returns-in-None g c = record {
 }
 
 pub returns : goal.returns
-returns g c = record {
-  found = let a = c.args.self.now in
-      let span = c.args.region.now in
-      let next = c.in-Some.next in
-      let rows = c.args.room.now.region.region.rows in
-      let more = c.read_at.new.page.region.rows in
-      let one = c.in_ok-next.ensures.effect.same in
-      let two = c.in_ok-read_at.ensures.effect.same in
-      let begins = rw c.in-Some.is at c.in_ok-next.ensures.begins in
-      let told = rw c.in-Some.is at c.in_ok-next.ensures.falls in
-      let count : c.page_rows.result ≡ a.schema.page_rows = c.page_rows.ensures.page_rows ∙ ap (λ (v : TreeView). v.schema.page_rows) (c.self.view_is ∙ two ∙ one) in
-      let on = subst (λ (v : TreeView). IsTakenIn v next c.read_at.new.page.region) one c.in_ok-read_at.ensures.read.on in
-      let made = next_region a c.requires.there.told.key span next rows more c.requires.there.told.falls begins c.requires.rows.rows (rows_on a next c.read_at.new.page.region on) in
-      elim c.if-join.branch [
-        | then-join w ↦
-            let fit = leb-true (length rows + length more) c.page_rows.result (sym c.join.ensures.fit ∙ w.if-join.true) in
-            let good = made (omega arith) in
-            let joined = rw w.if-join.true at c.join.ensures.rows in
-            rw w.result-is (rw joined (record {
-              pair = record { there = c.requires.there; told = told; ends = begins; begins = c.requires.rows.first; region = good };
-              stored = λ i stored at. rw c.in-Some.is at (c.in_ok-next.ensures.after i stored at);
-              taken = (c.read_at.new.page.region, on, refl);
-            }))
-        | else-join w ↦ rw w.result-is (rw w.if-join.false at c.join.ensures.rows)
-      ];
-  joined = λ i stored at.
-      let a = c.args.self.now in
-      let next = c.in-Some.next in
-      let stands = rw c.in-Some.is at (c.in_ok-next.ensures.after i stored at) in
-      let count = c.page_rows.ensures.page_rows ∙ ap (λ (v : TreeView). v.schema.page_rows) c.self.view_is in
-      let joined = joins_next a c.region_after.new.self c.read_at.new.self i next c.args.room.now.region.region.rows c.join.new.self.region.rows c.read_at.new.page.region.rows c.join.result c.page_rows.result
-      c.in_ok-next.ensures.effect.same c.in_ok-read_at.ensures.effect.same stands c.in_ok-read_at.ensures.rows count c.join.ensures.fit (ap (λ (v : RegionView). v.region.rows) c.join.ensures.rows) stored.honest in
-      elim c.if-join.branch [
-        | then-join w ↦ rw w.result-is (rw w.if-join.true at joined)
-        | else-join w ↦ rw w.result-is (rw w.if-join.false at joined)
-      ];
-  refused = let a = c.args.self.now in
-      let one = c.in_ok-next.ensures.effect.same in
-      let rows = c.args.room.now.region.region.rows in
-      let more = c.read_at.new.page.region.rows in
-      let count : c.page_rows.result ≡ a.schema.page_rows = c.page_rows.ensures.page_rows ∙ ap (λ (v : TreeView). v.schema.page_rows) (c.self.view_is ∙ c.in_ok-read_at.ensures.effect.same ∙ one) in
-      let fits = room_fits a c.args.region.now.next (length rows) c.region_after.new.self c.in-Some.next one
-      (λ told honest given. rw c.in-Some.is at (c.in_ok-next.ensures.led told honest given)) c.read_at.new.page (λ honest r on. c.in_ok-read_at.ensures.taken honest r on) in
-      elim c.if-join.branch [
-        | then-join w ↦ rw w.result-is (record { led = λ honest can. tt; fits = λ honest room. refl })
-        | else-join w ↦ rw w.result-is (record { led = λ honest can. tt; fits = λ honest room. absurd (let fit = fits honest room in no_fit _ _ count (sym c.join.ensures.fit ∙ w.if-join.false) (omega arith)) })
-      ];
-  effect = search rules;
-}
+returns g c =
+    let a = c.args.self.now in
+    let next = c.in-Some.next in
+    let rows = c.args.room.now.region.region.rows in
+    let more = c.read_at.new.page.region.rows in
+    let one = c.in_ok-next.ensures.effect.same in
+    record {
+      found = let span = c.args.region.now in
+          let two = c.in_ok-read_at.ensures.effect.same in
+          let begins = rw c.in-Some.is at c.in_ok-next.ensures.begins in
+          let told = rw c.in-Some.is at c.in_ok-next.ensures.falls in
+          let count : c.page_rows.result ≡ a.schema.page_rows = c.page_rows.ensures.page_rows ∙ ap (λ (v : TreeView). v.schema.page_rows) (c.self.view_is ∙ two ∙ one) in
+          let on = subst (λ (v : TreeView). IsTakenIn v next c.read_at.new.page.region) one c.in_ok-read_at.ensures.read.on in
+          let made = next_region a c.requires.there.told.key span next rows more c.requires.there.told.falls begins c.requires.rows.rows (rows_on a next c.read_at.new.page.region on) in
+          elim c.if-join.branch [
+            | then-join w ↦
+                let fit = leb-true (length rows + length more) c.page_rows.result (sym c.join.ensures.fit ∙ w.if-join.true) in
+                let good = made (omega arith) in
+                let joined = rw w.if-join.true at c.join.ensures.rows in
+                rw w.result-is (rw joined (record {
+                  pair = record { there = c.requires.there; told = told; ends = begins; begins = c.requires.rows.first; region = good };
+                  stored = λ i stored at. rw c.in-Some.is at (c.in_ok-next.ensures.after i stored at);
+                  taken = (c.read_at.new.page.region, on, refl);
+                }))
+            | else-join w ↦ rw w.result-is (rw w.if-join.false at c.join.ensures.rows)
+          ];
+      joined = λ i stored at.
+          let stands = rw c.in-Some.is at (c.in_ok-next.ensures.after i stored at) in
+          let count = c.page_rows.ensures.page_rows ∙ ap (λ (v : TreeView). v.schema.page_rows) c.self.view_is in
+          let joined = joins_next a c.region_after.new.self c.read_at.new.self i next c.args.room.now.region.region.rows c.join.new.self.region.rows c.read_at.new.page.region.rows c.join.result c.page_rows.result
+          c.in_ok-next.ensures.effect.same c.in_ok-read_at.ensures.effect.same stands c.in_ok-read_at.ensures.rows count c.join.ensures.fit (ap (λ (v : RegionView). v.region.rows) c.join.ensures.rows) stored.honest in
+          elim c.if-join.branch [
+            | then-join w ↦ rw w.result-is (rw w.if-join.true at joined)
+            | else-join w ↦ rw w.result-is (rw w.if-join.false at joined)
+          ];
+      refused = let count : c.page_rows.result ≡ a.schema.page_rows = c.page_rows.ensures.page_rows ∙ ap (λ (v : TreeView). v.schema.page_rows) (c.self.view_is ∙ c.in_ok-read_at.ensures.effect.same ∙ one) in
+          let fits = room_fits a c.args.region.now.next (length rows) c.region_after.new.self c.in-Some.next one
+          (λ told honest given. rw c.in-Some.is at (c.in_ok-next.ensures.led told honest given)) c.read_at.new.page (λ honest r on. c.in_ok-read_at.ensures.taken honest r on) in
+          elim c.if-join.branch [
+            | then-join w ↦ rw w.result-is (record { led = λ honest can. tt; fits = λ honest room. refl })
+            | else-join w ↦ rw w.result-is (record { led = λ honest can. tt; fits = λ honest room. absurd (let fit = fits honest room in no_fit _ _ count (sym c.join.ensures.fit ∙ w.if-join.false) (omega arith)) })
+          ];
+      effect = search rules;
+    }
 
 pub returns-in_err-next : goal.returns-in_err-next
 returns-in_err-next g c = record {

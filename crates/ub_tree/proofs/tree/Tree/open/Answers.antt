@@ -7,28 +7,25 @@ use Rattle.ub_tree.specs.Opened.{IsOpenFault, IsRooted}
 use Rattle.ub_tree.proofs.tree.Tree.open.Goals as goal
 
 pub returns-in-Ok-read_table : goal.returns-in-Ok-read_table
-returns-in-Ok-read_table g c = record {
-  opened = let t = c.in-Ok-read_table in
-      rw (c.over.ensures, c.due-mark.ensures.due, t.ensures.index)
-      (opened (g.S.PageStore.facts c.args.store) t.header c.in-Ok.pager c.read_table.new.pager c.in-Ok.ensures.made t.ensures.rooted
-      (ap (λ (p : PagerView). p.store) t.ensures.effect.same) (ap (λ (p : PagerView). p.trace) t.ensures.effect.same));
-  exact = search rules;
-  sound = λ schema placed next honest s.
-      let t = c.in-Ok-read_table in
-      let first = g.S.PageStore.facts c.args.store in
-      let store_is : c.in-Ok.pager.store ≡ first = ap (λ (p : PagerView). p.store) c.in-Ok.ensures.made in
-      let rooted = subst (λ (x : StoreFacts). IsHonest x → IsRooted x.pages t.header) store_is t.ensures.rooted honest in
-      let kept = ap (λ (p : PagerView). p.store) t.ensures.effect.same ∙ store_is in
-      rw (c.over.ensures, c.due-mark.ensures.due, t.ensures.index) (opened_sound first honest t.header rooted c.read_table.new.pager kept schema placed next s);
-  unclean = λ schema honest mark.
-      let t = c.in-Ok-read_table in
-      let first = g.S.PageStore.facts c.args.store in
-      let store_is : c.in-Ok.pager.store ≡ first = ap (λ (p : PagerView). p.store) c.in-Ok.ensures.made in
-      let rooted = subst (λ (x : StoreFacts). IsHonest x → IsRooted x.pages t.header) store_is t.ensures.rooted honest in
-      never_clean first honest schema mark t.header rooted.spelled rooted.in_range rooted.clean;
-  kept = search rules;
-  refused = search rules;
-}
+returns-in-Ok-read_table g c =
+    let t = c.in-Ok-read_table in
+    let first = g.S.PageStore.facts c.args.store in
+    let store_is : c.in-Ok.pager.store ≡ first = ap (λ (p : PagerView). p.store) c.in-Ok.ensures.made in
+    record {
+      opened = rw (c.over.ensures, c.due-mark.ensures.due, t.ensures.index)
+          (opened (g.S.PageStore.facts c.args.store) t.header c.in-Ok.pager c.read_table.new.pager c.in-Ok.ensures.made t.ensures.rooted
+          (ap (λ (p : PagerView). p.store) t.ensures.effect.same) (ap (λ (p : PagerView). p.trace) t.ensures.effect.same));
+      exact = search rules;
+      sound = λ schema placed next honest s.
+          let rooted = subst (λ (x : StoreFacts). IsHonest x → IsRooted x.pages t.header) store_is t.ensures.rooted honest in
+          let kept = ap (λ (p : PagerView). p.store) t.ensures.effect.same ∙ store_is in
+          rw (c.over.ensures, c.due-mark.ensures.due, t.ensures.index) (opened_sound first honest t.header rooted c.read_table.new.pager kept schema placed next s);
+      unclean = λ schema honest mark.
+          let rooted = subst (λ (x : StoreFacts). IsHonest x → IsRooted x.pages t.header) store_is t.ensures.rooted honest in
+          never_clean first honest schema mark t.header rooted.spelled rooted.in_range rooted.clean;
+      kept = search rules;
+      refused = search rules;
+    }
 
 pub returns-in-Err-read_table : goal.returns-in-Err-read_table
 returns-in-Err-read_table g c = record {

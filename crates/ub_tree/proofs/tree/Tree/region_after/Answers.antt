@@ -33,32 +33,31 @@ returns-in_err-next g c = record {
 }
 
 pub returns-else-begins_at : goal.returns-else-begins_at
-returns-else-begins_at g c = record {
-  begins = search rules;
-  falls = search rules;
-  last = search rules;
-  led = λ told honest given.
-      let t = c.self.inside in
-      let v : TreeView = tree_view t.schema t.index t.count t.next t.rows (is_written t.mark) t.is_failed t.pager in
-      let of = subst (λ (x : TreeView). IsRegionOf x c.args.region.now) (sym c.self.view_is) c.requires in
-      let found = given_next v c.args.region.now.next c.in-Some.next (rw c.in-Some.is at (c.in_ok-next.ensures.given c.self.invariant.checked)) in
-      elim (next_begins v of.key found.0 c.args.region.now c.in-Some.next of.falls found.1 found.2) [
-        | inl same ↦ let no = c.if-begins_at.ensures.1 same in cc
-        | inr over ↦ absurd (over (subst (λ (x : TreeView). IsHonest x.store) (sym c.self.view_is) honest))
-      ];
-  after = search rules;
-  effect = let t = c.self.inside in
-      let v : TreeView = tree_view t.schema t.index t.count t.next t.rows (is_written t.mark) t.is_failed t.pager in
-      let told = subst (λ (x : TreeView). IsRegionOf x c.args.region.now) (sym c.self.view_is) c.requires in
-      let given = given_next v c.args.region.now.next c.in-Some.next (rw c.in-Some.is at (c.in_ok-next.ensures.given c.self.invariant.checked)) in
-      let over : ¬ (IsHonest t.pager.store) =
-      elim (next_begins v told.key given.0 c.args.region.now c.in-Some.next told.falls given.1 given.2) [
-        | inl same ↦ let no = c.if-begins_at.ensures.1 same in cc
-        | inr over ↦ over
-      ] in
-      rw (← c.self.view_is) (search_apart t.schema t.index t.count t.next t.rows (is_written t.mark) t.is_failed t.pager c.after.new.pager _ (Option Region) c.in_ok-next.field-0 c.apart.result
-      c.in_ok-next.ensures.effect c.apart.ensures over);
-}
+returns-else-begins_at g c =
+    let t = c.self.inside in
+    let v : TreeView = tree_view t.schema t.index t.count t.next t.rows (is_written t.mark) t.is_failed t.pager in
+    record {
+      begins = search rules;
+      falls = search rules;
+      last = search rules;
+      led = λ told honest given.
+          let of = subst (λ (x : TreeView). IsRegionOf x c.args.region.now) (sym c.self.view_is) c.requires in
+          let found = given_next v c.args.region.now.next c.in-Some.next (rw c.in-Some.is at (c.in_ok-next.ensures.given c.self.invariant.checked)) in
+          elim (next_begins v of.key found.0 c.args.region.now c.in-Some.next of.falls found.1 found.2) [
+            | inl same ↦ let no = c.if-begins_at.ensures.1 same in cc
+            | inr over ↦ absurd (over (subst (λ (x : TreeView). IsHonest x.store) (sym c.self.view_is) honest))
+          ];
+      after = search rules;
+      effect = let told = subst (λ (x : TreeView). IsRegionOf x c.args.region.now) (sym c.self.view_is) c.requires in
+          let given = given_next v c.args.region.now.next c.in-Some.next (rw c.in-Some.is at (c.in_ok-next.ensures.given c.self.invariant.checked)) in
+          let over : ¬ (IsHonest t.pager.store) =
+          elim (next_begins v told.key given.0 c.args.region.now c.in-Some.next told.falls given.1 given.2) [
+            | inl same ↦ let no = c.if-begins_at.ensures.1 same in cc
+            | inr over ↦ over
+          ] in
+          rw (← c.self.view_is) (search_apart t.schema t.index t.count t.next t.rows (is_written t.mark) t.is_failed t.pager c.after.new.pager _ (Option Region) c.in_ok-next.field-0 c.apart.result
+          c.in_ok-next.ensures.effect c.apart.ensures over);
+    }
 
 pub returns-in_default : goal.returns-in_default
 returns-in_default g c = record {

@@ -33,37 +33,33 @@ returns-in_err-before g c = record {
 }
 
 pub returns-else-begins_at : goal.returns-else-begins_at
-returns-else-begins_at g c = record {
-  ends = search rules;
-  falls = search rules;
-  led = λ told honest given.
-      let t = c.self.inside in
-      let span = c.args.region.now in
-      let before = c.in-Some.before in
-      let v : TreeView = tree_view t.schema t.index t.count t.next t.rows (is_written t.mark) t.is_failed t.pager in
-      let of = subst (λ (x : TreeView). IsRegionOf x span) (sym c.self.view_is) c.requires in
-      let found = given_next v (key_before span.first.z span.first.number) before (rw c.in-Some.is at (c.in_ok-before.ensures.given c.self.invariant.checked)) in
-      let few = few_of (λ (k : Key). k.number) before.next c.number_in-number.result c.number_in-number.type_inv c.number_in-number.ensures in
-      elim (before_ends v of.key found.0 span before of.falls found.1 found.2 few) [
-        | inl same ↦ let no = c.if-begins_at.ensures.1 same in cc
-        | inr over ↦ absurd (over (subst (λ (x : TreeView). IsHonest x.store) (sym c.self.view_is) honest))
-      ];
-  before = search rules;
-  effect = let t = c.self.inside in
-      let span = c.args.region.now in
-      let before = c.in-Some.before in
-      let v : TreeView = tree_view t.schema t.index t.count t.next t.rows (is_written t.mark) t.is_failed t.pager in
-      let told = subst (λ (x : TreeView). IsRegionOf x span) (sym c.self.view_is) c.requires in
-      let given = given_next v (key_before span.first.z span.first.number) before (rw c.in-Some.is at (c.in_ok-before.ensures.given c.self.invariant.checked)) in
-      let few = few_of (λ (k : Key). k.number) before.next c.number_in-number.result c.number_in-number.type_inv c.number_in-number.ensures in
-      let over : ¬ (IsHonest t.pager.store) =
-      elim (before_ends v told.key given.0 span before told.falls given.1 given.2 few) [
-        | inl same ↦ let no = c.if-begins_at.ensures.1 same in cc
-        | inr over ↦ over
-      ] in
-      rw (← c.self.view_is) (search_apart t.schema t.index t.count t.next t.rows (is_written t.mark) t.is_failed t.pager c.before-2.new.pager _ (Option Region) c.in_ok-before.field-0 c.apart.result
-      c.in_ok-before.ensures.effect c.apart.ensures over);
-}
+returns-else-begins_at g c =
+    let t = c.self.inside in
+    let span = c.args.region.now in
+    let before = c.in-Some.before in
+    let v : TreeView = tree_view t.schema t.index t.count t.next t.rows (is_written t.mark) t.is_failed t.pager in
+    let few = few_of (λ (k : Key). k.number) before.next c.number_in-number.result c.number_in-number.type_inv c.number_in-number.ensures in
+    record {
+      ends = search rules;
+      falls = search rules;
+      led = λ told honest given.
+          let of = subst (λ (x : TreeView). IsRegionOf x span) (sym c.self.view_is) c.requires in
+          let found = given_next v (key_before span.first.z span.first.number) before (rw c.in-Some.is at (c.in_ok-before.ensures.given c.self.invariant.checked)) in
+          elim (before_ends v of.key found.0 span before of.falls found.1 found.2 few) [
+            | inl same ↦ let no = c.if-begins_at.ensures.1 same in cc
+            | inr over ↦ absurd (over (subst (λ (x : TreeView). IsHonest x.store) (sym c.self.view_is) honest))
+          ];
+      before = search rules;
+      effect = let told = subst (λ (x : TreeView). IsRegionOf x span) (sym c.self.view_is) c.requires in
+          let given = given_next v (key_before span.first.z span.first.number) before (rw c.in-Some.is at (c.in_ok-before.ensures.given c.self.invariant.checked)) in
+          let over : ¬ (IsHonest t.pager.store) =
+          elim (before_ends v told.key given.0 span before told.falls given.1 given.2 few) [
+            | inl same ↦ let no = c.if-begins_at.ensures.1 same in cc
+            | inr over ↦ over
+          ] in
+          rw (← c.self.view_is) (search_apart t.schema t.index t.count t.next t.rows (is_written t.mark) t.is_failed t.pager c.before-2.new.pager _ (Option Region) c.in_ok-before.field-0 c.apart.result
+          c.in_ok-before.ensures.effect c.apart.ensures over);
+    }
 
 pub returns-in_default : goal.returns-in_default
 returns-in_default g c = record {

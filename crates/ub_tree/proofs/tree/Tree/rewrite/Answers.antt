@@ -18,32 +18,28 @@ use Rattle.ub_writing.specs.Marks.{is_written}
 use Rattle.ub_tree.proofs.tree.Tree.rewrite.Goals as goal
 
 pub returns-in-Ok : goal.returns-in-Ok
-returns-in-Ok g c = record {
-  same = search rules;
-  written = let t = c.self.inside in
-      let rows = c.args.page.now.region.rows in
-      let good = subst (λ (v : TreeView). IsRegion v.schema (record { first = c.args.region.now.first; rows = rows })) (sym c.self.view_is) c.requires.region in
-      let spells = ap (λ (k : Key). region_page t.schema (record { first = k; rows = rows })) c.requires.first in
-      rw (← c.self.view_is) (λ i stored at.
-      put_rows t.schema t.index t.count t.next t.rows (is_written t.mark) (is_written c.put_region.new.mark) t.is_failed t.pager c.put_region.new.pager i c.args.region.now
-      (region_page t.schema c.args.page.now.region) rows c.in-Ok.ensures.put (ap (λ (s : StoreFacts). s.honest) c.in-Ok.ensures.effect.same ∙ stored.honest) stored at good spells);
-  told = let t = c.self.inside in
-      let small = subst (λ n. n < 2 ^ 128) (sym c.self.invariant.last_is) (last_small t.schema.dims t.schema.counts.few_dims) in
-      let old : TreeView = tree_view t.schema t.index t.count t.next t.rows (is_written t.mark) t.is_failed t.pager in
-      let there : IsRegionThere old c.args.region.now = subst (λ (v : TreeView). IsRegionThere v c.args.region.now) (sym c.self.view_is) c.requires.there in
-      let good = subst (λ (v : TreeView). IsRegion v.schema (record { first = c.args.region.now.first; rows = c.args.page.now.region.rows })) (sym c.self.view_is) c.requires.region in
-      let is = subst (λ (k : Key). IsRegion t.schema (record { first = k; rows = c.args.page.now.region.rows })) (sym c.requires.first) good in
-      rw (← c.self.view_is) (told_there t.schema t.index t.count t.next t.rows (is_written t.mark) (is_written c.put_region.new.mark) t.is_failed t.pager c.put_region.new.pager c.args.region.now
-      (region_page t.schema c.args.page.now.region) c.root-root.ensures.some small there c.args.page.now.region is refl (ap (λ (s : StoreFacts). s.honest) c.in-Ok.ensures.effect.same) c.in-Ok.ensures.put);
-  put = let t = c.self.inside in
-      let spells = ap (λ (k : Key). region_page t.schema (record { first = k; rows = c.args.page.now.region.rows })) c.requires.first in
-      rw (← c.self.view_is) (λ honest. c.in-Ok.ensures.put.written honest ∙ ap (λ (page : List ℕ). Some page) spells);
-  faults = search rules;
-  stays = search rules;
-  effect = let t = c.self.inside in
-      let old : TreeView = tree_view t.schema t.index t.count t.next t.rows (is_written t.mark) t.is_failed t.pager in
-      let there : IsRegionThere old c.args.region.now = subst (λ (v : TreeView). IsRegionThere v c.args.region.now) (sym c.self.view_is) c.requires.there in
-      rw (← c.self.view_is) (record {
+returns-in-Ok g c =
+    let t = c.self.inside in
+    let old : TreeView = tree_view t.schema t.index t.count t.next t.rows (is_written t.mark) t.is_failed t.pager in
+    let there : IsRegionThere old c.args.region.now = subst (λ (v : TreeView). IsRegionThere v c.args.region.now) (sym c.self.view_is) c.requires.there in
+    record {
+      same = search rules;
+      written = let rows = c.args.page.now.region.rows in
+          let good = subst (λ (v : TreeView). IsRegion v.schema (record { first = c.args.region.now.first; rows = rows })) (sym c.self.view_is) c.requires.region in
+          let spells = ap (λ (k : Key). region_page t.schema (record { first = k; rows = rows })) c.requires.first in
+          rw (← c.self.view_is) (λ i stored at.
+          put_rows t.schema t.index t.count t.next t.rows (is_written t.mark) (is_written c.put_region.new.mark) t.is_failed t.pager c.put_region.new.pager i c.args.region.now
+          (region_page t.schema c.args.page.now.region) rows c.in-Ok.ensures.put (ap (λ (s : StoreFacts). s.honest) c.in-Ok.ensures.effect.same ∙ stored.honest) stored at good spells);
+      told = let small = subst (λ n. n < 2 ^ 128) (sym c.self.invariant.last_is) (last_small t.schema.dims t.schema.counts.few_dims) in
+          let good = subst (λ (v : TreeView). IsRegion v.schema (record { first = c.args.region.now.first; rows = c.args.page.now.region.rows })) (sym c.self.view_is) c.requires.region in
+          let is = subst (λ (k : Key). IsRegion t.schema (record { first = k; rows = c.args.page.now.region.rows })) (sym c.requires.first) good in
+          rw (← c.self.view_is) (told_there t.schema t.index t.count t.next t.rows (is_written t.mark) (is_written c.put_region.new.mark) t.is_failed t.pager c.put_region.new.pager c.args.region.now
+          (region_page t.schema c.args.page.now.region) c.root-root.ensures.some small there c.args.page.now.region is refl (ap (λ (s : StoreFacts). s.honest) c.in-Ok.ensures.effect.same) c.in-Ok.ensures.put);
+      put = let spells = ap (λ (k : Key). region_page t.schema (record { first = k; rows = c.args.page.now.region.rows })) c.requires.first in
+          rw (← c.self.view_is) (λ honest. c.in-Ok.ensures.put.written honest ∙ ap (λ (page : List ℕ). Some page) spells);
+      faults = search rules;
+      stays = search rules;
+      effect = rw (← c.self.view_is) (record {
         frame = wrote_tree t.schema t.index t.count t.next t.rows (is_written t.mark) (is_written c.put_region.new.mark) t.is_failed t.is_failed t.pager c.put_region.new.pager {T = Unit {0}} (Ok tt) c.in-Ok.ensures.effect.same c.in-Ok.ensures.trace;
         marked = marks_first t.schema t.index t.count t.next t.rows (is_written t.mark) (is_written c.put_region.new.mark) t.is_failed t.is_failed t.pager c.put_region.new.pager t.mark c.put_region.new.mark (c.args.region.now.page ∷ []) refl refl c.self.invariant.mark_is c.put_region.ensures.marks
             (λ honest. (own_page old c.args.region.now c.root-root.ensures.some honest there.told, tt));
@@ -52,7 +48,7 @@ returns-in-Ok g c = record {
         kept = others_written (0 ∷ c.args.region.now.page ∷ []) t.pager.store c.put_region.new.pager.store c.put_region.ensures.marks.others;
         count = c.put_region.ensures.marks.others.count;
       });
-}
+    }
 
 pub returns-in-Err : goal.returns-in-Err
 returns-in-Err g c = record {
