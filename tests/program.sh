@@ -210,7 +210,7 @@ for old in s four gaps format_2/s format_2/four format_2/gaps; do
     case $old in
     *gaps) counts='-- rows 16, regions 6\n' csv=$root/tests/old/gaps.csv ;;
     *four) counts='-- rows 18, regions 7\n' csv=$root/tests/old/four.csv ;;
-    *s) counts='-- rows 5, regions 3\n' csv=$root/examples/s.csv ;;
+    *s) counts='-- rows 5, regions 3\n' csv=$root/tests/data/s.csv ;;
     esac
     printf 'what stood here' >new.ub
     try "is made anew, $old.ub" 0 all "$counts" upgrade old.ub new.ub

@@ -26,7 +26,7 @@ refused() {
     if [ "$limit" -lt 3000 ]; then limit=3000; fi
     for stack in 8192 256; do
         start=$(date +%s%N)
-        text=$(ulimit -s "$stack" && exec "$ubq" try "$top/examples/s.csv" "$folder/script.sql" --dims 2 2>&1)
+        text=$(ulimit -s "$stack" && exec "$ubq" try "$top/tests/data/s.csv" "$folder/script.sql" --dims 2 2>&1)
         status=$?
         milliseconds=$((($(date +%s%N) - start) / 1000000))
         echo "$1, stack $stack KB: $text, status $status, $milliseconds ms"

@@ -12,7 +12,7 @@ root=$(cd "$old/../.." && pwd)
 ubq=${UBQ:-$root/bin/ubq}
 folder=$(cd "$1" && pwd)
 
-"$ubq" load "$root/examples/s.csv" "$folder/s.ub" --dims 2 --page-rows 2
+"$ubq" load "$root/tests/data/s.csv" "$folder/s.ub" --dims 2 --page-rows 2
 "$ubq" load "$old/four.csv" "$folder/four.ub" --dims 4 --page-rows 4 --name four
 "$ubq" load "$old/gaps.csv" "$folder/gaps.ub" --dims 3 --page-rows 4 --name gaps
 

@@ -11,7 +11,7 @@ root=$(cd "$here/../../.." && pwd)
 ubq=${UBQ:-$root/bin/ubq}
 folder=$(cd "$1" && pwd)
 
-"$ubq" load "$root/examples/s.csv" "$folder/s.ub" --dims 2 --page-rows 2
+"$ubq" load "$root/tests/data/s.csv" "$folder/s.ub" --dims 2 --page-rows 2
 "$ubq" load "$here/../four.csv" "$folder/four.ub" --dims 4 --page-rows 4 --name four
 "$ubq" load "$here/../gaps.csv" "$folder/gaps.ub" --dims 3 --page-rows 4 --name gaps
 "$ubq" run "$folder/gaps.ub" "$here/gaps.sql"
