@@ -4,15 +4,15 @@
 first statements, how many did without, and how many did anything else (which is wrong). A table that was changed must then open, and hold what those statements left, but for the
 first rows of a DELETE that was stopped; where memory for a changed page was refused, which ends as `! Device`, it must be as it was. The old file of an upgrade must be as it was, and after a refusal the new one too, and so must each table that is described or checked.
 
-    tests/each_allocation.py [PROGRAM]      (needs cc; the program is built first where none is named)"""
+    tests/each_allocation.py [PROGRAM]      (needs cc)"""
 import pathlib
 import re
 import shutil
 import sys
 import tempfile
 
-import failing_memory
-from program import program as program_of
+from lib import failing_memory
+from lib.program import program as program_of
 
 SCRIPT = """SELECT * FROM t;
 SELECT m, x FROM t WHERE x >= 2 AND y >= 2 OR m < 8;
@@ -76,8 +76,8 @@ def has_rows(text, numbers):
 
 
 def main():
-    program = program_of(sys.argv[1] if len(sys.argv) > 1 else None)
-    wrong = 0
+    program = program_of()
+    refusals = wrong = 0
     with tempfile.TemporaryDirectory() as work:
         library = failing_memory.built(work)
         pathlib.Path(work, "s.csv").write_text("x,y,m\n1,1,10\n2,3,20\n3,0,5\n0,2,7\n2,3,1\n")
@@ -154,7 +154,9 @@ def main():
                     odd += 1
                     print(f"{words[0]}: allocation {due}: status {ended[0]}, {ended[1][-80:]!r} {ended[2][-80:]!r}")
             print(f"{words[0]}: {refused} told that memory was refused, {without} did without, {odd} wrong")
+            refusals += refused
             wrong += odd
+    print(f"each_allocation.py: {refusals} told that memory was refused, {wrong} wrong")
     return 1 if wrong else 0
 
 

@@ -1,7 +1,7 @@
 #!/usr/bin/env python3
 """Scripts at the limits, through the program, by hand: the deepest, the longest, the most statements, and bytes that are no text.
 
-    tests/limits.py [PROGRAM]      (the program is proved and built first where none is named)
+    tests/limits.py [PROGRAM]
 
 Each script runs on the table of five rows, in memory (`try`) and from its file (`run`), with the stack that there is and with one of
 256 KB. What it writes and its status are worked by hand. It must end within ten seconds, and the file must stay as it is. The last
@@ -14,7 +14,7 @@ import sys
 import tempfile
 import time
 
-from program import program as program_of
+from lib.program import program as program_of
 
 SECONDS = 10
 STACK = 256 * 1024
@@ -106,7 +106,7 @@ def ended(words, setting):
 
 
 def main():
-    program = program_of(sys.argv[1] if len(sys.argv) > 1 else None)
+    program = program_of()
     right = wrong = 0
     slowest = 0.0, "none"
     with tempfile.TemporaryDirectory() as work:

@@ -1,5 +1,5 @@
 #!/usr/bin/env bash
-# Runs the real program (`bin/ubq`, or the one that is named) in a folder for scratch, by hand: loading, asking and changing table
+# Runs the real program in a folder for scratch, by hand: loading, asking and changing table
 # files, the files that it refuses, standard input, and what it does where nothing can be written. What can't be tried on this
 # machine is named as skipped. The last line says how many are right; the status is 1 where one is not.
 #
@@ -8,7 +8,7 @@ set -u
 
 root=$(cd "$(dirname "$(readlink -f "${BASH_SOURCE[0]}")")/.." && pwd)
 [ $# -gt 0 ] || "$root/bin/ubq" --prove || exit 2
-ubq=$(readlink -f "${1:-$root/bin/ubq}")
+ubq=$(readlink -f "${1:-$root/crates/ubq/out/ubq}")
 room=$(mktemp -d "${TMPDIR:-/tmp}/ubq-program-XXXXXX") || exit 2
 trap 'chmod -R u+w "$room"; rm -rf "$room"' EXIT
 cd "$room" || exit 2

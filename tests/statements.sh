@@ -1,11 +1,11 @@
 #!/usr/bin/env bash
 # Statements of a million parts, through the program: each must be refused at the first part that is one too many, in at
 # most 3 seconds for each 10 MB of script, also with a stack of 256 KB. Run it by hand.
-# usage: [UBQ=PROGRAM] tests/statements.sh [PARTS]
+# usage: tests/statements.sh [PARTS [PROGRAM]]     (a million parts where no number is named)
 set -uo pipefail
 top=$(cd "$(dirname "$0")/.." && pwd)
-[ -n "${UBQ:-}" ] || "$top/bin/ubq" --prove || exit 2
-ubq=${UBQ:-$top/bin/ubq}
+[ $# -gt 1 ] || "$top/bin/ubq" --prove || exit 2
+ubq=$(readlink -f "${2:-$top/crates/ubq/out/ubq}")
 parts=${1:-1000000}
 folder=$(mktemp -d)
 trap 'rm -rf "$folder"' EXIT

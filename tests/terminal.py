@@ -17,7 +17,7 @@ import tempfile
 import termios
 import time
 
-from program import TOP, counts, judge, program
+from lib.program import TOP, counts, judge, program
 
 ASK = os.path.join(TOP, "examples", "ubq-ask")
 WORDS = os.path.join(TOP, "examples", "words.py")
@@ -179,7 +179,7 @@ def through_pipes(env):
 
 
 def main():
-    tried = program(sys.argv[1] if len(sys.argv) > 1 else None)
+    tried = program()
     env = {name: value for name, value in os.environ.items() if name not in ("PS1", "HISTFILE", "INPUTRC")}
     env.update(UBQ=tried, TERM="dumb", INPUTRC="/dev/null", LC_ALL="C.UTF-8")
     with tempfile.TemporaryDirectory() as work:
