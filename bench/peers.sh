@@ -4,32 +4,28 @@
 # dimension, and in its R*Tree. A time is that of a process which asks the query many times, less that of one which asks nothing, each the
 # least of some runs; pages are those of one query in a new process (of ubq the region pages that it tells, of SQLite the misses of its page
 # cache, less those of a query of no table).
-# usage: bench/peers.sh [ROWS]     (default 200000; needs the program sqlite3)
+# usage: bench/peers.sh [ROWS [PROGRAM]]     (default 200000; needs the program sqlite3)
 set -euo pipefail
 rows=${1:-200000}
 top=$(cd "$(dirname "$0")/.." && pwd)
 work=$(mktemp -d)
 trap 'rm -rf "$work"' EXIT
-runs=3
+answer=$work/answer
 command -v sqlite3 > /dev/null || { echo "peers.sh: no sqlite3 on the path" >&2; exit 2; }
 
+# shellcheck source=bench/lib/times.sh
+. "$top/bench/lib/times.sh"
+program=$(program_of "${2:-}")
 bash "$top/bench/table.sh" "$rows" > "$work/data.csv"
-"$top/bin/ubq" --prove
-program=$top/crates/ubq/out/ubq
 
 microseconds() { # COMMAND..: its least time in microseconds
-    local start end best=0 run
-    for ((run = 0; run < runs; run++)); do
-        start=$(date +%s%N)
-        "$@" > "$work/answer"
-        end=$(date +%s%N)
-        if [ "$best" -eq 0 ] || [ $((end - start)) -lt "$best" ]; then best=$((end - start)); fi
-    done
-    echo $((best / 1000))
+    echo $(($(least 3 "$@") / 1000))
 }
 
 # ---- loading
-once() { local start end; start=$(date +%s%N); "$@" > "$work/answer"; end=$(date +%s%N); echo "$(((end - start) / 1000000)) ms"; }
+once() { # COMMAND..: the time of one run
+    echo "$(($(least 1 "$@") / 1000000)) ms"
+}
 sqlite_load() { # FILE: the table t, with its rows
     sqlite3 "$1" "CREATE TABLE t(x INTEGER, y INTEGER, z INTEGER, kind INTEGER, amount INTEGER);" \
         ".mode csv" ".import --skip 1 $work/data.csv t"
