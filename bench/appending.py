@@ -3,9 +3,10 @@
 
 usage: bench/appending.py [--rounds N] [PROGRAM]      (default 3 rounds)
 
-100,000 random rows of three dimensions and two measures are put into a table of 200,000, and 200,000 into one of 2,000,000. Each line has the least of the
-rounds' times of both in seconds, and their ratio. Both tables must answer a query of all rows with the same text. Keep the machine quiet. It takes some 500 MB of
-disk, and as much memory."""
+100,000 random rows of three dimensions and two measures are put into a table of 200,000, and 200,000 into one of 2,000,000. Each line has
+the least of the rounds' times of both in seconds, and their ratio. Both tables must answer a query of all rows with the same text. It takes
+some 500 MB of disk, in the folder where it is run, and as much memory.
+"""
 import argparse
 import hashlib
 import os
@@ -29,7 +30,8 @@ def timed(words, work):
 
 def rows_of(program, table, work):
     """The sum of the text that a query of all rows of a table writes."""
-    text = subprocess.run([program, "query", table, "SELECT * FROM t"], cwd=work, check=True, stdout=subprocess.PIPE, stderr=subprocess.DEVNULL).stdout
+    words = [program, "query", table, "SELECT * FROM t"]
+    text = subprocess.run(words, cwd=work, check=True, stdout=subprocess.PIPE, stderr=subprocess.DEVNULL).stdout
     return hashlib.sha256(text).digest()
 
 

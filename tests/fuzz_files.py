@@ -41,7 +41,7 @@ import tempfile
 from lib.pages import ENTRIES, LEVELS, PAGE, TOP_NUMBER, entries_on, header_page, index_page, key_at, key_bytes, number_at, number_bytes
 from lib.pages import region_page
 from lib.program import program as program_of, word
-from lib.queries import OPERATORS
+from lib.queries import AGGREGATES, OPERATORS
 from lib.regions import HALF, ORIGIN, address, last_address
 
 SECONDS = 10
@@ -91,7 +91,7 @@ def condition(rng, columns, depth):
 
 
 def aggregate(rng, columns):
-    return rng.choice(["COUNT(*)", f"{rng.choice(['SUM', 'MIN', 'MAX'])}({rng.choice(columns)})"])
+    return rng.choice(["COUNT(*)", f"{rng.choice(list(AGGREGATES))}({rng.choice(columns)})"])
 
 
 def change(rng, columns):
@@ -130,7 +130,8 @@ def statement(rng, columns):
     return text + ";\n"
 
 
-WORDS = ["SELECT", "EXPLAIN", "INSERT", "INTO", "VALUES", "DELETE", "FROM", "WHERE", "AND", "OR", "NOT", "BETWEEN", "GROUP", "ORDER", "BY", "LIMIT", "COUNT(*)", "(", ")", ",", "*", ";"]
+WORDS = ["SELECT", "EXPLAIN", "INSERT", "INTO", "VALUES", "DELETE", "FROM", "WHERE", "AND", "OR", "NOT", "BETWEEN", "GROUP", "ORDER", "BY", "LIMIT"]
+WORDS += ["COUNT(*)", "(", ")", ",", "*", ";"]
 WORDS += ["--", "\n", "\r", "\0", "<", "=", "-", "x", "t", "'", "18446744073709551616", "(" * 70, "NOT " * 70, "x = 1 OR " * 70, "x," * 9, "\x80"]
 
 
@@ -161,7 +162,8 @@ def damaged_script(rng, script):
 def number_offset(rng, size):
     """Where a field of a page is likely: near the page's beginning, or where an entry or a row begins."""
     page = rng.randrange(max(1, size // PAGE)) * PAGE
-    near = rng.choice([rng.randrange(32), rng.randrange(5, 32), 16 + 24 * rng.randrange(12) + rng.randrange(24), rng.randrange(300), rng.randrange(PAGE)])
+    fields = [rng.randrange(32), rng.randrange(5, 32), 16 + 24 * rng.randrange(12) + rng.randrange(24)]
+    near = rng.choice(fields + [rng.randrange(300), rng.randrange(PAGE)])
     return min(page + near, max(0, size - 1))
 
 
@@ -210,7 +212,8 @@ ITEM = rb"(?:COUNT\(\*\)|(?:SUM|MIN|MAX)\(" + NAME + rb"\)|" + NAME + rb")"
 TITLES = re.compile(ITEM + rb"(?:," + ITEM + rb"){0,7}\Z")
 ROW = re.compile(rb"(?:-?[0-9]+|NULL)(?:,(?:-?[0-9]+|NULL))*\Z")
 COUNTS = re.compile(rb"-- rows ([0-9]+), pages [0-9]+\Z")
-REFUSED = re.compile(rb"! (?:BadByte|Syntax|NumberTooLarge|TooDeep|TooMany|UnknownTable|UnknownColumn|NotGrouped|NotSelected|ValueCount|ValueRange) at [0-9]+\Z")
+OF_A_PLACE = rb"BadByte|Syntax|NumberTooLarge|TooDeep|TooMany|UnknownTable|UnknownColumn|NotGrouped|NotSelected|ValueCount|ValueRange"
+REFUSED = re.compile(rb"! (?:" + OF_A_PLACE + rb") at [0-9]+\Z")
 PLAN = re.compile(rb"plan (?:empty|scan|sweep " + NAME + rb" (?:asc|desc))\Z")
 SIDE = NAME + rb" -?[0-9]+\.\.-?[0-9]+"
 BOX = re.compile(rb"box " + SIDE + rb"(?:, " + SIDE + rb"){0,3}\Z")
@@ -516,7 +519,8 @@ def one_off(rng, data, at, size):
 
 def an_entry(rng, table, above):
     """Where some entry stands, of an index page above level 1 or not, or None; and its page."""
-    places = [(number * PAGE + 16 + 24 * i, below) for number, level, entries in table.index if (level > 1) == above for i, (_, below) in enumerate(entries)]
+    pages = [(number * PAGE + 16, entries) for number, level, entries in table.index if (level > 1) == above]
+    places = [(at + 24 * i, below) for at, entries in pages for i, (_, below) in enumerate(entries)]
     return rng.choice(places) if places else (None, None)
 
 
@@ -795,7 +799,7 @@ class Plain:
         values = [row[1][self.head.columns.index(name.rstrip(")"))] for row in rows]
         if not values:
             return None
-        return {"SUM": sum, "MIN": min, "MAX": max, "": lambda of: of[0]}[what](values)
+        return AGGREGATES[what](values) if what else values[0]
 
     def ask_groups(self):
         columns = self.head.columns
@@ -806,7 +810,7 @@ class Plain:
             groups.setdefault(tuple(row[1][columns.index(name)] for name in by), []).append(row)
         titles = self.rng.sample(by, self.rng.randint(0, len(by)))
         for _ in range(self.rng.randint(0 if titles else 1, 3)):
-            titles.append(self.rng.choice(["COUNT(*)", f"{self.rng.choice(['SUM', 'MIN', 'MAX'])}({self.rng.choice(columns)})"]))
+            titles.append(aggregate(self.rng, columns))
         lines = [[self.cell(title, groups[group]) for title in titles] for group in sorted(groups)]
         order, lines = self.ordered(lines, titles, lambda line, key: line[titles.index(key)])
         limit, lines = self.limit(lines)

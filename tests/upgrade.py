@@ -123,7 +123,8 @@ def regions_of(rng, rows, widths, last):
         after = key_of(rows[0]) if rows else (last, NUMBERS - 1)
         low = ORIGIN if before is None else before
         high = key_of(held[0]) if held else after
-        firsts = [key for key in [high, (high[0], 0), (low[0] + 1, 0), (low[0], low[1] + 1)] if low < key <= high and key[0] <= last and key[1] < NUMBERS]
+        near = [high, (high[0], 0), (low[0] + 1, 0), (low[0], low[1] + 1)]
+        firsts = [key for key in near if low < key <= high and key[0] <= last and key[1] < NUMBERS]
         if before is not None and not firsts:
             regions[-1] = regions[-1][0], regions[-1][1] + held
         else:
