@@ -15,14 +15,13 @@ import sys
 import tempfile
 
 from lib.pages import PAGE, entries_on, entry_bytes, number_at, number_bytes
-from lib.program import counts, judge, program
+from lib.program import FIVE_ROWS, counts, judge, program
 from lib.regions import ORIGIN
 
 ROWS = 400
 ALL = b"SELECT x FROM t;"
 GROUPS = b"SELECT x, COUNT(*) FROM t GROUP BY x;"
 PLAN = b"EXPLAIN SELECT x FROM t;"
-FIVE = "x,y,m\n1,1,10\n2,3,20\n3,0,5\n0,2,7\n2,3,1\n"
 ROWS_TOLD = b"x\n" + b"".join(b"%d\n" % x for x in range(ROWS)) + b"-- rows 400, pages 200\n"
 
 
@@ -141,7 +140,8 @@ def main():
         tries.asked("nothing", whole, None, None, fine)
         for name, place, entry, rows, regions in damages(whole):
             tries.asked(f"{name} at {place}", with_entry(whole, place, entry), rows, regions, fine)
-        whole = tries.loaded(FIVE, "2")
+        with open(FIVE_ROWS) as file:
+            whole = tries.loaded(file.read(), "2")
         fine = {PLAN: tries.told(whole, PLAN)}
         assert b"regions 3 of 3\n" in fine[PLAN][0]
         for name, damaged, rows, regions in nine(whole):

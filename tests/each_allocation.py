@@ -15,7 +15,7 @@ import sys
 import tempfile
 
 from lib import failing_memory
-from lib.program import program as program_of
+from lib.program import FIVE_ROWS, program as program_of
 
 SCRIPT = """SELECT * FROM t;
 SELECT m, x FROM t WHERE x >= 2 AND y >= 2 OR m < 8;
@@ -83,7 +83,7 @@ def main():
     refusals = wrong = 0
     with tempfile.TemporaryDirectory() as work:
         library = failing_memory.built(work)
-        pathlib.Path(work, "s.csv").write_text("x,y,m\n1,1,10\n2,3,20\n3,0,5\n0,2,7\n2,3,1\n")
+        shutil.copy(FIVE_ROWS, pathlib.Path(work, "s.csv"))
         pathlib.Path(work, "every.sql").write_text(SCRIPT)
         pathlib.Path(work, "changes.sql").write_text(CHANGES)
         pathlib.Path(work, "more.csv").write_text(APPENDED)

@@ -17,7 +17,7 @@ import tempfile
 import termios
 import time
 
-from lib.program import TOP, counts, judge, program
+from lib.program import FIVE_ROWS, TOP, counts, judge, program
 
 ASK = os.path.join(TOP, "examples", "ubq-ask")
 WORDS = os.path.join(TOP, "examples", "words.py")
@@ -185,7 +185,7 @@ def main():
     with tempfile.TemporaryDirectory() as work:
         os.chdir(work)
         load = ["load", "--dims", "2", "--page-rows", "2"]
-        subprocess.run([tried, *load, os.path.join(TOP, "tests", "data", "s.csv"), "s.ub"], stdout=subprocess.DEVNULL, check=True)
+        subprocess.run([tried, *load, FIVE_ROWS, "s.ub"], stdout=subprocess.DEVNULL, check=True)
         shutil.copy("s.ub", "p.ub")
         subprocess.run([WORDS, "new", "w.words", "--spread", "2", "date:date", "town:word", "euros:2"], check=True)
         plain = subprocess.run([WORDS, "in", "w.words"], check=True, stdout=subprocess.PIPE, input=(

@@ -7,6 +7,8 @@ import sys
 import tempfile
 
 TOP = os.path.dirname(os.path.dirname(os.path.dirname(os.path.abspath(__file__))))
+# The text of a small table: five rows of two dimensions and a measure.
+FIVE_ROWS = os.path.join(TOP, "tests", "data", "s.csv")
 
 # How many things were right and wrong, by `judge`.
 counts = {"right": 0, "wrong": 0}
