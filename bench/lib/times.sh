@@ -1,3 +1,4 @@
+# shellcheck shell=bash disable=SC2154
 # What the shell scripts of this folder share. A script sets `top`, the repository, and `answer`, the file for what a timed command
 # writes, before it sources this.
 
