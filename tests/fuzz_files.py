@@ -676,7 +676,8 @@ def a_row_left_out(rng, data, table):
         return
     kind = rng.randrange(3)
     if kind != 0:
-        data[page * PAGE + 3] -= 1
+        # An earlier damage can have left it 0.
+        data[page * PAGE + 3] = (data[page * PAGE + 3] - 1) % 256
         body, at = bytes(data[page * PAGE + 24 : (page + 1) * PAGE]), 0
         kept = b""
         for size in [4] * (1 + table.head.dims) + [8] * table.head.measures:
