@@ -12,21 +12,19 @@ inserts=${2:-100000}
 top=$(cd "$(dirname "$0")/.." && pwd)
 work=$(mktemp -d)
 trap 'rm -rf "$work"' EXIT
+answer=$work/answer
 runs=3
 command -v sqlite3 > /dev/null || { echo "changes.sh: no sqlite3 on the path" >&2; exit 2; }
-if [ $# -gt 2 ]; then
-    program=$3
-else
-    "$top/bin/ubq" --prove
-    program=$top/crates/ubq/out/ubq
-fi
+# shellcheck source=bench/lib/times.sh
+. "$top/bench/lib/times.sh"
+program=$(program_of "${3:-}")
 
 # ---- the tables, and the rows that are put in: those that follow in the same sequence
 bash "$top/bench/table.sh" $((rows + inserts)) > "$work/all.csv"
 head -n $((rows + 1)) "$work/all.csv" > "$work/large.csv"
 head -n 1 "$work/all.csv" > "$work/none.csv"
 for table in none large; do
-    "$program" load "$work/$table.csv" "$work/$table.ub" --dims 3 > "$work/answer"
+    "$program" load "$work/$table.csv" "$work/$table.ub" --dims 3 > "$answer"
     sqlite3 "$work/$table.db" "CREATE TABLE t(x INTEGER, y INTEGER, z INTEGER, kind INTEGER, amount INTEGER);" \
         ".mode csv" ".import --skip 1 $work/$table.csv t" "CREATE INDEX all_of ON t(x, y, z, kind, amount);"
 done
@@ -43,29 +41,27 @@ for script in inserts one box every empty; do
 done
 
 # ---- times, in microseconds
-least() { # SOURCE COPY COMMAND..: the least time of the command over new copies of the source
-    local source=$1 copy=$2 start end best=0 run
+least_over_copies() { # SOURCE COPY COMMAND..: the least time of the command over new copies of the source
+    local source=$1 copy=$2 took best=0 run
     shift 2
     for ((run = 0; run < runs; run++)); do
         rm -f "$copy"*
         cp "$source" "$copy"
         sync -f "$copy"
-        start=$(date +%s%N)
-        "$@" > "$work/answer"
-        end=$(date +%s%N)
-        if [ "$best" -eq 0 ] || [ $((end - start)) -lt "$best" ]; then best=$((end - start)); fi
+        took=$(least 1 "$@")
+        if [ "$best" -eq 0 ] || [ "$took" -lt "$best" ]; then best=$took; fi
     done
     echo $((best / 1000))
 }
 ubq_time() { # TABLE SCRIPT
-    least "$work/$1.ub" "$work/copy.ub" "$program" run "$work/copy.ub" "$work/$2.sql"
+    least_over_copies "$work/$1.ub" "$work/copy.ub" "$program" run "$work/copy.ub" "$work/$2.sql"
 }
 sqlite_time() { # TABLE SCRIPT
-    least "$work/$1.db" "$work/copy.db" sqlite3 "$work/copy.db" ".read $work/$2.sqlite"
+    least_over_copies "$work/$1.db" "$work/copy.db" sqlite3 "$work/copy.db" ".read $work/$2.sqlite"
 }
 memory() { # COMMAND..: the most memory that it had, in MB, or nothing
     [ -x /usr/bin/time ] || return 0
-    /usr/bin/time -f %M -o "$work/memory" "$@" > "$work/answer"
+    /usr/bin/time -f %M -o "$work/memory" "$@" > "$answer"
     awk '{ printf ", %.1f MB", $1 / 1024 }' "$work/memory"
 }
 ubq_memory() { cp "$work/$1.ub" "$work/copy.ub" && memory "$program" run "$work/copy.ub" "$work/$2.sql"; }

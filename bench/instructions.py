@@ -2,7 +2,7 @@
 """Counts the instructions that programs `ubq` execute for the queries of bench/turns.py, by valgrind's callgrind: what else the
 machine does changes nothing of them, so that small differences can be told where times can't.
 
-usage: bench/instructions.py PROGRAM [PROGRAM..] [--rows N]      (default 200000 rows)
+usage: bench/instructions.py [--rows N] [PROGRAM..]      (default 200000 rows; needs the program valgrind)
 
 A query's count is that of a script which has it once, less that of an empty script. Each program asks a table file that it loaded
 itself. Prints a table in Markdown, in millions, with a column for each program in the order given, and how the last one stands to
@@ -15,7 +15,7 @@ import subprocess
 import tempfile
 from pathlib import Path
 
-from turns import QUERIES, TOP
+from lib.asked import QUERIES, programs, write_table
 
 
 def instructions(words, work):
@@ -30,27 +30,27 @@ def instructions(words, work):
 
 
 def main():
-    parser = argparse.ArgumentParser(usage=__doc__.split("\n\n")[1])
-    parser.add_argument("programs", nargs="+")
+    parser = argparse.ArgumentParser(usage=__doc__.split("\n\n")[1].removeprefix("usage: "))
+    parser.add_argument("programs", nargs="*")
     parser.add_argument("--rows", type=int, default=200000)
     given = parser.parse_args()
+    tried = programs(given.programs)
     with tempfile.TemporaryDirectory() as folder:
         work = Path(folder)
         data, script = work / "data.csv", work / "script.sql"
-        with data.open("w") as file:
-            subprocess.run(["bash", str(TOP / "bench" / "table.sh"), str(given.rows)], stdout=file, check=True)
-        tables = [work / f"{i}.ub" for i in range(len(given.programs))]
-        for program, table in zip(given.programs, tables):
+        write_table(data, given.rows)
+        tables = [work / f"{i}.ub" for i in range(len(tried))]
+        for program, table in zip(tried, tables):
             load = [program, "load", str(data), str(table), "--dims", "3", "--name", "t"]
             subprocess.run(load, stdout=subprocess.DEVNULL, check=True)
 
         def counts(text):
             script.write_text(text)
-            asked = zip(given.programs, tables)
+            asked = zip(tried, tables)
             return [instructions([program, "run", str(table), str(script)], work) for program, table in asked]
 
-        print("| What | " + " | ".join(f"`{program}`" for program in given.programs) + " | last to first |")
-        print("|---" * (len(given.programs) + 2) + "|")
+        print("| What | " + " | ".join(f"`{program}`" for program in given.programs or ["ubq"]) + " | last to first |")
+        print("|---" * (len(tried) + 2) + "|")
         empty = counts("")
         for name, _, query in QUERIES:
             own = [count - less for count, less in zip(counts(query + "\n"), empty)]

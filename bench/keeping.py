@@ -1,37 +1,39 @@
 #!/usr/bin/env python3
 """What keeping a table by a journal costs: two programs by turns, one that writes the table in place and one that keeps it, or any two.
 
-    bench/keeping.py OLD NEW [ROUNDS]
+usage: bench/keeping.py [--rounds N] OLD NEW      (default 5 rounds; needs the program strace)
 
-A table of 200,000 random rows of three dimensions and two measures is put in by `load`; then scripts of 1, 10,000 and 100,000
-INSERTs run on copies of it, a script that asks once, and a load where no table stands. Each line has the least of the rounds' times of OLD and of NEW in
-milliseconds, without the time inside fsync (by `strace`, which traces nothing else), their ratio, how many calls of fsync each makes, and the most memory of
-each in MB. Last comes the query alone, each program started 500 times by turns with no `strace`: the least, the middle one, and how much more NEW takes. Keep the
-machine quiet.
+A table of 200,000 random rows of three dimensions and two measures is put in by `load`; then scripts of 1, 10,000 and 100,000 INSERTs run on
+copies of it, a script that asks once, and a load where no table stands. Each line has the least of the rounds' times of OLD and of NEW in
+milliseconds, without the time inside fsync (by `strace`, which traces nothing else), their ratio, how many calls of fsync each makes, and the
+most memory of each in MB. Last comes the query alone, each program started 500 times by turns with no `strace`: the least, the middle one, and
+how much more NEW takes. Keep the machine quiet.
 
 Before each run memory is touched and given back: on a virtual machine whose host takes free memory away, what is new to the machine costs much
-more than what was used a moment ago, so that a program would be timed by what ran before it."""
+more than what was used a moment ago, so that a program would be timed by what ran before it.
+"""
+import argparse
 import os
-import random
 import re
 import resource
 import shutil
 import subprocess
-import sys
 import tempfile
 import time
 
+from lib.asked import csv_of, programs, random_rows
 
 # So many bytes are touched: more than a run takes, with the files that it makes in memory.
 TOUCHED = 512 << 20
 
 # How often each program is started for the query alone.
 STARTS = 500
+QUERY = "SELECT COUNT(*) FROM t WHERE x < 1000000;"
 
 
-def rows(count, seed):
-    rng = random.Random(seed)
-    return [[rng.randrange(1 << 32) for _ in range(3)] + [rng.randrange(-1000, 1000) for _ in range(2)] for _ in range(count)]
+def inserts(count):
+    """A script of so many INSERTs."""
+    return "".join(f"INSERT INTO t VALUES ({', '.join(map(str, row))});\n" for row in random_rows(count, 2))
 
 
 def touch_memory():
@@ -42,7 +44,7 @@ def touch_memory():
 
 
 def timed(words, work, text=None):
-    """The milliseconds of a run without those inside fsync, how often that was called, and the most memory that the run had in MB."""
+    """The milliseconds of a run without those inside fsync, and how often that was called."""
     trace = os.path.join(work, "trace")
     begun = time.monotonic()
     told = ["strace", "-f", "--seccomp-bpf", "-qq", "-T", "-o", trace, "-e", "trace=fsync", *words]
@@ -83,16 +85,20 @@ def tell_starts(old, new, words, work):
 
 
 def main():
-    old, new = (os.path.abspath(word) for word in sys.argv[1:3])
-    rounds = int(sys.argv[3]) if len(sys.argv) > 3 else 5
+    parser = argparse.ArgumentParser(description="times what keeping a table by a journal costs")
+    parser.add_argument("old")
+    parser.add_argument("new")
+    parser.add_argument("--rounds", type=int, default=5)
+    given = parser.parse_args()
+    (old, new), rounds = programs([given.old, given.new]), given.rounds
     with tempfile.TemporaryDirectory(dir=os.getcwd()) as work:
         data = os.path.join(work, "rows.csv")
         with open(data, "w") as to:
-            to.write("x,y,z,m,n\n" + "".join(",".join(map(str, row)) + "\n" for row in rows(200_000, 1)))
+            to.write(csv_of(random_rows(200_000, 1)))
         subprocess.run([new, "load", data, "full.ub", "--dims", "3"], cwd=work, check=True, stdout=subprocess.DEVNULL)
-        inserts = {count: "".join(f"INSERT INTO t VALUES ({', '.join(map(str, row))});\n" for row in rows(count, 2)) for count in (1, 10_000, 100_000)}
-        kinds = [(f"{count} INSERTs", ["run", "t.ub", "-"], text) for count, text in inserts.items()]
-        kinds += [("one query", ["run", "full.ub", "-"], "SELECT COUNT(*) FROM t WHERE x < 1000000;"), ("a load", ["load", data, "made.ub", "--dims", "3"], None)]
+        kinds = [(f"{count} INSERTs", ["run", "t.ub", "-"], inserts(count)) for count in (1, 10_000, 100_000)]
+        kinds.append(("one query", ["run", "full.ub", "-"], QUERY))
+        kinds.append(("a load", ["load", data, "made.ub", "--dims", "3"], None))
         print("what, ms of OLD, ms of NEW, ratio, fsyncs of OLD, of NEW, MB of OLD, of NEW")
         for name, words, text in kinds:
             least, syncs, held = {}, {}, {}
@@ -110,9 +116,10 @@ def main():
                     took, syncs[program] = timed([program, *words], work, text)
                     least[program] = min(took, least.get(program, took))
             ratio = least[new] / least[old]
-            print(f"{name}, {least[old]:.2f}, {least[new]:.2f}, {ratio:.2f}, {syncs[old]}, {syncs[new]}, {held[old]:.1f}, {held[new]:.1f}", flush=True)
+            times = f"{least[old]:.2f}, {least[new]:.2f}, {ratio:.2f}"
+            print(f"{name}, {times}, {syncs[old]}, {syncs[new]}, {held[old]:.1f}, {held[new]:.1f}", flush=True)
         with open(os.path.join(work, "query.sql"), "w") as to:
-            to.write("SELECT COUNT(*) FROM t WHERE x < 1000000;")
+            to.write(QUERY)
         tell_starts(old, new, ["run", "full.ub", "query.sql"], work)
 
 

@@ -2,7 +2,7 @@
 """Loads a large made table with one or more programs `ubq` by turns, and tells seconds of processor, memory and bytes; with --sqlite
 SQLite too, with one covering index on all columns; with --pages how many pages of the index each query of the last program reads.
 
-usage: bench/large.py PROGRAM [PROGRAM..] [--rows N] [--rounds N] [--sqlite] [--pages]      (default 2000000 rows, 5 rounds)
+usage: bench/large.py [--rows N] [--rounds N] [--sqlite] [--pages] [PROGRAM..]      (default 2000000 rows, 5 rounds)
 
 A time is the least of the rounds, user's and system's together, in each of which every program has its turn. Pages are counted by the
 calls of the system that read them (`strace`): less those of an empty script, and less the region pages, which a query tells itself.
@@ -17,9 +17,8 @@ import sys
 import tempfile
 from pathlib import Path
 
-from turns import QUERIES
+from lib.asked import QUERIES, programs, write_table
 
-TOP = Path(__file__).resolve().parent.parent
 COLUMNS = "x, y, z, kind, amount"
 
 
@@ -56,10 +55,10 @@ def reads(program, table, script):
     return len(re.findall(rb"pread64\(.*= 4096", done.stderr)), int(told.group(1)) if told else 0
 
 
-def tell_loads(given, programs, data, work):
+def tell_loads(given, tried, data, work):
     least = {}
     for _ in range(given.rounds):
-        for i, program in enumerate(programs):
+        for i, program in enumerate(tried):
             table = work / f"{i}.ub"
             table.unlink(missing_ok=True)
             used = processor([program, "load", str(data), str(table), "--dims", "3", "--name", "t"])
@@ -71,7 +70,7 @@ def tell_loads(given, programs, data, work):
     print("|---|---|---|---|")
     for name, (seconds, memory) in least.items():
         file = work / ("sqlite" if name == "sqlite" else f"{name}.ub")
-        print(f"| {name if name == 'sqlite' else programs[name]} | {seconds:.2f} | {memory:.0f} | {file.stat().st_size} |")
+        print(f"| {name if name == 'sqlite' else tried[name]} | {seconds:.2f} | {memory:.0f} | {file.stat().st_size} |")
 
 
 def tell_pages(program, table, work):
@@ -84,21 +83,20 @@ def tell_pages(program, table, work):
 
 def main():
     parser = argparse.ArgumentParser(description="loads a large table with programs ubq by turns")
-    parser.add_argument("programs", nargs="+")
+    parser.add_argument("programs", nargs="*")
     parser.add_argument("--rows", type=int, default=2000000)
     parser.add_argument("--rounds", type=int, default=5)
     parser.add_argument("--sqlite", action="store_true")
     parser.add_argument("--pages", action="store_true")
     given = parser.parse_args()
-    programs = [str(Path(p).resolve()) for p in given.programs]
+    tried = programs(given.programs)
     with tempfile.TemporaryDirectory(dir="/dev/shm") as folder:
         work = Path(folder)
         data = work / "data.csv"
-        with open(data, "wb") as file:
-            subprocess.run(["bash", str(TOP / "bench" / "table.sh"), str(given.rows)], stdout=file, check=True)
-        tell_loads(given, programs, data, work)
+        write_table(data, given.rows)
+        tell_loads(given, tried, data, work)
         if given.pages:
-            tell_pages(programs[-1], work / f"{len(programs) - 1}.ub", work)
+            tell_pages(tried[-1], work / f"{len(tried) - 1}.ub", work)
 
 
 if __name__ == "__main__":

@@ -1,7 +1,7 @@
 #!/usr/bin/env bash
 # Where the time goes, the kernel's part included: of 100 times COUNT(*) over all on a table file, of loading it, and of `try` with an empty
 # script. For each the functions that take most of the samples, and the shares of memmove (with memcpy) and of memset.
-# usage: bench/profile.sh [ROWS]     (default 200000, the table of bench/table.sh; needs the program perf)
+# usage: bench/profile.sh [ROWS [PROGRAM]]     (default 200000, the table of bench/table.sh; needs the program perf)
 set -euo pipefail
 rows=${1:-200000}
 top=$(cd "$(dirname "$0")/.." && pwd)
@@ -10,16 +10,18 @@ trap 'rm -rf "$work"' EXIT
 command -v perf > /dev/null || { echo "profile.sh: no perf on the path" >&2; exit 2; }
 shown=12
 
+answer=$work/answer
+# shellcheck source=bench/lib/times.sh
+. "$top/bench/lib/times.sh"
+program=$(program_of "${2:-}")
 bash "$top/bench/table.sh" "$rows" > "$work/data.csv"
-"$top/bin/ubq" --prove
-program=$top/crates/ubq/out/ubq
 : > "$work/empty.sql"
 for ((i = 0; i < 100; i++)); do echo "SELECT COUNT(*) FROM t;"; done > "$work/count.sql"
 
 profile() { # NAME COMMAND..: where its time goes
     echo "$1:"
     shift
-    perf record -q -e cpu-clock -F 2000 -o "$work/samples" -- "$@" > "$work/answer"
+    perf record -q -e cpu-clock -F 2000 -o "$work/samples" -- "$@" > "$answer"
     perf report -i "$work/samples" --stdio --no-children --sort symbol 2> "$work/warnings" | sed 's/#.*//' |
         awk -v shown="$shown" '
             $1 ~ /%$/ {

@@ -2,43 +2,37 @@
 # Times queries on a made table of three dimensions and two measures: for each kind the time of one query, its rows and its pages, the
 # pages of the table, and the floor (the rows of the answer that a page can hold at most). A query's time is that of a script which has it many
 # times, less that of an empty script, each the least of some runs.
-# usage: bench/queries.sh [ROWS]     (default 200000)
+# Last it times a script of 100 statements, each of a range of one dimension, on a table of two dimensions that is half as large.
+# usage: bench/queries.sh [ROWS [PROGRAM]]     (default 200000)
 set -euo pipefail
 rows=${1:-200000}
 top=$(cd "$(dirname "$0")/.." && pwd)
 work=$(mktemp -d)
 trap 'rm -rf "$work"' EXIT
-repeats=3
-
+answer=$work/answer
+# shellcheck source=bench/lib/times.sh
+. "$top/bench/lib/times.sh"
+program=$(program_of "${2:-}")
 bash "$top/bench/table.sh" "$rows" > "$work/data.csv"
-"$top/bin/ubq" --prove
-program=$top/crates/ubq/out/ubq
 
-# The least nanoseconds that a script takes.
-least() {
-    local start end best=0 run
-    for ((run = 0; run < repeats; run++)); do
-        start=$(date +%s%N)
-        "$program" try "$work/data.csv" "$1" --dims 3 > "$work/answer"
-        end=$(date +%s%N)
-        if [ "$best" -eq 0 ] || [ $((end - start)) -lt "$best" ]; then best=$((end - start)); fi
-    done
-    echo "$best"
+# The nanoseconds that a script takes.
+script_time() { # SCRIPT
+    least 3 "$program" try "$work/data.csv" "$1" --dims 3
 }
 
 : > "$work/empty.sql"
-empty=$(least "$work/empty.sql")
+empty=$(script_time "$work/empty.sql")
 echo "loading $rows rows: $((empty / 1000000)) ms"
 echo "SELECT COUNT(*) FROM t;" > "$work/all.sql"
-"$program" try "$work/data.csv" "$work/all.sql" --dims 3 > "$work/answer"
-pages=$(sed -n 's/.*pages //p' "$work/answer")
+"$program" try "$work/data.csv" "$work/all.sql" --dims 3 > "$answer"
+pages=$(sed -n 's/.*pages //p' "$answer")
 
 query() { # a name, how many times, and the statement
     local time found read
     for ((i = 0; i < $2; i++)); do echo "$3"; done > "$work/script.sql"
-    time=$(($(least "$work/script.sql") - empty))
-    found=$(sed -n 's/^-- rows \([0-9]*\),.*/\1/p' "$work/answer" | tail -n 1)
-    read=$(sed -n 's/.*pages //p' "$work/answer" | tail -n 1)
+    time=$(($(script_time "$work/script.sql") - empty))
+    found=$(sed -n 's/^-- rows \([0-9]*\),.*/\1/p' "$answer" | tail -n 1)
+    read=$(sed -n 's/.*pages //p' "$answer" | tail -n 1)
     echo "$1: $(((time > 0 ? time : 0) / $2 / 1000)) us, rows $found, pages $read of $pages, floor $(((found + 63) / 64))"
 }
 
@@ -66,3 +60,18 @@ for box in "one hundredth|x BETWEEN 200000 AND 425000 AND y BETWEEN 200000 AND 4
         done
     done
 done
+
+# A whole run of `try`: the rows go into a tree, and each statement reads all of its regions.
+awk -v n=$((rows / 2)) 'BEGIN {
+    print "x,y,m"
+    a = 1
+    for (i = 0; i < n; i++) {
+        a = (a * 16807) % 2147483647; x = a
+        a = (a * 16807) % 2147483647; print x "," a "," i
+    }
+}' > "$work/plane.csv"
+for ((i = 0; i < 100; i++)); do
+    echo "SELECT * FROM t WHERE x BETWEEN $((i * 20000000)) AND $((i * 20000000 + 10000000));"
+done > "$work/ranges.sql"
+time=$(least 1 "$program" try "$work/plane.csv" "$work/ranges.sql" --dims 2)
+echo "try, $((rows / 2)) rows of two dimensions, 100 statements: $((time / 1000000)) ms, $(wc -l < "$answer") lines written"

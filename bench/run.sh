@@ -9,21 +9,13 @@ swept=${2:-200000}
 top=$(cd "$(dirname "$0")/.." && pwd)
 cd "$top/crates/bench"
 rt run -- 1 > /dev/null 2>&1 || { echo "bench/run.sh: crate bench does not build: see rt check there" >&2; exit 1; }
-# The nanoseconds that a command takes: the least of some runs, since what else the machine does only adds.
+answer=/dev/null
 repeats=7
-least() {
-    local start end best=0 run
-    for ((run = 0; run < repeats; run++)); do
-        start=$(date +%s%N)
-        "$@" > /dev/null
-        end=$(date +%s%N)
-        if [ "$best" -eq 0 ] || [ $((end - start)) -lt "$best" ]; then best=$((end - start)); fi
-    done
-    echo "$best"
-}
+# shellcheck source=bench/lib/times.sh
+. "$top/bench/lib/times.sh"
 # Nanoseconds for the calls in D dimensions by one way.
 jumps() {
-    least out/bench "$calls" "$1" "$2"
+    least $repeats out/bench "$calls" "$1" "$2"
 }
 for dims in 1 2 3 4; do
     making=$(jumps "$dims" making)
@@ -47,14 +39,14 @@ done
 # A page of 64 rows with one measure read into a region that is held, and filtered by a box.
 pages=200000
 for dims in 1 2 3 4; do
-    echo "a region read and filtered, $dims dimensions: $(($(least out/bench pages "$dims" "$pages") / pages)) ns a page ($pages pages)"
+    echo "a region read and filtered, $dims dimensions: $(($(least $repeats out/bench pages "$dims" "$pages") / pages)) ns a page ($pages pages)"
 done
 
 # Rows put into a UB-tree over a store in memory (64 rows a page), of two and three dimensions, in each order.
 filled=300000
 for dims in 2 3; do
     for order in random ascending clustered; do
-        fill=$(least out/bench fill "$filled" "$dims" "$order")
+        fill=$(least $repeats out/bench fill "$filled" "$dims" "$order")
         echo "ub_tree, $dims dimensions, $order: $((filled * 1000000000 / fill)) rows put in a second ($filled rows)"
     done
 done
@@ -69,11 +61,7 @@ out/bench held "$swept"
 
 # The boxes of a condition of 64 comparisons and 4096 cells.
 boxes() {
-    local start end
-    start=$(date +%s%N)
-    out/bench boxes "$1" > /dev/null
-    end=$(date +%s%N)
-    echo $((end - start))
+    least 1 out/bench boxes "$1"
 }
 none=$(boxes 0)
 some=$(boxes 100)

@@ -2,7 +2,7 @@
 """Times a program `ubq` on a table of unsigned dimensions and on the same rows in signed ones, by turns, in one run: the queries of
 bench/turns.py, whose table and literals are moved by 2^31, so that both tables have the same pages.
 
-usage: bench/signed.py PROGRAM [--rows N] [--rounds N] [--only WORD]      (default 200000 rows, 7 rounds)
+usage: bench/signed.py [--rows N] [--rounds N] [--only WORD] [PROGRAM]      (default 200000 rows, 7 rounds)
 
 Each time is the least of the rounds; a query's is that of a script which has it many times, less that of an empty script. The
 numbers of rows and pages told must be the same. Prints a table in Markdown.
@@ -16,7 +16,7 @@ import tempfile
 import time
 from pathlib import Path
 
-from turns import QUERIES, TOP, spelled
+from lib.asked import QUERIES, programs, spelled, write_table
 
 SHIFT = 2**31
 
@@ -49,18 +49,17 @@ def least_of_both(commands, rounds, name):
 
 def main():
     parser = argparse.ArgumentParser(description="times a program ubq on unsigned and on signed dimensions, by turns")
-    parser.add_argument("program")
+    parser.add_argument("program", nargs="?")
     parser.add_argument("--rows", type=int, default=200000)
     parser.add_argument("--rounds", type=int, default=7)
     parser.add_argument("--only", default="")
     given = parser.parse_args()
-    program = str(Path(given.program).resolve())
+    (program,) = programs([given.program] if given.program else [])
     with tempfile.TemporaryDirectory() as folder:
         work = Path(folder)
-        made = subprocess.run(["bash", str(TOP / "bench" / "table.sh"), str(given.rows)], stdout=subprocess.PIPE, check=True).stdout.decode()
-        header, *rows = made.splitlines()
+        write_table(work / "0.csv", given.rows)
+        header, *rows = (work / "0.csv").read_text().splitlines()
         fields = [row.split(",") for row in rows]
-        (work / "0.csv").write_text(made)
         lines = [",".join([*(str(int(it) - SHIFT) for it in row[:3]), *row[3:]]) for row in fields]
         (work / "1.csv").write_text("\n".join([header, *lines, ""]))
         masks = [[], ["--signed", "7"]]

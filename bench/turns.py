@@ -1,7 +1,7 @@
 #!/usr/bin/env python3
 """Times one or more programs `ubq` by turns, in one run: loading the table of bench/table.sh, opening it, and queries on its file.
 
-usage: bench/turns.py PROGRAM [PROGRAM..] [--rows N] [--xs N] [--rounds N] [--only WORD]      (default 200000 rows, 7 rounds)
+usage: bench/turns.py [--rows N] [--xs N] [--rounds N] [--only WORD] [PROGRAM..]      (default 200000 rows, 7 rounds)
 
 Each time is the least of the rounds, in each of which every program has its turn, since what else the machine does only adds. A query's
 time is that of a script which has it many times, less that of an empty script. The answers of all programs must be the same, but for the pages read.
@@ -19,37 +19,10 @@ import tempfile
 import time
 from pathlib import Path
 
-TOP = Path(__file__).resolve().parent.parent
+from lib.asked import QUERIES, programs, spelled, write_table
 
 # How often a process that hardly does anything has its turn.
 STARTS = 100
-
-ALL = "x >= 0"
-FIFTH = "x BETWEEN 200000 AND 813000 AND y BETWEEN 200000 AND 813000 AND z BETWEEN 200000 AND 813000"
-TENTH = "x BETWEEN 200000 AND 686000 AND y BETWEEN 200000 AND 686000 AND z BETWEEN 200000 AND 686000"
-HUNDREDTH = "x BETWEEN 200000 AND 425000 AND y BETWEEN 200000 AND 425000 AND z BETWEEN 200000 AND 425000"
-SMALL = "x BETWEEN 500000 AND 550000 AND y BETWEEN 500000 AND 550000 AND z BETWEEN 500000 AND 550000"
-POINT = "x BETWEEN 500000 AND 505000 AND y BETWEEN 500000 AND 505000 AND z BETWEEN 500000 AND 505000"
-
-# A name, how many times the script has the query, and the query.
-QUERIES = [
-    ("a box of which one page meets", 4000, f"SELECT * FROM t WHERE {POINT};"),
-    ("a small box", 2000, f"SELECT * FROM t WHERE {SMALL};"),
-    ("a box of a hundredth", 100, f"SELECT * FROM t WHERE {HUNDREDTH};"),
-    ("a box of a tenth", 20, f"SELECT * FROM t WHERE {TENTH};"),
-    ("one dimension alone, a hundredth", 50, "SELECT * FROM t WHERE y BETWEEN 500000 AND 510000;"),
-    ("COUNT(*) over all", 20, "SELECT COUNT(*) FROM t;"),
-    ("SUM, MIN, MAX over all", 20, "SELECT SUM(amount), MIN(amount), MAX(amount) FROM t;"),
-    ("GROUP BY of 100 groups", 20, "SELECT kind, COUNT(*), SUM(amount) FROM t GROUP BY kind;"),
-    ("GROUP BY a dimension, all groups", 4, "SELECT x, COUNT(*), SUM(amount) FROM t GROUP BY x;"),
-    ("GROUP BY a dimension, LIMIT 20, in a fifth", 100, f"SELECT x, COUNT(*), SUM(amount) FROM t WHERE {FIFTH} GROUP BY x LIMIT 20;"),
-    ("COUNT(*) with a comparison of a measure", 20, "SELECT COUNT(*) FROM t WHERE amount < 50000;"),
-    ("ORDER BY a dimension, all rows (a sweep)", 4, f"SELECT * FROM t WHERE {ALL} ORDER BY x;"),
-    ("ORDER BY a measure, all rows (a scan)", 4, f"SELECT * FROM t WHERE {ALL} ORDER BY amount;"),
-    ("ORDER BY a measure, LIMIT 10, over all", 10, f"SELECT * FROM t WHERE {ALL} ORDER BY amount LIMIT 10;"),
-    ("ORDER BY a dimension, LIMIT 10, in a tenth (a sweep)", 100, f"SELECT * FROM t WHERE {TENTH} ORDER BY x LIMIT 10;"),
-    ("a sweep of all rows with a comparison of a measure", 4, "SELECT * FROM t WHERE amount < 5000 ORDER BY x;"),
-]
 
 
 def run(words):
@@ -75,34 +48,27 @@ def least_by_turns(commands, rounds, name, same_answers=True):
     return least
 
 
-def spelled(seconds):
-    if seconds < 1e-3:
-        return f"{max(seconds, 0) * 1e6:.1f} µs"
-    return f"{seconds * 1e3:.3g} ms"
-
-
 def row(name, times):
     print(f"| {name} | " + " | ".join(spelled(t) for t in times) + " |", flush=True)
 
 
 def main():
     parser = argparse.ArgumentParser(description="times programs ubq by turns")
-    parser.add_argument("programs", nargs="+")
+    parser.add_argument("programs", nargs="*")
     parser.add_argument("--rows", type=int, default=200000)
     parser.add_argument("--xs", type=int, default=1048576)
     parser.add_argument("--rounds", type=int, default=7)
     parser.add_argument("--only", default="")
     given = parser.parse_args()
-    programs = [str(Path(p).resolve()) for p in given.programs]
+    tried = programs(given.programs)
     with tempfile.TemporaryDirectory() as folder:
         work = Path(folder)
         data = work / "data.csv"
-        with open(data, "wb") as file:
-            subprocess.run(["bash", str(TOP / "bench" / "table.sh"), str(given.rows), str(given.xs)], stdout=file, check=True)
+        write_table(data, given.rows, given.xs)
         empty = work / "empty.sql"
         empty.write_text("")
-        print("| What | " + " | ".join(given.programs) + " |")
-        print("|---|" + "---|" * len(programs))
+        print("| What | " + " | ".join(given.programs or ["ubq"]) + " |")
+        print("|---|" + "---|" * len(tried))
 
         def load(i, program):
             def words():
@@ -110,13 +76,13 @@ def main():
                 return [program, "load", str(data), str(work / f"{i}.ub"), "--dims", "3", "--name", "t"]
             return words
 
-        row("`load`", least_by_turns([load(i, p) for i, p in enumerate(programs)], given.rounds, "load", same_answers=False))
-        tries = [[p, "try", str(data), str(empty), "--dims", "3", "--name", "t"] for p in programs]
+        row("`load`", least_by_turns([load(i, p) for i, p in enumerate(tried)], given.rounds, "load", same_answers=False))
+        tries = [[p, "try", str(data), str(empty), "--dims", "3", "--name", "t"] for p in tried]
         row("`try` with an empty script", least_by_turns(tries, given.rounds, "try"))
-        runs = [[p, "run", str(work / f"{i}.ub")] for i, p in enumerate(programs)]
-        starts = [words + [str(empty)] for words in runs] + [[p, "next", "2,2", "6,3", "19"] for p in programs]
+        runs = [[p, "run", str(work / f"{i}.ub")] for i, p in enumerate(tried)]
+        starts = [words + [str(empty)] for words in runs] + [[p, "next", "2,2", "6,3", "19"] for p in tried]
         least = least_by_turns(starts, STARTS, "empty", same_answers=False)
-        opened, others = least[: len(programs)], least[len(programs) :]
+        opened, others = least[: len(tried)], least[len(tried) :]
         row("`run` with an empty script", opened)
         row("`next`", others)
         for name, times, text in QUERIES:

@@ -3,12 +3,19 @@
 
     SELECT day, zone, minutes FROM trips WHERE zone BETWEEN 2 AND 7 ORDER BY day LIMIT 40;
 
-The regions are those of the real table, made here by the same rules: insertion in the order of the file, splitting a full region.
+The regions are those of the real table, made by the same rules (tests/lib/regions.py): insertion in the order of the file, splitting a full
+region.
 
 usage: python3 docs/sweep.py > docs/sweep.svg"""
-import bisect
 import csv
+import itertools
 import pathlib
+import sys
+
+ROOT = pathlib.Path(__file__).resolve().parent.parent
+sys.path.insert(0, str(ROOT / "tests"))
+
+from lib.regions import Shape, Table, address, place_of
 
 PAGE_ROWS = 16
 ZONES = range(2, 8)
@@ -17,53 +24,30 @@ DAYS, ALL_ZONES = 32, 16
 CELL, LEFT, TOP = 26, 54, 64
 
 
-def address(day, zone):
-    z = 0
-    for bit in range(8):
-        z |= (zone >> bit & 1) << (2 * bit) | (day >> bit & 1) << (2 * bit + 1)
-    return z
-
-
 def load(path):
-    """The regions: each its first key and its rows (key, day, zone), in the order of their first keys."""
-    regions = [((0, 0), [])]
+    """The table's regions, whose rows are the days and zones."""
     with open(path, newline="") as file:
-        for number, record in enumerate(csv.DictReader(file), 1):
-            day, zone = int(record["day"]), int(record["zone"])
-            row = ((address(day, zone), number), day, zone)
-            at = bisect.bisect_right([first for first, _ in regions], row[0]) - 1
-            rows = regions[at][1]
-            bisect.insort(rows, row)
-            if len(rows) > PAGE_ROWS:
-                half = (PAGE_ROWS + 2) // 2
-                z, taken = rows[half][0]
-                first = (z, 0) if rows[half - 1][0][0] < z else (z, taken)
-                regions.insert(at + 1, (first, rows[half:]))
-                del rows[half:]
-    return regions
+        rows = [(int(record["day"]), int(record["zone"])) for record in csv.DictReader(file)]
+    return Table(Shape(2, 0, 0, PAGE_ROWS), rows).regions
 
 
 def main():
-    regions = load(pathlib.Path(__file__).resolve().parent.parent / "examples" / "trips.csv")
-    firsts = [first for first, _ in regions]
-    inside = {}
-    for day in range(DAYS):
-        for zone in range(ALL_ZONES):
-            inside[day, zone] = bisect.bisect_right(firsts, (address(day, zone), 0)) - 1
+    regions = load(ROOT / "examples" / "trips.csv")
     # A span can begin at an address that the region before shares: the least key of an address stands in the one before.
+    inside = {point: place_of(regions, (address(point), 0)) for point in itertools.product(range(DAYS), range(ALL_ZONES))}
     events = {}
     for (day, zone), region in inside.items():
         if zone in ZONES:
             events[region] = min(day, events.get(region, day))
     # Past the days that are drawn lies the last region alone, and the frame goes on there.
     events.setdefault(len(regions) - 1, DAYS)
-    order = sorted(events, key=lambda region: (events[region], firsts[region]))
+    order = sorted(events, key=lambda region: (events[region], regions[region].first))
     held, fetched, given = [], [], []
     while len(given) < LIMIT:
         while order and (not held or events[order[0]] <= held[0][0]):
             region = order.pop(0)
             fetched.append(region)
-            held += [(day, key[1], zone) for key, day, zone in regions[region][1] if zone in ZONES]
+            held += [(day, number, zone) for (_, number), (day, zone) in regions[region].rows if zone in ZONES]
             held.sort()
         given.append(held.pop(0))
     draw(regions, inside, events, fetched, given, len(order))
@@ -97,9 +81,9 @@ def draw(regions, inside, events, fetched, given, unread):
         if inside.get((day, zone + 1), region) != region:
             print(f'<path d="M{x} {y}h{CELL}" stroke="#555555"/>')
     shown = {(day, zone) for day, _, zone in given}
-    for _, rows in regions:
+    for region in regions:
         seen = {}
-        for _, day, zone in rows:
+        for _, (day, zone) in region.rows:
             seen[day, zone] = seen.get((day, zone), 0) + 1
         for (day, zone), count in seen.items():
             x, y = corner(day, zone)

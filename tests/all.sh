@@ -13,28 +13,27 @@ said=$(mktemp -d "${TMPDIR:-/tmp}/ubq-tests-XXXXXX") || exit 2
 # The help has the name by which the program is run.
 mkdir "$said/bin" && cp "$ubq" "$said/bin/ubq" || exit 2
 ubq=$said/bin/ubq
-export UBQ=$ubq
 well=0 badly=0
 
 # Each test with its words, the quick ones first.
 tests() {
     cat <<END
 program.sh $ubq
-statuses.sh
+statuses.sh $ubq
 tutorial.py $ubq
 terminal.py $ubq
 hints.py $ubq
 completions.py $ubq
 damaged_index.py $ubq
 limits.py $ubq
-statements.sh
+statements.sh 1000000 $ubq
 sweeps.py 500 1 $ubq
 signed.py 500 1 $ubq
 changes.py 500 1 $ubq
 upgrade.py 500 1 $ubq
 words.py 30 1 $ubq
 each_allocation.py $ubq
-fuzz_files.py $ubq 2000 1
+fuzz_files.py 2000 1 $ubq
 crash.py 2000 $ubq
 END
 }

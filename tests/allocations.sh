@@ -49,7 +49,7 @@ whole=$(printf '%s' "${texts[@]}")
 bad=0
 well=0
 for ((n = first; n <= last && well < 10; n++)); do
-    text=$(rt try --fail-alloc "$n" --data s.csv="$top/examples/s.csv" --data kinds.sql="$work/kinds.sql" \
+    text=$(rt try --fail-alloc "$n" --data s.csv="$top/tests/data/s.csv" --data kinds.sql="$work/kinds.sql" \
         -- try s.csv kinds.sql --dims 2 --page-rows 2 2> /dev/null)
     status=$?
     text=$(grep -v '^rt: ' <<< "$text")

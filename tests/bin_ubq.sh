@@ -66,14 +66,14 @@ is_over() {
 
 answers() {
     local here=$PWD
-    ask try examples/s.csv examples/between.sql --dims 2
+    ask try tests/data/s.csv tests/data/between.sql --dims 2
     check "the first answer has the worked lines ($took s)" wrote "$worked"
     check "its status is the program's" ended 0
     check "it says that it is not proved" is_unproved
 
     mkdir -p "$room/with blank"
-    cp examples/s.csv "$room/with blank/a table.csv"
-    cp examples/between.sql "$room/with blank/a script.sql"
+    cp tests/data/s.csv "$room/with blank/a table.csv"
+    cp tests/data/between.sql "$room/with blank/a script.sql"
     ask try "$room/with blank/a table.csv" "crates/../../with blank/a script.sql" --dims 2
     check "absolute paths, with .. and with blanks" wrote "$worked"
     cd "$room/with blank" || exit 2
@@ -81,15 +81,15 @@ answers() {
     check "from another folder" wrote "$worked"
     cd "$here" || exit 2
 
-    bin/ubq try examples/s.csv - --dims 2 <examples/between.sql >"$room/out" 2>"$room/err"
+    bin/ubq try tests/data/s.csv - --dims 2 <tests/data/between.sql >"$room/out" 2>"$room/err"
     check "a script from a file as standard input" wrote "$worked"
-    { head -c 20 examples/between.sql; sleep 5; tail -c +21 examples/between.sql; } | bin/ubq try examples/s.csv - --dims 2 \
+    { head -c 20 tests/data/between.sql; sleep 5; tail -c +21 tests/data/between.sql; } | bin/ubq try tests/data/s.csv - --dims 2 \
         >"$room/out" 2>"$room/err"
     check "a script from a pipe that is silent for 5 seconds" wrote "$worked"
     if command -v script >/dev/null; then
         # A terminal: what is typed comes back too, and each line ends with a carriage return. It stays until the answer is there.
-        { sleep 2; cat examples/between.sql; sleep 1; printf '\004'; stay_for 'pages 1' "$room/typed"; } | timeout "$longest" \
-            script -qec 'bin/ubq try examples/s.csv - --dims 2 2>/dev/null; kill -TERM 0' /dev/null >"$room/typed" 2>/dev/null
+        { sleep 2; cat tests/data/between.sql; sleep 1; printf '\004'; stay_for 'pages 1' "$room/typed"; } | timeout "$longest" \
+            script -qec 'bin/ubq try tests/data/s.csv - --dims 2 2>/dev/null; kill -TERM 0' /dev/null >"$room/typed" 2>/dev/null
         check "a script that is typed at a terminal" \
             grep -q 'rows 3, pages 1' <(tr -d '\r' <"$room/typed")
     else
@@ -102,26 +102,26 @@ answers() {
     check "and writes the worked lines" cmp -s "$room/next.two" <(printf 'next 36\nprev 15\n')
 
     printf 'x,y\n2,-3\n' >"$room/signed.csv"
-    ask try --signed 2 "$room/signed.csv" examples/between.sql --dims 2
+    ask try --signed 2 "$room/signed.csv" tests/data/between.sql --dims 2
     check "a mask before the files" wrote 'x,y\n2,-3\n-- rows 1, pages 1\n'
 
-    ask try no.csv examples/between.sql --dims 2
+    ask try no.csv tests/data/between.sql --dims 2
     check "a file that isn't there is told as the program tells it" wrote '! Device\n'
     check "with its status" ended 4
-    ask run no.ub examples/between.sql
+    ask run no.ub tests/data/between.sql
     check "and so is a table" wrote '! Device\n'
     check "with that status" ended 4
     ask describe tests/old/s.ub
     check "a table file is described" wrote 'table t\ndimension x\ndimension y\nmeasure m\nrows 5\nnext 6\nregions 3\npage-rows 2\ndirectory-pages 1\nformat 1\nload-with --dims 2 --signed 0 --page-rows 2 --name t\n'
     check "by the build that is not proved" is_unproved
-    cp examples/s.csv "$room/none.ub"
+    cp tests/data/s.csv "$room/none.ub"
     ask describe "$room/none.ub"
     check "one that is none is not" wrote '! BadSize\n'
-    ask run "$room/none.ub" examples/between.sql
+    ask run "$room/none.ub" tests/data/between.sql
     check "a table file that is none is refused" ended 3
-    check "and stands as it was" cmp -s examples/s.csv "$room/none.ub"
+    check "and stands as it was" cmp -s tests/data/s.csv "$room/none.ub"
     scripts
-    ask try examples/s.csv examples/between.sql
+    ask try tests/data/s.csv tests/data/between.sql
     check "a wrong command line has status 2" ended 2
     ask load --help
     check "help of load needs no proof" grep -q '^Usage: ubq load ' "$room/out"
@@ -141,7 +141,7 @@ answers() {
     check "an answer past 1 MiB is not given" test ! -s "$room/out"
     check "with a status of none of the program's" ended 125
     check "and says what it needs" told 'needs the proved program'
-    head -c $((64 * 1024 * 1024 + 1)) /dev/zero | bin/ubq try examples/s.csv - --dims 2 >"$room/out" 2>"$room/err"
+    head -c $((64 * 1024 * 1024 + 1)) /dev/zero | bin/ubq try tests/data/s.csv - --dims 2 >"$room/out" 2>"$room/err"
     status=$?
     check "so does standard input past 64 MiB" told 'more than 64 MiB'
     check "with that status" ended 125
@@ -174,7 +174,7 @@ scripts() {
     check "a script that changes a table needs the proof" told 'changed by the proved program alone'
     check "without one there is no answer" ended 125
     check "nothing is written" test ! -s "$room/out"
-    check "and the table file stands as it was" cmp -s examples/s.csv "$room/none.ub"
+    check "and the table file stands as it was" cmp -s tests/data/s.csv "$room/none.ub"
     rm -f "$(sed -n 's/.*prover said: //p' "$room/err")"
     ask run "$room/none.ub" "$room/comment.sql"
     check "the word in a comment, in any case, needs it too" told 'changed by the proved program alone'
@@ -192,10 +192,10 @@ scripts() {
     ask query "$room/none.ub" -- '-- what an InSeRt would change'
     check "also where the word stands in a comment" told 'changed by the proved program alone'
     rm -f "$(sed -n 's/.*prover said: //p' "$room/err")"
-    ask append "$room/none.ub" examples/s.csv
+    ask append "$room/none.ub" tests/data/s.csv
     check "an append needs it" told 'changed by the proved program alone'
     check "without one there is no answer" ended 125
-    check "and the table file stands as it was" cmp -s examples/s.csv "$room/none.ub"
+    check "and the table file stands as it was" cmp -s tests/data/s.csv "$room/none.ub"
     rm -f "$(sed -n 's/.*prover said: //p' "$room/err")"
     ask upgrade tests/old/s.ub "$room/new.ub"
     check "an upgrade needs it" told 'made by the proved program alone'
@@ -218,7 +218,7 @@ scripts() {
     check "with the program's status" ended 3
     check "its fault isn't among the answers" test ! -s "$room/out"
     check "and is told apart" told '^! BadSize$'
-    ask try examples/s.csv "$room/changes.sql" --dims 2
+    ask try tests/data/s.csv "$room/changes.sql" --dims 2
     check "a try changes no file, so it is answered unproved" wrote '-- deleted 2\n-- inserted 6\nCOUNT(*)\n4\n-- rows 1, pages 1\n'
     check "and says so" is_unproved
 }
@@ -244,7 +244,7 @@ proof() {
     check "an interrupt leaves nothing running" is_over "$room/session"
 
     # A load proves first. Its table is the proved program's.
-    ask load examples/s.csv "$room/s.ub" --dims 2
+    ask load tests/data/s.csv "$room/s.ub" --dims 2
     check "a load ends with status 0" ended 0
     echo "    in $took s:"
     sed 's/^/    /' "$room/err"
@@ -252,16 +252,16 @@ proof() {
     check "it tells what it proved" told 'proved: ub_words'
     check "it writes its line" wrote '-- rows 5, regions 1\n'
 
-    ask try examples/s.csv examples/between.sql --dims 2
+    ask try tests/data/s.csv tests/data/between.sql --dims 2
     check "then the proved program answers" test ! -s "$room/err"
     check "with the worked lines" wrote "$worked"
-    ask run "$room/s.ub" examples/between.sql
+    ask run "$room/s.ub" tests/data/between.sql
     check "also of the table" wrote "$worked"
     ask query "$room/s.ub" 'SELECT * FROM t WHERE x BETWEEN 2 AND 3'
     check "and to a query" wrote 'x,y,m\n2,3,20\n3,0,5\n2,3,1\n'
     check "with the line that tells of it apart" told '^-- rows 3, pages 1$'
     cp "$room/s.ub" "$room/changed.ub"
-    ask append "$room/changed.ub" examples/s.csv
+    ask append "$room/changed.ub" tests/data/s.csv
     check "which takes rows of a file" wrote '-- appended 5, rows 10\n'
     ask query "$room/changed.ub" 'SELECT COUNT(*) FROM t'
     check "and has them" wrote 'COUNT(*)\n10\n'
@@ -269,14 +269,14 @@ proof() {
     printf 'INSERT INTO t VALUES (3, 3, -6);' >"$room/insert.sql"
     ask run "$room/changed.ub" "$room/insert.sql"
     check "and changes it" wrote '-- inserted 6\n'
-    ask run "$room/changed.ub" examples/between.sql
+    ask run "$room/changed.ub" tests/data/between.sql
     check "which the next run sees" wrote 'x,y,m\n2,3,20\n3,0,5\n2,3,1\n3,3,-6\n-- rows 4, pages 1\n'
     ask upgrade tests/old/gaps.ub "$room/gaps.ub"
     check "a table of an older version is made anew" wrote '-- rows 16, regions 6\n'
     ask --prove
     check "and there is nothing more to prove" test "$(cat "$room/err")" = 'ubq: proved: crates/ubq/out/ubq'
     find crates -name '*.rt' -exec touch {} +
-    ask try examples/s.csv examples/between.sql --dims 2
+    ask try tests/data/s.csv tests/data/between.sql --dims 2
     check "files that are newer and say the same prove nothing" test ! -s "$room/err"
     check "and the lines are the same" wrote "$worked"
 
@@ -294,7 +294,7 @@ proof() {
     check "with its script kept for the proved program" wrote '-- deleted 3\n'
     check "and ends with its status" ended 0
     check "the crate is proved again alone" test -z "$(grep ' of .* proved: ' "$room/err")"
-    ask run "$room/changed.ub" examples/between.sql
+    ask run "$room/changed.ub" tests/data/between.sql
     check "and the next run sees it" wrote 'x,y,m\n3,0,5\n-- rows 1, pages 1\n'
     echo '// And nothing more.' >>crates/ubq/src/main.rt
     ask --prove
@@ -309,7 +309,7 @@ proof() {
     log=$(sed -n 's/.*prover said: //p' "$room/err")
     check "it says where the log is" test -s "$log"
     rm -f "$log"
-    ask load examples/s.csv "$room/other.ub" --dims 2
+    ask load tests/data/s.csv "$room/other.ub" --dims 2
     check "a load does nothing then" test ! -e "$room/other.ub"
     rm -f "$(sed -n 's/.*prover said: //p' "$room/err")"
 }

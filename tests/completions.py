@@ -14,7 +14,7 @@ import shutil
 import subprocess
 import sys
 
-from program import TOP, counts, judge, program
+from lib.program import TOP, counts, judge, program
 
 BASH = os.path.join(TOP, "completions", "ubq.bash")
 ZSH = os.path.join(TOP, "completions", "_ubq")
@@ -205,7 +205,7 @@ def ask_zsh(zsh, commands, told):
 
 
 def main():
-    tried = program(sys.argv[1] if len(sys.argv) > 1 else None)
+    tried = program()
     commands, told = helps(tried)
     hold_bash(commands, told)
     values = hold_values(tried, told)

@@ -18,7 +18,7 @@ import sys
 import tempfile
 import time
 
-from program import program
+from lib.program import program, word
 
 CALLS = "pwrite64 fsync rename unlink ftruncate fchown chown fchmod chmod".split()
 CHANGE = "INSERT INTO t VALUES (2, 3, -4); DELETE FROM t WHERE x >= 30; INSERT INTO t VALUES (7, 7, 7);"
@@ -307,8 +307,7 @@ def upgrades(trials):
 
 
 def main():
-    kills = int(sys.argv[1]) if len(sys.argv) > 1 else 2000
-    ubq = program(sys.argv[2] if len(sys.argv) > 2 else None)
+    kills, ubq = int(word(1, 2000)), program(2)
     with tempfile.TemporaryDirectory() as room:
         trials = Trials(ubq, room)
         trials.put("small.ub", 30)

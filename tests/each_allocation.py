@@ -1,18 +1,21 @@
 #!/usr/bin/env python3
-"""Makes each allocation of the program fail in turn, by hand. It runs `try`, `load` and `run` on the table of five rows and a script with a statement of every kind, and then
-`run` of a script that changes the table, `append` of two rows, of which one parts a region, and `query` of an INSERT, each time on a new copy of it; `describe` and `check` of it, and of the same in format 1; and `upgrade` of that table in formats 1 and 2. It says how many runs told `! Memory` after whole texts of
-first statements, how many did without, and how many did anything else (which is wrong). A table that was changed must then open, and hold what those statements left, but for the
-first rows of a DELETE that was stopped; where memory for a changed page was refused, which ends as `! Device`, it must be as it was. The old file of an upgrade must be as it was, and after a refusal the new one too, and so must each table that is described or checked.
+"""Makes each allocation of the program fail in turn, by hand. It runs `try`, `load` and `run` on the table of five rows and a script with a
+statement of every kind, and then `run` of a script that changes the table, `append` of two rows, of which one parts a region, and `query` of an
+INSERT, each time on a new copy of it; `describe` and `check` of it, and of the same in format 1; and `upgrade` of that table in formats 1 and 2. It
+says how many runs told `! Memory` after whole texts of first statements, how many did without, and how many did anything else (which is wrong). A
+table that was changed must then open, and hold what those statements left, but for the first rows of a DELETE that was stopped; where memory for a
+changed page was refused, which ends as `! Device`, it must be as it was. The old file of an upgrade must be as it was, and after a refusal the new
+one too, and so must each table that is described or checked.
 
-    tests/each_allocation.py [PROGRAM]      (needs cc; the program is built first where none is named)"""
+    tests/each_allocation.py [PROGRAM]      (needs cc)"""
 import pathlib
 import re
 import shutil
 import sys
 import tempfile
 
-import failing_memory
-from program import program as program_of
+from lib import failing_memory
+from lib.program import FIVE_ROWS, program as program_of
 
 SCRIPT = """SELECT * FROM t;
 SELECT m, x FROM t WHERE x >= 2 AND y >= 2 OR m < 8;
@@ -76,11 +79,11 @@ def has_rows(text, numbers):
 
 
 def main():
-    program = program_of(sys.argv[1] if len(sys.argv) > 1 else None)
-    wrong = 0
+    program = program_of()
+    refusals = wrong = 0
     with tempfile.TemporaryDirectory() as work:
         library = failing_memory.built(work)
-        pathlib.Path(work, "s.csv").write_text("x,y,m\n1,1,10\n2,3,20\n3,0,5\n0,2,7\n2,3,1\n")
+        shutil.copy(FIVE_ROWS, pathlib.Path(work, "s.csv"))
         pathlib.Path(work, "every.sql").write_text(SCRIPT)
         pathlib.Path(work, "changes.sql").write_text(CHANGES)
         pathlib.Path(work, "more.csv").write_text(APPENDED)
@@ -123,7 +126,8 @@ def main():
             return status == 0 and any(has_rows(rows, numbers) for numbers in AFTER[words[0]][len(told) - 1])
 
         table = ["--dims", "2", "--page-rows", "2"]
-        scripts = [["try", "s.csv", "every.sql"] + table, ["load", "s.csv", "s.ub"] + table, ["run", "s.ub", "every.sql"], ["run", "copy.ub", "changes.sql"]]
+        scripts = [["try", "s.csv", "every.sql"] + table, ["load", "s.csv", "s.ub"] + table]
+        scripts += [["run", "s.ub", "every.sql"], ["run", "copy.ub", "changes.sql"]]
         scripts += [["append", "copy.ub", "more.csv"], ["query", "copy.ub", INSERTS]]
         scripts += [[asking, "s.ub"] for asking in ASKING] + [["describe", "one.ub"]]
         for old, file in OLDER.items():
@@ -147,14 +151,17 @@ def main():
                     since += 1
                     continue
                 since = 0
-                is_unkept = words[1] == "copy.ub" and ended[0] == DEVICE and ended[1].replace("! Device", "! Memory") in told and ended[2].startswith(NOT_KEPT)
+                is_told = ended[1].replace("! Device", "! Memory") in told
+                is_unkept = words[1] == "copy.ub" and ended[0] == DEVICE and is_told and ended[2].startswith(NOT_KEPT)
                 if ended[0] == MEMORY and ended[1] in told and not ended[2] or is_unkept:
                     refused += 1
                 else:
                     odd += 1
                     print(f"{words[0]}: allocation {due}: status {ended[0]}, {ended[1][-80:]!r} {ended[2][-80:]!r}")
             print(f"{words[0]}: {refused} told that memory was refused, {without} did without, {odd} wrong")
+            refusals += refused
             wrong += odd
+    print(f"each_allocation.py: {refusals} told that memory was refused, {wrong} wrong")
     return 1 if wrong else 0
 
 

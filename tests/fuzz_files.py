@@ -1,7 +1,7 @@
 #!/usr/bin/env python3
 """Damages table files and scripts at random, and runs the program on them, by hand.
 
-    tests/fuzz_files.py [PROGRAM [COUNT [SEED]]]      (the program is proved and built first where none is named)
+    tests/fuzz_files.py [COUNT [SEED [PROGRAM]]]
 
 Each case has two parts. The first takes a table file that the program loaded, and a script of whole statements on its columns. It
 damages the file (bytes, numbers, pages that are swapped, doubled, zeroed or put in, the file cut or made longer), the script (bytes,
@@ -38,9 +38,12 @@ import subprocess
 import sys
 import tempfile
 
-from program import program as program_of
+from lib.pages import ENTRIES, LEVELS, PAGE, TOP_NUMBER, entries_on, header_page, index_page, key_at, key_bytes, number_at, number_bytes
+from lib.pages import region_page
+from lib.program import program as program_of, word
+from lib.queries import AGGREGATES, OPERATORS
+from lib.regions import HALF, ORIGIN, address, last_address
 
-PAGE = 4096
 SECONDS = 10
 
 # ---- The tables: their name, dimensions, rows on a page, mask of signed dimensions, and data
@@ -88,7 +91,7 @@ def condition(rng, columns, depth):
 
 
 def aggregate(rng, columns):
-    return rng.choice(["COUNT(*)", f"{rng.choice(['SUM', 'MIN', 'MAX'])}({rng.choice(columns)})"])
+    return rng.choice(["COUNT(*)", f"{rng.choice(list(AGGREGATES))}({rng.choice(columns)})"])
 
 
 def change(rng, columns):
@@ -127,7 +130,8 @@ def statement(rng, columns):
     return text + ";\n"
 
 
-WORDS = ["SELECT", "EXPLAIN", "INSERT", "INTO", "VALUES", "DELETE", "FROM", "WHERE", "AND", "OR", "NOT", "BETWEEN", "GROUP", "ORDER", "BY", "LIMIT", "COUNT(*)", "(", ")", ",", "*", ";"]
+WORDS = ["SELECT", "EXPLAIN", "INSERT", "INTO", "VALUES", "DELETE", "FROM", "WHERE", "AND", "OR", "NOT", "BETWEEN", "GROUP", "ORDER", "BY", "LIMIT"]
+WORDS += ["COUNT(*)", "(", ")", ",", "*", ";"]
 WORDS += ["--", "\n", "\r", "\0", "<", "=", "-", "x", "t", "'", "18446744073709551616", "(" * 70, "NOT " * 70, "x = 1 OR " * 70, "x," * 9, "\x80"]
 
 
@@ -158,7 +162,8 @@ def damaged_script(rng, script):
 def number_offset(rng, size):
     """Where a field of a page is likely: near the page's beginning, or where an entry or a row begins."""
     page = rng.randrange(max(1, size // PAGE)) * PAGE
-    near = rng.choice([rng.randrange(32), rng.randrange(5, 32), 16 + 24 * rng.randrange(12) + rng.randrange(24), rng.randrange(300), rng.randrange(PAGE)])
+    fields = [rng.randrange(32), rng.randrange(5, 32), 16 + 24 * rng.randrange(12) + rng.randrange(24)]
+    near = rng.choice(fields + [rng.randrange(300), rng.randrange(PAGE)])
     return min(page + near, max(0, size - 1))
 
 
@@ -207,7 +212,8 @@ ITEM = rb"(?:COUNT\(\*\)|(?:SUM|MIN|MAX)\(" + NAME + rb"\)|" + NAME + rb")"
 TITLES = re.compile(ITEM + rb"(?:," + ITEM + rb"){0,7}\Z")
 ROW = re.compile(rb"(?:-?[0-9]+|NULL)(?:,(?:-?[0-9]+|NULL))*\Z")
 COUNTS = re.compile(rb"-- rows ([0-9]+), pages [0-9]+\Z")
-REFUSED = re.compile(rb"! (?:BadByte|Syntax|NumberTooLarge|TooDeep|TooMany|UnknownTable|UnknownColumn|NotGrouped|NotSelected|ValueCount|ValueRange) at [0-9]+\Z")
+OF_A_PLACE = rb"BadByte|Syntax|NumberTooLarge|TooDeep|TooMany|UnknownTable|UnknownColumn|NotGrouped|NotSelected|ValueCount|ValueRange"
+REFUSED = re.compile(rb"! (?:" + OF_A_PLACE + rb") at [0-9]+\Z")
 PLAN = re.compile(rb"plan (?:empty|scan|sweep " + NAME + rb" (?:asc|desc))\Z")
 SIDE = NAME + rb" -?[0-9]+\.\.-?[0-9]+"
 BOX = re.compile(rb"box " + SIDE + rb"(?:, " + SIDE + rb"){0,3}\Z")
@@ -273,9 +279,6 @@ def judged(text):
 
 KEYWORDS = b"SELECT EXPLAIN FROM WHERE AND OR NOT BETWEEN GROUP ORDER BY ASC DESC LIMIT COUNT SUM MIN MAX INSERT INTO VALUES DELETE".split()
 WORD = re.compile(rb"[A-Za-z_][A-Za-z0-9_]{0,31}\Z")
-TOP_NUMBER = 2**24 - 1
-ENTRIES = 170
-LEVELS = 16
 
 
 class Fault(Exception):
@@ -284,15 +287,6 @@ class Fault(Exception):
     def line(self):
         word, page = self.args
         return f"! {word}\n" if page is None else f"! {word} page {page}\n"
-
-
-def number_at(page, at, size=4):
-    return int.from_bytes(page[at : at + size], "big")
-
-
-def address(coordinates):
-    """The bits of all coordinates, from the highest place down; at each place the first dimension's goes first."""
-    return int("".join(map("".join, zip(*(format(c, "032b") for c in coordinates)))), 2)
 
 
 class Header:
@@ -322,10 +316,10 @@ class Header:
             raise Fault("BadName", 0)
         if any(page[10:12]) or any(page[32 + 33 * len(names) :]):
             raise Fault("BadPadding", 0)
-        self.last = 2 ** (32 * self.dims) - 1
+        self.last = last_address(self.dims)
 
     def value(self, i, coordinate):
-        return coordinate - 2**31 if self.signed >> i & 1 else coordinate
+        return coordinate - HALF if self.signed >> i & 1 else coordinate
 
 
 def ascend(keys):
@@ -339,7 +333,7 @@ def index_of(head, number, page, level, first, end):
     count = number_at(page, 2, 2)
     if not 1 <= page[1] <= LEVELS or not 1 <= count <= ENTRIES:
         raise Fault("BadCount", number)
-    entries = [((number_at(page, at, 16), number_at(page, at + 16)), number_at(page, at + 20)) for at in range(16, 16 + 24 * count, 24)]
+    entries = entries_on(page)
     keys = [key for key, _ in entries]
     if any(key[0] > head.last or key[1] > TOP_NUMBER or below == 0 for key, below in entries):
         raise Fault("BadRow", number)
@@ -361,7 +355,7 @@ def region_of(head, number, page, first, end):
     count, dims, measures = page[3], head.dims, head.measures
     if (page[1], page[2]) != (dims, measures) or count > head.page_rows:
         raise Fault("BadCount", number)
-    here = (number_at(page, 4, 16), number_at(page, 20))
+    here = key_at(page, 4)
     numbers = [number_at(page, 24 + 4 * i) for i in range(count)]
     if here[0] > head.last or here[1] > TOP_NUMBER or not all(1 <= n <= TOP_NUMBER for n in numbers):
         raise Fault("BadRow", number)
@@ -390,7 +384,7 @@ class Decoded:
         self.pages = [whole[at : at + PAGE] for at in range(0, len(whole), PAGE)]
         self.head = Header(self.page(0))
         self.index, self.regions, self.met = [], [], set()
-        self.walk(self.head.root, self.head.levels, (0, 0), None)
+        self.walk(self.head.root, self.head.levels, ORIGIN, None)
         self.rows = [row for _, rows in self.regions for row in rows]
         if (len(self.regions), len(self.rows)) != (self.head.regions, self.head.rows):
             raise Fault("BadCount", 0)
@@ -435,14 +429,6 @@ def decoded(whole):
 # ---- Tables of other shapes, which this script spells
 
 
-def entry(key, page):
-    return key[0].to_bytes(16, "big") + struct.pack(">II", key[1], page)
-
-
-def padded(page):
-    return page + bytes(PAGE - len(page))
-
-
 def parted(rng, things, most):
     """The same things in runs of 1 to so many."""
     at, runs = 0, []
@@ -453,34 +439,31 @@ def parted(rng, things, most):
     return runs
 
 
-def region_page(dims, measures, first, rows):
-    """The page of a region, of rows that are a key, the coordinates and the measures each."""
-    page = bytes([ord("R"), dims, measures, len(rows)]) + entry(first, 0)[:20] + b"".join(struct.pack(">I", key[1]) for key, _, _ in rows)
-    page += b"".join(struct.pack(">I", point[d]) for d in range(dims) for _, point, _ in rows)
-    return padded(page + b"".join(struct.pack(">q", more[m]) for m in range(measures) for _, _, more in rows))
-
-
 def random_rows(rng, dims, measures, count, numbers):
-    """Rows in the order of their keys."""
+    """Rows, each a number, its coordinates and its measures, in the order of their keys."""
     wide = rng.choice([2, 8, 64, 2**32])
     rows = []
     for n in numbers[:count]:
         point = [rng.randrange(wide) if rng.random() < 0.9 else rng.choice([0, 2**31 - 1, 2**31, 2**32 - 1]) for _ in range(dims)]
-        rows.append(((address(point), n), point, [rng.choice([rng.randrange(-99, 99), rng.randrange(-(2**63), 2**63)]) for _ in range(measures)]))
-    return sorted(rows)
+        rows.append((n, point, [rng.choice([rng.randrange(-99, 99), rng.randrange(-(2**63), 2**63)]) for _ in range(measures)]))
+    return sorted(rows, key=key_of)
+
+
+def key_of(row):
+    return address(row[1]), row[0]
 
 
 def random_spans(rng, rows, page_rows):
     """The rows in regions: the first key and the rows of each. A few have no row."""
-    spans, first = [], (0, 0)
+    spans, first = [], ORIGIN
     for run in parted(rng, rows, page_rows) or [[]]:
         if spans:
-            before, after = spans[-1][1][-1][0], run[0][0]
+            before, after = key_of(spans[-1][1][-1]), key_of(run[0])
             first = rng.choice([after, (before[0], before[1] + 1), after])
             if first > after or first[1] > TOP_NUMBER:
                 first = after
         spans.append((first, run))
-    z, n = spans[-1][1][-1][0] if spans[-1][1] else (0, 0)
+    z, n = key_of(spans[-1][1][-1]) if spans[-1][1] else ORIGIN
     if rng.random() < 0.3 and n < TOP_NUMBER:
         spans.append(((z, n + 1), []))
     return spans
@@ -511,15 +494,12 @@ def spelled(rng):
         above = []
         for run in parted(rng, below, rng.choice([3, 8, 170]) if levels < 6 else 170):
             page = next(free)
-            held[page] = padded(struct.pack(">BBH12x", ord("I"), levels, len(run)) + b"".join(entry(*one) for one in run))
+            held[page] = index_page(levels, run)
             above.append((run[0][0], page))
         below = above
     following = rng.choice([max(numbers, default=0) + 1, max(numbers, default=0) + 1, top + 1])
     names = [b"t"] + [b"abcdefgh"[i : i + 1] for i in range(dims + measures)]
-    head = b"UBTR" + bytes([3, 0, dims, measures, page_rows, rng.randrange(2**dims), 0, 0])
-    head += struct.pack(">IIIII", following, count, len(spans), below[0][1], levels)
-    head += b"".join(bytes([len(name)]) + name + bytes(32 - len(name)) for name in names)
-    held[0] = padded(head)
+    held[0] = header_page(3, dims, measures, page_rows, rng.randrange(2**dims), (following, count, len(spans), below[0][1], levels), names)
     size = max(held) + 1 + rng.choice([0, 0, 2])
     return b"".join(held[n] if n in held else rng.choice([bytes(PAGE), rng.randbytes(PAGE), held[0]]) for n in range(size))
 
@@ -539,7 +519,8 @@ def one_off(rng, data, at, size):
 
 def an_entry(rng, table, above):
     """Where some entry stands, of an index page above level 1 or not, or None; and its page."""
-    places = [(number * PAGE + 16 + 24 * i, below) for number, level, entries in table.index if (level > 1) == above for i, (_, below) in enumerate(entries)]
+    pages = [(number * PAGE + 16, entries) for number, level, entries in table.index if (level > 1) == above]
+    places = [(at + 24 * i, below) for at, entries in pages for i, (_, below) in enumerate(entries)]
     return rng.choice(places) if places else (None, None)
 
 
@@ -576,12 +557,12 @@ def pages_exchanged(rng, data, table):
 def an_index_page_twice(rng, data, table):
     at, _ = an_entry(rng, table, rng.random() < 0.8)
     if at is not None:
-        put(data, at + 20, struct.pack(">I", rng.choice(table.index)[0]))
+        put(data, at + 20, number_bytes(rng.choice(table.index)[0]))
 
 
 def a_region_twice(rng, data, table):
     at, _ = an_entry(rng, table, False)
-    put(data, at + 20, struct.pack(">I", rng.choice(table.regions)[0]))
+    put(data, at + 20, number_bytes(rng.choice(table.regions)[0]))
 
 
 def a_region_copied(rng, data, table):
@@ -595,14 +576,14 @@ def a_region_copied(rng, data, table):
 def a_number_twice(rng, data, table):
     page, _, i = a_row(rng, table)
     if page is not None:
-        put(data, page * PAGE + 24 + 4 * i, struct.pack(">I", rng.choice(table.rows)[0]))
+        put(data, page * PAGE + 24 + 4 * i, number_bytes(rng.choice(table.rows)[0]))
 
 
 def a_number_at_the_next(rng, data, table):
     page, _, i = a_row(rng, table)
     if page is not None:
         number = rng.choice([table.head.next, table.head.next, table.head.next - 1, table.head.next + 1, 0, TOP_NUMBER, TOP_NUMBER + 1])
-        put(data, page * PAGE + 24 + 4 * i, struct.pack(">I", number))
+        put(data, page * PAGE + 24 + 4 * i, number_bytes(number))
 
 
 def a_header_count(rng, data, table):
@@ -643,13 +624,13 @@ def a_late_end(rng, data, table):
     if len(pages) > 1:
         i = rng.randrange(len(pages) - 1)
         z, n = pages[i + 1][2][0][0]
-        put(data, pages[i][0] * PAGE + 16 + 24 * (len(pages[i][2]) - 1), entry((z, n + rng.choice([0, 0, 1])), 0)[:20])
+        put(data, pages[i][0] * PAGE + 16 + 24 * (len(pages[i][2]) - 1), key_bytes((z, n + rng.choice([0, 0, 1]))))
 
 
 def an_uncounted_region(rng, data, table):
     """The header counts one region less, and the last one's page isn't one: it isn't looked at."""
     if len(table.regions) > 1:
-        put(data, 20, struct.pack(">I", table.head.regions - 1))
+        put(data, 20, number_bytes(table.head.regions - 1))
         put(data, table.regions[-1][0] * PAGE, rng.choice([bytes(PAGE), rng.randbytes(PAGE), b"R" + bytes(PAGE - 1)]))
 
 
@@ -685,7 +666,7 @@ def measures(rng, data, table):
 
 def another_next(rng, data, table):
     """The next number is a greater one: the file is as sound as before."""
-    put(data, 12, struct.pack(">I", rng.choice([TOP_NUMBER + 1, rng.randint(table.head.next, TOP_NUMBER + 1)])))
+    put(data, 12, number_bytes(rng.choice([TOP_NUMBER + 1, rng.randint(table.head.next, TOP_NUMBER + 1)])))
 
 
 def a_row_left_out(rng, data, table):
@@ -703,7 +684,7 @@ def a_row_left_out(rng, data, table):
             at += size * count
         put(data, page * PAGE + 24, kept + bytes(PAGE - 24 - len(kept)))
     if kind != 1:
-        put(data, 16, struct.pack(">I", table.head.rows - 1))
+        put(data, 16, number_bytes(table.head.rows - 1))
 
 
 def a_region_left_out(rng, data, table):
@@ -713,10 +694,10 @@ def a_region_left_out(rng, data, table):
     put(data, number * PAGE + 2, struct.pack(">H", len(entries) - 1))
     put(data, last, bytes(24))
     if rng.random() < 0.7 and level == 1:
-        put(data, 20, struct.pack(">I", max(1, table.head.regions - 1)))
+        put(data, 20, number_bytes(max(1, table.head.regions - 1)))
         if rng.random() < 0.7:
             rows = dict(table.regions)[entries[-1][1]]
-            put(data, 16, struct.pack(">I", table.head.rows - len(rows)))
+            put(data, 16, number_bytes(table.head.rows - len(rows)))
 
 
 AIMED = [nothing, a_cut, some_bytes, pages_exchanged, an_index_page_twice, a_region_twice, a_region_copied, a_number_twice, a_number_at_the_next]
@@ -736,10 +717,6 @@ def aimed(rng, whole, table):
 
 
 # ---- Scripts on a list of rows: each statement is its text, and what it answers
-
-
-OPERATORS = {"=": lambda a, b: a == b, "<>": lambda a, b: a != b, "!=": lambda a, b: a != b, "<": lambda a, b: a < b}
-OPERATORS |= {"<=": lambda a, b: a <= b, ">": lambda a, b: a > b, ">=": lambda a, b: a >= b}
 
 
 class Plain:
@@ -822,7 +799,7 @@ class Plain:
         values = [row[1][self.head.columns.index(name.rstrip(")"))] for row in rows]
         if not values:
             return None
-        return {"SUM": sum, "MIN": min, "MAX": max, "": lambda of: of[0]}[what](values)
+        return AGGREGATES[what](values) if what else values[0]
 
     def ask_groups(self):
         columns = self.head.columns
@@ -833,7 +810,7 @@ class Plain:
             groups.setdefault(tuple(row[1][columns.index(name)] for name in by), []).append(row)
         titles = self.rng.sample(by, self.rng.randint(0, len(by)))
         for _ in range(self.rng.randint(0 if titles else 1, 3)):
-            titles.append(self.rng.choice(["COUNT(*)", f"{self.rng.choice(['SUM', 'MIN', 'MAX'])}({self.rng.choice(columns)})"]))
+            titles.append(aggregate(self.rng, columns))
         lines = [[self.cell(title, groups[group]) for title in titles] for group in sorted(groups)]
         order, lines = self.ordered(lines, titles, lambda line, key: line[titles.index(key)])
         limit, lines = self.limit(lines)
@@ -1026,9 +1003,7 @@ def aimed_case(program, paths, made, rng, tally):
 
 
 def main():
-    program = program_of(sys.argv[1] if len(sys.argv) > 1 else None)
-    count = int(sys.argv[2]) if len(sys.argv) > 2 else 2000
-    seed = sys.argv[3] if len(sys.argv) > 3 else "1"
+    count, seed, program = int(word(1, 2000)), word(2, "1"), program_of(3)
     tally, bad = Tally(), 0
     memory = "/dev/shm" if os.access("/dev/shm", os.W_OK) else None
     with tempfile.TemporaryDirectory(dir=memory) as work:

@@ -11,7 +11,7 @@ import subprocess
 import sys
 import tempfile
 
-from program import counts, judge, program
+from lib.program import counts, judge, program
 
 LOAD = ["load", "new.csv", "new.ub", "--dims", "2", "--name", "trips"]
 GOOD = b"zone,date,fare\n1,3,5\n"
@@ -112,7 +112,7 @@ def of_statements(tried):
 
 
 def main():
-    tried = program(sys.argv[1] if len(sys.argv) > 1 else None)
+    tried = program()
     with tempfile.TemporaryDirectory() as work:
         os.chdir(work)
         write("new.csv", GOOD)

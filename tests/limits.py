@@ -1,7 +1,7 @@
 #!/usr/bin/env python3
 """Scripts at the limits, through the program, by hand: the deepest, the longest, the most statements, and bytes that are no text.
 
-    tests/limits.py [PROGRAM]      (the program is proved and built first where none is named)
+    tests/limits.py [PROGRAM]
 
 Each script runs on the table of five rows, in memory (`try`) and from its file (`run`), with the stack that there is and with one of
 256 KB. What it writes and its status are worked by hand. It must end within ten seconds, and the file must stay as it is. The last
@@ -14,11 +14,10 @@ import sys
 import tempfile
 import time
 
-from program import program as program_of
+from lib.program import FIVE_ROWS, counts, judge, program as program_of
 
 SECONDS = 10
 STACK = 256 * 1024
-DATA = b"x,y,m\n1,1,10\n2,3,20\n3,0,5\n0,2,7\n2,3,1\n"
 TABLE = ["--dims", "2", "--page-rows", "2"]
 MILLION = 1000000
 
@@ -106,34 +105,28 @@ def ended(words, setting):
 
 
 def main():
-    program = program_of(sys.argv[1] if len(sys.argv) > 1 else None)
-    right = wrong = 0
+    program = program_of()
     slowest = 0.0, "none"
     with tempfile.TemporaryDirectory() as work:
-        data, table, path = (os.path.join(work, name) for name in ("s.csv", "s.ub", "script.sql"))
-        with open(data, "wb") as file:
-            file.write(DATA)
-        subprocess.run([program, "load", data, table] + TABLE, check=True, stdout=subprocess.DEVNULL)
+        table, path = (os.path.join(work, name) for name in ("s.ub", "script.sql"))
+        subprocess.run([program, "load", FIVE_ROWS, table] + TABLE, check=True, stdout=subprocess.DEVNULL)
         with open(table, "rb") as file:
             whole = file.read()
         for name, script, status, text in cases():
             with open(path, "wb") as file:
                 file.write(script)
-            for words in (["try", data, path] + TABLE, ["run", table, path]):
+            for words in (["try", FIVE_ROWS, path] + TABLE, ["run", table, path]):
                 for setting in (None, limited):
                     got = ended([program] + words, setting)
                     slowest = max(slowest, (got[3], f"{words[0]}, {name}"))
                     with open(table, "rb") as file:
                         is_same = file.read() == whole
-                    if got[:3] == (status, text, b"") and is_same:
-                        right += 1
-                        continue
-                    wrong += 1
                     stack = "a stack of 256 KB" if setting else "the usual stack"
-                    print(f"WRONG: {words[0]}, {name}, with {stack}: status {got[0]} for {status}, file {'the same' if is_same else 'changed'}")
-                    print(f"  wrote {got[1][:100]!r} .. {got[1][-100:]!r}\n  for   {text[:100]!r} .. {text[-100:]!r}\n  {got[2][-200:]!r}")
-    print(f"limits.py: {right} right, {wrong} wrong; the slowest took {slowest[0]:.2f} s ({slowest[1]})")
-    return 1 if wrong else 0
+                    seen = f"status {got[0]} for {status}, file {'the same' if is_same else 'changed'}\n"
+                    seen += f"wrote {got[1][:100]!r} .. {got[1][-100:]!r}\nfor   {text[:100]!r} .. {text[-100:]!r}\n{got[2][-200:]!r}"
+                    judge(f"{words[0]}, {name}, with {stack}", got[:3] == (status, text, b"") and is_same, seen)
+    print(f"limits.py: {counts['right']} right, {counts['wrong']} wrong; the slowest took {slowest[0]:.2f} s ({slowest[1]})")
+    return counts["wrong"] > 0
 
 
 if __name__ == "__main__":

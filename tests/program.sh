@@ -1,5 +1,5 @@
 #!/usr/bin/env bash
-# Runs the real program (`bin/ubq`, or the one that is named) in a folder for scratch, by hand: loading, asking and changing table
+# Runs the real program in a folder for scratch, by hand: loading, asking and changing table
 # files, the files that it refuses, standard input, and what it does where nothing can be written. What can't be tried on this
 # machine is named as skipped. The last line says how many are right; the status is 1 where one is not.
 #
@@ -8,7 +8,7 @@ set -u
 
 root=$(cd "$(dirname "$(readlink -f "${BASH_SOURCE[0]}")")/.." && pwd)
 [ $# -gt 0 ] || "$root/bin/ubq" --prove || exit 2
-ubq=$(readlink -f "${1:-$root/bin/ubq}")
+ubq=$(readlink -f "${1:-$root/crates/ubq/out/ubq}")
 room=$(mktemp -d "${TMPDIR:-/tmp}/ubq-program-XXXXXX") || exit 2
 trap 'chmod -R u+w "$room"; rm -rf "$room"' EXIT
 cd "$room" || exit 2
@@ -210,7 +210,7 @@ for old in s four gaps format_2/s format_2/four format_2/gaps; do
     case $old in
     *gaps) counts='-- rows 16, regions 6\n' csv=$root/tests/old/gaps.csv ;;
     *four) counts='-- rows 18, regions 7\n' csv=$root/tests/old/four.csv ;;
-    *s) counts='-- rows 5, regions 3\n' csv=$root/examples/s.csv ;;
+    *s) counts='-- rows 5, regions 3\n' csv=$root/tests/data/s.csv ;;
     esac
     printf 'what stood here' >new.ub
     try "is made anew, $old.ub" 0 all "$counts" upgrade old.ub new.ub

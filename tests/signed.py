@@ -13,27 +13,15 @@ With `--transcript` as the first word it prints the scripts, and what they must 
 then plays them with no proved program at hand: tests/signed.py --transcript 1000 | (cd crates/transcripts && rt try --seconds 500).
 """
 import itertools
-import operator
 import os
-import subprocess
 import sys
 
-from changes import take
-from program import try_cases
-from sweeps import AGGREGATES, GREATEST, address, event_values, pages_read, put
+from lib.program import ends_so, print_line, try_cases
+from lib.queries import AGGREGATES, OPERATORS, Script, everything, limit_of, order_of, spelled
+from lib.regions import GREATEST, HALF, Shape, Table, event_values, met_by, pages_read
 
-HALF = 2**31
 MOST_CELLS = 4096
-OPERATORS = {
-    "=": operator.eq,
-    "<>": operator.ne,
-    "!=": operator.ne,
-    "<": operator.lt,
-    "<=": operator.le,
-    ">": operator.gt,
-    ">=": operator.ge,
-}
-# The values at which each of them turns.
+# The values at which each operator turns.
 TURNS = {
     "=": lambda v: [v, v + 1],
     "<>": lambda v: [v, v + 1],
@@ -45,80 +33,12 @@ TURNS = {
 }
 
 
-class Shape:
-    """How many dimensions and measures a table has, which dimensions are signed, and how many rows a page holds."""
-
-    def __init__(self, dims, measures, mask, size):
-        self.dims, self.measures, self.mask, self.size = dims, measures, mask, size
-        self.names = "xyzw"[:dims] + "mn"[:measures]
-
-    def is_signed(self, dim):
-        return self.mask >> dim & 1 == 1
-
-    def least(self, column):
-        if column >= self.dims:
-            return -(2**63)
-        return -HALF if self.is_signed(column) else 0
-
-    def greatest(self, column):
-        if column >= self.dims:
-            return 2**63 - 1
-        return HALF - 1 if self.is_signed(column) else GREATEST
-
-    def has(self, column, value):
-        return self.least(column) <= value <= self.greatest(column)
-
-    def coordinate(self, dim, value):
-        return value + HALF if self.is_signed(dim) else value
-
-    def value(self, dim, coordinate):
-        return coordinate - HALF if self.is_signed(dim) else coordinate
-
-    def point(self, row):
-        return tuple(self.coordinate(dim, row[dim]) for dim in range(self.dims))
-
-    def words(self):
-        return f"--dims {self.dims} --page-rows {self.size}" + (f" --signed {self.mask}" if self.mask else "")
-
-
-class Table:
-    def __init__(self, shape, rows):
-        self.shape = shape
-        self.rows = {}
-        self.regions = [[(0, 0), []]]
-        self.next = 1
-        for row in rows:
-            self.insert(row)
-
-    def key(self, number):
-        return address(self.shape.point(self.rows[number])), number
-
-    def insert(self, row):
-        number = self.next
-        self.next += 1
-        self.rows[number] = row
-        put(self.regions, self.shape.size, self.key(number), row)
-        return number
-
-    def delete(self, condition):
-        numbers = sorted(number for number, row in self.rows.items() if holds(condition, row))
-        for number in numbers:
-            take(self.regions, self.shape.size, self.key(number))
-            del self.rows[number]
-        return len(numbers)
-
-    def in_order(self):
-        return [row for _, row in sorted(self.rows.items())]
-
-    def text(self):
-        return "".join(line + "\n" for line in [",".join(self.shape.names)] + [",".join(map(str, row)) for row in self.in_order()])
-
-
 # A condition is None, or one of ("compares", column, operator, literal), ("between", column, literal, literal), ("and", one, another),
 # ("or", one, another) and ("not", one).
 
 
 def holds(condition, row):
+    """Whether a condition is true of a row."""
     if condition is None:
         return True
     head, *parts = condition
@@ -148,6 +68,7 @@ def can_be(condition, row, dims):
 
 
 def leaves(condition):
+    """The comparisons of a condition."""
     if condition is None:
         return []
     head, *parts = condition
@@ -234,8 +155,8 @@ class Query:
         if self.group:
             text += f" GROUP BY {', '.join(names[column] for column in self.group)}"
         if self.keys:
-            text += " ORDER BY " + ", ".join(spelled(item, names) + (" DESC" if down else "") for item, down in self.keys)
-        return text + (f" LIMIT {self.limit}" if self.limit is not None else "") + ";"
+            text += f" ORDER BY {order_of(self.keys, names)}"
+        return text + limit_of(self.limit) + ";"
 
     def lead(self):
         """The dimension along which it is swept, and whether down, or None."""
@@ -297,18 +218,12 @@ class Query:
             for low, high in box:
                 size *= high - low + 1
             points += size
-        met = len(list(event_values(table.regions, self.shape.dims, moved(boxes, self.shape), 0, False)))
+        met = met_by(table.regions, self.shape.dims, moved(boxes, self.shape))
         return (
             [plan, cover, "filter no" if is_exact else "filter yes"]
             + ["box " + ", ".join(f"{name} {low}..{high}" for name, (low, high) in zip(self.shape.names, box)) for box in boxes]
             + [f"points {points}", f"regions {met} of {count}"]
         )
-
-
-def spelled(item, names):
-    if isinstance(item, int):
-        return names[item]
-    return "COUNT(*)" if item is None else f"{item[0]}({names[item[1]]})"
 
 
 def random_item(rng, group, columns):
@@ -372,13 +287,6 @@ def explain(rng, table):
     return "EXPLAIN " + query.text(rng), lambda at: query.explained(table)
 
 
-def everything(rng, table):
-    def lines(at):
-        return table.text().splitlines() + [f"-- rows {len(table.rows)}, pages {len(table.regions)}"]
-
-    return "SELECT * FROM t;", lines
-
-
 def insert(rng, table):
     row = random_row(rng, table.shape)
     return f"INSERT INTO t VALUES ({', '.join(spelled_literal(value, rng) for value in row)});", lambda at: [f"-- inserted {table.insert(row)}"]
@@ -387,7 +295,7 @@ def insert(rng, table):
 def delete(rng, table):
     condition = random_condition(rng, table.shape)
     where = "" if condition is None else f" WHERE {spelled_condition(condition, table.shape.names, rng)}"
-    return f"DELETE FROM t{where};", lambda at: [f"-- deleted {table.delete(condition)}"]
+    return f"DELETE FROM t{where};", lambda at: [f"-- deleted {table.delete(lambda row: holds(condition, row))}"]
 
 
 def refused(rng, table):
@@ -414,15 +322,12 @@ def random_shape(rng, i):
 
 
 def random_run(rng, table, counts, kinds):
-    """A script of statements of these kinds, what it must write, and its status."""
-    script, lines, status = "", [], 0
+    """A script of statements of these kinds."""
+    script = Script()
     for kind in kinds:
-        statement, told = kind(rng, table)
-        counts[kind.__name__] += 1
-        status |= kind is refused
-        lines += told(len(script))
-        script += statement + rng.choice([" ", "\n"])
-    return script, "".join(line + "\n" for line in lines), status
+        script.add(rng, table, kind, kind is refused, counts)
+        script.text += rng.choice([" ", "\n"])
+    return script
 
 
 def some_kinds(rng):
@@ -433,28 +338,24 @@ def case(rng, i, counts):
     """The command lines of a case, each with the texts that it reads, by their names, what it must write and its status."""
     shape = random_shape(rng, i)
     table = Table(shape, [random_row(rng, shape) for _ in range(rng.choice([0, 3, 8, 14, 20]))])
-    words, data = shape.words(), table.text()
+    words, data = shape.words(), {"data.csv": table.text()}
     parts = rng.randint(2, 3) if i // 2 % 2 else 1
     if parts > 1:
-        yield f"load data.csv table.ub {words}", {"data.csv": data}, f"-- rows {len(table.rows)}, regions {len(table.regions)}\n", 0
+        yield f"load data.csv table.ub {words}", data, table.told_loaded(), 0
     for part in range(parts):
-        kinds = some_kinds(rng) + [everything] * (part == parts - 1)
-        script, text, status = random_run(rng, table, counts, kinds)
+        script = random_run(rng, table, counts, some_kinds(rng) + [everything] * (part == parts - 1))
         if parts > 1:
-            yield "run table.ub script.sql", {"script.sql": script}, text, status
+            yield script.line("run table.ub script.sql")
         else:
-            yield f"try data.csv script.sql {words}", {"data.csv": data, "script.sql": script}, text, status
+            yield script.line(f"try data.csv script.sql {words}", **data)
     again = Table(shape, table.in_order())
-    script, text, status = random_run(rng, again, counts, [select] * 3)
-    yield f"try again.csv script.sql {words}", {"again.csv": table.text(), "script.sql": script}, text, status
+    yield random_run(rng, again, counts, [select] * 3).line(f"try again.csv script.sql {words}", **{"again.csv": table.text()})
 
 
 def print_transcript(count, rng, counts):
     for i in range(count):
-        for words, files, text, status in case(rng, i, counts):
-            for name, held in files.items():
-                print(f"== {name}\n{held}", end="" if held.endswith("\n") else "\n")
-            print(f"$ {words}\n{text}? {status}\n")
+        for line in case(rng, i, counts):
+            print_line(line)
 
 
 def has_mask(path, words):
@@ -465,27 +366,21 @@ def has_mask(path, words):
     return head[4] == 3 and head[9] == (int(given[given.index("--signed") + 1]) if "--signed" in given else 0) and head[10:] == b"\0\0"
 
 
-def run_line(program, line, work):
-    """Whether a command line writes what it must; what differs is printed."""
-    words, files, text, status = line
-    for name, held in files.items():
-        with open(os.path.join(work, name), "w") as file:
-            file.write(held)
-    ended = subprocess.run([program, *words.split()], cwd=work, capture_output=True, text=True)
-    is_right = (ended.stdout, ended.returncode) == (text, status)
-    if is_right and words.startswith("load"):
-        is_right = has_mask(os.path.join(work, "table.ub"), words)
-    if not is_right:
-        shown = "".join(f"{name}:\n{held}\n" for name, held in files.items())
-        print(f"{shown}{words}\nwanted, with status {status}:\n{text}told, with status {ended.returncode}:\n{ended.stdout}{ended.stderr}")
-    return is_right
+def is_right(tried, line, work):
+    """Whether a command line writes what it must, and what it loads has the mask."""
+    if not ends_so(tried, line, work):
+        return False
+    if line[0].startswith("load") and not has_mask(os.path.join(work, "table.ub"), line[0]):
+        print(f"{line[0]}: the header has another format or mask")
+        return False
+    return True
 
 
 def main():
     return try_cases(
         "signed.py",
         lambda count, rng, counts: (case(rng, i, counts) for i in range(count)),
-        lambda program, lines, work: all(run_line(program, line, work) for line in lines),
+        lambda tried, lines, work: all(is_right(tried, line, work) for line in lines),
         print_transcript,
     )
 

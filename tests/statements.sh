@@ -1,11 +1,11 @@
 #!/usr/bin/env bash
 # Statements of a million parts, through the program: each must be refused at the first part that is one too many, in at
 # most 3 seconds for each 10 MB of script, also with a stack of 256 KB. Run it by hand.
-# usage: [UBQ=PROGRAM] tests/statements.sh [PARTS]
+# usage: tests/statements.sh [PARTS [PROGRAM]]     (a million parts where no number is named)
 set -uo pipefail
 top=$(cd "$(dirname "$0")/.." && pwd)
-[ -n "${UBQ:-}" ] || "$top/bin/ubq" --prove || exit 2
-ubq=${UBQ:-$top/bin/ubq}
+[ $# -gt 1 ] || "$top/bin/ubq" --prove || exit 2
+ubq=$(readlink -f "${2:-$top/crates/ubq/out/ubq}")
 parts=${1:-1000000}
 folder=$(mktemp -d)
 trap 'rm -rf "$folder"' EXIT
@@ -26,7 +26,7 @@ refused() {
     if [ "$limit" -lt 3000 ]; then limit=3000; fi
     for stack in 8192 256; do
         start=$(date +%s%N)
-        text=$(ulimit -s "$stack" && exec "$ubq" try "$top/examples/s.csv" "$folder/script.sql" --dims 2 2>&1)
+        text=$(ulimit -s "$stack" && exec "$ubq" try "$top/tests/data/s.csv" "$folder/script.sql" --dims 2 2>&1)
         status=$?
         milliseconds=$((($(date +%s%N) - start) / 1000000))
         echo "$1, stack $stack KB: $text, status $status, $milliseconds ms"

@@ -1,11 +1,11 @@
 #!/usr/bin/env bash
 # Each status that the program ends with, 0 to 5, through the program itself, and what it writes then; a device that is
 # full, and a pipe that nobody reads. Run it by hand. The last line counts; the status is 1 where something was wrong.
-# usage: [UBQ=PROGRAM] tests/statuses.sh
+# usage: tests/statuses.sh [PROGRAM]
 set -uo pipefail
 top=$(cd "$(dirname "$0")/.." && pwd)
-[ -n "${UBQ:-}" ] || "$top/bin/ubq" --prove || exit 2
-ubq=${UBQ:-$top/bin/ubq}
+[ $# -gt 0 ] || "$top/bin/ubq" --prove || exit 2
+ubq=$(readlink -f "${1:-$top/crates/ubq/out/ubq}")
 room=$(mktemp -d) || exit 2
 trap 'rm -rf "$room"' EXIT
 right=0 wrong=0

@@ -17,7 +17,7 @@ import tempfile
 import termios
 import time
 
-from program import TOP, counts, judge, program
+from lib.program import FIVE_ROWS, TOP, counts, judge, program
 
 ASK = os.path.join(TOP, "examples", "ubq-ask")
 WORDS = os.path.join(TOP, "examples", "words.py")
@@ -179,13 +179,13 @@ def through_pipes(env):
 
 
 def main():
-    tried = program(sys.argv[1] if len(sys.argv) > 1 else None)
+    tried = program()
     env = {name: value for name, value in os.environ.items() if name not in ("PS1", "HISTFILE", "INPUTRC")}
     env.update(UBQ=tried, TERM="dumb", INPUTRC="/dev/null", LC_ALL="C.UTF-8")
     with tempfile.TemporaryDirectory() as work:
         os.chdir(work)
         load = ["load", "--dims", "2", "--page-rows", "2"]
-        subprocess.run([tried, *load, os.path.join(TOP, "examples", "s.csv"), "s.ub"], stdout=subprocess.DEVNULL, check=True)
+        subprocess.run([tried, *load, FIVE_ROWS, "s.ub"], stdout=subprocess.DEVNULL, check=True)
         shutil.copy("s.ub", "p.ub")
         subprocess.run([WORDS, "new", "w.words", "--spread", "2", "date:date", "town:word", "euros:2"], check=True)
         plain = subprocess.run([WORDS, "in", "w.words"], check=True, stdout=subprocess.PIPE, input=(

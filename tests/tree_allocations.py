@@ -12,8 +12,8 @@ import re
 import sys
 import tempfile
 
-import failing_memory
-from program import TOP
+from lib import failing_memory, tree_trial
+from lib.program import TOP, word
 
 WORDS = "Error: Kind(OutOfMemory)\n"  # what is told where the process's words can't be read
 ROUND = 40  # so many runs that did without the allocation, one after the other, end the trial
@@ -21,12 +21,12 @@ ROUND = 40  # so many runs that did without the allocation, one after the other,
 
 def main():
     built = os.path.join(TOP, "crates", "bench", "out", "bench")
-    program = os.path.abspath(sys.argv[1]) if len(sys.argv) > 1 else built
+    program = os.path.abspath(word(1, built))
     whole = refused = wrong = due = since = 0
     with tempfile.TemporaryDirectory() as work:
         library = failing_memory.built(work)
         status, text, _ = failing_memory.ended(library, [program, "trial"], 0, work)
-        assert status == 0
+        assert status == 0 and text.startswith(tree_trial.text())
         later = re.sub(r"each of (\d+) calls", lambda calls: f"each of {int(calls[1]) + 1} calls", text)
         while since < ROUND or due < ROUND * 100:
             due += 1

@@ -13,7 +13,7 @@ import subprocess
 import sys
 import tempfile
 
-from program import TOP, program
+from lib.program import TOP, program
 
 TUTORIAL = os.path.join(TOP, "docs", "TUTORIAL.md")
 INDENT = "    "
@@ -53,7 +53,7 @@ def written_by(found, work):
 
 
 def main():
-    tried = program(sys.argv[1] if len(sys.argv) > 1 else None)
+    tried = program()
     with open(TUTORIAL, encoding="utf-8") as file:
         found = commands(file.read())
     # Each line of Markdown that looks like a command is one.

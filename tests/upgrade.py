@@ -15,27 +15,17 @@ program then plays them with no proved program at hand: tests/upgrade.py --trans
 A transcript doesn't look into the new file.
 """
 import os
-import struct
+import shutil
 import subprocess
 import sys
+import tempfile
 
-from program import try_cases
-from sweeps import GREATEST, address
+from lib.pages import ENTRIES, PAGE, TOP_NUMBER, directory_page, entries_on, entry_bytes, header_page, index_page
+from lib.pages import number_at, number_bytes, padded, region_page
+from lib.program import try_cases
+from lib.regions import GREATEST, HALF, ORIGIN, address, last_address
 
-PAGE = 4096
-ENTRIES = 170
-NUMBERS = 2**24
-KEY = struct.Struct(">QQI")
-ENTRY = struct.Struct(">QQII")
-
-
-def halves(z):
-    return z >> 64, z & (2**64 - 1)
-
-
-def padded(data):
-    assert len(data) <= PAGE
-    return bytearray(data + bytes(PAGE - len(data)))
+NUMBERS = TOP_NUMBER + 1
 
 
 # ---- A table: its shape, its regions, and the page of each
@@ -50,7 +40,7 @@ class Old:
         self.rows = sorted(row for _, held in regions for row in held)
         numbers = list(range(1, page_count))
         rng.shuffle(numbers)
-        self.pages = [bytearray(PAGE) for _ in range(page_count)]
+        self.pages = [bytes(PAGE)] * page_count
         self.free = numbers
         self.entries = []
         for first, held in regions:
@@ -63,10 +53,7 @@ class Old:
         self.pages[0] = self.header()
 
     def region_page(self, first, held):
-        columns = [[number for number, _, _ in held]] + [[point[dim] for _, point, _ in held] for dim in range(self.dims)]
-        page = struct.pack(">4B", 0x52, self.dims, self.measures, len(held)) + KEY.pack(*halves(first[0]), first[1])
-        page += b"".join(struct.pack(f">{len(held)}I", *column) for column in columns)
-        return padded(page + b"".join(struct.pack(f">{len(held)}q", *(row[2][i] for row in held)) for i in range(self.measures)))
+        return region_page(self.dims, self.measures, first, held)
 
     def lead(self, rng):
         """Writes what leads to the regions: the chain of a directory, or an index whose pages have any number of entries."""
@@ -74,7 +61,7 @@ class Old:
             parts = [self.entries[at : at + ENTRIES] for at in range(0, len(self.entries), ENTRIES)]
             self.own = [self.free.pop() for _ in parts]
             for page, part, after in zip(self.own, parts, self.own[1:] + [0]):
-                self.pages[page] = padded(struct.pack(">BBHI8x", 0x44, 0, len(part), after) + self.spelled(part))
+                self.pages[page] = directory_page(part, after)
             self.root, self.levels = self.own[0], len(self.own)
             return
         level, entries, self.own = 0, self.entries, []
@@ -86,23 +73,25 @@ class Old:
                 part, entries = entries[:many], entries[many:]
                 page = self.free.pop()
                 self.own.append(page)
-                self.pages[page] = padded(struct.pack(">BBH12x", 0x49, level, len(part)) + self.spelled(part))
+                self.pages[page] = index_page(level, part)
                 above.append((part[0][0], page))
             entries = above
         self.root, self.levels = entries[0][1], level
 
-    def spelled(self, entries):
-        return b"".join(ENTRY.pack(*halves(first[0]), first[1], page) for first, page in entries)
-
     def header(self):
-        head = struct.pack(">4s5B3x5I", b"UBTR", self.version, 0, self.dims, self.measures, self.most, self.next, len(self.rows), len(self.regions), self.root, self.levels)
-        return padded(head + b"".join(bytes([len(name)]) + name.ljust(32, b"\0") for name in self.names))
+        numbers = self.next, len(self.rows), len(self.regions), self.root, self.levels
+        return header_page(self.version, self.dims, self.measures, self.most, 0, numbers, self.names)
 
     def whole(self):
         return b"".join(self.pages)
 
     def counts(self):
         return f"-- rows {len(self.rows)}, regions {len(self.regions)}\n"
+
+
+def key_of(row):
+    """The key of a row: of its number, its point and its values."""
+    return address(row[1]), row[0]
 
 
 def table(rng, version, kind):
@@ -117,11 +106,11 @@ def table(rng, version, kind):
     most_of = rng.choice([4, 64, GREATEST + 1])
     rows = []
     for number in numbers:
-        point = tuple(rng.choice([rng.randrange(most_of), rng.choice([0, 1, 2**31, GREATEST])]) for _ in range(dims))
+        point = tuple(rng.choice([rng.randrange(most_of), rng.choice([0, 1, HALF, GREATEST])]) for _ in range(dims))
         rows.append((number, point, tuple(rng.choice([rng.randrange(-99, 99), -(2**63), 2**63 - 1]) for _ in range(measures))))
-    rows.sort(key=lambda row: (address(row[1]), row[0]))
+    rows.sort(key=key_of)
     names = [rng.choice([b"t", b"T_9", b"a" * 32])] + [b"xyzw"[i : i + 1] for i in range(dims)] + [b"klmn"[i : i + 1] for i in range(measures)]
-    regions = regions_of(rng, rows, widths, 2 ** (32 * dims) - 1)
+    regions = regions_of(rng, rows, widths, last_address(dims))
     index = 3 + len(regions) // 20 if version == 2 else len(regions) // ENTRIES + 1
     return Old(rng, version, regions, dims, measures, most, next_number, 1 + len(regions) + index + rng.choice([0, 0, 1, 3]), names)
 
@@ -131,16 +120,17 @@ def regions_of(rng, rows, widths, last):
     regions, before = [], None
     for width in widths:
         held, rows = rows[:width], rows[width:]
-        after = (address(rows[0][1]), rows[0][0]) if rows else (last, NUMBERS - 1)
-        low = (0, 0) if before is None else before
-        high = (address(held[0][1]), held[0][0]) if held else after
-        firsts = [key for key in [high, (high[0], 0), (low[0] + 1, 0), (low[0], low[1] + 1)] if low < key <= high and key[0] <= last and key[1] < NUMBERS]
+        after = key_of(rows[0]) if rows else (last, NUMBERS - 1)
+        low = ORIGIN if before is None else before
+        high = key_of(held[0]) if held else after
+        near = [high, (high[0], 0), (low[0] + 1, 0), (low[0], low[1] + 1)]
+        firsts = [key for key in near if low < key <= high and key[0] <= last and key[1] < NUMBERS]
         if before is not None and not firsts:
             regions[-1] = regions[-1][0], regions[-1][1] + held
         else:
-            regions.append(((0, 0) if before is None else rng.choice(firsts), held))
-        before = (address(held[-1][1]), held[-1][0]) if held else regions[-1][0]
-    return regions or [((0, 0), [])]
+            regions.append((ORIGIN if before is None else rng.choice(firsts), held))
+        before = key_of(held[-1]) if held else regions[-1][0]
+    return regions or [(ORIGIN, [])]
 
 
 # ---- Damages: one thing that is wrong, and what must be told of it
@@ -154,7 +144,7 @@ def damages(rng, old):
         return whole[:at] + data + whole[at + len(data) :]
 
     def number(at, value):
-        return put(at, struct.pack(">I", value))
+        return put(at, number_bytes(value))
 
     yield "first byte", put(0, b"V"), "WrongKind page 0"
     yield "version", put(4, bytes([rng.choice([0, 3, 4, 255])])), "WrongKind page 0"
@@ -189,7 +179,7 @@ def damages(rng, old):
 def damages_of_entries(rng, old, put, number):
     """What can be wrong with the entries of a page that leads to regions."""
     first, page = rng.choice(old.entries)
-    spelled = ENTRY.pack(*halves(first[0]), first[1], page)
+    spelled = entry_bytes(first, page)
     own = next(it for it in old.own if spelled in old.pages[it][16:] and (old.pages[it][0] == 0x44 or old.pages[it][1] == 1))
     at = own * PAGE + old.pages[own].index(spelled, 16)
     yield "entry of page 0", number(at + 20, 0), f"BadRow page {own}"
@@ -206,7 +196,7 @@ def damages_of_entries(rng, old, put, number):
     yield "count of entries 0", put(own * PAGE + 2, b"\0\0"), f"BadCount page {own}"
     yield "count of entries 171", put(own * PAGE + 2, b"\0\253"), f"BadCount page {own}"
     yield "kind of what leads", put(own * PAGE, b"R"), f"WrongKind page {own}"
-    is_whole = struct.unpack_from(">H", old.pages[own], 2)[0] == ENTRIES
+    is_whole = number_at(old.pages[own], 2, 2) == ENTRIES
     yield "padding of what leads", put(own * PAGE + rng.choice([8, 15, 9 if is_whole else PAGE - 1]), b"\1"), f"BadPadding page {own}"
 
 
@@ -220,31 +210,31 @@ def damages_of_regions(rng, old, put):
     yield "measures of a region", put(at + 2, bytes([(old.measures + 1) % 5])), f"BadCount page {page}"
     yield "too many rows", put(at + 3, bytes([old.most + 1])), f"BadCount page {page}"
     yield "padding of a region", put(at + PAGE - 1, b"\1"), f"BadPadding page {page}"
-    if first[1] + 1 < NUMBERS and (not held or (first[0], first[1] + 1) <= (address(held[0][1]), held[0][0])):
-        yield "another first key", put(at + 20, struct.pack(">I", first[1] + 1)), f"OutOfRegion page {page}"
+    if first[1] + 1 < NUMBERS and (not held or (first[0], first[1] + 1) <= key_of(held[0])):
+        yield "another first key", put(at + 20, number_bytes(first[1] + 1)), f"OutOfRegion page {page}"
     if held:
         yield "row number 0", put(at + 24, bytes(4)), f"BadRow page {page}"
-        yield "row number too high", put(at + 24, struct.pack(">I", NUMBERS)), f"BadRow page {page}"
+        yield "row number too high", put(at + 24, number_bytes(NUMBERS)), f"BadRow page {page}"
     if held:
         (_, point, _), after = held[-1], old.regions[place + 1][0] if place + 1 < len(old.regions) else None
         if old.next < NUMBERS and (after is None or (address(point), old.next) < after):
-            yield "row number not below the next", put(at + 24 + 4 * (len(held) - 1), struct.pack(">I", old.next)), f"BadRow page {page}"
+            yield "row number not below the next", put(at + 24 + 4 * (len(held) - 1), number_bytes(old.next)), f"BadRow page {page}"
         met = [row[0] for _, rows in old.regions[:place] for row in rows] + [row[0] for row in held[:-1]]
         least = max([first] + [(address(row[1]), row[0] + 1) for row in held[-2:-1]])
         met = [number for number in met if least <= (address(point), number) and (after is None or (address(point), number) < after)]
         if met:
-            yield "row number that was met", put(at + 24 + 4 * (len(held) - 1), struct.pack(">I", rng.choice(met))), f"BadRow page {page}"
+            yield "row number that was met", put(at + 24 + 4 * (len(held) - 1), number_bytes(rng.choice(met))), f"BadRow page {page}"
     if len(held) > 1:
         rows = held[1::-1] + held[2:]
-        yield "two rows exchanged", put(at, bytes(old.region_page(first, rows))), f"BadOrder page {page}"
-    if held and (address(held[0][1]), held[0][0]) > first > (0, 0):
+        yield "two rows exchanged", put(at, old.region_page(first, rows)), f"BadOrder page {page}"
+    if held and key_of(held[0]) > first > (0, 0):
         rows = [(held[0][0], (0,) * old.dims, held[0][2])] + held[1:]
         if (0, held[0][0]) < first:
-            yield "a row before its region", put(at, bytes(old.region_page(first, rows))), f"OutOfRegion page {page}"
+            yield "a row before its region", put(at, old.region_page(first, rows)), f"OutOfRegion page {page}"
     if place + 1 < len(old.regions) and len(held) < old.most:
         (number, point, values), after = (rng.choice(range(1, NUMBERS)), (GREATEST,) * old.dims, (0,) * old.measures), old.regions[place + 1][0]
         if (address(point), number) >= after:
-            yield "a row of a later region", put(at, bytes(old.region_page(first, held + [(number, point, values)]))), f"OutOfRegion page {page}"
+            yield "a row of a later region", put(at, old.region_page(first, held + [(number, point, values)])), f"OutOfRegion page {page}"
 
 
 def damages_of_directory(rng, old, put, number):
@@ -302,25 +292,24 @@ def cases(count, rng, counts):
 
 def regions_in(data):
     """The header of a file of format 3, and the entries to which its index leads."""
-    root, levels = struct.unpack_from(">2I", data, 24)
 
-    def leads(page, level):
-        at = page * PAGE
-        kind, of_level, count = struct.unpack_from(">BBH", data, at)
-        assert (kind, of_level) == (0x49, level) and data[at + 4 : at + 16] == bytes(12)
-        for high, low, number, below in (ENTRY.unpack_from(data, at + 16 + 24 * i) for i in range(count)):
-            yield from [((high << 64 | low, number), below)] if level == 1 else leads(below, level - 1)
+    def leads(number, level):
+        page = data[number * PAGE :][:PAGE]
+        assert (page[0], page[1]) == (0x49, level) and page[4:16] == bytes(12)
+        for first, below in entries_on(page):
+            yield from [(first, below)] if level == 1 else leads(below, level - 1)
 
-    return data[:PAGE], list(leads(root, levels))
+    return data[:PAGE], list(leads(number_at(data, 24), number_at(data, 28)))
 
 
 def is_new(old, data):
-    """Whether this file holds the table."""
+    """Whether this file is the table in format 3."""
     head, entries = regions_in(data)
     same = bytearray(old.pages[0])
     same[4], same[24:32] = 3, head[24:32]
     pages = [data[PAGE * page :][:PAGE] for _, page in entries]
-    return head == same and [first for first, _ in entries] == [first for first, _ in old.entries] and pages == [bytes(old.pages[page]) for _, page in old.entries]
+    has_firsts = [first for first, _ in entries] == [first for first, _ in old.entries]
+    return head == same and has_firsts and pages == [old.pages[page] for _, page in old.entries]
 
 
 def script_of(old):
@@ -335,6 +324,7 @@ def script_of(old):
 
 
 def is_right(program, case, work):
+    """Whether the program upgrades a table, or refuses it, as it must; what is wrong is printed."""
     whole, told, old = case
     paths = before, after, script = [os.path.join(work, name) for name in ("old.ub", "new.ub", "script.sql")]
     for path, data in zip(paths, (whole, b"what stood here", script_of(old)[0].encode() if old else b"")):
@@ -352,6 +342,7 @@ def is_right(program, case, work):
 
 
 def run(program, *words):
+    """What a command writes, and its status, or what it told where it should tell nothing."""
     ended = subprocess.run([program, *words], capture_output=True, timeout=60)
     return ended.stdout, ended.returncode if not ended.stderr else ended.stderr
 
@@ -363,9 +354,6 @@ def read(path):
 
 def keep(work):
     """Where the files of a case are kept."""
-    import shutil
-    import tempfile
-
     return shutil.copytree(work, tempfile.mkdtemp(prefix="upgrade-"), dirs_exist_ok=True)
 
 
@@ -402,4 +390,5 @@ def print_transcript(count, rng, counts):
         print(f"== script.sql\n{script}\n$ run new.ub script.sql\n{lines}? {status}")
 
 
-sys.exit(try_cases("upgrade.py", cases, is_right, print_transcript))
+if __name__ == "__main__":
+    sys.exit(try_cases("upgrade.py", cases, is_right, print_transcript))

@@ -9,11 +9,8 @@ numbers, also where several programs bring new ones at once; and that `query` ha
 
 Run by hand: tests/words.py [HOW MANY [SEED [PROGRAM]]]. It tells each thing that is wrong, and how many were right and wrong.
 """
-import csv
 import datetime
-import io
 import json
-import operator
 import os
 import random
 import re
@@ -22,11 +19,11 @@ import sys
 import tempfile
 from decimal import Decimal
 
-from program import TOP, counts, judge, program
+from lib.program import TOP, counts, judge, program, word
+from lib.queries import OPERATORS
 
 WORDS = os.path.join(TOP, "examples", "words.py")
 BYTES = {"encoding": "utf-8", "errors": "surrogateescape"}
-COMPARED = {"=": operator.eq, "<>": operator.ne, "!=": operator.ne, "<": operator.lt, "<=": operator.le, ">": operator.gt, ">=": operator.ge}
 
 
 def run(words, text="", **more):
@@ -104,9 +101,9 @@ def condition(rng, made):
     texts = [row[place] for row in made.parts[0]]
     one, other = rng.choice(texts), rng.choice(texts)
     if kind.kind == "word" or rng.random() < 0.7:
-        sign = rng.choice(["=", "<>", "!="] if kind.kind == "word" else list(COMPARED))
+        sign = rng.choice(["=", "<>", "!="] if kind.kind == "word" else list(OPERATORS))
         blank = rng.choice(["", " "])
-        return f"{kind.name}{blank}{sign}{blank}{literal(one)}", lambda row: COMPARED[sign](of(row[place]), of(one))
+        return f"{kind.name}{blank}{sign}{blank}{literal(one)}", lambda row: OPERATORS[sign](of(row[place]), of(one))
     return f"{kind.name} between {literal(one)} AND {literal(other)}", lambda row: of(one) <= of(row[place]) <= of(other)
 
 
@@ -319,9 +316,7 @@ def querying(work):
 
 
 def main():
-    count = int(sys.argv[1]) if len(sys.argv) > 1 else 30
-    rng = random.Random(int(sys.argv[2]) if len(sys.argv) > 2 else 1)
-    tried = program(sys.argv[3] if len(sys.argv) > 3 else None)
+    count, rng, tried = int(word(1, 30)), random.Random(int(word(2, 1))), program(3)
     for part in (refusals, lasting, querying):
         with tempfile.TemporaryDirectory() as work:
             part(work)

@@ -10,13 +10,16 @@ loaded from, each row must be the record of its number, and the numbers that no 
 """
 
 import csv
+import os
 import re
 import sys
 
-PAGE = 4096
-ENTRIES = 170
-HALF = 1 << 31
-NUMBERS = 1 << 24
+sys.path.insert(0, os.path.dirname(os.path.dirname(os.path.abspath(__file__))))
+
+from lib.pages import ENTRIES, LEVELS, PAGE, TOP_NUMBER
+from lib.regions import HALF, ORIGIN, address, last_address, span_end
+
+NUMBERS = TOP_NUMBER + 1
 
 
 def stop_unless(condition, text):
@@ -63,7 +66,7 @@ def read_header(pages):
         chain = (head["regions"] + ENTRIES - 1) // ENTRIES
         head["directory pages"] = it.number(4, chain, chain)
     else:
-        head["levels"] = it.number(4, 1, 16)
+        head["levels"] = it.number(4, 1, LEVELS)
     names = []
     for _ in range(1 + head["dims"] + head["measures"]):
         length = it.number(1, 1, 32)
@@ -78,7 +81,7 @@ def read_header(pages):
 def read_directory(pages, head):
     """The entries of all directory pages, and the numbers of those pages."""
     entries, chain, number = [], [], head["root"]
-    last = (1 << 32 * head["dims"]) - 1
+    last = last_address(head["dims"])
     for _ in range(head["directory pages"]):
         it = Fields(pages, number)
         stop_unless(it.take(1) == b"D", f"page {number} isn't of the directory")
@@ -89,12 +92,12 @@ def read_directory(pages, head):
         number = it.number(4, 0, len(pages) - 1)
         it.zeros(8)
         for _ in range(count):
-            key = it.number(16, 0, last), it.number(4, 0, NUMBERS - 1)
+            key = it.number(16, 0, last), it.number(4, 0, TOP_NUMBER)
             entries.append((key, it.number(4, 1, len(pages) - 1)))
         it.end()
     stop_unless(number == 0, "the directory goes on past its end")
     keys = [key for key, _ in entries]
-    stop_unless(keys[0] == (0, 0) and all(a < b for a, b in zip(keys, keys[1:])), "the directory's keys are out of order")
+    stop_unless(keys[0] == ORIGIN and all(a < b for a, b in zip(keys, keys[1:])), "the directory's keys are out of order")
     taken = [page for _, page in entries] + chain
     stop_unless(len({*taken}) == len(taken), "the directory names a page twice")
     return entries, chain
@@ -103,8 +106,8 @@ def read_directory(pages, head):
 def read_index(pages, head):
     """The entries of all leaves of the index, and the numbers of its pages, each before those that it names."""
     entries, own = [], []
-    last = (1 << 32 * head["dims"]) - 1
-    ways = [(head["root"], head["levels"], (0, 0), None)]
+    last = last_address(head["dims"])
+    ways = [(head["root"], head["levels"], ORIGIN, None)]
     while ways:
         number, level, first, after = ways.pop()
         it = Fields(pages, number)
@@ -113,7 +116,7 @@ def read_index(pages, head):
         count = it.number(2, 1, ENTRIES)
         it.zeros(12)
         own.append(number)
-        here = [((it.number(16, 0, last), it.number(4, 0, NUMBERS - 1)), it.number(4, 1, len(pages) - 1)) for _ in range(count)]
+        here = [((it.number(16, 0, last), it.number(4, 0, TOP_NUMBER)), it.number(4, 1, len(pages) - 1)) for _ in range(count)]
         it.end()
         keys = [key for key, _ in here]
         stop_unless(keys[0] == first and all(a < b for a, b in zip(keys, keys[1:])), f"page {number}: the keys are out of order")
@@ -129,11 +132,6 @@ def read_index(pages, head):
     return entries, own
 
 
-def address(values):
-    dims = len(values)
-    return sum((value >> b & 1) << b * dims + dims - 1 - i for i, value in enumerate(values) for b in range(32))
-
-
 def read_region(pages, head, number):
     """A region's first key, and its rows: number, coordinates and measures."""
     it = Fields(pages, number)
@@ -141,8 +139,8 @@ def read_region(pages, head, number):
     it.number(1, head["dims"], head["dims"])
     it.number(1, head["measures"], head["measures"])
     count = it.number(1, 0, head["page rows"])
-    first = it.number(16, 0, (1 << 32 * head["dims"]) - 1), it.number(4, 0, NUMBERS - 1)
-    columns = [[it.number(4, 1, NUMBERS - 1) for _ in range(count)]]
+    first = it.number(16, 0, last_address(head["dims"])), it.number(4, 0, TOP_NUMBER)
+    columns = [[it.number(4, 1, TOP_NUMBER) for _ in range(count)]]
     for _ in range(head["dims"]):
         columns.append([it.number(4, 0, (1 << 32) - 1) for _ in range(count)])
     for _ in range(head["measures"]):
@@ -161,16 +159,8 @@ def values_of(row, head):
     return tuple(it - HALF if head["signed"] >> dim & 1 else it for dim, it in enumerate(row[1]))
 
 
-def span_end(begin, last):
-    """The greatest address that a key before this one can have."""
-    if begin is None:
-        return last
-    return begin[0] if begin[1] else begin[0] - 1
-
-
 def tell_regions(pages, head, entries):
     """Prints the regions in the order of their keys, and gives the rows of all."""
-    last = (1 << 32 * head["dims"]) - 1
     rows = []
     for (first, page), after in zip(entries, [key for key, _ in entries[1:]] + [None]):
         on_page, here = read_region(pages, head, page)
@@ -179,7 +169,8 @@ def tell_regions(pages, head, entries):
         stop_unless(keys == sorted({*keys}), f"page {page} is out of order")
         stop_unless(not keys or first <= keys[0], f"page {page} has a row of the region before")
         stop_unless(after is None or not keys or keys[-1] < after, f"page {page} has a row of the next region")
-        print(f"region on page {page}, first key {first}, addresses {first[0]}..{span_end(after, last)}, rows {len(here)}")
+        last = span_end(after, head["dims"])
+        print(f"region on page {page}, first key {first}, addresses {first[0]}..{last}, rows {len(here)}")
         for row in here:
             print(f"    {row[0]}: {' '.join(map(str, values_of(row, head) + row[2]))}, address {address(row[1])}")
         rows += here

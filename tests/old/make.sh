@@ -1,18 +1,18 @@
 #!/usr/bin/env bash
 # Makes the table files of this folder anew, by the sources of a program that writes format 1 (README.md says which).
 #
-#     tests/old/make.sh FOLDER       three files into FOLDER, in 25 to 40 minutes where the program isn't proved yet
+#     tests/old/make.sh FOLDER [PROGRAM]      three files into FOLDER, in 25 to 40 minutes where the program isn't proved yet
 #
-# UBQ names the program that loads; where it isn't set that is bin/ubq, which proves it first. What takes rows out again is
+# PROGRAM loads; where none is named that is bin/ubq, which proves it first. What takes rows out again is
 # gaps.rt.txt: in a temporary folder it is laid beside a copy of the crates, as a crate of its own, and run by `rt try`.
 set -eu
 
 old=$(dirname "$(readlink -f "${BASH_SOURCE[0]}")")
 root=$(cd "$old/../.." && pwd)
-ubq=${UBQ:-$root/bin/ubq}
+ubq=${2:-$root/bin/ubq}
 folder=$(cd "$1" && pwd)
 
-"$ubq" load "$root/examples/s.csv" "$folder/s.ub" --dims 2 --page-rows 2
+"$ubq" load "$root/tests/data/s.csv" "$folder/s.ub" --dims 2 --page-rows 2
 "$ubq" load "$old/four.csv" "$folder/four.ub" --dims 4 --page-rows 4 --name four
 "$ubq" load "$old/gaps.csv" "$folder/gaps.ub" --dims 3 --page-rows 4 --name gaps
 

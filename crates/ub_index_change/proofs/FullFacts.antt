@@ -153,7 +153,7 @@ full_parts last old key added (suc level) entry end from to told (named1, count,
     by_told (Two left right) entries long h = (left, right, refl)
 
 -- no page is given back
-mends_next : (level : ℕ) (entry : Entry) (before : List Entry) (below : Entry) (after : List Entry) (news : Told) (from to : Spelled) (told : Told)
+pub mends_next : (level : ℕ) (entry : Entry) (before : List Entry) (below : Entry) (after : List Entry) (news : Told) (from to : Spelled) (told : Told)
     → Mends level entry before below after news from to told → from.next ≤ to.next
 mends_next level entry before below after Same from to told h = let e = ap (λ (s : Spelled). s.next) h.1 in omega arith
 mends_next level entry before below after Gone from to told h = spread_next level entry (before ++ (named_as Gone below ++ after)) from to told h

@@ -14,4 +14,5 @@ pub mod MadeFacts
 pub mod PutFacts
 pub mod SheetFacts
 pub mod OwnFacts
+pub mod SpelledFacts
 pub mod BesideFacts

@@ -16,7 +16,7 @@ use Rattle.ub_table.specs.Keys.{origin}
 use Rattle.ub_table.specs.declared.row.Key.{Key}
 use Rattle.ub_index_change.specs.Changed.{Becomes, Replaces, Stays}
 use Rattle.ub_index.specs.Index.{IsTold, entries_of, first_or, page_in, pages_under, AscendTo, EachTo, IsUnder, under, top}
-use Rattle.ub_index_change.specs.Changing.{AreOnce, IsFine, IsNoNew, IsTurnFault, IsUnspelled, NamesPage, Spelled, Stand, StayBut, named_as, sheet_of, so_far, with_added, Prepares}
+use Rattle.ub_index_change.specs.Changing.{AreOnce, IsFine, IsNoNew, IsTurnFault, IsUnspelled, Spelled, Stand, StayBut, named_as, sheet_of, so_far, with_added, Prepares}
 use Rattle.ub_index.specs.Standing.{IsOutside}
 use Rattle.ub_index_change.specs.FullWay.{EndsFull}
 use Rattle.ub_index_change.specs.Filling.{IsFilled, IsFilledRoot, KeepsFilled}
@@ -39,7 +39,7 @@ use Rattle.ub_index_change.proofs.SheetNumbers.{no_new_left, once_join}
 use Rattle.ub_index.proofs.OrderFacts.{first_through, under_first}
 use Rattle.ub_index.proofs.PlaceFacts.{region_found}
 use Rattle.ub_index.proofs.SearchFacts.{err_is, pager_with, same_store}
-use Rattle.ub_index_change.proofs.SpreadFacts.{node_so, told_on}
+use Rattle.ub_index_change.proofs.SpreadFacts.{root_told}
 use Rattle.ub_index_change.proofs.TurnFacts.{Risen, rises, unspelled_left}
 
 -- where the root becomes two, each page on the way is full, and one is taken for each
@@ -257,16 +257,9 @@ module _ (index : IndexView) (small : index.last < 2 ^ 128) (low : 1 ≤ index.l
     new_root : (left right : Entry) → named_as told (top index.root) ≡ left ∷ right ∷ [] → index.levels < 16
         → Stand later (sheet_of middle.next (index.levels + 1) (left ∷ right ∷ []) ∷ []) → IsTold index.last later (suc index.levels) (left ∷ right ∷ []) (top middle.next)
     new_root left right e less root_stands =
-        let one : index.levels + 1 ≡ suc index.levels = omega arith in
         let all : AllByRecursion (IsEntry index.last) (left ∷ right ∷ []) = subst (λ (xs : List Entry). AllByRecursion (IsEntry index.last) xs) e r.named in
         let up_all : AscendTo (left ∷ right ∷ []) None = subst (λ (xs : List Entry). AscendTo xs None) e stays_all.ascends in
-        let stands : Stand later (sheet_of middle.next (suc index.levels) (left ∷ right ∷ []) ∷ []) =
-        subst (λ (n : ℕ). Stand later (sheet_of middle.next n (left ∷ right ∷ []) ∷ [])) one root_stands in
-        let two : length (left ∷ right ∷ []) ≤ 170 = omega arith in
-        let is_node = node_so index.last index.levels (left ∷ right ∷ []) None left.first (omega arith) refl two all up_all in
-        let names : NamesPage middle.next (left ∷ right ∷ []) (top middle.next) =
-        record { page_is = refl; begins = ap (λ (k : Key). Some k) (first_origin left (right ∷ []) e) } in
-        told_on index.last small later middle.next (suc index.levels) (left ∷ right ∷ []) (top middle.next) stands.0 is_node names
+        root_told index.last small later middle.next index.levels left right less all up_all (first_origin left (right ∷ []) e) root_stands
 
     -- where two are, and a new root names them
     made_two : (left right : Entry) → named_as told (top index.root) ≡ left ∷ right ∷ [] → index.levels < 16

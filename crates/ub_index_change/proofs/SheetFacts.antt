@@ -68,7 +68,7 @@ named_before n (x ∷ xs) entry end h up =
     let is : x.first ≡ entry.first = cc in
     subst (λ (key : Key). IfSome end (IsBefore key)) is (ascend_first x xs end up)
 
-first_named : (n : ℕ) (entries rest : List Entry) (entry : Entry) (end : Option Key) → NamesPage n entries entry → first_or (entries ++ rest) end ≡ Some entry.first
+pub first_named : (n : ℕ) (entries rest : List Entry) (entry : Entry) (end : Option Key) → NamesPage n entries entry → first_or (entries ++ rest) end ≡ Some entry.first
 first_named n [] rest entry end h = let no : None ≡ Some entry.first = h.begins in cc
 first_named n (x ∷ xs) rest entry end h = let same : Some x.first ≡ Some entry.first = h.begins in same
 
@@ -225,22 +225,28 @@ module _ (index : IndexView) (store : StoreFacts) (small : index.last < 2 ^ 128)
             tt,
           ))
 
+-- what comes where the way ends is fine, if it is where it ends once
+pub fine_found : (last : ℕ) (pages : List (List ℕ)) (key : Key) (added : Option Entry) (level : ℕ) (entry : Entry) (end : Option Key) (f : Entry) (nf : Option Key) → IsFine last added f nf
+    → LeadsTo last pages key level entry end f nf → (found : Entry) (after : Option Key) → LeadsTo last pages key level entry end found after → IsFine last added found after
+fine_found last pages key added level entry end f nf fine leads found after way =
+    let same = one_way last pages key level entry end found after f nf way leads in
+    subst (λ (e : Entry). IsFine last added e after) (sym same.0) (subst (λ (o : Option Key). IsFine last added f o) (sym same.1) fine)
+
 -- where a region comes within that of a region
+pub added_fine_at : (index : IndexView) (store : StoreFacts) (region : Region) (first : Key) → 1 ≤ index.root → page_count store < 4294967296 → Leads index store region.first region
+    → IsWithinRegion index.last region.first region.next first → index.root < page_count store → IsFine index.last (Some (added_at first store)) (entry_at region) region.next
+added_fine_at index store region first some few leads within there =
+    let root_is : IsEntry index.last (top index.root) = record { z = omega arith; number = omega arith; some_page = some; page = omega arith } in
+    added_fine index store region first (leads_entry index.last store.pages region.first index.levels (top index.root) None (entry_at region) region.next root_is leads) (omega arith) few within
+
 pub added_pages : (index : IndexView) (store : StoreFacts) (region : Region) (first : Key) (change : ChangeView) → index.last < 2 ^ 128 → 1 ≤ index.levels → 1 ≤ index.root
     → page_count store < 4294967296 → Leads index store region.first region → IsWithinRegion index.last region.first region.next first
     → IsPrepared index store region.first (Some (added_at first store)) (page_count store) (so_far [] (page_count store + 1)) change → AreIndexPages index.last change.sheets
 added_pages index store region first change small low some few leads within made =
-    prepared_pages index store small low some few region.first (Some (added_at first store)) (page_count store) (page_count store + 1) change (omega arith) fine made
-  where
-    fine : (found : Entry) (after : Option Key) → index.root < page_count store → LeadsTo index.last store.pages region.first index.levels (top index.root) None found after
-        → IsFine index.last (Some (added_at first store)) found after
-    fine found after there way =
-        let root_is : IsEntry index.last (top index.root) = record { z = omega arith; number = omega arith; some_page = some; page = omega arith } in
-        let whole = leads_entry index.last store.pages region.first index.levels (top index.root) None (entry_at region) region.next root_is leads in
-        let same = one_way index.last store.pages region.first index.levels (top index.root) None found after (entry_at region) region.next way leads in
-        subst (λ (e : Entry). IsFine index.last (Some (added_at first store)) e after) (sym same.0)
-        (subst (λ (o : Option Key). IsFine index.last (Some (added_at first store)) (entry_at region) o) (sym same.1)
-        (added_fine index store region first whole (omega arith) few within))
+    prepared_pages index store small low some few region.first (Some (added_at first store)) (page_count store) (page_count store + 1) change (omega arith)
+    (λ found after there way.
+    fine_found index.last store.pages region.first (Some (added_at first store)) index.levels (top index.root) None (entry_at region) region.next
+    (added_fine_at index store region first some few leads within there) leads found after way) made
 
 -- and where one goes
 pub dropped_pages : (index : IndexView) (store : StoreFacts) (key : Key) (change : ChangeView) → index.last < 2 ^ 128 → 1 ≤ index.levels → 1 ≤ index.root

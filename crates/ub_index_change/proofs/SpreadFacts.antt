@@ -1,5 +1,5 @@
 -- What is spelled of a page's entries stands on the later pages as it is named.
-use Rattle.std.proofs.Common.{nat_eq, ◌≡◌, ◌≢◌, ◌≤◌, ◌<◌, ◌^◌, ◌++◌, inl, inr, ℕ, suc, List, [], ◌∷◌, Option, Some, None, length, take, drop, slice_get, ◌∙◌, sym, ap, subst, refl, arith, take-append-drop}
+use Rattle.std.proofs.Common.{nat_eq, ◌≡◌, ◌≢◌, ◌≤◌, ◌<◌, ◌^◌, ◌++◌, ◌+◌, inl, inr, ℕ, suc, List, [], ◌∷◌, Option, Some, None, length, take, drop, slice_get, ◌∙◌, sym, ap, subst, refl, arith, take-append-drop}
 use Rattle.std.proofs.lemmas.List.{append-nil, length-drop, length-take-le}
 use Rattle.std.proofs.lemmas.Grind.{flat_map-append}
 use Rattle.std.specs.List.{AllByRecursion, IsDistinct, flat_map}
@@ -7,8 +7,9 @@ use Rattle.ub_page.specs.Index.{IsNode, index_page}
 use Rattle.ub_page.specs.Entries.{AreAscending, IsEntry}
 use Rattle.ub_region.specs.declared.entry.Entry.{Entry}
 use Rattle.ub_region.proofs.Laws.{all_left, all_right}
+use Rattle.ub_table.specs.Keys.{origin}
 use Rattle.ub_table.specs.declared.row.Key.{Key}
-use Rattle.ub_index.specs.Index.{IsTold, pages_under, first_or, AscendTo}
+use Rattle.ub_index.specs.Index.{IsTold, pages_under, first_or, AscendTo, top}
 use Rattle.ub_index_change.specs.Changed.{StandOn}
 use Rattle.ub_index_change.specs.Changing.{AreOnce, IsNoNew, IsUnspelled, NamesPage, Spelled, Spreads, Stand, named_as, sheet_of}
 use Rattle.ub_index.specs.Standing.{IsOutside}
@@ -119,6 +120,15 @@ module _ (last : ℕ) (small : last < 2 ^ 128) where
       → IsNode last (node level entries) → NamesPage n entries entry → IsTold last later level entries entry
   told_on later n level entries entry at is names =
       told_there last small later level entries entry (ap (λ (m : ℕ). slice_get later m) names.page_is ∙ at) is names.begins
+
+  -- the page of a new root names both
+  pub root_told : (later : List (List ℕ)) (n levels : ℕ) (left right : Entry) → levels < 16 → AllByRecursion (IsEntry last) (left ∷ right ∷ []) → AscendTo (left ∷ right ∷ []) None
+      → left.first ≡ origin → Stand later (sheet_of n (levels + 1) (left ∷ right ∷ []) ∷ []) → IsTold last later (suc levels) (left ∷ right ∷ []) (top n)
+  root_told later n levels left right less all up first stands =
+      let one : levels + 1 ≡ suc levels = omega arith in
+      let two : length (left ∷ right ∷ []) ≤ 170 = omega arith in
+      told_on later n (suc levels) (left ∷ right ∷ []) (top n) (subst (λ (l : ℕ). Stand later (sheet_of n l (left ∷ right ∷ []) ∷ [])) one stands).0
+      (node_so last levels (left ∷ right ∷ []) None left.first (omega arith) refl two all up) (record { page_is = refl; begins = ap (λ (k : Key). Some k) first })
 
   -- what stands on the later pages of what is spread
   abbrev pub ToldOn : List (List ℕ) → ℕ → Entry → List Entry → ℕ → Told → Type 0

@@ -21,7 +21,7 @@ use Rattle.ub_table.specs.Region.{IsRow, RegionRows, measures_of}
 use Rattle.ub_table.specs.declared.row.Row.{Row}
 use Rattle.ub_table.specs.declared.row.TheConstants.{MAX_ROW_NUMBER}
 use Rattle.ub_table.specs.declared.schema.Schema.{Schema}
-use Rattle.ub_tree.proofs.GrowFacts.{next_later, next_most}
+use Rattle.ub_tree.proofs.GrowFacts.{drop_at, next_later, next_most}
 use Rattle.ub_tree.proofs.Laws.{mark_then}
 use Rattle.ub_tree.proofs.NewFacts.{numbered_row}
 use Rattle.ub_tree.specs.Change.{Suits, next_after}
@@ -216,11 +216,6 @@ no_damage n b c (tree.Store store.Device) sound free left = tt
 no_damage n b c (tree.Store store.NoPage) sound free left = left.0 sound
 no_damage n b c (tree.Store store.BadSize) sound free left = tt
 no_damage n b c (tree.Store store.Memory) sound free left = tt
-
-drop_at : (xs : List Row) (i : ℕ) (x : Row) → slice_get xs i ≡ Some x → drop i xs ≡ x ∷ drop (suc i) xs
-drop_at [] i x at = cc
-drop_at (y ∷ xs) zero x at = let same : y ≡ x = cc in ap (λ z. z ∷ xs) same
-drop_at (y ∷ xs) (suc i) x at = drop_at xs i x at
 
 -- ---- in their order
 

@@ -215,10 +215,10 @@ stand_put old new s values is put =
 
 -- the reply to it
 pub insert_replies : (basis : Basis) (old new : TreeView) (values : List ℤ) (n : ℕ) (text : List ℕ) → IsBasisOf old basis → IsGiven old.schema (puts values)
-    → PutsIn (row_of old.schema old.next values) old new (Ok n) → (IsSound old → IsInserted (row_of old.schema n values) old new)
+    → PutsIn (row_of old.schema old.next values) old new (Ok n) → (IsSound old → IsInserted (row_of old.schema old.next values) old new)
     → text ≡ inserted_text old.next → Replies (IsInsertReply basis values) text false old new
 insert_replies (on_stand s) old new values n text is given puts_in inserts e =
-    let put = subst (λ (k : ℕ). IsInserted (row_of old.schema k values) old new) puts_in.number (inserts is.sound) in (
+    let put = inserts is.sound in (
       0,
       1,
       on_stand (with_row (row_of s.table.schema s.next values) s),

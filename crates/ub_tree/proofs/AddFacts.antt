@@ -21,21 +21,16 @@ use Rattle.ub_table.specs.Region.{IsRegion}
 use Rattle.ub_table.specs.declared.row.Key.{Key}
 use Rattle.ub_table.specs.declared.row.Row.{Row}
 use Rattle.ub_table.specs.declared.schema.Schema.{Schema}
+use Rattle.ub_tree.proofs.PutFacts.{view_placed}
 use Rattle.ub_tree.proofs.SplitFacts.{after_regions, before_regions, committed, is, new_are, new_indexed, new_placed, own, page_foreign, there as there_regions}
 use Rattle.ub_tree.proofs.StoredFacts.{IsTold}
 use Rattle.ub_tree.proofs.TreeFacts.{length-placed}
 use Rattle.ub_tree.specs.Indexed.{HasIndex, entries_on, reserved}
 use Rattle.ub_tree.specs.Placed.{Placed, ArePlaced, placed_of, entry_of}
-use Rattle.ub_tree.specs.Tree.{known_pages, placed_in}
+use Rattle.ub_tree.specs.Tree.{placed_in}
 use Rattle.ub_tree.specs.View.{TreeView}
 use Rattle.ub_tree.specs.inner.Change.{IsRegionIn, IsStored, KeepsGrown, placed_with}
 use Rattle.ub_writing.specs.Puts.{PutsTwo}
-
-known_is : (store : StoreFacts) → IsHonest store → known_pages store ≡ store.pages
-known_is store honest = rw honest refl
-
-view_placed : (schema : Schema) (index : IndexView) (store : StoreFacts) → IsHonest store → placed_in schema index store ≡ placed_of schema store.pages (entries_on index store.pages)
-view_placed schema index store honest = ap (λ (known : List (List ℕ)). placed_of schema known (entries_on index known)) (known_is store honest)
 
 -- a region of a stored tree is parted: its first half stands on its page, the other one on the page that the store got first
 module _ (t : TreeView) (seen : t.placed ≡ placed_in t.schema t.inner.index t.store) (stored : IsStored t) (i : ℕ) (span : Region) (at : IsRegionIn t i span) (here : span.page < page_count t.store)

@@ -17,12 +17,12 @@ use Rattle.ub_table.specs.declared.schema.Schema.{Schema}
 use Rattle.ub_tree.proofs.EffectFacts.{refused_none}
 use Rattle.ub_tree.proofs.SearchFacts.{known_is}
 use Rattle.ub_tree.proofs.WellFacts.{sound_well}
-use Rattle.ub_tree.specs.Checking.{ChecksPages, IsCheckFault, IsFirstFault, IsWell, asked_of, told_of}
+use Rattle.ub_tree.specs.Checking.{ChecksPages, IsCheckFault, IsChecked, IsFirstFault, IsWell, asked_of, told_of}
 use Rattle.ub_tree.specs.Faults.{index_fault}
 use Rattle.ub_tree.specs.Holding.{Answers}
 use Rattle.ub_tree.specs.Opened.{IsPassing}
 use Rattle.ub_tree.specs.Tree.{tree_view}
-use Rattle.ub_tree.specs.View.{TreeView, IsSound}
+use Rattle.ub_tree.specs.View.{TreeView}
 use Rattle.ub_tree.specs.declared.fault.TreeFault.{TreeFault}
 use Rattle.ub_tree.specs.declared.fault.TreeFault.TheVariants.{Full, Page, Store, Failed as HasFailed, Memory}
 use Rattle.ub_zaddr.specs.Address.{last_address}
@@ -84,27 +84,20 @@ module _ (t : TreeView) (small : t.inner.index.last < 2 ^ 128) where
   well_passes (Ok x) works honest well faults = tt
   well_passes (Err f) works honest well faults = well_fault works honest well f faults
 
--- what the check of a tree answers
-pub record IsChecked {A : Type 0} (old new : TreeView) (result : Result A TreeFault) : Type 0 where
-  pub well : IsHonest old.store → OnOk result (IsWell old)
-  pub exact : IsHonest old.store → IsWell old → old.is_failed ≡ false → IfErr result IsPassing
-  pub sound : IsSound old → IfErr result IsPassing
-  pub stopped : (fault : TreeFault) → IsHonest old.store → old.is_failed ≡ false → IsFirstFault old fault → Answers result fault
-  pub effect : ChecksPages old new result
-
-checked_by : {A : Type 0} (old new : TreeView) (result : Result A TreeFault) → old.inner.index.last < 2 ^ 128 → (IsHonest old.store → OnOk result (IsWell old))
+checked_by : {A : Type 0} (old new : TreeView) (result : Result A TreeFault) → old.is_failed ≡ false → old.inner.index.last < 2 ^ 128 → (IsHonest old.store → OnOk result (IsWell old))
     → ChecksPages old new result → IsChecked old new result
-checked_by old new result small well effect = record {
+checked_by old new result working small well effect = record {
   well = well;
   exact = λ honest is works. well_passes old small result works honest is effect.faults;
   sound = λ sound. well_passes old small result sound.working sound.honest (sound_well old sound) effect.faults;
   stopped = λ fault honest works first. first_answered old small result works honest effect.faults (well honest) fault first;
+  failed = λ failed. absurd (let works = working in let bad = failed in cc);
   effect = effect;
 }
 
 -- the check of a tree's table, as one of the tree
 module _ (schema : Schema) (index_at : IndexView) (count next rows : ℕ) (changed failed : Bool) (old new : PagerView) (last_is : index_at.last ≡ last_address schema.dims)
-    (small : index_at.last < 2 ^ 128) (told : Told) where
+    (small : index_at.last < 2 ^ 128) (working : failed ≡ false) (told : Told) where
   abbrev tree : TreeView
   tree = tree_view schema index_at count next rows changed failed old
 
@@ -140,8 +133,8 @@ module _ (schema : Schema) (index_at : IndexView) (count next rows : ℕ) (chang
     pub checked_refused : {T U : Type 0} (r : Result T TreeFault) (f : IndexFault) → IsErrAnd r (λ x. x ≡ index_fault f)
         → Checks {A = U} schema told old new (Err f) → IsChecked tree (tree_view schema index_at count next rows changed failed new) r
     checked_refused r f is h =
-        checked_by tree (tree_view schema index_at count next rows changed failed new) r small (λ honest. refused_none (IsWell tree) r (index_fault f) is) (run_refused r f is h)
+        checked_by tree (tree_view schema index_at count next rows changed failed new) r working small (λ honest. refused_none (IsWell tree) r (index_fault f) is) (run_refused r f is h)
 
     pub checked_done : {T U : Type 0} (x : T) (y : U) → Checks {A = U} schema told old new (Ok y)
         → IsChecked tree (tree_view schema index_at count next rows changed failed new) (Ok x)
-    checked_done x y h = checked_by tree (tree_view schema index_at count next rows changed failed new) (Ok x) small (run_well y h) (run_done x y h)
+    checked_done x y h = checked_by tree (tree_view schema index_at count next rows changed failed new) (Ok x) working small (run_well y h) (run_done x y h)

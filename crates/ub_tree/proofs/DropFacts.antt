@@ -5,7 +5,7 @@ use Rattle.std.proofs.Common.{◌≡◌, ◌≢◌, ◌<◌, ◌+◌, ◌∙◌,
 use Rattle.std.proofs.lemmas.Bool.{cases_lt}
 use Rattle.std.proofs.lemmas.List.{length-map}
 use Rattle.std.proofs.lemmas.List.Elements.{recursion_from_All}
-use Rattle.std.proofs.lemmas.Option.{slice_get_past, slice_get_within}
+use Rattle.std.proofs.lemmas.Option.{slice_get_past}
 use Rattle.std.specs.List.{AllByRecursion, IsDistinct, remove as remove_at_index}
 use Rattle.ub_check.proofs.StandingFacts.{each_get}
 use Rattle.ub_store.specs.Writing.{Grows}
@@ -29,6 +29,7 @@ use Rattle.ub_table.specs.Region.{RegionRows, IsRegion}
 use Rattle.ub_table.specs.declared.row.Key.{Key}
 use Rattle.ub_table.specs.declared.row.Row.{Row}
 use Rattle.ub_table.specs.declared.schema.Schema.{Schema}
+use Rattle.ub_tree.proofs.HoldingFacts.{pages_there}
 use Rattle.ub_tree.proofs.IndexedFacts.{index_on, reached_once}
 use Rattle.ub_tree.proofs.PutFacts.{put_placed}
 use Rattle.ub_tree.proofs.ShrinkFacts.{map_removed, placed_without, put_joined, regions_put}
@@ -81,10 +82,6 @@ stands_anew (suc i) p (q ∷ placed) lt = stands_anew i p placed (omega arith)
 no_page : (numbers : List ℕ) → AllByRecursion (λ n. IsOutside n []) numbers
 no_page [] = tt
 no_page (n ∷ numbers) = (tt, no_page numbers)
-
-pages_there : (schema : Schema) (pages : List (List ℕ)) (ps : List Placed) → AllByRecursion (IsSpelled schema pages) ps → AllByRecursion (λ n. n < length pages) (map (λ p. p.page) ps)
-pages_there schema pages [] h = tt
-pages_there schema pages (p ∷ ps) h = (slice_get_within pages p.page _ h.0, pages_there schema pages ps h.1)
 
 -- the rows of a region and of the next one were put on its page, and a change by which the next one goes was prepared before and then made
 module _ (schema : Schema) (index : IndexView) (a mid new : StoreFacts) (placed placed_mid : List Placed)

@@ -1,9 +1,10 @@
 -- A row put into a tree: where its region's rows come to stand, what becomes of the table, and what a call tells of it.
-use Rattle.std.proofs.Common.{◌≡◌, ◌≢◌, ◌<◌, ◌≤◌, ◌+◌, ◌^◌, ◌∙◌, ◌++◌, ◌⊎◌, inl, inr, ℕ, zero, suc, true, false, List, [], ◌∷◌, Ok, Err, Result, IfErr, OnOk, Option, None, Some, IfSome, length, map, take, drop, nat_le, nat_lt, sym, ap, subst, refl, arith, slice_get, append_assoc}
+use Rattle.std.proofs.Common.{◌≡◌, ◌≢◌, ◌<◌, ◌≤◌, ◌+◌, ◌^◌, ◌∙◌, ◌++◌, ◌⊎◌, inl, inr, ℕ, zero, suc, true, false, List, [], ◌∷◌, Ok, Err, Result, IfErr, IfOk, OnOk, Option, None, Some, IfSome, length, map, take, drop, nat_le, nat_lt, sym, ap, subst, refl, arith, slice_get, append_assoc}
 use Rattle.std.proofs.lemmas.Bool.{cases_Bool, ltb-true, ltb-false}
 use Rattle.std.proofs.lemmas.List.Sorted.{length_permutation}
 use Rattle.std.specs.List.{AllByRecursion}
 use Rattle.std.specs.Result.{IsErrAnd}
+pub use Rattle.ub_check.proofs.CheckingFacts.{drop_at}
 use Rattle.ub_index.proofs.KeyFacts.{before_le, le_trans}
 use Rattle.ub_index.proofs.LeadFacts.{ways_hold}
 use Rattle.ub_index.proofs.WaysFacts.{ends_from, ends_to}
@@ -24,7 +25,8 @@ use Rattle.ub_table.specs.declared.fault.PageFault.{PageFault}
 use Rattle.ub_table.specs.declared.fault.PageFault.TheVariants.{BadCount}
 use Rattle.ub_table.specs.declared.row.Key.{Key}
 use Rattle.ub_table.specs.declared.row.Row.{Row}
-use Rattle.ub_tree.proofs.EffectFacts.{sound_stored}
+use Rattle.ub_table.specs.declared.row.TheConstants.{MAX_ROW_NUMBER}
+use Rattle.ub_tree.proofs.EffectFacts.{changes_next, sound_stored}
 use Rattle.ub_tree.proofs.HoldingFacts.{on_region, read_region}
 use Rattle.ub_tree.proofs.RemovalFacts.{IsHolder, region_stands}
 use Rattle.ub_tree.proofs.RoomFacts.{found_row, number_free, rows_each}
@@ -32,8 +34,9 @@ use Rattle.ub_tree.proofs.ShrinkFacts.{regions_put}
 use Rattle.ub_tree.proofs.TreeFacts.{contained_at, firsts_placed, region_get, placed_there}
 use Rattle.ub_tree.proofs.WayFacts.{falls_once}
 use Rattle.ub_tree.specs.Change.{IsInserted, IsPutIn, next_after}
-use Rattle.ub_tree.specs.Effects.{HasNumber, IsTakenIn}
+use Rattle.ub_tree.specs.Effects.{ChangesOf, HasNumber, IsTakenIn}
 use Rattle.ub_tree.specs.Holding.{Answers, AnswersKey, AnswersAt, GrowsAt, IsRoomFault}
+use Rattle.ub_tree.specs.Inserted.{Inserts, InsertsAs}
 use Rattle.ub_tree.specs.Opened.{IsPassing}
 use Rattle.ub_tree.specs.Others.{AddsEntry, KeepsEntries, WritesIndex, WritesPage}
 use Rattle.ub_tree.specs.Placed.{entry_of, regions_in}
@@ -72,11 +75,6 @@ module _ (old new : TreeView) (i : ℕ) (span : Region) (rows : List Row) where
         ∙ rw over refl,
     h.2,
   )
-
-drop_at : {X : Type 0} (xs : List X) (i : ℕ) (x : X) → slice_get xs i ≡ Some x → drop i xs ≡ x ∷ drop (suc i) xs
-drop_at [] i x at = cc
-drop_at (y ∷ xs) zero x at = let same : y ≡ x = cc in ap (λ z. z ∷ xs) same
-drop_at (y ∷ xs) (suc i) x at = drop_at xs i x at
 
 -- insertion changes the region at the index of the row's key
 insert_at_index : (dims c : ℕ) (row : Row) (rs : List RegionRows) (index : ℕ) (r : RegionRows) → slice_get rs index ≡ Some r → index ≡ index_holding (key_of dims row) (firsts_of rs)
@@ -182,7 +180,7 @@ inserted_next a d row good number sound put = record {
   grown = put.grown;
 }
 
-pub all_inserted : (r : Result ℕ TreeFault) (a d : TreeView) (row : Row) → IsRow a.schema.dims (measures_of a.schema) row → row.number ≡ a.next → IsSound a → OnOk r (IsPutIn row a d) → OnOk r (IsInserted row a d)
+all_inserted : (r : Result ℕ TreeFault) (a d : TreeView) (row : Row) → IsRow a.schema.dims (measures_of a.schema) row → row.number ≡ a.next → IsSound a → OnOk r (IsPutIn row a d) → OnOk r (IsInserted row a d)
 all_inserted (Err e) a d row good number sound put = tt
 all_inserted (Ok n) a d row good number sound put = inserted_next a d row good number sound put
 
@@ -427,3 +425,40 @@ put_at (Ok x) old new span count room put told writes = record {
 -- halves of the same rows
 pub same_split : {d e p q : ℕ} {rs ss : List Row} → d ≡ e → p ≡ q → rs ≡ ss → split d p rs ≡ split e q ss
 same_split {d} {e} {p} {q} {rs} {ss} dims count rows = ap (λ (n : ℕ). split n p rs) dims ∙ ap (λ (n : ℕ). split e n rs) count ∙ ap (λ (xs : List Row). split e q xs) rows
+
+-- a row wasn't put in
+pub refused_inserts : (a m : TreeView) (row : Row) → a.is_failed ≡ false → (r : Result ℕ TreeFault) (e : TreeFault) → IsErrAnd r (λ x. x ≡ e) → (IsHonest a.store → AnswersKey a (key_of a.schema.dims row) r)
+    → ChangesOf row.number a m r → InsertsAs row a m r
+refused_inserts a m row working (Ok x) e is answers effect = absurd is
+refused_inserts a m row working (Err f) e is answers effect = record {
+  inserted = λ _ _. tt;
+  number = tt;
+  counted = tt;
+  put = tt;
+  failed = λ failed. absurd (let works = working in let bad = failed in cc);
+  refused = λ _. answers;
+  effect = effect;
+}
+
+-- a row was put in with the number that was next
+pub inserts_next : (a b : TreeView) (row : Row) (r : Result ℕ TreeFault) → IsRow a.schema.dims (measures_of a.schema) row → row.number ≡ a.next → a.next ≢ MAX_ROW_NUMBER + 1
+    → (IsSound a → IsFree row.number (regions a)) → InsertsAs row a b r → Inserts row a b r
+inserts_next a b row r good is some free said = record {
+  inserted = λ sound. all_inserted r a b row good is sound (said.inserted sound (free sound));
+  number = number_next r said.number;
+  counted = counted_next r said.counted;
+  put = said.put;
+  failed = said.failed;
+  refused = λ working. (λ last. absurd (some last), λ _. said.refused working);
+  effect = changes_next row.number a b r (sym is) said.effect;
+}
+  where
+    number_next : (r : Result ℕ TreeFault) → IfOk r (λ n. n ≡ row.number) → IfOk r (λ n. n ≡ a.next)
+    number_next (Ok n) same = same ∙ is
+    number_next (Err e) same = tt
+
+    counted_next : (r : Result ℕ TreeFault)
+        → OnOk r ((b.next ≡ next_after a.next row.number) × (b.rows ≡ a.rows + 1) × (b.is_failed ≡ false) × GrowsAt (key_of a.schema.dims row) a b)
+        → OnOk r ((b.next ≡ a.next + 1) × (b.rows ≡ a.rows + 1) × (b.is_failed ≡ false) × GrowsAt (key_of a.schema.dims row) a b)
+    counted_next (Ok n) h = (h.0 ∙ next_one a.next row.number is, h.1, h.2, h.3)
+    counted_next (Err e) h = tt

@@ -148,6 +148,3 @@ module _ (schema : Schema) (index : IndexView) (count next rows : ℕ) (changed 
 
   pub grow_size : r ≡ Err store.BadSize → GrowsTo {A = Unit {0}} (page_count old.store + by) first (tree_view schema index count next rows changed failed new) (Err (Store store.BadSize))
   grow_size h = search (rules, grown_leaves, honesty_by, refused_by, same_by, wrote_tree)
-
-  pub grow_no_page : {P : Type 0} → r ≡ Err store.NoPage → P
-  grow_no_page is = absurd (refused_by store.NoPage is)

@@ -39,7 +39,7 @@ each_below n q (x ∷ xs) all t = elim (cases_Bool (nat_eq q x)) [
 ]
 
 -- each region's page is there
-pages_there : (schema : Schema) (pages : List (List ℕ)) (ps : List Placed) → AllByRecursion (IsSpelled schema pages) ps → AllByRecursion (λ n. n < length pages) (map (λ p. p.page) ps)
+pub pages_there : (schema : Schema) (pages : List (List ℕ)) (ps : List Placed) → AllByRecursion (IsSpelled schema pages) ps → AllByRecursion (λ n. n < length pages) (map (λ p. p.page) ps)
 pages_there schema pages [] h = tt
 pages_there schema pages (p ∷ ps) h = (slice_get_within pages p.page _ h.0, pages_there schema pages ps h.1)
 

@@ -1,7 +1,7 @@
 -- A tree of which two neighbouring regions were joined into the first: the change of its index was made ready, the first one's page was put,
 -- and then the pages that the change spells.
 use Rattle.std.proofs.Common.{rules}
-use Rattle.std.proofs.Common.{◌≡◌, ◌≢◌, ◌<◌, ◌≤◌, ◌+◌, ◌-◌, ◌^◌, ◌++◌, ◌⊎◌, ◌∙◌, inl, inr, slice_get, ℕ, true, List, [], ◌∷◌, Some, Ok, Err, Result, IfErr, length, map, sym, ap, subst, arith}
+use Rattle.std.proofs.Common.{◌≡◌, ◌≢◌, ◌<◌, ◌≤◌, ◌+◌, ◌-◌, ◌^◌, ◌++◌, ◌⊎◌, ◌∙◌, inl, inr, slice_get, ℕ, true, List, [], ◌∷◌, Some, Ok, Err, Result, IfErr, length, map, sym, ap, subst, refl, arith}
 use Rattle.std.proofs.lemmas.Bool.{cases_eq, cases_lt}
 use Rattle.std.proofs.lemmas.List.{length-map}
 use Rattle.std.proofs.lemmas.Option.{slice_get_past}
@@ -12,7 +12,7 @@ use Rattle.ub_index_change.specs.Changing.{AreOnce, IsUnspelled, Stand}
 use Rattle.ub_index.specs.Standing.{IsOutside}
 use Rattle.ub_index.proofs.FitFacts.{page_is}
 use Rattle.ub_index.specs.Index.{IsIndexPage, page_in, pages_under, top}
-use Rattle.ub_index_change.proofs.BesideFacts.{IsKept, dropped_once, others_stay}
+use Rattle.ub_index_change.proofs.BesideFacts.{IsKept, dropped_once, joined_lead, others_stay}
 use Rattle.ub_index_change.specs.Lowering.{IsDropFault}
 use Rattle.ub_index_change.specs.Making.{IsPutFault, PutsSheets, changed}
 use Rattle.ub_index_change.specs.Preparing.{ChangeView, MakesIndex}
@@ -40,7 +40,7 @@ use Rattle.ub_tree.proofs.WayFacts.{region_no_index}
 use Rattle.ub_tree.specs.Effects.{Changes, HasEnded, IsLeft}
 use Rattle.ub_tree.specs.Faults.{index_fault}
 use Rattle.ub_tree.specs.Indexed.{HasIndex, Inner, entries_on, reserved}
-use Rattle.ub_tree.specs.Others.{AreOthersKept, KeepsBeside, KeepsOthers, WritesIndex}
+use Rattle.ub_tree.specs.Others.{AreOthersKept, JoinsKeys, KeepsBeside, KeepsOthers, WritesIndex}
 use Rattle.ub_tree.specs.Placed.{Placed, ArePlaced, entry_of, placed_of, regions_in}
 use Rattle.ub_tree.specs.Removal.{IsRemovalFault}
 use Rattle.ub_tree.specs.Tree.{placed_in}
@@ -136,9 +136,6 @@ module _ (b mid n : TreeView) (span next : Region) (change : ChangeView) (there 
     joined_pages : page_count d.store ≡ page_count b.store
     joined_pages = ap (λ (s : StoreFacts). page_count s) store_is ∙ puts.count ∙ wrote.count
 
-    pub joined_at : (rows : List Row) → 1 ≤ region_count b → (IsHonest b.store → Spells d span.page span.first rows) → KeepsBeside span b d → JoinsAt span rows b d
-    joined_at rows h spells beside = record { same = elsewhere; others = joined_others; dropped = (joined_count h, joined_pages, beside); put = spells }
-
     -- each region beside the two is told of as before
     module _ (rows : List Row) (near : b.inner.index.last < 2 ^ 128) (good : IsRegion b.schema (record { first = span.first; rows = rows })) (told : IsRegionOf b next)
         (stand : AreOnce change.sheets → IsHonest mid.store → Stand n.store.pages change.sheets) (spells : IsHonest b.store → Spells d span.page span.first rows) where
@@ -168,21 +165,49 @@ module _ (b mid n : TreeView) (span next : Region) (change : ChangeView) (there 
               (subst (IsIndexPage b.inner.index.last) (page_is n.store.pages span.page (region_page b.schema (record { first = span.first; rows = rows })) (page_then honest))
               (subst (λ (k : ℕ). IsIndexPage b.inner.index.last (page_in n.store.pages k)) own h))
 
+      stands : IsHonest b.store → Stand n.store.pages change.sheets
+      stands honest = stand (dropped_once b.inner.index b.store next.first change (ready.made honest)) (honest_mid honest)
+
       leads_then : IsHonest b.store → (key : Key) (other : Region) → FallsTo b key other → other.next ≢ span.next → span.next ≢ Some other.first
           → Leads (changed b.inner.index change) n.store key other
       leads_then honest key other falls not_this not_next =
           others_stay b.inner.index b.store n.store next.first key next other change near ready.bounds.1 ready.bounds.0 ready.bounds.2 (ready.made honest)
-          ((first_falls b next honest told).way honest) later (stand (dropped_once b.inner.index b.store next.first change (ready.made honest)) (honest_mid honest)) (kept honest) (falls.way honest)
+          ((first_falls b next honest told).way honest) later (stands honest) (kept honest) (falls.way honest)
           (λ first_is. not_next (begins ∙ ap (λ (k : Key). Some k) (sym first_is))) (λ next_is. not_this (next_is ∙ sym begins))
 
-      pub joined_beside : KeepsBeside span b d
-      joined_beside honest key other falls not_this not_next =
+      beside : KeepsBeside span b d
+      beside honest key other falls not_this not_next =
           subst (λ (v : TreeView). FallsTo v key other) (sym whole) (record {
             holds = falls.holds;
             from = falls.from;
             to = falls.to;
             way = λ _. leads_then honest key other falls not_this not_next;
           })
+
+      -- and the two as one
+      abbrev joined : Region
+      joined = record span { next = next.next; to = next.to }
+
+      leads_joined : IsHonest b.store → Leads (changed b.inner.index change) n.store span.first joined
+      leads_joined honest =
+          joined_lead b.inner.index b.store n.store next.first span.first next span change near ready.bounds.1 ready.bounds.0 ready.bounds.2 (ready.made honest)
+          ((first_falls b next honest told).way honest) later (stands honest) (kept honest) ((first_falls b span honest there.told).way honest) refl begins
+
+      joins : JoinsKeys span b d
+      joins honest = (
+        next,
+        told,
+        begins,
+        λ key holds. subst (λ (v : TreeView). FallsTo v key joined) (sym whole) (record {
+          holds = holds;
+          from = there.told.falls.from;
+          to = told.falls.to;
+          way = λ _. (ways_hold (changed b.inner.index change) n.store span.first joined (leads_joined honest)).2 key holds;
+        }),
+      )
+
+      pub joined_at : 1 ≤ region_count b → JoinsAt span rows b d
+      joined_at h = record { same = elsewhere; others = joined_others; dropped = (joined_count h, joined_pages, beside, joins); put = spells }
 
     pub joined_effect : {T : Type 0} (x : T) → n.store ≡ record mid.store { pages = n.store.pages; synced = n.store.synced } → Changes b d (Ok x)
     joined_effect x h = search (rules, elsewhere, mark_then, store_is, whole)

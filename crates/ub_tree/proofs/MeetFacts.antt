@@ -10,7 +10,7 @@ use Rattle.ub_region.specs.Those.{AreThose}
 use Rattle.ub_table.proofs.Laws.{not_both_before, not_before_self}
 use Rattle.ub_table.specs.Keys.{IsBefore}
 use Rattle.ub_tree.proofs.AnswerFacts.{answers_ended, first_more, left_after, left_less}
-use Rattle.ub_tree.specs.Handing.{AreMetBy, Began, TakesThese}
+use Rattle.ub_tree.specs.Handing.{AreMetBy, TakesThese}
 use Rattle.ub_tree.specs.Placed.{Placed, entry_of}
 use Rattle.ub_tree.specs.Spans.{IsLater, regions_of, Region}
 use Rattle.ub_tree.specs.Told.{AreFirst, GivesNext}
@@ -37,10 +37,6 @@ module _ {X : Type 0} where
   some_at : (P : X → Type 0) (o : Option X) (x : X) → o ≡ Some x → IfSome o P → P x
   some_at P None x e h = cc
   some_at P (Some y) x e h = let same : y ≡ x = cc in subst P same h
-
-  at_some : (P : X → Type 0) (o : Option X) (x : X) → o ≡ Some x → P x → IfSome o P
-  at_some P None x e h = cc
-  at_some P (Some y) x e h = let same : x ≡ y = cc in subst P same h
 
   pub take_next : (xs : List X) (k : ℕ) (x : X) → slice_get xs k ≡ Some x → take (suc k) xs ≡ take k xs ++ x ∷ []
   take_next xs k x at = take-suc xs k x (slice_get_within xs k x at) ∙ ap (λ (y : X). take k xs ++ y ∷ []) (get_or_from_slice_get xs k x x at)
@@ -138,11 +134,5 @@ module _ (boxes : List Corners) (t now : TreeView) (found : List Region) (after 
 -- ---- the sink
 
 module _ {S : Type 0} (Takes : S → List Region → S → Type 0) where
-  pub takes_none : (sink : S) → TakesThese Takes sink sink []
-  takes_none sink = search rules
-
   pub takes_more : (a b c : S) (some more : List Region) → TakesThese Takes a b some → TakesThese Takes b c more → TakesThese Takes a c (some ++ more)
   takes_more a b c some more h k start taken has = subst (λ (regions : List Region). Takes start regions c) (append_assoc taken some more) (k start (taken ++ some) (h start taken has))
-
-  pub still_began : (a b : S) (some : List Region) → Began Takes a → TakesThese Takes a b some → Began Takes b
-  still_began a b some (start, taken, has) takes = (start, taken ++ some, takes start taken has)

@@ -34,7 +34,7 @@ use Rattle.ub_upgrade.specs.Bringing.{HasOldHeader, directory_of}
 use Rattle.ub_upgrade.specs.Reading.{AreBelow, IsDirectory}
 use Rattle.ub_zaddr.specs.Address.{last_address}
 
-positive : (n : ℕ) → 0 ≢ n → 1 ≤ n
+pub positive : (n : ℕ) → 0 ≢ n → 1 ≤ n
 positive zero differ = absurd (differ refl)
 positive (suc n) differ = omega arith
 

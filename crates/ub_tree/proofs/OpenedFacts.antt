@@ -1,6 +1,6 @@
 -- A table's pages tell of one header alone, and opening finds it and the index of which it tells.
 use Rattle.std.proofs.Common.{rules}
-use Rattle.std.proofs.Common.{◌≡◌, ℕ, suc, false, List, [], ◌∷◌, Option, Some, map, ◌∙◌, sym, ap, subst, refl, arith, slice_get}
+use Rattle.std.proofs.Common.{◌≡◌, ℕ, false, List, [], ◌∷◌, Option, Some, map, ◌∙◌, sym, ap, subst, refl, arith, slice_get}
 use Rattle.std.proofs.lemmas.List.Elements.{recursion_from_All}
 use Rattle.std.proofs.lemmas.Option.{slice_get_within}
 use Rattle.std.specs.List.{AllByRecursion}
@@ -110,10 +110,6 @@ module _ (pages : List (List ℕ)) (schema : Schema) (placed : List Placed) (nex
 
   pub placed_back : placed_of schema pages (map entry_of placed) ≡ placed
   placed_back = placed_told schema pages placed (told_each placed s.well_formed.each spelled_each)
-
-  -- and of the root of its index
-  pub rooted_of : (level : ℕ) → s.header.levels ≡ suc level → IsRooted pages s.header
-  rooted_of level k = search rules
 
 abbrev view_with : Schema → List Placed → IndexView → ℕ → ℕ → ℕ → PagerView → TreeView
 view_with schema placed index count next rows pager = record {

@@ -1,34 +1,46 @@
 -- What the parting of a region leaves: the store grew, the pages of both halves were put, and then those that the change of the index
 -- spells.
 use Rattle.std.proofs.Common.{rules}
-use Rattle.std.proofs.Common.{◌≡◌, ◌≢◌, ◌<◌, ◌≤◌, ◌+◌, ◌-◌, ◌∙◌, inr, ℕ, Bool, true, List, [], ◌∷◌, Ok, Err, Result, sym, ap, subst, refl, arith}
+use Rattle.std.proofs.Common.{◌≡◌, ◌≢◌, ◌<◌, ◌≤◌, ◌+◌, ◌-◌, ◌^◌, ◌∙◌, inl, inr, ℕ, Bool, true, Some, List, [], ◌∷◌, Ok, Err, Result, sym, ap, subst, refl, arith}
+use Rattle.std.proofs.lemmas.Bool.{cases_eq}
 use Rattle.std.specs.List.{AllByRecursion}
 use Rattle.std.specs.Result.{IsErrAnd}
+use Rattle.ub_index.proofs.FitFacts.{page_is}
+use Rattle.ub_index.proofs.LeadFacts.{one_given}
 use Rattle.ub_index.specs.Standing.{IsOutside}
-use Rattle.ub_index_change.specs.Changing.{IsUnspelled}
-use Rattle.ub_index.specs.Index.{pages_under, top}
-use Rattle.ub_index_change.specs.Making.{IsPutFault, PutsSheets}
-use Rattle.ub_index_change.specs.Preparing.{ChangeView, NeedsPages}
+use Rattle.ub_index.specs.View.{IndexView, Leads}
+use Rattle.ub_index.specs.Way.{HoldsKey}
+use Rattle.ub_index_change.proofs.BesideFacts.{KeepsIndex, added_once, halves_lead, others_stay_added}
+use Rattle.ub_index_change.specs.Changing.{AreOnce, IsUnspelled, Stand}
+use Rattle.ub_index.specs.Index.{IsIndexPage, page_in, pages_under, top}
+use Rattle.ub_index_change.specs.Making.{IsPutFault, PutsSheets, changed}
+use Rattle.ub_index_change.specs.Preparing.{ChangeView, IsWithinRegion, NeedsPages}
 use Rattle.ub_region.specs.declared.region.Region.{Region}
 use Rattle.ub_index_change.specs.declared.sheet.Sheet.{Sheet}
 use Rattle.ub_page.specs.declared.header.TheConstants.{MAX_LEVEL}
-use Rattle.ub_region.proofs.Laws.{all_more}
+use Rattle.ub_region.proofs.Laws.{all_more, before_cases}
+use Rattle.ub_region.specs.RegionPage.{region_page}
+use Rattle.ub_region.specs.Spans.{end_before}
 use Rattle.ub_page.specs.Header.{header_page}
 use Rattle.ub_store.specs.Facts.{StoreFacts, IsHonest, page_count}
 use Rattle.ub_store.specs.declared.fault.StoreFault.TheVariants as store
 use Rattle.ub_table.specs.declared.row.Key.{Key}
+use Rattle.ub_table.specs.declared.row.Row.{Row}
 use Rattle.ub_table.specs.declared.schema.Schema.{Schema}
 use Rattle.ub_tree.proofs.EffectFacts.{left_by, writes_both, writes_told, writes_wider}
+use Rattle.ub_tree.proofs.JoinFacts.{first_falls}
 use Rattle.ub_tree.proofs.PutFacts.{own_page}
+use Rattle.ub_tree.proofs.WayFacts.{region_no_index}
 use Rattle.ub_tree.specs.Effects.{Changes, HasEnded, IsFull, IsLeft, IsMarkedFirst, KeepsMark, written_store}
 use Rattle.ub_tree.specs.Holding.{AnswersAt, HasNoRoom, IsRoomFault}
 use Rattle.ub_tree.specs.Indexed.{Inner}
-use Rattle.ub_tree.specs.Others.{AddsEntry, KeepsOthers, WritesIndex}
+use Rattle.ub_tree.specs.Others.{AddsEntry, IsHalfOf, KeepsAllBut, KeepsOthers, SplitsKeys, WritesIndex}
+use Rattle.ub_tree.specs.Pages.{Spells}
 use Rattle.ub_tree.specs.Told.{FallsTo, IsRegionOf}
 use Rattle.ub_tree.specs.View.{TreeView, region_count}
 use Rattle.ub_tree.specs.declared.fault.TreeFault.{TreeFault}
 use Rattle.ub_tree.specs.declared.fault.TreeFault.TheVariants.{Full, Page, Store, Failed as HasFailed, Memory}
-use Rattle.ub_tree.specs.inner.Change.{GrowsTo, HasStopped, IsAddReady, IsGrowthLeft, IsIndexFault, IsPut, IsSpelledAt, IsWriteFault, StoresAt, WritesBoth}
+use Rattle.ub_tree.specs.inner.Change.{GrowsTo, HasStopped, IsAddReady, IsGrowthLeft, IsIndexFault, IsPut, IsRegionThere, IsSpelledAt, IsWriteFault, StoresAt, WritesBoth}
 use Rattle.ub_writing.specs.Marks.{HasMark, IsMarkOf, Marks, PutsMark, first_page, is_written}
 use Rattle.ub_writing.specs.declared.mark.Mark.{Mark}
 use Rattle.ub_writing.specs.declared.mark.Mark.TheVariants.{Due, Written}
@@ -170,7 +182,7 @@ module _ (a g h : TreeView) (span : Region) (of : IsRegionOf a span) (first : Ke
 
     -- all were put, and one region more is counted
     module _ (d : TreeView) (inner : Inner) (n_is : n ≡ record h { placed = n.placed; store = n.store; inner = inner }) (count_is : inner.count ≡ a.inner.count)
-        (works : n.store ≡ written_store {A = Unit {0}} (Ok tt) h.store n.store) (d_is : d ≡ record n { inner = record n.inner { count = n.inner.count + 1 } }) (high : a.inner.index.levels ≤ MAX_LEVEL) where
+        (works : n.store ≡ written_store {A = Unit {0}} (Ok tt) h.store n.store) (d_is : d ≡ record n { inner = record n.inner { count = n.inner.count + 1 } }) where
       abbrev inner_then : Inner
       inner_then = record inner { count = inner.count + 1 }
 
@@ -180,26 +192,103 @@ module _ (a g h : TreeView) (span : Region) (of : IsRegionOf a span) (first : Ke
       stores : n.store ≡ written_store {A = Unit {0}} (Ok tt) a.store n.store
       stores = works ∙ ap (λ (v : TreeView). written_store {A = Unit {0}} (Ok tt) v.store n.store) halves_is
 
-      needs : IsHonest a.store → NeedsPages a.inner.index a.store span.first (change.next - (page_count a.store + 1))
-      needs k = search rules
+      module _ (high : a.inner.index.levels ≤ MAX_LEVEL) where
+        needs : IsHonest a.store → NeedsPages a.inner.index a.store span.first (change.next - (page_count a.store + 1))
+        needs k = search rules
 
-      adds : AddsEntry span.first a d
-      adds = (
-        ap (λ (v : TreeView). region_count v) then_is ∙ ap (λ (k : ℕ). k + 1) count_is,
-        change.next - (page_count a.store + 1),
-        (let all : page_count d.store ≡ page_count n.store = ap (λ (v : TreeView). page_count v.store) then_is in
-            let put_count = puts.count in
-            let both = halves_count in
-            let grown : page_count g.store ≡ page_count a.store + (change.next - change.start) = grew.done.1 in
-            let start = ready.start in
-            let some = ready.some in
-            omega arith),
-        (let few = ready.few in omega arith),
-        needs,
-      )
+        pub parts_effect : Changes {A = Unit {0}} a d (Ok tt)
+        parts_effect = search (rules, mark_then, stores, then_is)
 
-      pub parts_at : StoresAt span a.schema.page_rows a d
-      parts_at = search (rules, adds, put_others, then_is)
+        -- how the regions are told of
+        module _ (low : 1 ≤ a.inner.index.levels) (near : a.inner.index.last < 2 ^ 128) (stood : IsRegionThere a span) (within : IsWithinRegion a.inner.index.last span.first span.next first)
+            (index_is : inner.index ≡ changed a.inner.index change) (stand : AreOnce change.sheets → IsHonest h.store → Stand n.store.pages change.sheets) where
+          kept : IsHonest a.store → KeepsIndex a.inner.index.last a.store.pages n.store.pages change.sheets
+          kept honest m some less alone was = elim (cases_eq m span.page) [
+            | inl own ↦
+                absurd (region_no_index a.inner.index.last near a.schema stood.region stood.on.0
+                (subst (IsIndexPage a.inner.index.last) (page_is a.store.pages span.page (region_page a.schema stood.region) (stood.on.2 honest))
+                (subst (λ (k : ℕ). IsIndexPage a.inner.index.last (page_in a.store.pages k)) own was)))
+            | inr other ↦ puts.others (honest_put honest) m alone ∙ (halves_kept {A = Unit {0}} (Ok tt) wrote).kept honest m ((λ none. omega (arith, some, none)), (other, tt)) less
+          ]
 
-      pub parts_effect : Changes {A = Unit {0}} a d (Ok tt)
-      parts_effect = search (rules, mark_then, stores, then_is)
+          module _ (honest : IsHonest a.store) where
+            own : FallsTo a span.first span
+            own = first_falls a span honest of
+
+            few : page_count a.store < 2 ^ 32
+            few = let room = (ready.needed honest).room in let more = ready.some in omega arith
+
+            stands : Stand n.store.pages change.sheets
+            stands = stand (added_once a.inner.index a.store span first change (ready.made honest)) (honest_put honest)
+
+            -- where the way to a key leads, the region is told of
+            falls_then : (key : Key) (found : Region) → HoldsKey key found.first found.next → found.from ≡ found.first.z → found.to ≡ end_before a.inner.index.last found.next
+                → Leads (changed a.inner.index change) n.store key found → FallsTo d key found
+            falls_then key found holds from to leads =
+                subst (λ (v : TreeView). FallsTo v key found) (sym then_is) (record {
+                  holds = holds;
+                  from = from;
+                  to = to_then;
+                  way = λ _. subst (λ (x : IndexView). Leads x n.store key found) (sym index_is) leads;
+                })
+              where
+                to_then : found.to ≡ end_before inner.index.last found.next
+                to_then = to ∙ ap (λ (x : IndexView). end_before x.last found.next) (sym index_is)
+
+            falls_other : (key : Key) (other : Region) → FallsTo a key other → other.first ≢ span.first → FallsTo d key other
+            falls_other key other falls not_this =
+                falls_then key other falls.holds falls.from falls.to
+                (others_stay_added a.inner.index a.store n.store key span first change near low ready.root few (ready.made honest) (own.way honest) within stands (kept honest) other (falls.way honest) not_this)
+
+            -- the halves of the region that was split
+            abbrev left_half : Region
+            left_half = record span { next = Some first; to = end_before a.inner.index.last (Some first) }
+
+            abbrev right_half : Region
+            right_half = record { first = first; next = span.next; from = first.z; to = span.to; page = page_count a.store }
+
+            falls_half : (key : Key) → FallsTo a key span → (half : Region) × IsHalfOf span first (page_count a.store) half × FallsTo d key half
+            falls_half key falls =
+                let leads = halves_lead a.inner.index a.store n.store key span first change near low ready.root few (ready.made honest) (own.way honest) within stands (kept honest) (falls.way honest) in
+                elim (before_cases key first) [
+                  | inl less ↦ (left_half, inl (refl, refl, refl), falls_then key left_half (record { from = falls.holds.from; to = less }) falls.from refl (leads.0 less))
+                  | inr more ↦ (right_half, inr (refl, refl, refl), falls_then key right_half (record { from = more; to = falls.holds.to }) refl falls.to (leads.1 more))
+                ]
+
+            same_span : (key : Key) (other : Region) → FallsTo a key other → other.first ≡ span.first → other ≡ span
+            same_span key other falls first_is =
+                one_given a.inner.index a.store span.first other span honest (subst (λ (k : Key). FallsTo a k other) first_is (first_falls a other honest (record { key = key; falls = falls }))) own
+
+          keeps : KeepsAllBut span.first a d
+          keeps honest key other falls not_this = falls_other honest key other falls not_this
+
+          splits : (rows : List Row) → (IsHonest a.store → Spells d (page_count a.store) first rows) → SplitsKeys span.first a d
+          splits rows spells honest = (
+            first,
+            rows,
+            spells honest,
+            λ key other falls first_is.
+                let same = same_span honest key other falls first_is in
+                subst (λ (x : Region). (half : Region) × IsHalfOf x first (page_count a.store) half × FallsTo d key half) (sym same)
+                (falls_half honest key (subst (λ (x : Region). FallsTo a key x) same falls)),
+          )
+
+          adds : (rows : List Row) → (IsHonest a.store → Spells d (page_count a.store) first rows) → AddsEntry span.first a d
+          adds rows spells = (
+            ap (λ (v : TreeView). region_count v) then_is ∙ ap (λ (k : ℕ). k + 1) count_is,
+            change.next - (page_count a.store + 1),
+            (let all : page_count d.store ≡ page_count n.store = ap (λ (v : TreeView). page_count v.store) then_is in
+                let put_count = puts.count in
+                let both = halves_count in
+                let grown : page_count g.store ≡ page_count a.store + (change.next - change.start) = grew.done.1 in
+                let start = ready.start in
+                let some = ready.some in
+                omega arith),
+            (let few = ready.few in omega arith),
+            needs,
+            keeps,
+            splits rows spells,
+          )
+
+          pub parts_at : (rows : List Row) → (IsHonest a.store → Spells d (page_count a.store) first rows) → StoresAt span a.schema.page_rows a d
+          parts_at rows spells = let all = adds rows spells in search (rules, all, put_others, then_is)

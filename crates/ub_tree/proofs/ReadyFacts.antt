@@ -4,8 +4,8 @@ use Rattle.std.proofs.Common.{◌≡◌, ◌≢◌, ◌≤◌, ◌<◌, ◌+◌,
 use Rattle.std.proofs.lemmas.List.{append-nil, length-map}
 use Rattle.std.specs.List.{AllByRecursion, flat_map}
 use Rattle.std.specs.Result.{IsErrAnd}
-use Rattle.ub_index_change.proofs.FullFacts.{mended_few}
-use Rattle.ub_index_change.specs.Changing.{IsAtMostOne, Mends, Spelled, Spreads, Turns, named_as, so_far}
+use Rattle.ub_index_change.proofs.DropFacts.{narrow}
+use Rattle.ub_index_change.specs.Changing.{IsAtMostOne, Mends, Spelled, Turns, so_far}
 use Rattle.ub_index.specs.Index.{entries_of, pages_under, top, under}
 use Rattle.ub_index_change.specs.Lowering.{IsDropFault, IsDropped, IsLowerFault, IsRootRefused}
 use Rattle.ub_index_change.specs.Preparing.{ChangeView, IsChangeFault, IsPrepared, Settles, change_view}
@@ -99,29 +99,7 @@ module _ (t : TreeView) (from : ℕ) (far : page_count t.store ≤ from) (start 
         tt,
       ))
 
--- a region's entry that goes needs no page more
-spread_narrow : (level : ℕ) (entry : Entry) (entries : List Entry) (from to : Spelled) (told : Told) → length entries ≤ 170 → Spreads level entry entries from to told
-    → IsAtMostOne told × (to.next ≡ from.next)
-spread_narrow level entry entries from to told h k = search rules
-
-pub narrow : (last : ℕ) (old : List (List ℕ)) (key : Key) (level : ℕ) (entry : Entry) (end : Option Key) (from to : Spelled) (told : Told)
-    → Turns last old key None level entry end from to told → IsAtMostOne told × (to.next ≡ from.next)
-narrow last old key zero entry end from to told (told_is, same) = (subst (λ (t : Told). IsAtMostOne t) (sym told_is) tt, ap (λ (s : Spelled). s.next) same)
-narrow last old key (suc level) entry end from to told (named, below, next, falls, middle, news, turns, mends) =
-    let in_it = narrow last old key level below next from middle news turns in
-    let few : length (falls.before ++ (below ∷ falls.after)) ≤ 170 = subst (λ (xs : List Entry). length xs ≤ 170) falls.parts named.fits.is.is.few in
-    let up = by_news news in_it.0 mends few in
-    (up.0, up.1 ∙ in_it.1)
-  where
-    by_news : (t : Told) → IsAtMostOne t → Mends (suc level) entry falls.before below falls.after t middle to told → length (falls.before ++ (below ∷ falls.after)) ≤ 170
-        → IsAtMostOne told × (to.next ≡ middle.next)
-    by_news Same n m few = (subst (λ (t : Told). IsAtMostOne t) (sym m.0) tt, ap (λ (s : Spelled). s.next) m.1)
-    by_news Gone n m few = spread_narrow (suc level) entry (falls.before ++ (named_as Gone below ++ falls.after)) middle to told (mended_few falls.before below falls.after Gone n few) m
-    by_news (One other) n m few =
-        spread_narrow (suc level) entry (falls.before ++ (named_as (One other) below ++ falls.after)) middle to told (mended_few falls.before below falls.after (One other) n few) m
-    by_news (Two left right) n m few = absurd n
-
--- and where nothing is left, there was one region alone
+-- where nothing is left of a region's entry that goes, there was one region alone
 pub gone_alone : (last : ℕ) (old : List (List ℕ)) (key : Key) (level : ℕ) (entry : Entry) (end : Option Key) (from to : Spelled)
     → Turns last old key None level entry end from to Gone → length (under old level entry) ≡ 1
 gone_alone last old key zero entry end from to h = refl

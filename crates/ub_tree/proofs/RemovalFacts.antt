@@ -1,6 +1,6 @@
 -- A row taken out of a tree: what becomes of the regions where the one that had it is left with few rows.
 use Rattle.std.proofs.Common.{rules}
-use Rattle.std.proofs.Common.{◌≡◌, ◌≢◌, ◌<◌, ◌+◌, ◌-◌, ◌/◌, ◌^◌, ℕ, suc, Bool, true, false, List, [], ◌∷◌, ◌++◌, Some, Ok, Err, Result, IfErr, OnOk, length, map, nat_le, nat_lt, ◌∙◌, sym, ap, subst, refl, arith, slice_get, if◌then◌else◌}
+use Rattle.std.proofs.Common.{◌≡◌, ◌≢◌, ◌<◌, ◌+◌, ◌-◌, ◌/◌, ◌^◌, inl, inr, ℕ, suc, Bool, true, false, List, [], ◌∷◌, ◌++◌, Some, Ok, Err, Result, IfErr, OnOk, length, map, nat_le, nat_lt, ◌∙◌, sym, ap, subst, refl, arith, slice_get, if◌then◌else◌}
 use Rattle.std.proofs.lemmas.List.Sorted.{length_permutation}
 use Rattle.std.specs.List.{AllByRecursion}
 use Rattle.std.specs.Result.{IsErrAnd}
@@ -16,6 +16,7 @@ use Rattle.ub_tree.proofs.EffectFacts.{sound_stored}
 use Rattle.ub_tree.proofs.ShrinkFacts.{has_at, join_one, join_with, length-regions, put_alone, regions_put, removed_at, settle_before, settle_large, settle_next}
 use Rattle.ub_tree.proofs.TreeFacts.{firsts_placed, region_get, placed_there, within_placed}
 use Rattle.ub_tree.specs.Holding.{ShrinksAt}
+use Rattle.ub_tree.specs.Others.{KeepsEntries}
 use Rattle.ub_tree.specs.Placed.{Placed, entry_of, regions_in}
 use Rattle.ub_tree.specs.Effects.{IsReadFault, IsTakenIn}
 use Rattle.ub_tree.specs.Removal.{IsRemovalFault, IsRemoved}
@@ -133,7 +134,22 @@ module _ (a : TreeView) (i : ℕ) (span : Region) (rows : List Row) (stored : Is
       (subst (λ (v : TreeView). Joins r before span new v d) (two ∙ one) written k stored place.2 (subst (λ (n : ℕ). IsRegionIn a n span) up at) (subst (AllByRecursion (IsRegion a.schema)) (sym same_k) all))
 
 pub shrinks_by : (a b mid d : TreeView) (key : Key) (span : Region) (rows : List Row) (n : ℕ) → b ≡ a → d ≡ record mid { rows = n } → FallsTo a key span → TakesAt span rows b mid → ShrinksAt key a d
-shrinks_by a b mid d key span rows n k j l m = search rules
+shrinks_by a b mid d key span rows n same counted falls h =
+    subst (λ (v : TreeView). ShrinksAt key a v) (sym counted) (subst (λ (v : TreeView). FallsTo v key span → ShrinksAt key v (record mid { rows = n })) same by_b falls)
+  where
+    kept : KeepsEntries b mid → KeepsEntries b (record mid { rows = n })
+    kept k = search rules
+
+    by_b : FallsTo b key span → ShrinksAt key b (record mid { rows = n })
+    by_b into = record {
+      span = span;
+      falls = into;
+      others = elim h.shrunk [
+        | inl k ↦ inl (k.0, kept k.1)
+        | inr k ↦ inr k
+      ];
+      changed = ap (λ (v : TreeView). v.is_changed) h.same;
+    }
 
 -- the rows of the region that holds a key, which are those of a span
 pub record IsHolder (a : TreeView) (key : Key) (span : Region) (rows : List Row) : Type 0 where

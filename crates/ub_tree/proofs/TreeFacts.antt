@@ -1,5 +1,5 @@
 -- A tree's regions, by its entries and the pages of its store.
-use Rattle.std.proofs.Common.{◌≡◌, ◌<◌, ℕ, zero, suc, List, [], ◌∷◌, Option, Some, None, IfSome, length, map, ◌∙◌, sym, ap, subst, refl, arith, slice_get, slice_index_or}
+use Rattle.std.proofs.Common.{◌≡◌, ◌<◌, ℕ, zero, suc, List, [], ◌∷◌, Option, Some, IfSome, length, map, ◌∙◌, sym, ap, subst, refl, arith, slice_get, slice_index_or}
 use Rattle.std.proofs.lemmas.List.{length-map}
 use Rattle.std.proofs.lemmas.Option.{slice_get_read, slice_get_within, get_or_from_slice_get}
 use Rattle.std.specs.List.{All, AllByRecursion, Contains}
@@ -52,10 +52,6 @@ module _ {X : Type 0} (P : X → Type 0) where
 
   pub contained_at : (xs : List X) (i : ℕ) (x : X) → slice_get xs i ≡ Some x → Contains xs x
   contained_at xs i x at = (i, slice_get_within xs i x at, get_or_from_slice_get xs i x x at)
-
-  pub if_some : (o : Option X) (x : X) → o ≡ Some x → IfSome o P → P x
-  if_some None x e h = cc
-  if_some (Some y) x e h = let same : y ≡ x = cc in subst P same h
 
 -- each row's key is before the first key of the next region
 pub apart_next : (dims : ℕ) (regions : List RegionRows) (i : ℕ) (r : RegionRows) → AreApart dims regions → slice_get regions i ≡ Some r

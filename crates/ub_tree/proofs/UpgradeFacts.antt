@@ -17,6 +17,7 @@ use Rattle.ub_region.proofs.Laws.{all_append, all_more}
 use Rattle.ub_store.specs.Facts.{StoreFacts, IsHonest, page_count}
 use Rattle.ub_store.specs.View.{PagerView}
 use Rattle.ub_table.specs.declared.schema.Schema.{Schema}
+use Rattle.ub_tree.proofs.OldFacts.{positive}
 use Rattle.ub_tree.specs.Indexed.{HasIndex, reserved}
 use Rattle.ub_tree.specs.Old.{AreOldPages, head_of}
 use Rattle.ub_tree.specs.Placed.{Placed, ArePlaced, entry_of}
@@ -83,10 +84,6 @@ module _ (version next : ℕ) (schema : Schema) (placed : List Placed) (from : S
       → AllByRecursion IsInside (map (λ (p : Placed). p.page) ps)
   inside_each [] out at = tt
   inside_each (p ∷ ps) out at = ((positive p.page out.0, each_page p at.0), inside_each ps out.1 at.1)
-    where
-      positive : (n : ℕ) → 0 ≢ n → 1 ≤ n
-      positive zero differ = absurd (differ refl)
-      positive (suc n) differ = omega arith
 
   inside : AllByRecursion IsInside numbers_of_regions
   inside = inside_each placed outside_pages spelled

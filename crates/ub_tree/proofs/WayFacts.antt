@@ -6,7 +6,6 @@ use Rattle.std.proofs.lemmas.List.{length-append, append-nil}
 use Rattle.std.proofs.lemmas.Option.{slice_get_within}
 use Rattle.std.specs.List.{AllByRecursion, flat_map}
 use Rattle.ub_index.proofs.KeptFacts.{kept_named, same_entries}
-use Rattle.ub_index.proofs.HeldFacts.{ends_of}
 use Rattle.ub_index.proofs.FirstFacts.{below_some}
 use Rattle.ub_index.proofs.KeyFacts.{before_le}
 use Rattle.ub_index.proofs.Lists.{ascend_right}
@@ -25,7 +24,7 @@ use Rattle.ub_page.proofs.PageLaws.{region_parts}
 use Rattle.ub_region.specs.RegionPage.{region_page}
 use Rattle.ub_region.specs.declared.entry.Entry.{Entry}
 use Rattle.ub_table.specs.Keys.{IsBefore}
-use Rattle.ub_page.specs.Index.{IsIndexKind, node_on}
+use Rattle.ub_page.specs.Index.{node_on}
 use Rattle.ub_table.specs.Region.{RegionRows, IsRegion}
 use Rattle.ub_table.specs.declared.fault.PageFault.TheVariants.{WrongKind}
 use Rattle.ub_table.specs.declared.fault.PageFault.{PageFault}
@@ -98,37 +97,12 @@ module _ (last : ℕ) (old new : List (List ℕ)) (keeps : KeepsIndexPages last 
         still_leads level below beyond found next (below_some last old key (suc level) entry end below beyond named falls) leads,
       )
 
--- each page but the first that is of an index by its first byte is as it was
-abbrev pub KeepsIndexKinds : List (List ℕ) → List (List ℕ) → Type 0
-KeepsIndexKinds old new = (n : ℕ) (page : List ℕ) → 1 ≤ n → slice_get old n ≡ Some page → IsIndexKind page → slice_get new n ≡ slice_get old n
-
--- then each way leads where it led
-module _ (last : ℕ) (small : last < 256 ^ 16) (old new : List (List ℕ)) (keeps : KeepsIndexKinds old new) (key : Key) where
-  kind_of : (level : ℕ) (entry : Entry) (end : Option Key) → NamesFitting last old level entry end → IsIndexKind (page_in old entry.page)
-  kind_of level entry end named = (ends_of last (page_in old entry.page) level entry end small named.fits).kind
-
-  pub still_led : (level : ℕ) (entry : Entry) (end : Option Key) (found : Entry) (next : Option Key) → 1 ≤ entry.page → LeadsTo last old key level entry end found next
-      → LeadsTo last new key level entry end found next
-  still_led zero entry end found next some leads = leads
-  still_led (suc level) entry end found next some (named, below, beyond, falls, leads) =
-      let same = keeps entry.page (page_in old entry.page) some named.there (kind_of (suc level) entry end named) in (
-        kept_named last old new (suc level) entry end same named,
-        below,
-        beyond,
-        subst (λ (xs : List Entry). FallsTo key xs end below beyond) (sym (same_entries old new entry.page same)) falls,
-        still_led level below beyond found next (below_some last old key (suc level) entry end below beyond named falls) leads,
-      )
-
 -- the page of a region is none of an index
 pub region_no_index : (last : ℕ) → last < 2 ^ 128 → (schema : Schema) (region : RegionRows) → IsRegion schema region → ¬ (IsIndexPage last (region_page schema region))
 region_no_index last small schema region is h =
     let page = region_page schema region in
     let kind = (region_parts schema region page is refl).kind in
     node_not_refused (node_on page) page last small h.is h.spelled WrongKind (λ other. let e = sym kind ∙ other in absurd (omega arith))
-
--- nor is it so by its first byte
-pub region_no_kind : (schema : Schema) (region : RegionRows) → IsRegion schema region → ¬ (IsIndexKind (region_page schema region))
-region_no_kind schema region h = search (rules, region_parts)
 
 -- where another region comes, what an entry leads to doesn't go
 pub never_gone : (last : ℕ) (pages : List (List ℕ)) (key : Key) (added : Entry) (level : ℕ) (entry : Entry) (end : Option Key) (old new : Spelled)

@@ -1,20 +1,35 @@
 -- What reading a region tells, and what creation makes.
-use Rattle.std.specs.Prelude.{true, false, ◌≡◌, ℕ, [], ◌∷◌, IsTrue, List, Contains}
+use Rattle.std.specs.Prelude.{true, false, ◌≡◌, ℕ, [], ◌∷◌, IsTrue, List, Contains, Result, Err, IfErr, IfOk, OnOk}
+use Rattle.ub_region.specs.RegionPage.{RegionView}
 use Rattle.ub_store.specs.Facts.{StoreFacts, IsHonest, page_count}
 use Rattle.ub_store.specs.View.{untouched}
+use Rattle.ub_store.specs.declared.fault.Rejected.{Rejected}
 use Rattle.ub_table.specs.Keys.{origin}
 use Rattle.ub_table.specs.Region.{RegionRows}
 use Rattle.ub_table.specs.declared.schema.Schema.{Schema}
+use Rattle.ub_tree.specs.Effects.{IsTakenIn, ReadsRegion, written_store}
 use Rattle.ub_tree.specs.Grown.{IsOnlyGrown}
 use Rattle.ub_tree.specs.Placed.{Placed}
-use Rattle.ub_tree.specs.View.{TreeView, regions, IsSound}
+use Rattle.ub_tree.specs.Spans.{Region}
+use Rattle.ub_tree.specs.View.{TreeView, regions, spans_of, IsSound}
 use Rattle.ub_tree.specs.declared.fault.TreeFault.{TreeFault}
-use Rattle.ub_tree.specs.declared.fault.TreeFault.TheVariants.{Store, Memory}
+use Rattle.ub_tree.specs.declared.fault.TreeFault.TheVariants.{Failed, Store, Memory}
 use Rattle.ub_store.specs.declared.fault.StoreFault.TheVariants as store
+use Rattle.ub_writing.specs.Creation.{IsUncreated}
 
 -- the region stands at this page
 abbrev pub StandsAt : List Placed → ℕ → RegionRows → Type 0
 StandsAt placed page region = (p : Placed) × Contains placed p × (p.page ≡ page) × (p.region ≡ region)
+
+-- a region of this span was to be taken in from its page, and this was answered: what the page spells was taken in, of a sound tree the
+-- region that stands there
+pub record TakesIn {A : Type 0} (span : Region) (page : RegionView) (old new : TreeView) (result : Result A TreeFault) : Type 0 where
+  pub dims : OnOk result (page.dims ≡ old.schema.dims)
+  pub first : OnOk result (page.region.first ≡ span.first)
+  pub taken : OnOk result (IsTakenIn old span page.region)
+  pub stands : IsSound old → Contains (spans_of old) span → OnOk result (StandsAt old.placed span.page page.region)
+  pub failed : IsTrue old.is_failed → result ≡ Err Failed
+  pub effect : ReadsRegion span old new result
 
 -- what creation over a store with these facts makes: a tree of this schema with no rows, on three pages, in one region that
 -- begins with the least key of all, and an index of one level, which has only grown; it counts as changed, so that closing it writes
@@ -38,3 +53,11 @@ abbrev pub IsCreateFault : StoreFacts → TreeFault → Type 0
 IsCreateFault old Memory = Unit {0}
 IsCreateFault old (Store store.Device) = IsTrue old.can_fail
 IsCreateFault old _ = ⊥
+
+-- a table of this schema was to be made over a store with these facts, and this was answered: its tree; or why not, with the store, which isn't
+-- opened as a table
+pub record Creates {S : Type 0} (facts : S → StoreFacts) (old : StoreFacts) (schema : Schema) (result : Result TreeView (Rejected S TreeFault)) : Type 0 where
+  pub made : IfOk result (IsCreated old schema)
+  pub first : IsHonest old → IfErr result (λ refused. IsUncreated schema (facts refused.store))
+  pub refused : IfErr result (λ refused. IsCreateFault old refused.fault)
+  pub left : IfErr result (λ refused. facts refused.store ≡ written_store {A = S} (Err refused.fault) old (facts refused.store))

@@ -1,5 +1,5 @@
 -- What a check of a tree's pages comes to, and where it stops.
-use Rattle.std.specs.Prelude.{◌≡◌, ℕ, IsTrue, List, Option, Result, IfErr}
+use Rattle.std.specs.Prelude.{◌≡◌, ℕ, false, IsTrue, List, Option, Result, Err, IfErr, OnOk}
 use Rattle.ub_check.specs.Checking.{Asked, AreWell, IsFirst, StopsTable, TakesTable, asked_for}
 use Rattle.ub_check.specs.declared.checking.Told.{Told}
 use Rattle.ub_index.specs.declared.fault.IndexFault.TheVariants as index
@@ -7,8 +7,10 @@ use Rattle.ub_store.specs.Facts.{IsHonest}
 use Rattle.ub_store.specs.declared.fault.StoreFault.TheVariants as store
 use Rattle.ub_table.specs.declared.fault.PageFault.{PageFault}
 use Rattle.ub_tree.specs.Effects.{read_store}
+use Rattle.ub_tree.specs.Holding.{Answers}
+use Rattle.ub_tree.specs.Opened.{IsPassing}
 use Rattle.ub_tree.specs.Placed.{Placed}
-use Rattle.ub_tree.specs.View.{TreeView, region_count}
+use Rattle.ub_tree.specs.View.{TreeView, IsSound, region_count}
 use Rattle.ub_tree.specs.declared.fault.TreeFault.{TreeFault}
 use Rattle.ub_tree.specs.declared.fault.TreeFault.TheVariants.{Full, Page, Store, Failed, Memory}
 
@@ -51,3 +53,13 @@ IsCheckFault t (Store _) = ⊥
 pub record ChecksPages {A : Type 0} (old new : TreeView) (result : Result A TreeFault) : Type 0 where
   pub same : new ≡ record old { store = read_store result old.store }
   pub faults : IfErr result (IsCheckFault old)
+
+-- a tree was to be checked, and this was answered: over an honest store Ok just where its pages are well, device and memory aside, and else
+-- the first fault
+pub record IsChecked {A : Type 0} (old new : TreeView) (result : Result A TreeFault) : Type 0 where
+  pub well : IsHonest old.store → OnOk result (IsWell old)
+  pub exact : IsHonest old.store → IsWell old → old.is_failed ≡ false → IfErr result IsPassing
+  pub sound : IsSound old → IfErr result IsPassing
+  pub stopped : (fault : TreeFault) → IsHonest old.store → old.is_failed ≡ false → IsFirstFault old fault → Answers result fault
+  pub failed : IsTrue old.is_failed → result ≡ Err Failed
+  pub effect : ChecksPages old new result

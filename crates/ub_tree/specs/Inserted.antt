@@ -1,12 +1,12 @@
--- What a call promises that puts in a row with its own number.
+-- What a call promises that puts in a row, with the number that is next, or with its own.
 use Rattle.std.specs.Prelude.{◌≡◌, ◌+◌, ℕ, false, IsTrue, Result, Err, IfOk, OnOk}
 use Rattle.ub_region.specs.Regions.{IsFree}
 use Rattle.ub_store.specs.Facts.{IsHonest}
 use Rattle.ub_table.specs.Region.{key_of}
 use Rattle.ub_table.specs.declared.row.Row.{Row}
-use Rattle.ub_tree.specs.Change.{IsPutIn, next_after}
-use Rattle.ub_tree.specs.Effects.{ChangesOf}
-use Rattle.ub_tree.specs.Holding.{AnswersKey, GrowsAt}
+use Rattle.ub_tree.specs.Change.{IsInserted, IsPutIn, next_after}
+use Rattle.ub_tree.specs.Effects.{Changes, ChangesOf}
+use Rattle.ub_tree.specs.Holding.{AnswersKey, AnswersRow, GrowsAt}
 use Rattle.ub_tree.specs.Pages.{PutsRow}
 use Rattle.ub_tree.specs.View.{TreeView, IsSound, regions}
 use Rattle.ub_tree.specs.declared.fault.TreeFault.{TreeFault}
@@ -23,3 +23,15 @@ pub record InsertsAs (row : Row) (old new : TreeView) (result : Result ℕ TreeF
   pub failed : IsTrue old.is_failed → result ≡ Err Failed
   pub refused : old.is_failed ≡ false → IsHonest old.store → AnswersKey old (key_of old.schema.dims row) result
   pub effect : ChangesOf row.number old new result
+
+-- a row was to be put into a tree, with the number that was next, and this was answered: a sound tree has it as its last then; and of any
+-- tree which region it went to, what must be answered, and what is left
+pub record Inserts (row : Row) (old new : TreeView) (result : Result ℕ TreeFault) : Type 0 where
+  pub inserted : IsSound old → OnOk result (IsInserted row old new)
+  pub number : IfOk result (λ n. n ≡ old.next)
+  pub counted : OnOk result ((new.next ≡ old.next + 1) × (new.rows ≡ old.rows + 1) × (new.is_failed ≡ false)
+      × GrowsAt (key_of old.schema.dims row) old new)
+  pub put : OnOk result (PutsRow row old new)
+  pub failed : IsTrue old.is_failed → result ≡ Err Failed
+  pub refused : old.is_failed ≡ false → AnswersRow old (key_of old.schema.dims row) result
+  pub effect : Changes old new result

@@ -1,18 +1,23 @@
 -- Opening a store: which pages tell of a table, what is made of them, and why others are refused.
-use Rattle.std.specs.Prelude.{◌≡◌, ◌≤◌, ◌⊎◌, ℕ, false, IsTrue, List, Some, None, slice_get}
+use Rattle.std.specs.Prelude.{◌≡◌, ◌≤◌, ◌⊎◌, ℕ, false, IsTrue, List, Result, Err, IfErr, IfOk, IsErrAnd, MatchResult, Some, None, slice_get}
 use Rattle.ub_index.specs.Fitting.{IsUnfit}
 use Rattle.ub_index.specs.Index.{NamesFitting, top}
 use Rattle.ub_page.specs.Header.{IsHeader, IsHeaderFault, header_page}
 use Rattle.ub_page.specs.declared.header.Header.{Header}
 use Rattle.ub_store.specs.Facts.{StoreFacts, IsHonest, IsPage, page_count}
 use Rattle.ub_store.specs.View.{untouched}
+use Rattle.ub_store.specs.declared.fault.Rejected.{Rejected}
 use Rattle.ub_table.specs.declared.fault.PageFault.TheVariants.{Unclean}
 use Rattle.ub_table.specs.declared.fault.PageFault.{PageFault}
-use Rattle.ub_tree.specs.Stored.{index_of}
-use Rattle.ub_tree.specs.View.{TreeView, region_count}
+use Rattle.ub_table.specs.declared.schema.Schema.{Schema}
+use Rattle.ub_tree.specs.Effects.{read_store}
+use Rattle.ub_tree.specs.Placed.{Placed}
+use Rattle.ub_tree.specs.Stored.{AreSoundPages, index_of}
+use Rattle.ub_tree.specs.View.{TreeView, IsSound, region_count}
 use Rattle.ub_tree.specs.declared.fault.TreeFault.{TreeFault}
 use Rattle.ub_tree.specs.declared.fault.TreeFault.TheVariants.{Page, Store, Memory}
 use Rattle.ub_store.specs.declared.fault.StoreFault.TheVariants as store
+use Rattle.ub_writing.specs.Marks.{HasMark}
 
 -- the first page of the store is this header, and it is clean
 pub record HasHeader (store : StoreFacts) (header : Header) : Type 0 where
@@ -71,3 +76,15 @@ IsMarkFault _ = ⊥
 -- why a closed table isn't opened: for want of memory, or as the store failed
 abbrev pub IsPassing : TreeFault → Type 0
 IsPassing fault = (fault ≡ Memory) ⊎ (fault ≡ Store store.Device)
+
+-- a store with these facts was to be opened, and this was answered: the tree of a closed table, over the store as it was; or why not, with the
+-- store, of which one read may have failed. Over an honest store the pages of a closed table are opened, and those that are marked as changed
+-- are not
+pub record OpensTree {S : Type 0} (facts : S → StoreFacts) (old : StoreFacts) (result : Result TreeView (Rejected S TreeFault)) : Type 0 where
+  pub opened : IfOk result (IsOpened old)
+  pub exact : (header : Header) → IsHonest old → IsRooted old.pages header → IfErr result (λ refused. IsPassing refused.fault)
+  pub sound : (schema : Schema) (placed : List Placed) (next : ℕ) → IsHonest old → AreSoundPages old.pages schema placed next
+      → MatchResult result (λ t. IsSound t × (t.schema ≡ schema) × (t.placed ≡ placed) × (t.next ≡ next)) (λ refused. IsPassing refused.fault)
+  pub unclean : (schema : Schema) → IsHonest old → HasMark schema old.pages → IsErrAnd result (λ refused. IsMarkFault refused.fault)
+  pub kept : IfErr result (λ refused. facts refused.store ≡ read_store {A = S} (Err refused.fault) old)
+  pub refused : IfErr result (λ refused. IsOpenFault old refused.fault)

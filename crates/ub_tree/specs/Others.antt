@@ -1,10 +1,13 @@
 -- Which pages of its store a change of a tree leaves as they are, and what it does to the regions that the tree counts.
 use Rattle.std.specs.Prelude.{◌≡◌, ◌≢◌, ◌≤◌, ◌+◌, ◌<◌, ◌⊎◌, ◌++◌, ℕ, List, [], ◌∷◌, Some, length, slice_get}
 use Rattle.ub_index.specs.Standing.{IsOutside}
+use Rattle.ub_index.specs.Way.{HoldsKey}
 use Rattle.ub_index_change.specs.Preparing.{NeedsPages}
 use Rattle.ub_page.specs.declared.header.TheConstants.{MAX_LEVEL}
+use Rattle.ub_region.specs.RegionPage.{region_page}
 use Rattle.ub_store.specs.Facts.{StoreFacts, IsHonest, page_count}
 use Rattle.ub_table.specs.declared.row.Key.{Key}
+use Rattle.ub_table.specs.declared.row.Row.{Row}
 use Rattle.ub_tree.specs.Indexed.{reserved}
 use Rattle.ub_tree.specs.Told.{FallsTo, IsRegionOf, KeepsTold}
 use Rattle.ub_tree.specs.Spans.{Region}
@@ -36,20 +39,45 @@ WritesOneRegion old new =
 abbrev pub KeepsEntries : TreeView → TreeView → Type 0
 KeepsEntries old new = KeepsTold old new × (page_count new.store ≡ page_count old.store)
 
+-- each key falls where it fell, unless to the region that begins with this key
+abbrev pub KeepsAllBut : Key → TreeView → TreeView → Type 0
+KeepsAllBut first old new = IsHonest old.store → (key : Key) (span : Region) → FallsTo old key span → span.first ≢ first → FallsTo new key span
+
+-- one of the halves of a region: what of it is before a key, on its page; or what is from that key on, on this other page
+abbrev pub IsHalfOf : Region → Key → ℕ → Region → Type 0
+IsHalfOf span middle page half =
+    ((half.first ≡ span.first) × (half.page ≡ span.page) × (half.next ≡ Some middle))
+    ⊎ ((half.first ≡ middle) × (half.page ≡ page) × (half.next ≡ span.next))
+
+-- the region that begins with this key was split at another key, with which the region begins that stands on the first page that the
+-- store hadn't: each key that fell to it falls to one of its halves
+abbrev pub SplitsKeys : Key → TreeView → TreeView → Type 0
+SplitsKeys first old new =
+    IsHonest old.store → (middle : Key) × (rows : List Row)
+    × (slice_get new.store.pages (page_count old.store) ≡ Some (region_page new.schema (record { first = middle; rows = rows })))
+    × ((key : Key) (span : Region) → FallsTo old key span → span.first ≡ first
+    → (half : Region) × IsHalfOf span middle (page_count old.store) half × FallsTo new key half)
+
 -- a region more is counted; the store has a page more for it, and those that the index needs where it comes behind the one that
--- begins with this key
+-- begins with this key, which was split; each other region is told of as before
 abbrev pub AddsEntry : Key → TreeView → TreeView → Type 0
 AddsEntry first old new =
     (region_count new ≡ region_count old + 1)
     × (n : ℕ) × (page_count new.store ≡ page_count old.store + 1 + n) × (n ≤ MAX_LEVEL + 1)
-    × (IsHonest old.store → NeedsPages old.inner.index old.store first n)
+    × (IsHonest old.store → NeedsPages old.inner.index old.store first n) × KeepsAllBut first old new × SplitsKeys first old new
 
 -- each key falls where it fell, unless to this region, or to the one that follows it
 abbrev pub KeepsBeside : Region → TreeView → TreeView → Type 0
 KeepsBeside first old new =
     IsHonest old.store → (key : Key) (span : Region) → FallsTo old key span → span.next ≢ first.next → first.next ≢ Some span.first → FallsTo new key span
 
+-- this region has taken in the one that follows it: it ends where that ended, and each key that is in it then falls to it
+abbrev pub JoinsKeys : Region → TreeView → TreeView → Type 0
+JoinsKeys first old new =
+    IsHonest old.store → (second : Region) × IsRegionOf old second × (first.next ≡ Some second.first)
+    × ((key : Key) → HoldsKey key first.first second.next → FallsTo new key (record first { next = second.next; to = second.to }))
+
 -- a region fewer is counted, and the store has as many pages; this one takes in the next, and the others are told of as before
 abbrev pub DropsEntry : Region → TreeView → TreeView → Type 0
 DropsEntry first old new =
-    (region_count old ≡ region_count new + 1) × (page_count new.store ≡ page_count old.store) × KeepsBeside first old new
+    (region_count old ≡ region_count new + 1) × (page_count new.store ≡ page_count old.store) × KeepsBeside first old new × JoinsKeys first old new

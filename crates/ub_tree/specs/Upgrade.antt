@@ -1,10 +1,11 @@
 -- Upgrading a table of an older format into a new store: what is made, why it is refused, and what the two stores are then.
-use Rattle.std.specs.Prelude.{◌≡◌, ◌≤◌, ◌<◌, ◌+◌, ◌⊎◌, ℕ, false, true, IsTrue, List, Some, None, slice_get}
+use Rattle.std.specs.Prelude.{◌≡◌, ◌≤◌, ◌<◌, ◌+◌, ◌⊎◌, ℕ, false, true, IsTrue, List, Result, IfErr, IfOk, MatchResult, Some, None, slice_get}
 use Rattle.ub_index.specs.View.{IsIndexOn, entries_in}
 use Rattle.ub_page.specs.Header.{IsOldHeaderFault}
 use Rattle.ub_page.specs.declared.header.OldHeader.{OldHeader}
 use Rattle.ub_store.specs.Facts.{StoreFacts, IsHonest, page_count, raised}
 use Rattle.ub_store.specs.View.{untouched}
+use Rattle.ub_store.specs.declared.fault.Rejected.{Rejected}
 use Rattle.ub_store.specs.declared.store.TheConstants.{MAX_PAGES}
 use Rattle.ub_table.specs.declared.fault.PageFault.{PageFault}
 use Rattle.ub_table.specs.declared.schema.Schema.{Schema}
@@ -124,3 +125,14 @@ IsLeftBy (Store store.Device) old old_now new new_now =
     ⊎ AreBothLeft old.failed_reads (raised new.failed_reads 1) new.failed_writes old old_now new new_now
     ⊎ AreBothLeft old.failed_reads new.failed_reads (raised new.failed_writes 1) old old_now new new_now
 IsLeftBy fault old old_now new new_now = HasWorked old old_now new new_now
+
+-- a table of an older format in a store with these facts was to be brought into a new one, and this was answered: the tree that was made, of a
+-- closed table with its regions; or why not, with the new store, which isn't opened as a table. The old store is as it was then, but for its
+-- count of failed reads
+pub record Upgrades {S : Type 0} (facts : S → StoreFacts) (old old_now new : StoreFacts) (result : Result TreeView (Rejected S TreeFault)) : Type 0 where
+  pub made : (version next : ℕ) (schema : Schema) (placed : List Placed) → IsHonest old → IsHonest new → AreOldPages version old.pages schema placed next
+      → MatchResult result (HasTable schema placed next) (λ refused. IsUpgradePassing refused.fault)
+  pub begun : IfOk result (IsUpgraded old new)
+  pub unopened : IsHonest new → IfErr result (λ refused. IsUnopened (facts refused.store))
+  pub refused : IfErr result (λ refused. IsUpgradeFault old new refused.fault)
+  pub effect : MatchResult result (λ t. HasWorked old old_now new t.store) (λ refused. IsLeftBy refused.fault old old_now new (facts refused.store))

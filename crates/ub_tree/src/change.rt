@@ -1,25 +1,23 @@
-ghost use Rattle.std.specs.Prelude.{ℕ, ◌≡◌, ◌≢◌, ◌≤◌, ◌+◌, ◌-◌, ◌<◌, ◌∷◌, [], true, false, IsTrue, Some, Err, length, slice_get, IfOk, IfErr, MatchResult, OnOk};
+ghost use Rattle.std.specs.Prelude.{ℕ, ◌≡◌, ◌≤◌, ◌+◌, ◌-◌, ◌<◌, true, false, Some, Err, length, IfOk, IfErr, OnOk};
 ghost use Rattle.std.specs.List.{insert};
-ghost use Rattle.ub_index_change.specs.Changing.{AreIndexPages, AreOnce, Stand};
-ghost use Rattle.ub_index_change.specs.Making.{PutsSheets, changed};
+ghost use Rattle.ub_index_change.specs.Changing.{AreIndexPages};
+ghost use Rattle.ub_index_change.specs.Making.{changed};
 ghost use Rattle.ub_index_change.specs.Preparing.{IsWithinRegion};
 ghost use Rattle.ub_region.specs.RegionPage.{region_page};
-ghost use Rattle.ub_region.specs.Regions.{IsFree};
 ghost use Rattle.ub_region.specs.Rows.{insert_row};
 ghost use Rattle.ub_store.specs.Facts as facts;
 ghost use Rattle.ub_store.specs.Facts.{page_count};
-ghost use Rattle.ub_table.specs.Region.{RegionRows, IsRegion, IsRow, key_of, measures_of};
+ghost use Rattle.ub_table.specs.Region.{RegionRows, IsRegion, IsRow, measures_of};
 ghost use Rattle.ub_tree.specs.Change as spec;
-ghost use Rattle.ub_tree.specs.Change.{IsInserted, IsPutIn, Suits, numbered};
-ghost use Rattle.ub_tree.specs.Inserted.{InsertsAs};
-ghost use Rattle.ub_tree.specs.inner.Change.{CanStand, GrowsTo, HasReadAt, HasStopped, IsIndexFault, IsPut, IsReadAt, IsRegionIn, IsRegionThere, IsSplitAt, IsStored, KeepsGrown, StandAt, StoresAt, StoresRows, Writes, WritesBoth, placed_with};
-ghost use Rattle.ub_tree.specs.Effects.{Searches, Changes, ChangesOf, IsTakenIn};
-ghost use Rattle.ub_tree.specs.Holding.{AnswersKey, AnswersRow, AnswersAt, FallsInto, GrowsAt};
+ghost use Rattle.ub_tree.specs.Change.{Suits, numbered};
+ghost use Rattle.ub_tree.specs.Inserted.{Inserts, InsertsAs};
+ghost use Rattle.ub_tree.specs.inner.Change.{CanStand, GrowsTo, HasReadAt, IsPut, IsReadAt, PutsIndex, ReadsAt, Rewrites, Stores, IsRegionIn, IsRegionThere, IsSplitAt, IsStored, KeepsGrown, StoresAt, WritesBoth};
+ghost use Rattle.ub_tree.specs.Effects.{Searches, Changes};
+ghost use Rattle.ub_tree.specs.Holding.{AnswersAt, FallsInto};
 ghost use Rattle.ub_tree.specs.Opened.{IsPassing};
-ghost use Rattle.ub_tree.specs.Pages.{PutsRow, Spells, SpellsHalves};
-ghost use Rattle.ub_tree.specs.Placed.{Placed};
-ghost use Rattle.ub_tree.specs.Told.{KeepsTold, IsRegionOf};
-ghost use Rattle.ub_tree.specs.View.{IsSound, region_count, regions};
+ghost use Rattle.ub_tree.specs.Pages.{SpellsHalves};
+ghost use Rattle.ub_tree.specs.Told.{IsRegionOf};
+ghost use Rattle.ub_tree.specs.View.{IsSound, region_count};
 ghost use Rattle.ub_writing.specs.Puts.{PutsTwo};
 
 use crate::fault::{TreeFault, bad_count};
@@ -60,15 +58,7 @@ impl<S: PageStore> Tree<S> {
         page: &mut RegionPage,
     ) -> Result<(), TreeFault>
         requires { IsRegionOf self.old region.now }
-        ensures read { OnOk result (IsReadAt self.old region.now page.new) }
-        ensures there { OnOk result (region.now.page < page_count self.old.store) }
-        ensures rows { (i : ℕ) (p : Placed) → facts.IsHonest self.old.store
-            → IsRegionIn self.old i region.now → slice_get self.old.placed i ≡ Some p
-            → OnOk result (page.new.region.rows ≡ p.region.rows) }
-        ensures taken { facts.IsHonest self.old.store → (r : RegionRows)
-            → IsTakenIn self.old region.now r
-            → MatchResult result (λ _. page.new.region ≡ r) IsPassing }
-        ensures effect { Searches self.old self.new result }
+        ensures { ReadsAt region.now page.new self.old self.new result }
     {
         read_region(&mut self.pager, &self.schema, region, page)?;
         Ok(())
@@ -102,18 +92,7 @@ impl<S: PageStore> Tree<S> {
         requires first { page.now.region.first ≡ region.now.first }
         requires region { IsRegion self.old.schema
             (record { first = region.now.first; rows = page.now.region.rows }) }
-        ensures same { OnOk result (IsPut self.old self.new) }
-        ensures written { (i : ℕ) → IsStored self.old → IsRegionIn self.old i region.now
-            → OnOk result (IsStored self.new × (self.new.placed ≡ placed_with i (record {
-              page = region.now.page;
-              region = record { first = region.now.first; rows = page.now.region.rows };
-            } ∷ []) self.old.placed)) }
-        ensures told { OnOk result (KeepsTold self.old self.new) }
-        ensures put { OnOk result (facts.IsHonest self.old.store → Spells self.new region.now.page
-            region.now.first page.now.region.rows) }
-        ensures faults { IfErr result (λ fault. fault ≡ TreeFault.Store StoreFault.Device) }
-        ensures stays { self.old.is_changed ≡ true → self.new.is_changed ≡ true }
-        ensures effect { Writes region.now self.old self.new result }
+        ensures { Rewrites region.now page.now.region.rows self.old self.new result }
     {
         // Its contract tells the proof that the index doesn't stand on the first page.
         let _root = self.index.root();
@@ -191,23 +170,7 @@ impl<S: PageStore> Tree<S> {
     pub(crate) fn put_index(&mut self, change: &Change) -> Result<(), TreeFault>
         requires { facts.IsHonest self.old.store
             → AreIndexPages self.old.inner.index.last change.now.sheets }
-        ensures now { OnOk result (self.new ≡ record self.old {
-          placed = self.new.placed;
-          store = self.new.store;
-          inner = record self.old.inner {
-            index = changed self.old.inner.index change.now;
-          };
-        }) }
-        ensures marked { self.new.is_changed ≡ self.old.is_changed }
-        ensures stand { AreOnce change.now.sheets → facts.IsHonest self.old.store
-            → OnOk result (Stand self.new.store.pages change.now.sheets) }
-        ensures kept { PutsSheets change.now.sheets self.old.store self.new.store }
-        ensures works { OnOk result (self.new.store ≡ record self.old.store {
-          pages = self.new.store.pages;
-          synced = self.new.store.synced;
-        }) }
-        ensures stopped { IfErr result (λ fault. HasStopped fault self.old self.new
-            × IsIndexFault change.now self.old.store fault) }
+        ensures { PutsIndex change.now self.old self.new result }
     {
         match commit(&mut self.index, &mut self.pager, change) {
             Ok(()) => Ok(()),
@@ -279,19 +242,9 @@ impl<S: PageStore> Tree<S> {
         requires read { IsReadAt self.old region.now room.old.region }
         requires rows { CanStand self.old region.now
             (insert_row self.old.schema.dims row.now room.old.region.region.rows) }
-        ensures same { OnOk result (StoresAt region.now
-            (length room.old.region.region.rows) self.old self.new) }
-        ensures written { StoresRows region.now
+        ensures { Stores region.now (length room.old.region.region.rows)
             (insert_row self.old.schema.dims row.now room.old.region.region.rows)
             self.old self.new result }
-        ensures put { OnOk result (facts.IsHonest self.old.store → StandAt region.now
-            (length room.old.region.region.rows)
-            (insert_row self.old.schema.dims row.now room.old.region.region.rows)
-            self.old self.new) }
-        ensures counted { AnswersAt
-            (length room.old.region.region.rows ≡ self.old.schema.page_rows) self.old region.now
-            result }
-        ensures effect { Changes self.old self.new result }
     {
         if room.region.len() == self.schema.page_rows() as usize {
             room.region.split_with(index, row, &mut room.other);
@@ -311,20 +264,8 @@ impl<S: PageStore> Tree<S> {
     pub fn insert(&mut self, dims: &[u32], measures: &[i64]) -> Result<u32, TreeFault>
         requires dims { length dims.now ≡ self.old.schema.dims }
         requires measures { length measures.now ≡ measures_of self.old.schema }
-        ensures inserted { IsSound self.old
-            → IfOk result (λ n. IsInserted
-            (spec.row_of n dims.now measures.now) self.old self.new) }
-        ensures number { IfOk result (λ n. n ≡ self.old.next) }
-        ensures counted { OnOk result ((self.new.next ≡ self.old.next + 1)
-            × (self.new.rows ≡ self.old.rows + 1) × (self.new.is_failed ≡ false)
-            × GrowsAt (key_of self.old.schema.dims
-            (spec.row_of self.old.next dims.now measures.now)) self.old self.new) }
-        ensures put { OnOk result (PutsRow
-            (spec.row_of self.old.next dims.now measures.now) self.old self.new) }
-        ensures failed { IsTrue self.old.is_failed → result ≡ Err TreeFault.Failed }
-        ensures refused { self.old.is_failed ≡ false → AnswersRow self.old
-            (key_of self.old.schema.dims (spec.row_of self.old.next dims.now measures.now)) result }
-        ensures effect { Changes self.old self.new result }
+        ensures { Inserts (spec.row_of self.old.next dims.now measures.now)
+            self.old self.new result }
     {
         let row = row_of(self.next, dims, measures);
         self.insert_row(&row)
@@ -334,19 +275,7 @@ impl<S: PageStore> Tree<S> {
     /// at: the row that is kept has the next one. Its refusals are those of `insert`.
     pub fn insert_row(&mut self, row: &Row) -> Result<u32, TreeFault>
         requires { Suits self.old.schema.dims (measures_of self.old.schema) row.now }
-        ensures inserted { IsSound self.old
-            → OnOk result (IsInserted (numbered self.old.next row.now) self.old self.new) }
-        ensures number { IfOk result (λ n. n ≡ self.old.next) }
-        ensures counted { OnOk result ((self.new.next ≡ self.old.next + 1)
-            × (self.new.rows ≡ self.old.rows + 1) × (self.new.is_failed ≡ false)
-            × GrowsAt (key_of self.old.schema.dims (numbered self.old.next row.now))
-            self.old self.new) }
-        ensures put { OnOk result
-            (PutsRow (numbered self.old.next row.now) self.old self.new) }
-        ensures failed { IsTrue self.old.is_failed → result ≡ Err TreeFault.Failed }
-        ensures refused { self.old.is_failed ≡ false → AnswersRow self.old
-            (key_of self.old.schema.dims (numbered self.old.next row.now)) result }
-        ensures effect { Changes self.old self.new result }
+        ensures { Inserts (numbered self.old.next row.now) self.old self.new result }
     {
         if self.has_failed() {
             return Err(TreeFault::Failed);
@@ -385,17 +314,7 @@ impl<S: PageStore> Tree<S> {
         requires row { IsRow self.old.schema.dims (measures_of self.old.schema) row.now }
         requires fewer { self.old.rows + 1 < spec.next_after self.old.next row.now.number }
         requires able { self.old.is_failed ≡ false }
-        ensures inserted { IsSound self.old → IsFree row.now.number (regions self.old)
-            → OnOk result (IsPutIn row.now self.old self.new) }
-        ensures number { IfOk result (λ n. n ≡ row.now.number) }
-        ensures counted { OnOk result
-            ((self.new.next ≡ spec.next_after self.old.next row.now.number)
-            × (self.new.rows ≡ self.old.rows + 1) × (self.new.is_failed ≡ false)
-            × GrowsAt (key_of self.old.schema.dims row.now) self.old self.new) }
-        ensures put { OnOk result (PutsRow row.now self.old self.new) }
-        ensures refused { facts.IsHonest self.old.store
-            → AnswersKey self.old (key_of self.old.schema.dims row.now) result }
-        ensures effect { ChangesOf row.now.number self.old self.new result }
+        ensures { InsertsAs row.now self.old self.new result }
     {
         let key = row.key(self.schema.shape());
         let region = self.read_holding(&key, &mut room.region)?;

@@ -1,11 +1,5 @@
 // The check of a whole table's pages, which `ub_check` walks through.
-ghost use Rattle.std.specs.Prelude.{◌≡◌, false, Err, IfErr, IsTrue, OnOk};
-ghost use Rattle.ub_store.specs.Facts.{IsHonest};
-ghost use Rattle.ub_tree.specs.Checking.{ChecksPages, IsFirstFault, IsWell};
-ghost use Rattle.ub_tree.specs.Holding.{Answers};
-ghost use Rattle.ub_tree.specs.Opened.{IsPassing};
-ghost use Rattle.ub_tree.specs.View.{IsSound};
-ghost use Rattle.ub_tree.specs.declared.fault.TreeFault as spec;
+ghost use Rattle.ub_tree.specs.Checking.{IsChecked};
 
 use crate::fault::TreeFault;
 use crate::tree::Tree;
@@ -26,14 +20,7 @@ impl<S: PageStore> Tree<S> {
     ///
     /// It takes memory for a bit for each number below the next, and for one page of the index a level.
     pub fn check(&mut self) -> Result<(), TreeFault>
-        ensures well { IsHonest self.old.store → OnOk result (IsWell self.old) }
-        ensures exact { IsHonest self.old.store → IsWell self.old → self.old.is_failed ≡ false
-            → IfErr result IsPassing }
-        ensures sound { IsSound self.old → IfErr result IsPassing }
-        ensures stopped { (fault : spec.TreeFault) → IsHonest self.old.store
-            → self.old.is_failed ≡ false → IsFirstFault self.old fault → Answers result fault }
-        ensures failed { IsTrue self.old.is_failed → result ≡ Err TreeFault.Failed }
-        ensures effect { ChecksPages self.old self.new result }
+        ensures { IsChecked self.old self.new result }
     {
         if self.has_failed() {
             return Err(TreeFault::Failed);

@@ -1,13 +1,8 @@
-ghost use Rattle.std.specs.Prelude.{◌≡◌, Err, IfOk, IfErr, OnOk, OnErr};
-ghost use Rattle.ub_index.specs.Held.{KeepsChecked};
-ghost use Rattle.ub_index.specs.Opening.{IsAlone};
-ghost use Rattle.ub_index.specs.View.{index_view};
-ghost use Rattle.ub_zaddr.specs.Address.{last_address};
-ghost use Rattle.ub_store.specs.Facts.{page_count, IsHonest};
-ghost use Rattle.ub_store.specs.View.{pager_view, untouched, SameTrace};
-ghost use Rattle.ub_tree.specs.Calls.{IsCreated, IsCreateFault};
-ghost use Rattle.ub_tree.specs.Effects.{written_store};
-ghost use Rattle.ub_writing.specs.Creation.{IsUncreated, IsLaidOut};
+ghost use Rattle.std.specs.Prelude.{◌≡◌, Err, IfOk, IfErr};
+ghost use Rattle.ub_store.specs.Facts.{page_count};
+ghost use Rattle.ub_store.specs.View.{pager_view, untouched};
+ghost use Rattle.ub_tree.specs.Calls.{Creates};
+ghost use Rattle.ub_tree.specs.inner.Opening.{LaysOut};
 
 use crate::fault::TreeFault;
 use crate::tree::Tree;
@@ -34,12 +29,7 @@ impl<S: PageStore> Tree<S> {
         schema: &Schema,
     ) -> Result<Tree<S>, Rejected<S, TreeFault>>
         requires { page_count (S.facts store) ≡ 0 }
-        ensures made { IfOk result (λ t. IsCreated (S.facts store) schema.now t) }
-        ensures first { IsHonest (S.facts store)
-            → IfErr result (λ refused. IsUncreated schema.now (S.facts refused.store)) }
-        ensures refused { IfErr result (λ refused. IsCreateFault (S.facts store) refused.fault) }
-        ensures left { IfErr result (λ r. S.facts r.store ≡ written_store {A = S} (Err r.fault)
-            (S.facts store) (S.facts r.store)) }
+        ensures { Creates S.facts (S.facts store) schema.now result }
     {
         let mut pager = match pager_over(alloc, store) {
             Ok(pager) => pager,
@@ -77,18 +67,7 @@ pub fn pager_over<S: PageStore>(alloc: Global, store: S) -> Result<Pager<S>, Rej
 // The first pages of a table with no rows, and its index: of one region, on page 1.
 fn lay_out<S: PageStore>(pager: &mut Pager<S>, schema: &Schema) -> Result<Index, TreeFault>
     requires { page_count pager.old.store ≡ 0 }
-    ensures index { IfOk result (λ index. (index ≡ index_view 2 1 (last_address schema.now.dims))
-        × (IsHonest pager.old.store → IsAlone index 1 pager.new.store)) }
-    ensures count { OnOk result (page_count pager.new.store ≡ 3) }
-    ensures pages { OnOk result (IsHonest pager.old.store
-        → IsLaidOut schema.now pager.new.store.pages) }
-    ensures first { OnErr result (IsHonest pager.old.store
-        → IsUncreated schema.now pager.new.store) }
-    ensures trace { SameTrace pager.old pager.new }
-    ensures checked { OnOk result
-        (KeepsChecked (last_address schema.now.dims) pager.old pager.new) }
-    ensures left { pager.new.store ≡ written_store result pager.old.store pager.new.store }
-    ensures refused { IfErr result (IsCreateFault pager.old.store) }
+    ensures { LaysOut schema.now pager.old pager.new result }
 {
     write_first_pages(pager, schema)?;
     let index = Index::create(pager, 2, 1, last(schema.shape()))?;

@@ -1,12 +1,9 @@
-ghost use Rattle.std.specs.Prelude.{◌≡◌, ◌≢◌, ◌↔◌, ℕ, Option, Some, None, map, IfErr, IfOk, IfSome, IsOk, IsTrue, MatchResult};
+ghost use Rattle.std.specs.Prelude.{◌≡◌, ◌≢◌, ◌↔◌, Option, Some, None, map, IfErr, IfOk, IfSome, IsOk, IsTrue, MatchResult};
 ghost use Rattle.ub_index_change.specs.Preparing.{HasFullWay};
-ghost use Rattle.ub_index.specs.Searching.{GivesAny, key_before};
-ghost use Rattle.ub_index.specs.View.{IsNextRegion, IsPreviousRegion};
 ghost use Rattle.ub_page.specs.declared.header.TheConstants.{MAX_LEVEL};
 ghost use Rattle.ub_region.specs.Regions.{index_holding};
 ghost use Rattle.ub_store.specs.Facts.{IsHonest};
 ghost use Rattle.ub_table.specs.Keys.{IsBefore, origin};
-ghost use Rattle.ub_table.specs.declared.row.Key as key;
 ghost use Rattle.ub_tree.specs.Effects.{Searches};
 ghost use Rattle.ub_tree.specs.Holding.{HasNoRoom, IsRoomFault};
 ghost use Rattle.ub_tree.specs.Opened.{IsPassing};
@@ -16,6 +13,7 @@ ghost use Rattle.ub_tree.specs.Spans.{first_keys, Region};
 ghost use Rattle.ub_tree.specs.Told.{FallsTo, IsRegionOf};
 ghost use Rattle.ub_tree.specs.View.{region_count};
 ghost use Rattle.ub_tree.specs.inner.Change.{IsAddReady, IsDropReady, IsRegionIn, IsStored, MakesReady};
+ghost use Rattle.ub_tree.specs.inner.Removing.{FindsNext, FindsPrevious};
 
 use crate::fault::TreeFault;
 use crate::tree::Tree;
@@ -42,16 +40,7 @@ impl<S: PageStore> Tree<S> {
     // another one, which is refused: so no region is changed together with one that isn't its neighbour.
     pub(crate) fn region_after(&mut self, region: &Region) -> Result<Option<Region>, TreeFault>
         requires { IsRegionOf self.old region.now }
-        ensures begins { IfOk result (λ found. IfSome found
-            (λ next. region.now.next ≡ Some next.first)) }
-        ensures falls { IfOk result (λ found. IfSome found (IsRegionOf self.old)) }
-        ensures last { IfOk result (λ found. found ≡ None → region.now.next ≡ None) }
-        ensures led { (told : Option Region) → IsHonest self.old.store
-            → GivesAny self.old.inner.index self.old.store region.now.next told
-            → MatchResult result (λ found. found ≡ told) IsPassing }
-        ensures after { (i : ℕ) → IsStored self.old → IsRegionIn self.old i region.now
-            → IfOk result (IsNextRegion (map entry_of self.old.placed) i) }
-        ensures effect { Searches self.old self.new result }
+        ensures { FindsNext region.now self.old self.new result }
     {
         let Some(next) = self.index.after(&mut self.pager, region)? else {
             return Ok(None);
@@ -66,18 +55,7 @@ impl<S: PageStore> Tree<S> {
     // The region before another one, if there is one: which ends where that begins. Otherwise as `region_after`.
     pub(crate) fn region_before(&mut self, region: &Region) -> Result<Option<Region>, TreeFault>
         requires { IsRegionOf self.old region.now }
-        ensures ends { IfOk result (λ found. IfSome found
-            (λ before. before.next ≡ Some region.now.first)) }
-        ensures falls { IfOk result (λ found. IfSome found (λ before. (k : key.Key)
-            × (key_before region.now.first.z region.now.first.number ≡ Some k)
-            × FallsTo self.old k before)) }
-        ensures led { (told : Option Region) → IsHonest self.old.store
-            → GivesAny self.old.inner.index self.old.store
-            (key_before region.now.first.z region.now.first.number) told
-            → MatchResult result (λ found. found ≡ told) IsPassing }
-        ensures before { (i : ℕ) → IsStored self.old → IsRegionIn self.old i region.now
-            → IfOk result (IsPreviousRegion (map entry_of self.old.placed) i) }
-        ensures effect { Searches self.old self.new result }
+        ensures { FindsPrevious region.now self.old self.new result }
     {
         let Some(before) = self.index.before(&mut self.pager, region)? else {
             return Ok(None);

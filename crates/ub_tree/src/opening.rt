@@ -1,16 +1,9 @@
-ghost use Rattle.std.specs.Prelude.{◌≡◌, ℕ, List, false, Err, MatchResult, IsErrAnd, IfOk, IfErr, OnOk};
+ghost use Rattle.std.specs.Prelude.{ℕ, Err, IfOk, IfErr, OnOk};
 ghost use Rattle.ub_index.specs.Held.{KeepsChecked};
-ghost use Rattle.ub_page.specs.Header.{IsHeader};
 ghost use Rattle.ub_page.specs.declared.header.Header as spec;
 ghost use Rattle.ub_store.specs.Facts.{IsHonest};
-ghost use Rattle.ub_table.specs.declared.schema.Schema.{Schema};
-ghost use Rattle.ub_tree.specs.Opened.{HasHeader, IsOpened, IsOpenFault, IsMarkFault, IsPassing, IsRooted};
-ghost use Rattle.ub_tree.specs.Effects.{read_store};
-ghost use Rattle.ub_tree.specs.Placed.{Placed};
-ghost use Rattle.ub_tree.specs.Stored.{AreSoundPages, index_of};
-ghost use Rattle.ub_tree.specs.inner.Opening.{Opens};
-ghost use Rattle.ub_writing.specs.Marks.{HasMark};
-ghost use Rattle.ub_tree.specs.View.{IsSound};
+ghost use Rattle.ub_tree.specs.Opened.{HasHeader, IsPassing, IsRooted, OpensTree};
+ghost use Rattle.ub_tree.specs.inner.Opening.{Opens, ReadsTable};
 
 use crate::creation::pager_over;
 use crate::fault::TreeFault;
@@ -30,20 +23,7 @@ impl<S: PageStore> Tree<S> {
     /// the level that the header tells; as OutOfRegion where it doesn't begin with the least key of all. Store with NoPage comes where
     /// the store doesn't have one of the two, Store with Device where the store failed in this call, Memory where memory was refused.
     pub fn open(alloc: Global, store: S) -> Result<Tree<S>, Rejected<S, TreeFault>>
-        ensures opened { IfOk result (IsOpened (S.facts store)) }
-        ensures exact { (header : spec.Header) → IsHonest (S.facts store)
-            → IsRooted (S.facts store).pages header
-            → IfErr result (λ refused. IsPassing refused.fault) }
-        ensures sound { (schema : Schema) (placed : List Placed) (next : ℕ)
-            → IsHonest (S.facts store) → AreSoundPages (S.facts store).pages schema placed next
-            → MatchResult result (λ t. IsSound t × (t.schema ≡ schema) × (t.placed ≡ placed)
-            × (t.next ≡ next)) (λ refused. IsPassing refused.fault) }
-        ensures unclean { (schema : Schema) → IsHonest (S.facts store)
-            → HasMark schema (S.facts store).pages
-            → IsErrAnd result (λ refused. IsMarkFault refused.fault) }
-        ensures kept { IfErr result (λ r. S.facts r.store ≡ read_store {A = S} (Err r.fault)
-            (S.facts store)) }
-        ensures refused { IfErr result (λ refused. IsOpenFault (S.facts store) refused.fault) }
+        ensures { OpensTree S.facts (S.facts store) result }
     {
         // Its contract tells the proof how many pages there can be.
         let _pages = store.pages();
@@ -66,14 +46,7 @@ impl<S: PageStore> Tree<S> {
 
 // The header of a closed table, and its index.
 fn read_table<S: PageStore>(pager: &mut Pager<S>) -> Result<(Header, Index), TreeFault>
-    ensures header { IfOk result (λ table. IsHeader table.0) }
-    ensures index { IfOk result (λ table. table.1 ≡ index_of table.0) }
-    ensures checked { IfOk result (λ table. KeepsChecked table.1.last pager.old pager.new) }
-    ensures rooted { IsHonest pager.old.store
-        → IfOk result (λ table. IsRooted pager.old.store.pages table.0) }
-    ensures exact { (header : spec.Header) → IsHonest pager.old.store
-        → IsRooted pager.old.store.pages header → IfErr result IsPassing }
-    ensures effect { Opens pager.old pager.new result }
+    ensures { ReadsTable pager.old pager.new result }
 {
     let header = read_first(pager)?;
     let last = last(header.schema.shape());

@@ -1,16 +1,9 @@
-ghost use Rattle.std.specs.Prelude.{◌≡◌, ◌+◌, length, ℕ, true, false, Err, is_some, IfOk, MatchOption, OnOk};
-ghost use Rattle.std.specs.List.{AllByRecursion};
-ghost use Rattle.ub_index.specs.Searching.{key_before};
-ghost use Rattle.ub_region.specs.Joins.{JoinsNext, JoinsBefore, put_rows};
+ghost use Rattle.std.specs.Prelude.{◌≡◌, true, false, Err};
 ghost use Rattle.ub_region.specs.Regions.{settle};
-ghost use Rattle.ub_table.specs.Region.{IsRegion};
-ghost use Rattle.ub_table.specs.declared.fault.PageFault.{PageFault};
-ghost use Rattle.ub_tree.specs.inner.Change.{IsMadeOf, IsRegionIn, IsRegionThere, IsStored};
-ghost use Rattle.ub_tree.specs.inner.Removing.{AnswersBeside, AnswersLeft, HasTakenBefore, HasTakenNext, IsPair, JoinsAt, TakesAt};
-ghost use Rattle.ub_tree.specs.Effects.{Searches};
-ghost use Rattle.ub_tree.specs.Removal.{Lessens, Removes};
+ghost use Rattle.ub_tree.specs.inner.Change.{IsMadeOf, IsRegionThere};
+ghost use Rattle.ub_tree.specs.inner.Removing.{IsPair, Joins, JoinsNextTo, JoinsToBefore, Settles};
+ghost use Rattle.ub_tree.specs.Removal.{Removes};
 ghost use Rattle.ub_tree.specs.Told.{IsRegionOf};
-ghost use Rattle.ub_tree.specs.View.{region_count, regions};
 
 use crate::fault::{TreeFault, bad_count};
 use crate::tree::Tree;
@@ -32,17 +25,7 @@ impl<S: PageStore> Tree<S> {
         drafts: &mut Drafts,
     ) -> Result<(), TreeFault>
         requires { IsPair self.old region.now next.now page.now }
-        ensures joined { OnOk result (JoinsAt region.now page.now.region.rows self.old self.new) }
-        ensures written { (i : ℕ) → IsStored self.old → IsRegionIn self.old i region.now
-            → IsRegionIn self.old (i + 1) next.now
-            → AllByRecursion (IsRegion self.old.schema)
-            (put_rows i true page.now.region.rows (regions self.old))
-            → OnOk result (IsStored self.new
-            × (regions self.new
-            ≡ put_rows i true page.now.region.rows (regions self.old))) }
-        ensures alone { region_count self.old ≡ 1
-            → result ≡ Err (TreeFault.Page 0 PageFault.BadCount) }
-        ensures leaves { Lessens self.old self.new result }
+        ensures { Joins region.now next.now page.now.region.rows self.old self.new result }
     {
         if self.count == 1 {
             return Err(self.uncounted());
@@ -59,15 +42,8 @@ impl<S: PageStore> Tree<S> {
     fn join_next(&mut self, region: &Region, room: &mut Room) -> Result<Option<Region>, TreeFault>
         requires there { IsRegionThere self.old region.now }
         requires rows { IsMadeOf self.old.schema region.now room.old.region }
-        ensures found { IfOk result (λ found. MatchOption found
-            (room.new.region ≡ room.old.region)
-            (HasTakenNext self.old region.now room.old.region.region.rows room.new.region)) }
-        ensures joined { (i : ℕ) → IsStored self.old → IsRegionIn self.old i region.now
-            → IfOk result (λ found. JoinsNext self.old.schema.page_rows i
-            room.old.region.region.rows room.new.region.region.rows (is_some found) (regions self.old)) }
-        ensures refused { AnswersBeside self.old region.now.next
-            (length room.old.region.region.rows) result }
-        ensures effect { Searches self.old self.new result }
+        ensures { JoinsNextTo region.now room.old.region room.new.region
+            self.old self.new result }
     {
         let next = match self.region_after(region)? {
             Some(next) => next,
@@ -86,16 +62,8 @@ impl<S: PageStore> Tree<S> {
     fn join_before(&mut self, region: &Region, room: &mut Room) -> Result<Option<Region>, TreeFault>
         requires told { IsRegionOf self.old region.now }
         requires rows { IsMadeOf self.old.schema region.now room.old.region }
-        ensures found { IfOk result (λ found. MatchOption found
-            (room.new.region ≡ room.old.region)
-            (HasTakenBefore self.old region.now room.old.region.region.rows room.new.region)) }
-        ensures joined { (i : ℕ) → IsStored self.old → IsRegionIn self.old i region.now
-            → IfOk result (λ found. JoinsBefore self.old.schema.page_rows i
-            room.old.region.region.rows room.new.region.region.rows (is_some found) (regions self.old)) }
-        ensures refused { AnswersBeside self.old
-            (key_before region.now.first.z region.now.first.number)
-            (length room.old.region.region.rows) result }
-        ensures effect { Searches self.old self.new result }
+        ensures { JoinsToBefore region.now room.old.region room.new.region
+            self.old self.new result }
     {
         let before = match self.region_before(region)? {
             Some(before) => before,
@@ -115,18 +83,7 @@ impl<S: PageStore> Tree<S> {
     fn settle(&mut self, region: &Region, room: &mut Room) -> Result<(), TreeFault>
         requires there { IsRegionThere self.old region.now }
         requires rows { IsMadeOf self.old.schema region.now room.old.region }
-        ensures taken { OnOk result
-            (TakesAt region.now room.old.region.region.rows self.old self.new) }
-        ensures written { (i : ℕ) → IsStored self.old → IsRegionIn self.old i region.now
-            → AllByRecursion (IsRegion self.old.schema)
-            (settle self.old.schema.page_rows i
-            (put_rows i false room.old.region.region.rows (regions self.old)))
-            → OnOk result (IsStored self.new × (regions self.new
-            ≡ settle self.old.schema.page_rows i
-            (put_rows i false room.old.region.region.rows (regions self.old)))) }
-        ensures refused { AnswersLeft self.old region.now
-            (length room.old.region.region.rows) result }
-        ensures leaves { Lessens self.old self.new result }
+        ensures { Settles region.now room.old.region.region.rows self.old self.new result }
     {
         if !room.region.are_few(self.schema.page_rows()) {
             return self.rewrite(region, &room.region, &mut room.drafts);

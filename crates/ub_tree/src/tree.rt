@@ -1,10 +1,9 @@
-ghost use Rattle.std.specs.Prelude.{◌≡◌, ◌<◌, ◌≤◌, ◌+◌, [], false, IsTrue, Err, length, IfOk, IfSome, OnOk, option_copied};
-ghost use Rattle.std.specs.List.{Contains};
+ghost use Rattle.std.specs.Prelude.{◌≡◌, ◌<◌, ◌≤◌, ◌+◌, false, IsTrue, Err, length, IfOk, IfSome, option_copied};
 ghost use Rattle.ub_region.specs.RegionPage.{empty_region};
 ghost use Rattle.ub_store.specs.View.{emptied};
 ghost use Rattle.ub_table.specs.declared.row.TheConstants.{MAX_ROW_NUMBER};
-ghost use Rattle.ub_tree.specs.Calls.{StandsAt};
-ghost use Rattle.ub_tree.specs.Effects.{IsTakenIn, ReadsRegion, SearchesFor};
+ghost use Rattle.ub_tree.specs.Calls.{TakesIn};
+ghost use Rattle.ub_tree.specs.Effects.{SearchesFor};
 ghost use Rattle.ub_tree.specs.Spans.{IsLater, Meets, First};
 ghost use Rattle.ub_tree.specs.Told.{GivesAt, GivesNext, IsRegionOf, SeeksAt, SeeksNext};
 ghost use Rattle.ub_tree.specs.Tree.{IsTree, tree_view};
@@ -209,13 +208,7 @@ impl<S: PageStore> Tree<S> {
     /// refused, for the note or for the page. After a fault any region may stand in `page`. A page
     /// that is refused isn't held after it.
     pub fn read_region(&mut self, region: &Region, page: &mut RegionPage) -> Result<(), TreeFault>
-        ensures dims { OnOk result (page.new.dims ≡ self.old.schema.dims) }
-        ensures first { OnOk result (page.new.region.first ≡ region.now.first) }
-        ensures taken { OnOk result (IsTakenIn self.old region.now page.new.region) }
-        ensures stands { IsSound self.old → Contains (spans_of self.old) region.now
-            → OnOk result (StandsAt self.old.placed region.now.page page.new.region) }
-        ensures failed { IsTrue self.old.is_failed → result ≡ Err TreeFault.Failed }
-        ensures effect { ReadsRegion region.now self.old self.new result }
+        ensures { TakesIn region.now page.new self.old self.new result }
     {
         if self.has_failed() {
             return Err(TreeFault::Failed);

@@ -1,14 +1,8 @@
 // A table of an older format, over a new store: its pages are brought over by `ub_upgrade`, and then all of them are checked.
-ghost use Rattle.std.specs.Prelude.{◌≡◌, ℕ, List, Err, IfOk, IfErr, MatchResult, OnOk};
-ghost use Rattle.ub_store.specs.Facts.{page_count, IsHonest};
-ghost use Rattle.ub_table.specs.declared.schema.Schema.{Schema};
-ghost use Rattle.ub_tree.specs.Checking.{IsCheckFault, IsWell};
-ghost use Rattle.ub_tree.specs.Effects.{read_store};
-ghost use Rattle.ub_tree.specs.Old.{AreOldPages};
-ghost use Rattle.ub_tree.specs.Opened.{IsPassing};
-ghost use Rattle.ub_tree.specs.Placed.{Placed};
-ghost use Rattle.ub_tree.specs.View.{IsSound};
-ghost use Rattle.ub_tree.specs.Upgrade.{HasTable, HasWorked, IsLeftBy, IsUnopened, IsUpgraded, IsUpgradeFault, IsUpgradePassing};
+ghost use Rattle.std.specs.Prelude.{◌≡◌, Err};
+ghost use Rattle.ub_store.specs.Facts.{page_count};
+ghost use Rattle.ub_tree.specs.Upgrade.{Upgrades};
+ghost use Rattle.ub_tree.specs.inner.Upgrading.{HandsOn};
 
 use crate::creation::pager_over;
 use crate::fault::TreeFault;
@@ -38,20 +32,7 @@ impl<S: PageStore> Tree<S> {
         new: S,
     ) -> Result<Tree<S>, Rejected<S, TreeFault>>
         requires none { page_count (S.facts new) ≡ 0 }
-        ensures made { (version next : ℕ) (schema : Schema) (placed : List Placed)
-            → IsHonest (O.facts old.old) → IsHonest (S.facts new)
-            → AreOldPages version (O.facts old.old).pages schema placed next
-            → MatchResult result (HasTable schema placed next)
-            (λ refused. IsUpgradePassing refused.fault) }
-        ensures begun { IfOk result (IsUpgraded (O.facts old.old) (S.facts new)) }
-        ensures unopened { IsHonest (S.facts new)
-            → IfErr result (λ refused. IsUnopened (S.facts refused.store)) }
-        ensures refused { IfErr result (λ refused. IsUpgradeFault (O.facts old.old) (S.facts new)
-            refused.fault) }
-        ensures effect { MatchResult result
-            (λ t. HasWorked (O.facts old.old) (O.facts old.new) (S.facts new) t.store)
-            (λ refused. IsLeftBy refused.fault (O.facts old.old) (O.facts old.new) (S.facts new)
-            (S.facts refused.store)) }
+        ensures { Upgrades S.facts (O.facts old.old) (O.facts old.new) (S.facts new) result }
     {
         let mut pager = match pager_over(alloc, new) {
             Ok(pager) => pager,
@@ -70,12 +51,7 @@ impl<S: PageStore> Tree<S> {
 
     // The tree, where its pages are well.
     fn checked(self) -> Result<Tree<S>, Rejected<S, TreeFault>>
-        ensures same { IfOk result (λ t. t ≡ self) }
-        ensures well { IsHonest self.store → OnOk result (IsWell self) }
-        ensures sound { IsSound self → IfErr result (λ refused. IsPassing refused.fault) }
-        ensures refused { IfErr result (λ refused. IsCheckFault self refused.fault) }
-        ensures left { IfErr result (λ r. S.facts r.store ≡ read_store {A = S} (Err r.fault)
-            self.store) }
+        ensures { HandsOn S.facts self result }
     {
         let mut tree = self;
         match tree.check() {

@@ -1,15 +1,15 @@
 -- What the steps of a change of one region do to a tree, and what they need.
-use Rattle.std.specs.Prelude.{IfSome, ◌≡◌, ◌≢◌, ◌+◌, ◌<◌, ◌≤◌, ◌^◌, ◌++◌, ◌⊎◌, ℕ, suc, true, false, List, [], ◌∷◌, Option, IsTrue, Result, Err, IfErr, OnOk, Some, length, map, take, drop, slice_get}
+use Rattle.std.specs.Prelude.{IfSome, ◌≡◌, ◌≢◌, ◌+◌, ◌<◌, ◌≤◌, ◌^◌, ◌++◌, ◌⊎◌, ℕ, suc, true, false, List, [], ◌∷◌, Option, IsTrue, Result, Err, IfErr, MatchResult, OnOk, Some, length, map, take, drop, slice_get}
 use Rattle.std.specs.List.{AllByRecursion}
 use Rattle.ub_store.specs.Writing.{Grows}
 use Rattle.ub_index_change.specs.Changed.{Replaces}
-use Rattle.ub_index_change.specs.Changing.{AreIndexPages}
+use Rattle.ub_index_change.specs.Changing.{AreIndexPages, AreOnce, Stand, so_far}
 use Rattle.ub_index.specs.Index.{IsIndexPage}
 use Rattle.ub_index.specs.Standing.{IsOutside}
 use Rattle.ub_index_change.specs.Filling.{KeepsFilled}
 use Rattle.ub_index_change.specs.Lowering.{IsDropped}
-use Rattle.ub_index_change.specs.Making.{IsPutFault}
-use Rattle.ub_index_change.specs.Preparing.{ChangeView, IsWithinRegion, MakesIndex, TakesNeeded, added_at}
+use Rattle.ub_index_change.specs.Making.{IsPutFault, PutsSheets, changed}
+use Rattle.ub_index_change.specs.Preparing.{ChangeView, IsPrepared, IsWithinRegion, MakesIndex, TakesNeeded, added_at}
 use Rattle.ub_index.specs.View.{IsRegionAt, entries_in, entry_at}
 use Rattle.ub_index_change.specs.declared.sheet.Sheet.{Sheet}
 use Rattle.ub_region.specs.RegionPage.{RegionView}
@@ -22,14 +22,16 @@ use Rattle.ub_table.specs.Region.{RegionRows, IsRegion, keys_of}
 use Rattle.ub_table.specs.declared.row.Key.{Key}
 use Rattle.ub_table.specs.declared.row.Row.{Row}
 use Rattle.ub_table.specs.declared.schema.Schema.{Schema}
-use Rattle.ub_tree.specs.Effects.{HasEnded, IsChangeMissing, IsChangeRefused, IsFull, IsIndexFull, IsReadFault, IsTakenIn, KeepsMark, Leaves, read_store, written_store, IsMarkedFirst}
+use Rattle.ub_tree.specs.Effects.{Changes, HasEnded, IsChangeMissing, IsChangeRefused, IsFull, IsIndexFull, IsReadFault, IsTakenIn, KeepsMark, Leaves, Searches, read_store, written_store, IsMarkedFirst}
 use Rattle.ub_tree.specs.Grown.{IsOnlyGrown}
+use Rattle.ub_tree.specs.Holding.{AnswersAt}
 use Rattle.ub_tree.specs.Indexed.{HasIndex, reserved}
+use Rattle.ub_tree.specs.Opened.{IsPassing}
 use Rattle.ub_tree.specs.Others.{AddsEntry, KeepsEntries, KeepsOthers, WritesIndex, WritesPage}
 use Rattle.ub_tree.specs.Pages.{Spells, SpellsHalves}
 use Rattle.ub_tree.specs.Placed.{Placed, ArePlaced, entry_of}
 use Rattle.ub_tree.specs.Spans.{Region, first_keys}
-use Rattle.ub_tree.specs.Told.{FallsTo, IsRegionOf}
+use Rattle.ub_tree.specs.Told.{FallsTo, IsRegionOf, KeepsTold}
 use Rattle.ub_tree.specs.View.{TreeView, IsSound, region_count, regions}
 use Rattle.ub_tree.specs.declared.fault.TreeFault.{TreeFault}
 use Rattle.ub_tree.specs.declared.fault.TreeFault.TheVariants.{Full, Memory, Page, Store}
@@ -91,6 +93,17 @@ pub record Writes {A : Type 0} (span : Region) (old new : TreeView) (result : Re
 abbrev pub IsRegionIn : TreeView → ℕ → Region → Type 0
 IsRegionIn t i span = IsRegionAt (map entry_of t.placed) i span
 
+-- a call within that puts a region, with the rows of this page, in place of one that the tree tells of
+pub record Rewrites {A : Type 0} (span : Region) (rows : List Row) (old new : TreeView) (result : Result A TreeFault) : Type 0 where
+  pub same : OnOk result (IsPut old new)
+  pub written : (i : ℕ) → IsStored old → IsRegionIn old i span
+      → OnOk result (IsStored new × (new.placed ≡ placed_with i (record { page = span.page; region = record { first = span.first; rows = rows } } ∷ []) old.placed))
+  pub told : OnOk result (KeepsTold old new)
+  pub put : OnOk result (IsHonest old.store → Spells new span.page span.first rows)
+  pub faults : IfErr result (λ fault. fault ≡ Store store.Device)
+  pub stays : old.is_changed ≡ true → new.is_changed ≡ true
+  pub effect : Writes span old new result
+
 -- a region that the tree tells of, which stands there in its place
 pub record IsRegionThere (t : TreeView) (span : Region) : Type 0 where
   pub told : IsRegionOf t span
@@ -102,6 +115,14 @@ pub record IsRegionThere (t : TreeView) (span : Region) : Type 0 where
 pub record IsReadAt (t : TreeView) (span : Region) (page : RegionView) : Type 0 where
   pub dims : page.dims ≡ t.schema.dims
   pub on : IsTakenIn t span page.region
+
+-- a call within that reads a region into this page
+pub record ReadsAt {A : Type 0} (span : Region) (page : RegionView) (old new : TreeView) (result : Result A TreeFault) : Type 0 where
+  pub read : OnOk result (IsReadAt old span page)
+  pub there : OnOk result (span.page < page_count old.store)
+  pub rows : (i : ℕ) (p : Placed) → IsHonest old.store → IsRegionIn old i span → slice_get old.placed i ≡ Some p → OnOk result (page.region.rows ≡ p.region.rows)
+  pub taken : IsHonest old.store → (r : RegionRows) → IsTakenIn old span r → MatchResult result (λ _. page.region ≡ r) IsPassing
+  pub effect : Searches old new result
 
 -- the region that holds a key was read: of stored pages it is the one that the key falls to, and over an honest store it is the
 -- one that the page spells
@@ -140,6 +161,7 @@ pub record IsAddReady (t : TreeView) (span : Region) (first : Key) (change : Cha
   pub some : page_count t.store + 1 ≤ change.next
   pub few : change.next ≤ page_count t.store + 1 + (t.inner.index.levels + 1)
   pub needed : IsHonest t.store → TakesNeeded t.inner.index t.store span.first change
+  pub made : IsHonest t.store → IsPrepared t.inner.index t.store span.first (Some (added_at first t.store)) (page_count t.store) (so_far [] (page_count t.store + 1)) change
   pub spelled : IsHonest t.store → AllByRecursion (IsSpelledAt t (page_count t.store + 1) change) change.sheets
   pub pages : IsHonest t.store → FallsTo t span.first span → IsWithinRegion t.inner.index.last span.first span.next first
       → AreIndexPages t.inner.index.last change.sheets
@@ -202,6 +224,15 @@ abbrev pub IsIndexFault : ChangeView → StoreFacts → TreeFault → Type 0
 IsIndexFault change old (Store fault) = IsPutFault change.next change.sheets old fault
 IsIndexFault change old _ = ⊥
 
+-- a call within that puts the pages of the index that a change spells, and takes over its root
+pub record PutsIndex {A : Type 0} (change : ChangeView) (old new : TreeView) (result : Result A TreeFault) : Type 0 where
+  pub now : OnOk result (new ≡ record old { placed = new.placed; store = new.store; inner = record old.inner { index = changed old.inner.index change } })
+  pub marked : new.is_changed ≡ old.is_changed
+  pub stand : AreOnce change.sheets → IsHonest old.store → OnOk result (Stand new.store.pages change.sheets)
+  pub kept : PutsSheets change.sheets old.store new.store
+  pub works : OnOk result (new.store ≡ record old.store { pages = new.store.pages; synced = new.store.synced })
+  pub stopped : IfErr result (λ fault. HasStopped fault old new × IsIndexFault change old.store fault)
+
 -- where rows were only put in before, that is so still
 abbrev pub KeepsGrown : TreeView → TreeView → Type 0
 KeepsGrown old new = IsOnlyGrown old → IsOnlyGrown new
@@ -230,3 +261,11 @@ abbrev pub StoresRows : {A : Type 0} → Region → List Row → TreeView → Tr
 StoresRows span rows old new result =
     (i : ℕ) → IsStored old → IsRegionIn old i span → AllByRecursion (IsRegion old.schema) (split_of old.schema span.first rows)
     → OnOk result (IsStored new × (regions new ≡ regions_with i (split_of old.schema span.first rows) (regions old)) × KeepsGrown old new)
+
+-- a call within that puts these rows in place of those of a region, which had so many
+pub record Stores {A : Type 0} (span : Region) (count : ℕ) (rows : List Row) (old new : TreeView) (result : Result A TreeFault) : Type 0 where
+  pub same : OnOk result (StoresAt span count old new)
+  pub written : StoresRows span rows old new result
+  pub put : OnOk result (IsHonest old.store → StandAt span count rows old new)
+  pub counted : AnswersAt (count ≡ old.schema.page_rows) old span result
+  pub effect : Changes old new result

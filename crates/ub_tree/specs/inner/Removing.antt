@@ -1,21 +1,27 @@
 -- What the steps of a removal do to a tree, and what they need.
-use Rattle.std.specs.Prelude.{◌≡◌, ◌+◌, ◌++◌, ◌/◌, ◌≤◌, ◌⊎◌, ℕ, true, List, Option, Some, Result, IfErr, IfOk, is_some}
-use Rattle.ub_index.specs.Searching.{key_before}
+use Rattle.std.specs.Prelude.{◌≡◌, ◌+◌, ◌++◌, ◌/◌, ◌≤◌, ◌⊎◌, ℕ, true, false, List, Option, Some, None, Result, Err, IfErr, IfOk, IfSome, MatchOption, MatchResult, OnOk, is_some, length, map}
+use Rattle.std.specs.List.{AllByRecursion}
+use Rattle.ub_index.specs.Searching.{GivesAny, key_before}
+use Rattle.ub_index.specs.View.{IsNextRegion, IsPreviousRegion}
+use Rattle.ub_region.specs.Joins.{JoinsBefore, JoinsNext, put_rows}
 use Rattle.ub_region.specs.RegionPage.{RegionView}
+use Rattle.ub_region.specs.Regions.{settle}
 use Rattle.ub_store.specs.Facts.{IsHonest}
 use Rattle.ub_store.specs.declared.fault.StoreFault.TheVariants as store
 use Rattle.ub_table.specs.Region.{RegionRows, IsRegion}
 use Rattle.ub_table.specs.declared.fault.PageFault.TheVariants.{BadCount}
 use Rattle.ub_table.specs.declared.row.Key.{Key}
 use Rattle.ub_table.specs.declared.row.Row.{Row}
-use Rattle.ub_tree.specs.Effects.{IsTakenIn}
+use Rattle.ub_tree.specs.Effects.{IsTakenIn, Searches}
 use Rattle.ub_tree.specs.Holding.{Answers, CanFallInto, HasRoomAt, IsJoined, IsThatOrBefore}
 use Rattle.ub_tree.specs.Opened.{IsPassing}
 use Rattle.ub_tree.specs.Others.{DropsEntry, KeepsEntries, WritesIndex, WritesPage}
 use Rattle.ub_tree.specs.Pages.{LeavesRows, Spells}
+use Rattle.ub_tree.specs.Placed.{entry_of}
+use Rattle.ub_tree.specs.Removal.{Lessens}
 use Rattle.ub_tree.specs.Spans.{Region}
 use Rattle.ub_tree.specs.Told.{FallsTo, IsRegionOf}
-use Rattle.ub_tree.specs.View.{TreeView, region_count}
+use Rattle.ub_tree.specs.View.{TreeView, region_count, regions}
 use Rattle.ub_tree.specs.declared.fault.TreeFault.{TreeFault}
 use Rattle.ub_tree.specs.declared.fault.TreeFault.TheVariants.{Page, Store}
 use Rattle.ub_tree.specs.inner.Change.{IsElsewhereSame, IsRegionIn, IsRegionThere, IsStored}
@@ -42,6 +48,24 @@ pub record TakesAt (span : Region) (rows : List Row) (old new : TreeView) : Type
       ⊎ ((first : Region) × IsThatOrBefore old span first × WritesIndex first.page old new × DropsEntry first old new)
   pub put : IsHonest old.store → LeavesRows span rows old new
 
+-- the region after another one was sought, if there is one: it begins where that one tells; of stored regions it is the next one
+pub record FindsNext (span : Region) (old new : TreeView) (result : Result (Option Region) TreeFault) : Type 0 where
+  pub begins : IfOk result (λ found. IfSome found (λ next. span.next ≡ Some next.first))
+  pub falls : IfOk result (λ found. IfSome found (IsRegionOf old))
+  pub last : IfOk result (λ found. found ≡ None → span.next ≡ None)
+  pub led : (told : Option Region) → IsHonest old.store → GivesAny old.inner.index old.store span.next told → MatchResult result (λ found. found ≡ told) IsPassing
+  pub after : (i : ℕ) → IsStored old → IsRegionIn old i span → IfOk result (IsNextRegion (map entry_of old.placed) i)
+  pub effect : Searches old new result
+
+-- the region before another one was sought, if there is one: it ends where that one begins; of stored regions it is the one before
+pub record FindsPrevious (span : Region) (old new : TreeView) (result : Result (Option Region) TreeFault) : Type 0 where
+  pub ends : IfOk result (λ found. IfSome found (λ before. before.next ≡ Some span.first))
+  pub falls : IfOk result (λ found. IfSome found (λ before. (key : Key) × (key_before span.first.z span.first.number ≡ Some key) × FallsTo old key before))
+  pub led : (told : Option Region) → IsHonest old.store → GivesAny old.inner.index old.store (key_before span.first.z span.first.number) told
+      → MatchResult result (λ found. found ≡ told) IsPassing
+  pub before : (i : ℕ) → IsStored old → IsRegionIn old i span → IfOk result (IsPreviousRegion (map entry_of old.placed) i)
+  pub effect : Searches old new result
+
 -- what must be answered where so many rows are left of a region: no page is refused where no neighbour is needed; and BadCount of the
 -- first page, where one region is counted, and it would be joined
 pub record AnswersLeft {A : Type 0} (t : TreeView) (span : Region) (left : ℕ) (result : Result A TreeFault) : Type 0 where
@@ -66,3 +90,35 @@ pub record HasTakenBefore (t : TreeView) (span : Region) (rows : List Row) (page
   pub falls : (key : Key) × (key_before span.first.z span.first.number ≡ Some key) × FallsTo t key before
   pub stored : (i : ℕ) → IsStored t → IsRegionIn t i span → (j : ℕ) × (i ≡ j + 1) × IsRegionIn t j before
   pub taken : (other : RegionRows) × IsTakenIn t before other × (page.region.rows ≡ other.rows ++ rows)
+
+-- a call within that puts these rows on the page of the first of two neighbours, which the second one then is a part of
+pub record Joins {A : Type 0} (first second : Region) (rows : List Row) (old new : TreeView) (result : Result A TreeFault) : Type 0 where
+  pub joined : OnOk result (JoinsAt first rows old new)
+  pub written : (i : ℕ) → IsStored old → IsRegionIn old i first → IsRegionIn old (i + 1) second → AllByRecursion (IsRegion old.schema) (put_rows i true rows (regions old))
+      → OnOk result (IsStored new × (regions new ≡ put_rows i true rows (regions old)))
+  pub alone : region_count old ≡ 1 → result ≡ Err (Page 0 BadCount)
+  pub leaves : Lessens old new result
+
+-- a call within that takes over the rows of the next region into the one in memory, and tells which it is; or takes none
+pub record JoinsNextTo (span : Region) (page taken : RegionView) (old new : TreeView) (result : Result (Option Region) TreeFault) : Type 0 where
+  pub found : IfOk result (λ found. MatchOption found (taken ≡ page) (HasTakenNext old span page.region.rows taken))
+  pub joined : (i : ℕ) → IsStored old → IsRegionIn old i span
+      → IfOk result (λ found. JoinsNext old.schema.page_rows i page.region.rows taken.region.rows (is_some found) (regions old))
+  pub refused : AnswersBeside old span.next (length page.region.rows) result
+  pub effect : Searches old new result
+
+-- the same with the rows of the region before
+pub record JoinsToBefore (span : Region) (page taken : RegionView) (old new : TreeView) (result : Result (Option Region) TreeFault) : Type 0 where
+  pub found : IfOk result (λ found. MatchOption found (taken ≡ page) (HasTakenBefore old span page.region.rows taken))
+  pub joined : (i : ℕ) → IsStored old → IsRegionIn old i span
+      → IfOk result (λ found. JoinsBefore old.schema.page_rows i page.region.rows taken.region.rows (is_some found) (regions old))
+  pub refused : AnswersBeside old (key_before span.first.z span.first.number) (length page.region.rows) result
+  pub effect : Searches old new result
+
+-- a call within that puts the rows that are left of a region on its page, or joins them with those of a neighbour
+pub record Settles {A : Type 0} (span : Region) (rows : List Row) (old new : TreeView) (result : Result A TreeFault) : Type 0 where
+  pub taken : OnOk result (TakesAt span rows old new)
+  pub written : (i : ℕ) → IsStored old → IsRegionIn old i span → AllByRecursion (IsRegion old.schema) (settle old.schema.page_rows i (put_rows i false rows (regions old)))
+      → OnOk result (IsStored new × (regions new ≡ settle old.schema.page_rows i (put_rows i false rows (regions old))))
+  pub refused : AnswersLeft old span (length rows) result
+  pub leaves : Lessens old new result

@@ -1,11 +1,18 @@
--- What stands on the new pages of a table that is upgraded.
-use Rattle.std.specs.Prelude.{◌≡◌, ℕ, List, length, map}
+-- What stands on the new pages of a table that is upgraded, and the check of its tree.
+use Rattle.std.specs.Prelude.{◌≡◌, ℕ, List, Result, Err, IfErr, IfOk, OnOk, length, map}
 use Rattle.ub_index.specs.View.{IndexView}
 use Rattle.ub_page.specs.declared.header.OldHeader.{OldHeader}
 use Rattle.ub_region.specs.Regions.{AreRegions, rows_of}
+use Rattle.ub_store.specs.Facts.{StoreFacts, IsHonest}
+use Rattle.ub_store.specs.declared.fault.Rejected.{Rejected}
 use Rattle.ub_table.specs.declared.schema.Schema.{Schema}
+use Rattle.ub_tree.specs.Checking.{IsCheckFault, IsWell}
+use Rattle.ub_tree.specs.Effects.{read_store}
 use Rattle.ub_tree.specs.Indexed.{HasIndex, reserved}
+use Rattle.ub_tree.specs.Opened.{IsPassing}
 use Rattle.ub_tree.specs.Placed.{Placed, ArePlaced, entry_of, regions_in}
+use Rattle.ub_tree.specs.View.{TreeView, IsSound}
+use Rattle.ub_tree.specs.declared.fault.TreeFault.{TreeFault}
 
 -- the new pages hold these regions of an old table: the header tells of them, an index of them stands there, and each stands on a page of
 -- its own that spells it
@@ -17,3 +24,11 @@ pub record IsCarried (schema : Schema) (placed : List Placed) (next : ℕ) (head
   pub well_formed : AreRegions schema next (regions_in placed)
   pub indexed : HasIndex index pages (map entry_of placed)
   pub placed_are : ArePlaced schema placed (reserved index pages) pages
+
+-- a tree was to be handed on where its pages are well, and this was answered: the tree; or why not, with its store
+pub record HandsOn {S : Type 0} (facts : S → StoreFacts) (t : TreeView) (result : Result TreeView (Rejected S TreeFault)) : Type 0 where
+  pub same : IfOk result (λ u. u ≡ t)
+  pub well : IsHonest t.store → OnOk result (IsWell t)
+  pub sound : IsSound t → IfErr result (λ refused. IsPassing refused.fault)
+  pub refused : IfErr result (λ refused. IsCheckFault t refused.fault)
+  pub left : IfErr result (λ refused. facts refused.store ≡ read_store {A = S} (Err refused.fault) t.store)

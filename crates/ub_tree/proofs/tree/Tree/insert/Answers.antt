@@ -1,9 +1,9 @@
-use Rattle.std.proofs.Common.{◌≡◌, ◌∙◌, false, ap, arith, subst}
-use Rattle.ub_table.specs.Region.{key_of, measures_of}
+use Rattle.std.proofs.Common.{◌∙◌, ap, arith, subst}
+use Rattle.ub_table.specs.Region.{measures_of}
 use Rattle.ub_table.specs.declared.row.Row.{Row}
 use Rattle.ub_table.specs.declared.schema.Schema.{Schema}
 use Rattle.ub_tree.specs.Change.{numbered, row_of}
-use Rattle.ub_tree.specs.Holding.{AnswersRow}
+use Rattle.ub_tree.specs.Inserted.{Inserts}
 use Rattle.ub_tree.specs.View.{TreeView}
 use Rattle.ub_tree.proofs.NewFacts.{new_values, words_of}
 use Rattle.ub_tree.proofs.tree.Tree.insert.Goals as goal
@@ -16,8 +16,8 @@ insert_row-requires g c =
     rw c.row_of-row.ensures.row (new_values s.dims (measures_of s) c.self.inside.next c.args.dims.now c.args.measures.now c.requires.dims c.requires.measures s.counts.few_dims (omega arith)
     (words_of c.args.dims.now c.type_inv.dims) c.row_of-row.ensures.words)
 
-pub returns-clause-refused : goal.returns-clause-refused
-returns-clause-refused g c =
+pub returns : goal.returns
+returns g c =
     let a = c.args.self.now in
     let is = c.row_of-row.ensures.row ∙ ap (λ (v : TreeView). row_of v.next c.args.dims.now c.args.measures.now) c.self.view_is in
-    subst (λ (row : Row). a.is_failed ≡ false → AnswersRow a (key_of a.schema.dims (numbered a.next row)) c.insert_row.result) is c.insert_row.ensures.refused
+    subst (λ (row : Row). Inserts (numbered a.next row) a c.insert_row.new.self c.insert_row.result) is c.insert_row.ensures

@@ -11,15 +11,6 @@ returns g c =
     let w = c.self-2.inside in
     let old : TreeView = tree_view u.schema u.index u.count u.next u.rows (is_written u.mark) u.is_failed u.pager in
     let new : TreeView = tree_view w.schema w.index w.count w.next w.rows (is_written w.mark) w.is_failed w.pager in
-    let said = c.insert_within-inserted.ensures in
     let r = c.insert_within-inserted.result in
     subst (λ (v : TreeView). InsertsAs c.args.row.now v new r) c.self.view_is
-    (subst (λ (v : TreeView). InsertsAs c.args.row.now old v r) (sym c.self-2.view_is) (record {
-      inserted = λ sound free. said.inserted sound free;
-      number = said.number;
-      counted = said.counted;
-      put = said.put;
-      failed = λ failed. (let works = c.if-self.false in cc);
-      refused = λ working honest. said.refused honest;
-      effect = said.effect;
-    }))
+    (subst (λ (v : TreeView). InsertsAs c.args.row.now old v r) (sym c.self-2.view_is) c.insert_within-inserted.ensures)

@@ -50,6 +50,7 @@ returns-clause-ready g c =
       some = c.in_ok-change.ensures.few.more;
       few = c.in_ok-change.ensures.few.few;
       needed = c.in_ok-change.ensures.takes;
+      made = c.in_ok-change.ensures.made;
       spelled = λ honest.
           let (middle, told, turns, settles) = c.in_ok-change.ensures.made honest in
           all_spelled old (page_count t.pager.store + 1) (omega arith) (page_count t.pager.store) t.index.root t.index.levels middle c.in_ok-change.change

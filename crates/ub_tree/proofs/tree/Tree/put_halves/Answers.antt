@@ -1,7 +1,7 @@
 use Rattle.std.proofs.Common.{ap, ◌<◌, ◌∙◌, ◌∷◌, [], true, Ok, Err, subst, sym, refl, length, Bool, IsTrue}
 use Rattle.ub_region.specs.RegionPage.{region_page}
 use Rattle.ub_table.specs.Region.{IsRegion}
-use Rattle.ub_tree.proofs.WayFacts.{region_no_kind}
+use Rattle.ub_check.proofs.ReadingFacts.{region_no_kind}
 use Rattle.ub_store.specs.Facts.{StoreFacts, page_count}
 use Rattle.ub_store.specs.declared.fault.StoreFault.{StoreFault}
 use Rattle.ub_tree.proofs.PartFacts.{marks_then}

@@ -10,6 +10,7 @@ use Rattle.ub_tree.proofs.AddFacts.{parts_stored}
 use Rattle.ub_tree.proofs.RoomFacts.{ready_for}
 use Rattle.ub_tree.proofs.EffectFacts.{ready_by, refused_none}
 use Rattle.ub_tree.proofs.PartFacts.{halves_refused, index_refused, parts_at, parts_effect, unready_answers}
+use Rattle.ub_tree.specs.Pages.{Spells}
 use Rattle.ub_tree.specs.Tree.{placed_in, tree_view}
 use Rattle.ub_tree.specs.View.{TreeView}
 use Rattle.ub_tree.specs.inner.Change.{GrowsTo}
@@ -49,15 +50,30 @@ pub returns-clause-same : goal.returns-clause-same
 returns-clause-same g c =
     let change = c.in_ok-change.change in
     let u = c.self-2.inside in
+    let t = c.self.inside in
+    let a = c.args.self.now in
+    let h = c.put_halves.new.self in
     let n = c.put_index.new.self in
+    let span = c.args.region.now in
+    let first = c.args.right.now.region.first in
     let d : TreeView = tree_view u.schema u.index (u.count + 1) u.next u.rows (is_written u.mark) u.is_failed u.pager in
     let grew = subst (λ (v : TreeView). GrowsTo {A = Unit {0}} (page_count v.store + (change.next - change.start)) v c.grow.new.self (Ok tt)) c.in_ok-change.ensures.effect.same c.in_ok-grow.ensures in
-    parts_at c.args.self.now c.grow.new.self c.put_halves.new.self c.args.region.now c.requires.there.told c.args.right.now.region.first change c.page.result c.requires.there.there
-    (ready_for c.first.ensures c.in_ok-change.ensures.ready) c.page.ensures grew n c.in_ok-put_halves.ensures.effect c.in_ok-put_halves.ensures.same c.in_ok-put_halves.ensures.put.count
-    c.in_ok-put_index.ensures.kept d _ c.in_ok-put_index.ensures.now
-    (ap (λ (v : TreeView). v.inner.count) c.in_ok-put_halves.ensures.same ∙ (ap (λ (v : TreeView). v.inner.count) grew.frame))
-    c.in_ok-put_index.ensures.works (ap (λ (v : TreeView). record v { inner = record v.inner { count = v.inner.count + 1 } }) c.self-2.view_is)
-    (subst (λ (v : TreeView). v.inner.index.levels ≤ MAX_LEVEL) c.self.view_is c.root-root.ensures.high)
+    let ready = ready_for c.first.ensures c.in_ok-change.ensures.ready in
+    let same = c.in_ok-put_halves.ensures.same in
+    let count_is = ap (λ (v : TreeView). v.inner.count) same ∙ ap (λ (v : TreeView). v.inner.count) grew.frame in
+    let index_is = ap (λ (v : TreeView). changed v.inner.index change) same ∙ ap (λ (v : TreeView). changed v.inner.index change) grew.frame in
+    let d_is = ap (λ (v : TreeView). record v { inner = record v.inner { count = v.inner.count + 1 } }) c.self-2.view_is in
+    let small = subst (λ n. n < 2 ^ 128) (sym c.self.invariant.last_is) (last_small t.schema.dims t.schema.counts.few_dims) in
+    let near = subst (λ (v : TreeView). v.inner.index.last < 2 ^ 128) c.self.view_is small in
+    let honest_g = λ (honest : IsHonest a.store). ap (λ (v : TreeView). v.store.honest) grew.frame ∙ honest in
+    let honest_h = λ (honest : IsHonest a.store). ap (λ (v : TreeView). v.store.honest) c.in_ok-put_halves.ensures.effect.frame ∙ honest_g honest in
+    let schemas = ap (λ (v : TreeView). v.schema) d_is ∙ ap (λ (v : TreeView). v.schema) c.in_ok-put_index.ensures.now ∙ ap (λ (v : TreeView). v.schema) same in
+    let spells : IsHonest a.store → Spells d (page_count a.store) first c.args.right.now.region.rows = λ honest.
+    (halves_stand a c.grow.new.self h n span c.requires.there first change c.page.result near ready c.page.ensures c.args.left.now.region c.args.right.now.region c.in_ok-put_halves.ensures.put
+    c.in_ok-put_index.ensures.kept honest (honest_g honest) (honest_h honest) d (ap (λ (v : TreeView). v.store) d_is) schemas c.requires.first).1 in
+    parts_at a c.grow.new.self h span c.requires.there.told first change c.page.result c.requires.there.there ready c.page.ensures grew n c.in_ok-put_halves.ensures.effect same c.in_ok-put_halves.ensures.put.count
+    c.in_ok-put_index.ensures.kept d _ c.in_ok-put_index.ensures.now count_is c.in_ok-put_index.ensures.works d_is (subst (λ (v : TreeView). v.inner.index.levels ≤ MAX_LEVEL) c.self.view_is c.root-root.ensures.high)
+    (subst (λ (v : TreeView). 1 ≤ v.inner.index.levels) c.self.view_is c.root-root.ensures.low) near c.requires.there c.requires.within index_is c.in_ok-put_index.ensures.stand c.args.right.now.region.rows spells
 
 pub returns-clause-written : goal.returns-clause-written
 returns-clause-written g c = λ i stored at.

@@ -1,4 +1,4 @@
-use Rattle.std.proofs.Common.{◌≡◌, ◌<◌, ◌≤◌, ◌∙◌, [], ◌∷◌, ℕ, List, OnOk, true, nat_le, ap, subst, sym, length, arith, false, refl, ◌+◌}
+use Rattle.std.proofs.Common.{◌≡◌, ◌<◌, ◌∙◌, [], ◌∷◌, List, OnOk, true, nat_le, ap, subst, sym, length, arith, false, refl, ◌+◌, rules}
 use Rattle.std.proofs.lemmas.Bool.{le-leb, lt-leb}
 use Rattle.std.proofs.lemmas.List.Edits.{length-insert}
 use Rattle.ub_region.specs.Rows.{Halves, split}
@@ -19,26 +19,33 @@ use Rattle.ub_tree.proofs.StandFacts.{stand_alone, stand_halved}
 use Rattle.ub_tree.specs.Pages.{Spells, SpellsHalves}
 use Rattle.ub_tree.proofs.tree.Tree.store_with.Goals as goal
 
-pub returns-clause-effect : goal.returns-clause-effect
-returns-clause-effect g c = changed_by c.args.self.now c.rewrite.new.self c.args.region.now c.requires.there.0 c.rewrite.result c.rewrite.ensures.effect
-
-pub returns-clause-written : goal.returns-clause-written
-returns-clause-written g c = λ i stored at all.
+pub returns : goal.returns
+returns g c =
     let b = c.args.self.now in
     let row = c.args.row.now in
     let rows = c.args.room.now.region.region.rows in
     let new = insert_row b.schema.dims row rows in
     let made : insert_row b.schema.dims row rows ≡ insert rows c.args.index row = c.requires.place.1 in
-    let same : c.page_rows.result ≡ b.schema.page_rows = c.page_rows.ensures.page_rows ∙ ap (λ (v : TreeView). v.schema.page_rows) c.self.view_is in
-    let few = c.requires.read.on.0.few in
-    let less : length rows < b.schema.page_rows = (let long = c.len.ensures.len in let other = c.if-len-page_rows.false in omega arith) in
-    let more = length-insert_row b.schema.dims row rows in
-    let fits : nat_le (length new) b.schema.page_rows ≡ true = le-leb (length new) b.schema.page_rows (omega arith) in
     let rows_are : c.insert_at.new.self.region.rows ≡ new = ap (λ (v : RegionView). v.region.rows) c.insert_at.ensures ∙ sym made in
-    let written = subst (λ (rs : List Row). OnOk c.rewrite.result (IsStored c.rewrite.new.self × (c.rewrite.new.self.placed ≡ placed_with i (record { page = c.args.region.now.page; region = record { first = c.args.region.now.first; rows = rs } } ∷ []) b.placed)))
-    rows_are (c.rewrite.ensures.written i stored at) in
-    one_stored b c.rewrite.new.self i c.args.region.now new c.rewrite.result fits written
-    (writes_grown b c.rewrite.new.self i c.args.region.now c.rewrite.result stored at c.rewrite.ensures.effect)
+    record {
+      same = search rules;
+      written = λ i stored at all.
+          let same : c.page_rows.result ≡ b.schema.page_rows = c.page_rows.ensures.page_rows ∙ ap (λ (v : TreeView). v.schema.page_rows) c.self.view_is in
+          let few = c.requires.read.on.0.few in
+          let less : length rows < b.schema.page_rows = (let long = c.len.ensures.len in let other = c.if-len-page_rows.false in omega arith) in
+          let more = length-insert_row b.schema.dims row rows in
+          let fits : nat_le (length new) b.schema.page_rows ≡ true = le-leb (length new) b.schema.page_rows (omega arith) in
+          let written = subst (λ (rs : List Row). OnOk c.rewrite.result (IsStored c.rewrite.new.self × (c.rewrite.new.self.placed ≡ placed_with i (record { page = c.args.region.now.page; region = record { first = c.args.region.now.first; rows = rs } } ∷ []) b.placed)))
+          rows_are (c.rewrite.ensures.written i stored at) in
+          one_stored b c.rewrite.new.self i c.args.region.now new c.rewrite.result fits written
+          (writes_grown b c.rewrite.new.self i c.args.region.now c.rewrite.result stored at c.rewrite.ensures.effect);
+      put = let span = c.args.region.now in
+          let same = c.page_rows.ensures.page_rows ∙ ap (λ (v : TreeView). v.schema.page_rows) c.self.view_is in
+          stand_alone c.rewrite.result span (length rows) new b c.rewrite.new.self (λ full. c.if-len-page_rows.false (c.len.ensures.len ∙ full ∙ sym same))
+          (subst (λ (rs : List Row). OnOk c.rewrite.result (IsHonest b.store → Spells c.rewrite.new.self span.page span.first rs)) rows_are c.rewrite.ensures.put);
+      counted = search rules;
+      effect = changed_by c.args.self.now c.rewrite.new.self c.args.region.now c.requires.there.0 c.rewrite.result c.rewrite.ensures.effect;
+    }
 
 pub split-requires-clause-right : goal.split-requires-clause-right
 split-requires-clause-right g c =
@@ -55,21 +62,30 @@ split-requires-clause-right g c =
     ∙ ap (λ (h : Halves). record { first = h.first; rows = h.right }) (same_split c.requires.read.dims full refl) in
     subst (λ (r : RegionRows). IsRegion b.schema r) (sym right) (two_stand b c.args.region.now rows stand (omega arith)).1
 
-pub returns-then-len-page_rows-clause-written : goal.returns-then-len-page_rows-clause-written
-returns-then-len-page_rows-clause-written g c =
+pub returns-then-len-page_rows : goal.returns-then-len-page_rows
+returns-then-len-page_rows g c =
     let b = c.args.self.now in
     let row = c.args.row.now in
     let before = c.args.room.now.region.region.rows in
     let made : insert_row b.schema.dims row before ≡ insert before c.args.index row = c.requires.place.1 in
     let rows = insert before c.args.index row in
     let full = sym c.len.ensures.len ∙ c.if-len-page_rows.true ∙ c.page_rows.ensures.page_rows ∙ ap (λ (v : TreeView). v.schema.page_rows) c.self.view_is in
-    let stand : CanStand b c.args.region.now rows = subst (λ (rs : List Row). CanStand b c.args.region.now rs) made c.requires.rows in
-    let within = c.requires.place.0 in
-    let more : length rows ≡ length before + 1 = length-insert before c.args.index row within in
-    let over : nat_le (length rows) b.schema.page_rows ≡ false = lt-leb (length rows) b.schema.page_rows (omega arith) in
-    let written = rw (c.split_with.ensures.left, c.split_with.ensures.right, c.requires.read.dims, full) at c.split.ensures.written in
-    subst (λ (rs : List Row). StoresRows c.args.region.now rs b c.split.new.self c.split.result) (sym made)
-    (λ i stored at all. two_stored b c.split.new.self i c.args.region.now rows c.split.result over (written i stored at))
+    record {
+      same = search rules;
+      written = let stand : CanStand b c.args.region.now rows = subst (λ (rs : List Row). CanStand b c.args.region.now rs) made c.requires.rows in
+          let within = c.requires.place.0 in
+          let more : length rows ≡ length before + 1 = length-insert before c.args.index row within in
+          let over : nat_le (length rows) b.schema.page_rows ≡ false = lt-leb (length rows) b.schema.page_rows (omega arith) in
+          let written = rw (c.split_with.ensures.left, c.split_with.ensures.right, c.requires.read.dims, full) at c.split.ensures.written in
+          subst (λ (rs : List Row). StoresRows c.args.region.now rs b c.split.new.self c.split.result) (sym made)
+          (λ i stored at all. two_stored b c.split.new.self i c.args.region.now rows c.split.result over (written i stored at));
+      put = let span = c.args.region.now in
+          let halves = rw (c.split_with.ensures.left, c.split_with.ensures.right, c.requires.read.dims, full) at c.split.ensures.halves in
+          stand_halved c.split.result span (length before) (insert_row b.schema.dims row before) b c.split.new.self full
+          (subst (λ (rs : List Row). OnOk c.split.result (IsHonest b.store → SpellsHalves c.split.new.self span.page (page_count b.store) span.first (split b.schema.dims b.schema.page_rows rs))) (sym made) halves);
+      counted = search rules;
+      effect = search rules;
+    }
 
 pub rewrite-requires-clause-region : goal.rewrite-requires-clause-region
 rewrite-requires-clause-region g c =
@@ -85,29 +101,3 @@ rewrite-requires-clause-region g c =
     let more = length-insert_row b.schema.dims row rows in
     let rows_are : c.insert_at.new.self.region.rows ≡ new = ap (λ (v : RegionView). v.region.rows) c.insert_at.ensures ∙ sym made in
     subst (λ (rs : List Row). IsRegion b.schema (record { first = c.args.region.now.first; rows = rs })) (sym rows_are) (one_stands b c.args.region.now new c.requires.rows (omega arith))
-
-pub returns-clause-put : goal.returns-clause-put
-returns-clause-put g c =
-    let b = c.args.self.now in
-    let row = c.args.row.now in
-    let span = c.args.region.now in
-    let rows = c.args.room.now.region.region.rows in
-    let new = insert_row b.schema.dims row rows in
-    let made : insert_row b.schema.dims row rows ≡ insert rows c.args.index row = c.requires.place.1 in
-    let same = c.page_rows.ensures.page_rows ∙ ap (λ (v : TreeView). v.schema.page_rows) c.self.view_is in
-    let rows_are : c.insert_at.new.self.region.rows ≡ new = ap (λ (v : RegionView). v.region.rows) c.insert_at.ensures ∙ sym made in
-    stand_alone c.rewrite.result span (length rows) new b c.rewrite.new.self (λ full. c.if-len-page_rows.false (c.len.ensures.len ∙ full ∙ sym same))
-    (subst (λ (rs : List Row). OnOk c.rewrite.result (IsHonest b.store → Spells c.rewrite.new.self span.page span.first rs)) rows_are c.rewrite.ensures.put)
-
-pub returns-then-len-page_rows-clause-put : goal.returns-then-len-page_rows-clause-put
-returns-then-len-page_rows-clause-put g c =
-    let b = c.args.self.now in
-    let row = c.args.row.now in
-    let span = c.args.region.now in
-    let before = c.args.room.now.region.region.rows in
-    let made : insert_row b.schema.dims row before ≡ insert before c.args.index row = c.requires.place.1 in
-    let rows = insert before c.args.index row in
-    let full = sym c.len.ensures.len ∙ c.if-len-page_rows.true ∙ c.page_rows.ensures.page_rows ∙ ap (λ (v : TreeView). v.schema.page_rows) c.self.view_is in
-    let halves = rw (c.split_with.ensures.left, c.split_with.ensures.right, c.requires.read.dims, full) at c.split.ensures.halves in
-    stand_halved c.split.result span (length before) (insert_row b.schema.dims row before) b c.split.new.self full
-    (subst (λ (rs : List Row). OnOk c.split.result (IsHonest b.store → SpellsHalves c.split.new.self span.page (page_count b.store) span.first (split b.schema.dims b.schema.page_rows rs))) (sym made) halves)

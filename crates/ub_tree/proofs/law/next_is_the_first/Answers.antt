@@ -1,5 +1,0 @@
-use Rattle.ub_tree.proofs.Laws.{next_is_the_first}
-use Rattle.ub_tree.proofs.law.next_is_the_first.Goals as goal
-
-pub returns : goal.returns
-returns c = next_is_the_first

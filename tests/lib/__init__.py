@@ -1,0 +1,1 @@
+"""What several tests that are run by hand share: see tests/README.md."""
