@@ -19,9 +19,13 @@ pub record IndexView : Type 0 where
 abbrev pub index_view : ℕ → ℕ → ℕ → IndexView
 index_view root levels last = record { root = root; levels = levels; last = last }
 
--- the entries of all its regions, in order, as the store's pages tell them
+-- the entries of all its regions, in order, as these pages tell them
+abbrev pub entries_under : IndexView → List (List ℕ) → List Entry
+entries_under index pages = under pages index.levels (top index.root)
+
+-- and as those of a store do
 abbrev pub entries_in : IndexView → StoreFacts → List Entry
-entries_in index store = under store.pages index.levels (top index.root)
+entries_in index store = entries_under index store.pages
 
 -- the pages of an index, each upper one before those below it
 abbrev pub pages_of_index : IndexView → StoreFacts → List ℕ

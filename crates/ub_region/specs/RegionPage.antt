@@ -17,9 +17,12 @@ pub record RegionView : Type 0 where
   pub dims : ℕ
   pub region : RegionRows
 
--- one of no rows, from the first address on
+-- the one region of a table with no rows: it begins with the least key of all
+abbrev pub only_region : RegionRows
+only_region = record { first = origin; rows = [] }
+
 abbrev pub empty_region : ℕ → RegionView
-empty_region dims = record { dims = dims; region = record { first = origin; rows = [] } }
+empty_region dims = record { dims = dims; region = only_region }
 
 -- 'R', how many dimensions, measures and rows, and the first key
 abbrev pub head_fields : ℕ → ℕ → ℕ → Key → List (ℕ × ℕ)

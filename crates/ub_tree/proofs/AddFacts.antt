@@ -11,7 +11,7 @@ use Rattle.ub_index_change.specs.Changing.{Stand}
 use Rattle.ub_index_change.specs.Filling.{IsFilled, KeepsFilled}
 use Rattle.ub_index_change.specs.Making.{IsCommitted, PutsSheets, StayOutside, changed}
 use Rattle.ub_index_change.specs.Preparing.{ChangeView, IsForeign, MakesIndex, added_at}
-use Rattle.ub_index.specs.View.{IndexView, entries_in, entry_at}
+use Rattle.ub_index.specs.View.{IndexView, entries_in, entries_under, entry_at}
 use Rattle.ub_region.specs.declared.region.Region.{Region}
 use Rattle.ub_page.proofs.PageLaws.{region_parts}
 use Rattle.ub_region.specs.RegionPage.{region_page}
@@ -25,7 +25,7 @@ use Rattle.ub_tree.proofs.PutFacts.{view_placed}
 use Rattle.ub_tree.proofs.SplitFacts.{after_regions, before_regions, committed, is, new_are, new_indexed, new_placed, own, page_foreign, there as there_regions}
 use Rattle.ub_tree.proofs.StoredFacts.{IsTold}
 use Rattle.ub_tree.proofs.TreeFacts.{length-placed}
-use Rattle.ub_tree.specs.Indexed.{HasIndex, entries_on, reserved}
+use Rattle.ub_tree.specs.Indexed.{HasIndex, reserved}
 use Rattle.ub_tree.specs.Placed.{Placed, ArePlaced, placed_of, entry_of}
 use Rattle.ub_tree.specs.Tree.{placed_in}
 use Rattle.ub_tree.specs.View.{TreeView}
@@ -59,7 +59,7 @@ module _ (t : TreeView) (seen : t.placed ≡ placed_in t.schema t.inner.index t.
   abbrev news : List Placed
   news = record { page = span.page; region = record { first = span.first; rows = left } } ∷ record { page = page_count a; region = record { first = first; rows = right } } ∷ []
 
-  viewed : t.placed ≡ placed_of schema a.pages (entries_on index a.pages)
+  viewed : t.placed ≡ placed_of schema a.pages (entries_under index a.pages)
   viewed = seen ∙ view_placed schema index a stored.honest
 
   others : StayOutside numbers grown.pages filled.pages

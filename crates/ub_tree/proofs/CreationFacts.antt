@@ -10,7 +10,7 @@ use Rattle.std.specs.List.{All, IsDistinct}
 use Rattle.ub_index_change.proofs.FillFacts.{filled_low}
 use Rattle.ub_index.specs.Opening.{IsAlone}
 use Rattle.ub_index.specs.View.{IndexView, index_view}
-use Rattle.ub_region.specs.RegionPage.{region_on, region_page}
+use Rattle.ub_region.specs.RegionPage.{only_region, region_on, region_page}
 use Rattle.ub_region.specs.Regions.{AreRegions}
 use Rattle.ub_store.specs.Facts.{StoreFacts, IsHonest}
 use Rattle.ub_store.specs.View.{PagerView, untouched}
@@ -23,16 +23,16 @@ use Rattle.ub_tree.specs.Calls.{IsCreated}
 use Rattle.ub_tree.specs.Indexed.{HasIndex, reserved}
 use Rattle.ub_tree.specs.Placed.{Placed, ArePlaced, entry_of, regions_in}
 use Rattle.ub_tree.specs.Tree.{placed_in, tree_view}
-use Rattle.ub_writing.specs.Creation.{empty_region, IsLaidOut}
+use Rattle.ub_writing.specs.Creation.{IsLaidOut}
 use Rattle.ub_zaddr.specs.Address.{last_address}
 
 none_twice : IsDistinct nat_eq []
 none_twice = IsDistinct-from_count nat_eq_equiv [] refl
 
-pub empty_is_region : (schema : Schema) → IsRegion schema empty_region
+pub empty_is_region : (schema : Schema) → IsRegion schema only_region
 empty_is_region schema = record { few = omega arith; first = (omega arith, omega arith); rows = tt; ascending = tt; within = tt }
 
-empty_regions : (schema : Schema) → AreRegions schema 1 (empty_region ∷ [])
+empty_regions : (schema : Schema) → AreRegions schema 1 (only_region ∷ [])
 empty_regions schema = record { begins = refl; ascending = tt; each = (empty_is_region schema, tt); apart = tt; distinct = none_twice; numbered = tt }
 
 -- the rows that a page tells of
@@ -62,7 +62,7 @@ module _ (facts : StoreFacts) (schema : Schema) (index : IndexView) (pager : Pag
     placed : placed_in schema index pager.store ≡ placed_with 1 []
     placed = search (rules, alone, laid, now, rows_there, view_placed)
 
-    pub first_regions : regions_in (placed_in schema index pager.store) ≡ empty_region ∷ []
+    pub first_regions : regions_in (placed_in schema index pager.store) ≡ only_region ∷ []
     first_regions = ap regions_in placed
 
     pub first_indexed : HasIndex index pager.store.pages (map entry_of (placed_in schema index pager.store))
@@ -71,7 +71,7 @@ module _ (facts : StoreFacts) (schema : Schema) (index : IndexView) (pager : Pag
     reserved_is : reserved index pager.store.pages ≡ 0 ∷ 2 ∷ []
     reserved_is = ap (λ (ns : List ℕ). 0 ∷ ns) (alone.pages_are ∙ ap (λ (i : IndexView). i.root ∷ []) index_is)
 
-    first_alone : slice_get pager.store.pages 1 ≡ Some (region_page schema empty_region) → All (λ p. slice_get pager.store.pages p.page ≡ Some (region_page schema p.region)) (placed_with 1 [])
+    first_alone : slice_get pager.store.pages 1 ≡ Some (region_page schema only_region) → All (λ p. slice_get pager.store.pages p.page ≡ Some (region_page schema p.region)) (placed_with 1 [])
     first_alone at zero d lt = at
     first_alone at (suc k) d lt = absurd (omega arith)
 

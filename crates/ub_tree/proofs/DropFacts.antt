@@ -17,7 +17,7 @@ use Rattle.ub_index.specs.Standing.{IsOutside, AreOwnPages, AreRegionsThere, Sta
 use Rattle.ub_index_change.specs.Changing.{Stand, StayBut}
 use Rattle.ub_index_change.specs.Making.{IsCommitted, PutsSheets, changed}
 use Rattle.ub_index_change.specs.Preparing.{ChangeView, IsForeign, MakesIndex}
-use Rattle.ub_index.specs.View.{IsReachedOnce, pages_of_index, IndexView, IsIndexOn, IsRegionAt, entries_in, entry_at}
+use Rattle.ub_index.specs.View.{IndexView, IsIndexOn, IsReachedOnce, IsRegionAt, entries_in, entries_under, entry_at, pages_of_index}
 use Rattle.ub_region.specs.declared.region.Region.{Region}
 use Rattle.ub_index_change.specs.declared.sheet.Sheet.{Sheet}
 use Rattle.ub_page.proofs.PageLaws.{region_parts}
@@ -36,7 +36,7 @@ use Rattle.ub_tree.proofs.ShrinkFacts.{map_removed, placed_without, put_joined, 
 use Rattle.ub_tree.proofs.SplitFacts.{committed, new_are, new_indexed, new_placed, pages_by}
 use Rattle.ub_tree.proofs.StoredFacts.{IsSpelled, IsTold}
 use Rattle.ub_tree.proofs.TreeFacts.{all_get, region_get, placed_there, within_placed}
-use Rattle.ub_tree.specs.Indexed.{HasIndex, entries_on, reserved}
+use Rattle.ub_tree.specs.Indexed.{HasIndex, reserved}
 use Rattle.ub_tree.specs.Others.{AreOthersKept}
 use Rattle.ub_tree.specs.Placed.{Placed, ArePlaced, entry_of, placed_of, regions_in}
 use Rattle.ub_tree.specs.inner.Change.{placed_with, regions_with}
@@ -85,7 +85,7 @@ no_page (n ∷ numbers) = (tt, no_page numbers)
 
 -- the rows of a region and of the next one were put on its page, and a change by which the next one goes was prepared before and then made
 module _ (schema : Schema) (index : IndexView) (a mid new : StoreFacts) (placed placed_mid : List Placed)
-    (honest : IsHonest a) (viewed : placed ≡ placed_of schema a.pages (entries_on index a.pages))
+    (honest : IsHonest a) (viewed : placed ≡ placed_of schema a.pages (entries_under index a.pages))
     (indexed : HasIndex index a.pages (map entry_of placed)) (placed_are : ArePlaced schema placed (reserved index a.pages) a.pages)
     (i : ℕ) (span next : Region) (at : IsRegionAt (map entry_of placed) i span) (at_next : IsRegionAt (map entry_of placed) (i + 1) next)
     (rows : List Row) (good : IsRegion schema (record { first = span.first; rows = rows }))
@@ -134,7 +134,7 @@ module _ (schema : Schema) (index : IndexView) (a mid new : StoreFacts) (placed 
   all_others : (m : ℕ) → m ≢ 0 → m ≢ span.page → slice_get mid.pages m ≡ slice_get a.pages m
   all_others m h k = search (rules, cases_lt, slice_get_past)
 
-  viewed_mid : placed_mid ≡ placed_of schema mid.pages (entries_on index mid.pages)
+  viewed_mid : placed_mid ≡ placed_of schema mid.pages (entries_under index mid.pages)
   viewed_mid = is_mid ∙ sym (put_placed schema index a.pages mid.pages placed viewed indexed placed_are i span at rows all_others count told_mid)
 
   at_mid : IsRegionAt (map entry_of placed_mid) (i + 1) next

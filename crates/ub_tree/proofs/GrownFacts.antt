@@ -10,7 +10,7 @@ use Rattle.ub_index.proofs.LeadFacts.{ways_stay}
 use Rattle.ub_index.proofs.Numbers.{kept_pages, within_store}
 use Rattle.ub_index.specs.Standing.{PagesStay, IsGrowFault}
 use Rattle.ub_index.specs.Index.{pages_under, top}
-use Rattle.ub_index.specs.View.{IndexView}
+use Rattle.ub_index.specs.View.{IndexView, entries_under}
 use Rattle.ub_region.specs.declared.entry.Entry.{Entry}
 use Rattle.ub_region.specs.Regions.{AreRegions, rows_of}
 use Rattle.ub_store.specs.Facts.{StoreFacts, IsHonest, page_count}
@@ -22,7 +22,7 @@ use Rattle.ub_tree.proofs.PutFacts.{view_placed}
 use Rattle.ub_tree.proofs.StoredFacts.{IsKept, IsSpelled, placed_kept}
 use Rattle.ub_tree.proofs.WriteFacts.{wrote_tree}
 use Rattle.ub_tree.specs.Effects.{Leaves}
-use Rattle.ub_tree.specs.Indexed.{HasIndex, entries_on, reserved}
+use Rattle.ub_tree.specs.Indexed.{HasIndex, reserved}
 use Rattle.ub_tree.specs.Placed.{Placed, ArePlaced, entry_of, placed_of, regions_in}
 use Rattle.ub_tree.specs.Stored.{AreSoundPages, index_of}
 use Rattle.ub_tree.specs.Told.{TellsStill}
@@ -42,7 +42,7 @@ module _ (pages new : List (List ℕ)) (kept : (m : ℕ) → m < length pages �
     stay : PagesStay pages new (pages_under pages index.levels (top index.root))
     stay = each_stays (pages_under pages index.levels (top index.root)) (within_store index.last pages index.levels (top index.root) None indexed.under_it)
 
-    same_entries : entries_on index new ≡ entries_on index pages
+    same_entries : entries_under index new ≡ entries_under index pages
     same_entries = kept_under pages new index.levels (top index.root) stay
 
     same_reserved : reserved index new ≡ reserved index pages
@@ -59,10 +59,10 @@ module _ (pages new : List (List ℕ)) (kept : (m : ℕ) → m < length pages �
   kept_each schema (p ∷ ps) h = (kept p.page (slice_get_within pages p.page _ h.0), kept_each schema ps h.1)
 
   pub grown_placed : (schema : Schema) (index : IndexView) (placed : List Placed) → HasIndex index pages (map entry_of placed) → ArePlaced schema placed (reserved index pages) pages
-      → placed_of schema new (entries_on index new) ≡ placed_of schema pages (entries_on index pages)
+      → placed_of schema new (entries_under index new) ≡ placed_of schema pages (entries_under index pages)
   grown_placed schema index placed indexed placed_are =
       ap (placed_of schema new) (same_entries index (map entry_of placed) indexed)
-      ∙ placed_kept schema pages new (entries_on index pages)
+      ∙ placed_kept schema pages new (entries_under index pages)
       (subst (λ (es : List Entry). AllByRecursion (IsKept pages new) es) (sym indexed.entries_are) (kept_each schema placed (recursion_from_All (IsSpelled schema pages) placed placed_are.spelled)))
 
   pub grown_pages : (schema : Schema) (placed : List Placed) (next : ℕ) → AreSoundPages pages schema placed next → AreSoundPages new schema placed next

@@ -16,7 +16,7 @@ use Rattle.ub_index_change.proofs.BesideFacts.{IsKept, dropped_once, joined_lead
 use Rattle.ub_index_change.specs.Lowering.{IsDropFault}
 use Rattle.ub_index_change.specs.Making.{IsPutFault, PutsSheets, changed}
 use Rattle.ub_index_change.specs.Preparing.{ChangeView, MakesIndex}
-use Rattle.ub_index.specs.View.{IndexView, Leads, entries_in, entry_at}
+use Rattle.ub_index.specs.View.{IndexView, Leads, entries_in, entries_under, entry_at}
 use Rattle.ub_index.specs.declared.fault.IndexFault.{IndexFault}
 use Rattle.ub_index.specs.declared.fault.IndexFault.TheVariants as index
 use Rattle.ub_region.specs.declared.region.Region.{Region}
@@ -39,7 +39,7 @@ use Rattle.ub_tree.proofs.RoomFacts.{begins_before}
 use Rattle.ub_tree.proofs.WayFacts.{region_no_index}
 use Rattle.ub_tree.specs.Effects.{Changes, HasEnded, IsLeft}
 use Rattle.ub_tree.specs.Faults.{index_fault}
-use Rattle.ub_tree.specs.Indexed.{HasIndex, Inner, entries_on, reserved}
+use Rattle.ub_tree.specs.Indexed.{HasIndex, Inner, reserved}
 use Rattle.ub_tree.specs.Others.{AreOthersKept, JoinsKeys, KeepsBeside, KeepsOthers, WritesIndex}
 use Rattle.ub_tree.specs.Placed.{Placed, ArePlaced, entry_of, placed_of, regions_in}
 use Rattle.ub_tree.specs.Removal.{IsRemovalFault}
@@ -233,7 +233,7 @@ module _ (b mid n : TreeView) (span next : Region) (change : ChangeView) (there 
           rewritten.0.honest others_mid wrote.count indexed_mid are_mid rewritten.1 change makes honest_n puts stands_then,
     )
       where
-        viewed_pages : b.placed ≡ placed_of b.schema b.store.pages (entries_on b.inner.index b.store.pages)
+        viewed_pages : b.placed ≡ placed_of b.schema b.store.pages (entries_under b.inner.index b.store.pages)
         viewed_pages = viewed ∙ view_placed b.schema b.inner.index b.store stored.honest
 
         others_mid : AreOthersKept (0 ∷ span.page ∷ []) b.store.pages mid.store.pages

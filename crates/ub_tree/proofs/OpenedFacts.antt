@@ -4,7 +4,7 @@ use Rattle.std.proofs.Common.{◌≡◌, ℕ, false, List, [], ◌∷◌, Option
 use Rattle.std.proofs.lemmas.List.Elements.{recursion_from_All}
 use Rattle.std.proofs.lemmas.Option.{slice_get_within}
 use Rattle.std.specs.List.{AllByRecursion}
-use Rattle.ub_index.specs.View.{IndexView}
+use Rattle.ub_index.specs.View.{IndexView, entries_under}
 use Rattle.ub_page.proofs.PageLaws.{HasParts, header_parts, region_parts, same_header, unclean_refused}
 use Rattle.ub_bytes.specs.Bytes.{number_at}
 use Rattle.ub_page.specs.Header.{AreSame, IsHeader, IsHeaderFault, header_page}
@@ -19,7 +19,6 @@ use Rattle.ub_table.specs.declared.fault.PageFault.{PageFault}
 use Rattle.ub_table.specs.declared.schema.Schema.{Schema}
 use Rattle.ub_tree.proofs.SearchFacts.{known_is}
 use Rattle.ub_tree.proofs.StoredFacts.{IsSpelled, IsTold, placed_told}
-use Rattle.ub_tree.specs.Indexed.{entries_on}
 use Rattle.ub_tree.specs.Opened.{IsMarkFault, IsOpened, IsOpenFault, IsRooted}
 use Rattle.ub_tree.specs.Placed.{Placed, entry_of, placed_of, regions_in}
 use Rattle.ub_tree.specs.Stored.{AreSoundPages, index_of}
@@ -141,7 +140,7 @@ module _ (first : StoreFacts) (honest : IsHonest first) (header : Header) (h : I
       let known : known_pages now.store ≡ first.pages = known_is now.store (ap (λ (s : StoreFacts). s.honest) kept ∙ honest) ∙ ap (λ (s : StoreFacts). s.pages) kept in
       let placed_is : placed_in header.schema (index_of header) now.store ≡ placed =
       ap (λ (x : Schema). placed_in x (index_of header) now.store) schema_is ∙ ap (λ (i : IndexView). placed_in schema i now.store) index_is
-      ∙ ap (λ (ps : List (List ℕ)). placed_of schema ps (entries_on (index_of s.header) ps)) known
+      ∙ ap (λ (ps : List (List ℕ)). placed_of schema ps (entries_under (index_of s.header) ps)) known
       ∙ ap (placed_of schema first.pages) s.indexed.entries_are ∙ placed_back first.pages schema placed next s in
       let view : tree_view header.schema (index_of header) header.regions header.next header.rows false false now ≡ view_with schema placed (index_of s.header) s.header.regions next s.header.rows now =
       ap (λ (ps : List Placed). view_with header.schema ps (index_of header) header.regions header.next header.rows now) placed_is

@@ -14,7 +14,7 @@ use Rattle.ub_index.proofs.Numbers.{distinct_apart, distinct_first, kept_pages}
 use Rattle.ub_index.specs.Standing.{PagesStay, IsOutside, region_pages}
 use Rattle.ub_index.specs.Fitting.{FallsTo}
 use Rattle.ub_index.specs.Index.{NamesFitting, page_in, pages_under, top}
-use Rattle.ub_index.specs.View.{IndexView, IsRegionAt, entry_at}
+use Rattle.ub_index.specs.View.{IndexView, IsRegionAt, entries_under, entry_at}
 use Rattle.ub_index.specs.Way.{LeadsTo}
 use Rattle.ub_page.specs.Index.{IsIndexKind}
 use Rattle.ub_page.proofs.PageLaws.{region_parts}
@@ -31,7 +31,7 @@ use Rattle.ub_tree.proofs.SearchFacts.{known_is}
 use Rattle.ub_tree.proofs.SplitFacts.{apart_after_two, apart_before_two, pages_by}
 use Rattle.ub_tree.proofs.StoredFacts.{IsKept, IsSpelled, IsTold, parted, placed_changed, spelled_changed}
 use Rattle.ub_tree.proofs.TreeFacts.{entries_back}
-use Rattle.ub_tree.specs.Indexed.{HasIndex, entries_on, reserved}
+use Rattle.ub_tree.specs.Indexed.{HasIndex, reserved}
 use Rattle.ub_tree.specs.Placed.{Placed, ArePlaced, entry_of, placed_of}
 use Rattle.ub_tree.specs.Spans.{Region}
 use Rattle.ub_tree.specs.Told.{IsRegionOf, KeepsTold}
@@ -41,8 +41,8 @@ use Rattle.ub_tree.specs.inner.Change.{IsRegionIn, IsRegionThere, IsStored, plac
 use Rattle.ub_writing.specs.Puts.{Puts}
 
 -- on an honest store the regions are those that its pages tell
-pub view_placed : (schema : Schema) (index : IndexView) (store : StoreFacts) → IsHonest store → placed_in schema index store ≡ placed_of schema store.pages (entries_on index store.pages)
-view_placed schema index store honest = ap (λ (known : List (List ℕ)). placed_of schema known (entries_on index known)) (known_is store honest)
+pub view_placed : (schema : Schema) (index : IndexView) (store : StoreFacts) → IsHonest store → placed_in schema index store ≡ placed_of schema store.pages (entries_under index store.pages)
+view_placed schema index store honest = ap (λ (known : List (List ℕ)). placed_of schema known (entries_under index known)) (known_is store honest)
 
 -- the page of an entry is among those of the regions
 pub page_at : (placed : List Placed) (i : ℕ) (e : Entry) → slice_get (map entry_of placed) i ≡ Some e → slice_get (map (λ p. p.page) placed) i ≡ Some e.page
@@ -56,7 +56,7 @@ outside_at n q (m ∷ ns) zero at h = λ e. (let same : m ≡ q = cc in h.0 (e �
 outside_at n q (m ∷ ns) (suc i) at h = outside_at n q ns i at h.1
 
 -- a page of a region was put, and perhaps the first: the others are as they were
-module _ (schema : Schema) (index : IndexView) (pages new : List (List ℕ)) (placed : List Placed) (viewed : placed ≡ placed_of schema pages (entries_on index pages))
+module _ (schema : Schema) (index : IndexView) (pages new : List (List ℕ)) (placed : List Placed) (viewed : placed ≡ placed_of schema pages (entries_under index pages))
     (indexed : HasIndex index pages (map entry_of placed)) (placed_are : ArePlaced schema placed (reserved index pages) pages)
     (i : ℕ) (span : Region) (at : IsRegionAt (map entry_of placed) i span) (rows : List Row)
     (others : (m : ℕ) → m ≢ 0 → m ≢ span.page → slice_get new m ≡ slice_get pages m) (count : length new ≡ length pages)
@@ -65,7 +65,7 @@ module _ (schema : Schema) (index : IndexView) (pages new : List (List ℕ)) (pl
   chain = pages_under pages index.levels (top index.root)
 
   abbrev entries : List Entry
-  entries = entries_on index pages
+  entries = entries_under index pages
 
   abbrev news : List Placed
   news = record { page = span.page; region = record { first = span.first; rows = rows } } ∷ []
@@ -88,7 +88,7 @@ module _ (schema : Schema) (index : IndexView) (pages new : List (List ℕ)) (pl
   stay = each_stays chain (all_left (λ n. 0 ≢ n) chain (map (λ p. p.page) placed) (distinct_first 0 (chain ++ map (λ p. p.page) placed) placed_are.own))
       (distinct_apart (0 ∷ chain) (map (λ p. p.page) placed) placed_are.own).1
 
-  same_entries : entries_on index new ≡ entries
+  same_entries : entries_under index new ≡ entries
   same_entries = kept_under pages new index.levels (top index.root) stay
 
   same_reserved : reserved index new ≡ reserved index pages
@@ -136,7 +136,7 @@ module _ (schema : Schema) (index : IndexView) (pages new : List (List ℕ)) (pl
   parts_new = search (rules, drop-map, placed_at, take-map)
 
   -- the regions then
-  pub put_placed : placed_of schema new (entries_on index new) ≡ placed_with i news placed
+  pub put_placed : placed_of schema new (entries_under index new) ≡ placed_with i news placed
   put_placed =
       ap (placed_of schema new) (same_entries ∙ sym whole ∙ sym (append_assoc before (map entry_of news) after))
       ∙ placed_changed schema pages new before after news kept_before kept_after (told, tt)

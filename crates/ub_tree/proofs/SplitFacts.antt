@@ -18,7 +18,7 @@ use Rattle.ub_index_change.specs.Changing.{Stand}
 use Rattle.ub_index.specs.Index.{pages_under, top}
 use Rattle.ub_index_change.specs.Making.{IsCommitted, PutsSheets, StayOutside, changed}
 use Rattle.ub_index_change.specs.Preparing.{ChangeView, IsForeign, MakesIndex}
-use Rattle.ub_index.specs.View.{IndexView, IsIndexOn, IsRegionAt, entries_in, entry_at}
+use Rattle.ub_index.specs.View.{IndexView, IsIndexOn, IsRegionAt, entries_in, entries_under, entry_at}
 use Rattle.ub_region.specs.declared.region.Region.{Region}
 use Rattle.ub_region.specs.declared.entry.Entry.{Entry}
 use Rattle.ub_region.proofs.Laws.{all_left, all_more, all_right}
@@ -27,7 +27,7 @@ use Rattle.ub_table.specs.declared.schema.Schema.{Schema}
 use Rattle.ub_tree.proofs.IndexedFacts.{index_on}
 use Rattle.ub_tree.proofs.StoredFacts.{IsKept, IsSpelled, IsTold, parted, placed_changed, spelled_changed}
 use Rattle.ub_tree.proofs.TreeFacts.{entries_back}
-use Rattle.ub_tree.specs.Indexed.{HasIndex, entries_on, reserved}
+use Rattle.ub_tree.specs.Indexed.{HasIndex, reserved}
 use Rattle.ub_tree.specs.Placed.{Placed, ArePlaced, entry_of, placed_of}
 use Rattle.ub_tree.specs.inner.Change.{placed_with}
 
@@ -73,7 +73,7 @@ module _ (chain before after : List ℕ) (page count : ℕ) (own : IsDistinct na
   apart_after_two = each_first after apart_after
 
 -- an index over a store, and the regions that it tells, each on its page
-module _ (schema : Schema) (index : IndexView) (a : StoreFacts) (placed : List Placed) (honest : IsHonest a) (viewed : placed ≡ placed_of schema a.pages (entries_on index a.pages))
+module _ (schema : Schema) (index : IndexView) (a : StoreFacts) (placed : List Placed) (honest : IsHonest a) (viewed : placed ≡ placed_of schema a.pages (entries_under index a.pages))
     (indexed : HasIndex index a.pages (map entry_of placed)) (placed_are : ArePlaced schema placed (reserved index a.pages) a.pages) where
   pub is : IsIndexOn index a
   is = index_on index a (map entry_of placed) honest indexed

@@ -1,7 +1,7 @@
 -- What is read of a region of a sound tree.
 use Rattle.std.proofs.Common.{◌≡◌, ◌∙◌, ℕ, Bool, List, Some, sym, ap, subst, refl, slice_get}
 use Rattle.std.specs.List.{Contains}
-use Rattle.ub_index.specs.View.{IndexView, entry_at}
+use Rattle.ub_index.specs.View.{IndexView, entries_under, entry_at}
 use Rattle.ub_region.specs.RegionPage.{region_on}
 use Rattle.ub_region.specs.declared.entry.Entry.{Entry}
 use Rattle.ub_store.specs.Facts.{IsHonest}
@@ -10,7 +10,7 @@ use Rattle.ub_table.specs.Region.{RegionRows}
 use Rattle.ub_table.specs.declared.schema.Schema.{Schema}
 use Rattle.ub_tree.proofs.SearchFacts.{known_is}
 use Rattle.ub_tree.proofs.TreeFacts.{IsKnown, entries_back, rows_read, span_known, spans_are}
-use Rattle.ub_tree.specs.Indexed.{entries_on, reserved}
+use Rattle.ub_tree.specs.Indexed.{reserved}
 use Rattle.ub_tree.specs.Placed.{Placed, ArePlaced, placed_of}
 use Rattle.ub_tree.specs.Spans.{Region}
 use Rattle.ub_tree.specs.Tree.{known_pages, tree_view}
@@ -25,7 +25,7 @@ module _ (schema : Schema) (index : IndexView) (count next rows : ℕ) (changed 
   pages = known_pages pager.store
 
   abbrev entries : List Entry
-  entries = entries_on index pages
+  entries = entries_under index pages
 
   pub tree_known : (span : Region) → IsSound tree → Contains (spans_of tree) span → (p : Placed) × IsKnown schema entries pages span p
   tree_known span sound there =

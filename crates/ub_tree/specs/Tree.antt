@@ -3,11 +3,10 @@ use Rattle.std.specs.Prelude.{◌+◌, ◌≡◌, ◌≤◌, ◌<◌, ◌^◌, �
 use Rattle.ub_table.specs.declared.row.TheConstants.{MAX_ROW_NUMBER}
 use Rattle.ub_zaddr.specs.Address.{last_address}
 use Rattle.ub_index.specs.Held.{AreChecked}
-use Rattle.ub_index.specs.View.{IndexView}
+use Rattle.ub_index.specs.View.{IndexView, entries_under}
 use Rattle.ub_store.specs.Facts.{StoreFacts}
 use Rattle.ub_store.specs.View.{PagerView}
 use Rattle.ub_table.specs.declared.schema.Schema.{Schema}
-use Rattle.ub_tree.specs.Indexed.{entries_on}
 use Rattle.ub_tree.specs.Placed.{Placed, placed_of}
 use Rattle.ub_tree.specs.View.{TreeView}
 use Rattle.ub_writing.specs.Marks.{IsMarkOf}
@@ -19,7 +18,7 @@ known_pages facts = if facts.honest then facts.pages else []
 
 -- the regions that an index tells on the pages of a store, each with the rows of its page
 abbrev pub placed_in : Schema → IndexView → StoreFacts → List Placed
-placed_in schema index store = placed_of schema (known_pages store) (entries_on index (known_pages store))
+placed_in schema index store = placed_of schema (known_pages store) (entries_under index (known_pages store))
 
 abbrev pub tree_view : Schema → IndexView → ℕ → ℕ → ℕ → Bool → Bool → PagerView → TreeView
 tree_view schema index count next rows is_changed is_failed pager = record {

@@ -10,13 +10,13 @@
 
 ghost use Rattle.std.specs.Prelude.{◌≡◌, ◌⊎◌, ◌<◌, ◌≤◌, [], ◌∷◌, false, IfErr, OnOk, OnErr, IsErrOf};
 ghost use Rattle.ub_page.specs.Header.{AreInRange, IsHeader, header_page, numbers_of};
-ghost use Rattle.ub_region.specs.RegionPage.{region_on, region_page};
+ghost use Rattle.ub_region.specs.RegionPage.{only_region, region_on, region_page};
 ghost use Rattle.ub_store.specs.Cache.{Renews};
 ghost use Rattle.ub_store.specs.Facts.{page_count, IsHonest, WritesAt};
 ghost use Rattle.ub_store.specs.View.{SameTrace};
 ghost use Rattle.ub_store.specs.Writing.{WritesStore, put_store};
 ghost use Rattle.ub_writing.specs.Closing.{IsClosed, IsSaveFault, IsSaved, IsUnclosed};
-ghost use Rattle.ub_writing.specs.Creation.{IsLaidOut, IsLayoutFault, IsUncreated, empty_region};
+ghost use Rattle.ub_writing.specs.Creation.{IsLaidOut, IsLayoutFault, IsUncreated};
 ghost use Rattle.ub_table.specs.declared.schema.Schema.{Schema};
 ghost use Rattle.ub_writing.specs.Marks.{HasMark, IsMarkOf, Marks};
 ghost use Rattle.ub_writing.specs.Puts.{IsPutPage, Puts, PutsTwo};
@@ -45,7 +45,7 @@ pub fn write_first_pages<S: PageStore>(
     ensures trace { SameTrace pager.old pager.new }
     ensures left { pager.new.store ≡ put_store result pager.old.store pager.new.store }
     ensures refused { IfErr result (IsLayoutFault pager.old.store) }
-    ensures held { Renews (IsPutPage (region_page schema.now empty_region ∷ []))
+    ensures held { Renews (IsPutPage (region_page schema.now only_region ∷ []))
         pager.old.cached pager.new.cached }
 {
     write_mark(pager, schema)?;
@@ -76,8 +76,8 @@ pub fn write_mark<S: PageStore>(pager: &mut Pager<S>, schema: &Schema) -> Result
 
 // Spells the page of a region of no rows, which begins with the least key of all.
 fn write_empty<'a>(schema: &Schema, draft: &'a mut Draft) -> &'a Page
-    ensures page { result.now ≡ region_page schema.now empty_region }
-    ensures reads_back { region_on schema.now result.now ≡ empty_region }
+    ensures page { result.now ≡ region_page schema.now only_region }
+    ensures reads_back { region_on schema.now result.now ≡ only_region }
 {
     write_region(schema, ORIGIN, &[], draft);
     draft.page()
