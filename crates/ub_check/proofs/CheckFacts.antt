@@ -26,14 +26,11 @@ module _ (schema : Schema) (told : Told) (old : PagerView) (last : ℕ) (walk : 
   asked_is = search rules
 
   walk_fault : (f : IndexFault) → IsWalkFault schema last told.levels (top told.root) None old.store walk f → IsCheckFault schema told old.store f
-  walk_fault Full h = absurd h
   walk_fault (Page n fault) h = λ honest. inl (subst (λ (a : Asked). StopsIn a told.levels (top told.root) None [] n (Some fault)) asked_is (h told.regions [] honest has))
-  walk_fault (Store store.Memory) h = tt
-  walk_fault (Store store.Device) h = h
-  walk_fault (Store store.BadSize) h = absurd h
   walk_fault (Store store.NoPage) h = λ honest.
       let stops = h told.regions [] honest has in
       (stops.0, subst (λ (a : Asked). StopsIn a told.levels (top told.root) None [] stops.0 None) asked_is stops.1)
+  walk_fault fault h = h
 
   -- it isn't walked through
   pub run_refused : {T U : Type 0} (r : Result T IndexFault) (f : IndexFault) (new : PagerView) → IsErrAnd r (λ x. x ≡ f)

@@ -1,7 +1,9 @@
 -- The steps of a check: numbers that are put into a set, and entries of a page that are walked through.
 use Rattle.std.proofs.lemmas.Grind.{common_steps}
-use Rattle.std.proofs.Common.{rules, ◌≡◌, ◌≤◌, ◌<◌, ◌+◌, ◌-◌, ◌++◌, inl, inr, ℕ, zero, suc, IsTrue, List, [], ◌∷◌, Option, Some, None, Result, Ok, Err, OnOk, length, take, drop, map, min, slice_get, ◌^◌, ap, refl, sym, ◌∙◌, arith, subst}
-use Rattle.std.proofs.lemmas.List.{append-nil, append_assoc, length-append, map-append}
+use Rattle.std.proofs.Common.{rules, ◌≡◌, ◌≤◌, ◌<◌, ◌+◌, ◌-◌, ◌++◌, inl, inr, ℕ, zero, suc, IsTrue, List, [], ◌∷◌, Option, Some, None, Result, Ok, Err, OnOk, length, take, drop, map, min, slice_get, slice_index_or, ◌^◌, ap, refl, sym, ◌∙◌, arith, subst}
+use Rattle.std.proofs.lemmas.List.{append-nil, append_assoc, drop_all, length-append, map-append, take_all}
+use Rattle.std.proofs.Math.Seq.{drop-cons}
+use Rattle.std.proofs.lemmas.Option.{get_or_from_slice_get, slice_get-get_or, slice_get_within}
 use Rattle.std.specs.Result.{IsErrAnd}
 use Rattle.ub_index.specs.Descending.{IsStepFault, Steps}
 use Rattle.ub_index.specs.Index.{NamesFitting, entries_of, first_or}
@@ -31,26 +33,23 @@ use Rattle.ub_check.specs.Standing.{IsSpanFault, ReadsAt}
 use Rattle.ub_check.specs.declared.walk.Walk.{Walk}
 use Rattle.ub_check.specs.inner.Checking.{HasTaken, IsPutTo, IsWalkFault, IsWalkedTo, TakesOn, Walks, asked_by}
 
--- a call that was refused gives nothing
-pub refused_none : {T E : Type 0} (P : Type 0) (r : Result T E) (e : E) → IsErrAnd r (λ x. x ≡ e) → OnOk r P
-refused_none P r e h = search rules
-
 module _ {X : Type 0} where
   pub drop_at : (xs : List X) (i : ℕ) (x : X) → slice_get xs i ≡ Some x → drop i xs ≡ x ∷ drop (suc i) xs
-  drop_at [] i x at = cc
-  drop_at (y ∷ xs) zero x at = let same : y ≡ x = cc in ap (λ (z : X). z ∷ xs) same
-  drop_at (y ∷ xs) (suc i) x at = drop_at xs i x at
+  drop_at xs i x at = drop-cons xs i x (slice_get_within xs i x at) ∙ ap (λ (z : X). z ∷ drop (suc i) xs) (get_or_from_slice_get xs i x x at)
 
   pub take_at : (xs : List X) (i : ℕ) (x : X) → slice_get xs i ≡ Some x → take (suc i) xs ≡ take i xs ++ x ∷ []
   take_at [] i x at = cc
   take_at (y ∷ xs) zero x at = let same : y ≡ x = cc in ap (λ (z : X). z ∷ []) same
   take_at (y ∷ xs) (suc i) x at = ap (λ (zs : List X). y ∷ zs) (take_at xs i x at)
 
-  pub drop_end : (xs : List X) (i : ℕ) → length xs ≤ i → drop i xs ≡ []
-  drop_end xs i h = grind (arith, common_steps)
-
-  pub take_end : (xs : List X) (i : ℕ) → length xs ≤ i → take i xs ≡ xs
-  take_end xs i h = grind (arith, common_steps)
+-- an entry that is read at its index, with where the next one begins
+pub entry_there : (entries slice : List Entry) (i : ℕ) (e : Entry) (end next : Option Key) → i < length entries → e ≡ slice_index_or entries i e → slice ≡ entries
+    → next ≡ first_or (drop (i + 1) slice) end → (slice_get entries i ≡ Some e) × (next ≡ first_or (drop (suc i) entries) end)
+entry_there entries slice i e end next within read same is =
+    let one : i + 1 ≡ suc i = omega arith in (
+      slice_get-get_or entries i e within ∙ ap (λ (x : Entry). Some x) (sym read),
+      is ∙ ap (λ (es : List Entry). first_or (drop (i + 1) es) end) same ∙ ap (λ (j : ℕ). first_or (drop j entries) end) one,
+    )
 
 module _ (ns : List ℕ) (from now : NumbersView) (i n : ℕ) (h : IsPutTo ns from now i) (at : slice_get ns i ≡ Some n) where
   -- one more was put
@@ -80,7 +79,7 @@ module _ (ns : List ℕ) (from now : NumbersView) (i n : ℕ) (h : IsPutTo ns fr
 
 -- all were put
 pub put_all : (ns : List ℕ) (from to : NumbersView) (i : ℕ) → length ns ≤ i → IsPutTo ns from to i → (met : List ℕ) → HasJust from met → AreNew from.bound met ns × HasJust to (met ++ ns)
-put_all ns from to i h k met j = grind (arith, drop_end, take_end)
+put_all ns from to i h k met j = grind (arith, drop_all, take_all)
 
 module _ (schema : Schema) (last level : ℕ) (entries : List Entry) (end : Option Key) (old now : PagerView) (from to : Walk) (i : ℕ) (e : Entry) (next : Option Key)
     (h : IsWalkedTo schema last level entries end old now from to i) (at : slice_get entries i ≡ Some e) (next_is : next ≡ first_or (drop (suc i) entries) end) where
@@ -147,11 +146,8 @@ module _ (schema : Schema) (last : ℕ) (entry : Entry) (end : Option Key) (from
   span_fault : (e : IndexFault) → IsSpanFault schema old.store (region_of last entry end) e → IsWalkFault schema last 0 entry end old.store from e
   span_fault (Page n fault) (at, page, is, refused) = λ count before honest has.
       inr (few count before has, at, inr (inl (page, subst (λ (m : ℕ). slice_get old.store.pages m ≡ Some page) at (is honest), fault, refl, refused)))
-  span_fault Full h = absurd h
-  span_fault (Store store.Memory) h = tt
-  span_fault (Store store.Device) h = h
   span_fault (Store store.NoPage) h = λ count before honest has. (entry.page, inr (few count before has, refl, inl (refl, h)))
-  span_fault (Store store.BadSize) h = absurd h
+  span_fault fault h = h
 
   -- it isn't read
   pub region_refused : {T : Type 0} (U : Type 0) (r : Result T IndexFault) (e : IndexFault) (new : PagerView) (page : RegionView) → IsErrAnd r (λ x. x ≡ e) → SameTrace old new
@@ -205,11 +201,8 @@ module _ (schema : Schema) (last : ℕ) (entry : Entry) (end : Option Key) (from
 module _ (schema : Schema) (last level : ℕ) (entry : Entry) (end : Option Key) (from : Walk) (old : PagerView) where
   step_fault : (e : IndexFault) → IsStepFault last old.store (suc level) entry end e → IsWalkFault schema last (suc level) entry end old.store from e
   step_fault (Page n fault) h = λ count before honest has. inl (h.0, h.1 honest)
-  step_fault Full h = absurd h
-  step_fault (Store store.Memory) h = tt
-  step_fault (Store store.Device) h = h
-  step_fault (Store store.BadSize) h = absurd h
   step_fault (Store store.NoPage) h = λ count before honest has. (entry.page, inl (refl, h))
+  step_fault fault h = h
 
   -- it is refused
   pub page_stops : {T : Type 0} (U : Type 0) (r : Result T IndexFault) (e : IndexFault) (new : PagerView) → IsErrAnd r (λ x. x ≡ e)
@@ -230,7 +223,7 @@ module _ (schema : Schema) (last level : ℕ) (entry : Entry) (end : Option Key)
         let so_far = h.goes count before (still honest) has in
         let asked = asked_by schema last count from mid.store in
         let all : TakesEach (TakesAll asked level) entries end before so_far.0 =
-        so_far.2 so_far.0 (subst (λ (es : List Entry). TakesEach (TakesAll asked level) es end so_far.0 so_far.0) (sym (drop_end entries i le)) refl) in
+        so_far.2 so_far.0 (subst (λ (es : List Entry). TakesEach (TakesAll asked level) es end so_far.0 so_far.0) (sym (drop_all i entries le)) refl) in
         let here = subst (λ (s : StoreFacts). TakesEach (TakesAll (asked_by schema last count from s) level) entries end before so_far.0) same_store all in (
           so_far.0,
           (named honest, subst (λ (es : List Entry). TakesEach (TakesAll (asked_by schema last count from old.store) level) es end before so_far.0) (entries_are honest) here),
@@ -258,17 +251,15 @@ module _ (schema : Schema) (last level : ℕ) (entry : Entry) (end : Option Key)
           )
 
       below_fault : (f : IndexFault) → IsWalkFault schema last level e next now.store to f → IsWalkFault schema last (suc level) entry end old.store from f
-      below_fault Full k = absurd k
       below_fault (Page n fault) k = λ count before honest has.
           let so_far = h.goes count before (still honest) has in
           stops_in count before honest has n (Some fault) (k count so_far.0 (now_honest honest) so_far.1)
       below_fault (Store store.Device) k = subst (λ (s : StoreFacts). IsTrue s.can_fail) now_store k
-      below_fault (Store store.Memory) k = tt
-      below_fault (Store store.BadSize) k = absurd k
       below_fault (Store store.NoPage) k = λ count before honest has.
           let so_far = h.goes count before (still honest) has in
           let stops = k count so_far.0 (now_honest honest) so_far.1 in
           (stops.0, stops_in count before honest has stops.0 None stops.1)
+      below_fault fault k = k
 
       pub below_stops : {T U : Type 0} (r : Result T IndexFault) (f : IndexFault) (new : PagerView) → IsErrAnd r (λ x. x ≡ f)
           → Walks {A = U} schema last level e next to now new (Err f) → Walks schema last (suc level) entry end from old new r

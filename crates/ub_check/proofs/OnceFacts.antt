@@ -15,6 +15,7 @@ use Rattle.ub_table.specs.declared.fault.PageFault.{PageFault}
 use Rattle.ub_table.specs.declared.fault.PageFault.TheVariants.{BadCount, OutOfRegion}
 use Rattle.ub_table.specs.declared.row.Key.{Key}
 use Rattle.ub_table.specs.declared.schema.Schema.{Schema}
+use Rattle.ub_check.proofs.PlacedFacts.{some_one}
 use Rattle.ub_check.proofs.TakenFacts.{region_good, walk_never, walk_taken}
 use Rattle.ub_check.specs.Checking.{Asked, AreWell, EndsMiscounted, IsFirst, StopsAtRegion, StopsEach, StopsIn, StopsTable, TakesAll, TakesEach}
 use Rattle.ub_check.specs.Placed.{Placed}
@@ -59,9 +60,6 @@ taken_once last small pages level entry end None (Some g) h k = search (rules, m
 taken_once last small pages level entry end (Some f) None h k = search (rules, misfit, misfit_once, slice_get_within)
 taken_once last small pages level entry end (Some f) (Some g) h k = search (rules, misfit, misfit_once, slice_get_within)
 
-same_some : {X : Type 0} (o : Option X) (x y : X) → o ≡ Some x → o ≡ Some y → x ≡ y
-same_some o x y a b = cc
-
 module _ (asked : Asked) where
   at_once : (e : Entry) (end : Option Key) (before : List Placed) (n m : ℕ) (a b : Option PageFault) → StopsAtRegion asked e end before n a → StopsAtRegion asked e end before m b
       → (n ≡ m) × (a ≡ b)
@@ -76,7 +74,7 @@ module _ (asked : Asked) where
   at_once e end before n m a b (inr (less, is, inr (inl (page, at, f, fault, h)))) (inr (lower, also, inl k)) =
       let near = slice_get_within asked.pages e.page page at in let past = k.1 in absurd (omega arith)
   at_once e end before n m a b (inr (less, is, inr (inl (page, at, f, fault, h)))) (inr (lower, also, inr (inl (other, there, g, gault, k)))) =
-      let one = same_some (slice_get asked.pages e.page) page other at there in
+      let one = some_one (slice_get asked.pages e.page) page other at there in
       let same = refused_once asked.schema e.first end other f g (subst (λ (p : List ℕ). IsRegionRefused asked.schema e.first end p f) one h) k in
       (is ∙ sym also, fault ∙ (ap (λ (x : PageFault). Some x) same ∙ sym gault))
   at_once e end before n m a b (inr (less, is, inr (inl (page, at, f, fault, h)))) (inr (lower, also, inr (inr (k, region, stands, old)))) =

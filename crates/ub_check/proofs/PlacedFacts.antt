@@ -15,7 +15,7 @@ placed_at schema pages e = record { page = e.page; region = record { first = e.f
 pub placed_append : (schema : Schema) (pages : List (List ℕ)) (xs ys : List Entry) → placed_of schema pages (xs ++ ys) ≡ placed_of schema pages xs ++ placed_of schema pages ys
 placed_append schema pages xs ys = map-append (placed_at schema pages) xs ys
 
-some_one : {X : Type 0} (o : Option X) (x y : X) → o ≡ Some x → o ≡ Some y → x ≡ y
+pub some_one : {X : Type 0} (o : Option X) (x y : X) → o ≡ Some x → o ≡ Some y → x ≡ y
 some_one o x y a b = cc
 
 module _ (schema : Schema) (pages : List (List ℕ)) where

@@ -44,13 +44,12 @@ module _ (schema : Schema) (span : Region) (old mid : PagerView) (page : RegionV
 
   unread_passing : {U : Type 0} (e : StoreFault) → (IsErrOf {T = U} (Err e) store.NoPage → page_count old.store ≤ span.page) → (¬ (IsErrOf {T = U} (Err e) store.BadSize))
       → (r : RegionRows) → IsHonest old.store → IsTakenIn schema old.store span r → IsPassing (Store e)
-  unread_passing store.Device missing size r honest is = tt
   unread_passing store.NoPage missing size r honest is =
       let past = missing refl in
       let within = slice_get_within old.store.pages span.page (region_page schema r) (is.2 honest) in
       absurd (omega arith)
-  unread_passing store.Memory missing size r honest is = tt
   unread_passing store.BadSize missing size r honest is = absurd (size refl)
+  unread_passing fault missing size r honest is = tt
 
   -- its page isn't read
   pub unread : {T U : Type 0} (r : Result T IndexFault) (e : StoreFault) → IsErrAnd r (λ x. x ≡ Store e) → Reads {A = U} old.store mid.store (Err e)

@@ -24,10 +24,9 @@ module _ {X : Type 0} (P : X → Type 0) where
 pub before_last : (key : Key) (keys : List Key) (i : ℕ) (end : Key) → AreKeysAscending keys → length keys ≡ suc i → slice_get keys i ≡ Some end → IsBefore end key
     → AllByRecursion (λ k. IsBefore k key) keys
 before_last key [] i end up long at before = tt
-before_last key (k ∷ []) zero end up long at before = search (rules, before_trans)
 before_last key (k ∷ []) (suc i) end up long at before = cc
-before_last key (k ∷ j ∷ keys) zero end up long at before = search (rules, before_trans)
 before_last key (k ∷ j ∷ keys) (suc i) end up long at before = search (rules, (before_last key (j ∷ keys) i end up.1 (omega arith) at before), before_trans)
+before_last key keys i end up long at before = search (rules, before_trans)
 
 pub all_before : (key : Key) (keys : List Key) (i : ℕ) (end : Key) → AreKeysAscending keys → length keys ≡ suc i → slice_get keys i ≡ Some end
     → IsBefore end key ↔ AllByRecursion (λ k. IsBefore k key) keys

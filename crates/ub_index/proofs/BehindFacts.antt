@@ -1,5 +1,5 @@
 -- How a search goes down to a leaf, and what it finds there behind a region.
-use Rattle.std.proofs.Common.{◌≡◌, ◌<◌, ◌-◌, ◌↔◌, ◌⊎◌, inl, inr, ℕ, List, [], ◌∷◌, Option, Some, None, IfSome, ◌∙◌, sym, ap, subst, refl, arith}
+use Rattle.std.proofs.Common.{rules, ◌≡◌, ◌<◌, ◌-◌, ◌↔◌, ◌⊎◌, inl, inr, ℕ, List, [], ◌∷◌, Option, Some, None, IfSome, ◌∙◌, sym, ap, subst, refl, arith}
 use Rattle.ub_region.specs.declared.region.Region.{Region}
 use Rattle.ub_page.specs.Index.{node_on}
 use Rattle.ub_region.specs.declared.entry.Entry.{Entry}
@@ -25,22 +25,7 @@ use Rattle.ub_index.proofs.WaysFacts.{never_cross, not_before_from}
 -- to what a key falls, a later one falls too, if it is before the next one
 pub falls_too : (key k : Key) (entries : List Entry) (end next : Option Key) (below : Entry) → ¬ (IsBefore k key) → IfSome next (IsBefore k) → FallsTo key entries end below next
     → FallsTo k entries end below next
-falls_too key k entries end next below later to h = record {
-  before = h.before;
-  after = h.after;
-  parts = h.parts;
-  next_is = h.next_is;
-  from = from_too h.from;
-  to = less h.after (subst (λ (o : Option Key). IfSome o (IsBefore k)) h.next_is to);
-}
-  where
-    from_too : (h.before ≡ []) ⊎ (¬ (IsBefore key below.first)) → (h.before ≡ []) ⊎ (¬ (IsBefore k below.first))
-    from_too (inl none) = inl none
-    from_too (inr not) = inr (le_trans below.first key k not later)
-
-    less : (after : List Entry) → IfSome (first_or after end) (IsBefore k) → IfSome (first_or after None) (IsBefore k)
-    less [] h = tt
-    less (x ∷ xs) h = h
+falls_too key k entries end next below later to h = search (rules, le_trans)
 
 -- an entry to which a key falls on a page that begins not after it holds the key
 pub below_holds : (page : List ℕ) (level : ℕ) (key : Key) (entry : Entry) (end : Option Key) (below : Entry) (next : Option Key) → FitsAtEnds page level entry end
@@ -72,11 +57,7 @@ down_step index store key level leaf place until some parts down step = record {
 -- and so do what holds the key and the end
 pub holds_step : (key : Key) (leaf : Leaf) (place : Place) (until : Option Key) → ((k : Key) → IfSome until (IsBefore k) ↔ (IfSome place.next (IsBefore k) × IfSome leaf.until (IsBefore k)))
     → HoldsLeaf key leaf → HoldsKey key place.entry.first place.next → HoldsLeaf key (record { place = place; until = until })
-holds_step key leaf place until parts holds here = record {
-  place = here;
-  until = (parts key).1 (here.to, holds.until);
-  within = λ k h. ((parts k).0 h).0;
-}
+holds_step key leaf place until parts holds here = search rules
 
 -- a step that is made on the pages of a store that is the same
 pub step_before : (last : ℕ) (old mid : StoreFacts) → mid ≡ old → (key : Key) (level : ℕ) (entry : Entry) (end : Option Key) (below : Entry) (next : Option Key)

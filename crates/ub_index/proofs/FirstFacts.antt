@@ -1,5 +1,5 @@
 -- No way goes over page 0.
-use Rattle.std.proofs.Common.{◌≡◌, ◌≤◌, ◌∙◌, ◌↔◌, inl, inr, ℕ, zero, suc, List, [], ◌∷◌, ◌++◌, Option, Some, None, ap, sym, subst, arith, slice_get}
+use Rattle.std.proofs.Common.{rules, ◌≡◌, ◌≤◌, ◌∙◌, ◌↔◌, inl, inr, ℕ, zero, suc, List, [], ◌∷◌, ◌++◌, Option, Some, None, ap, sym, subst, arith, slice_get}
 use Rattle.std.specs.List.{AllByRecursion}
 use Rattle.std.proofs.lemmas.Option.{slice_get_cases, slice_get_within}
 use Rattle.ub_page.specs.Entries.{IsEntry}
@@ -12,8 +12,8 @@ use Rattle.ub_index.specs.Index.{NamesFitting, entries_of, top}
 use Rattle.ub_index.specs.View.{IndexView, Leads, Stops, entry_at}
 use Rattle.ub_index.specs.Way.{LeadsTo, StopsAt}
 use Rattle.ub_region.specs.declared.region.Region.{Region}
-use Rattle.ub_index.proofs.KeptFacts.{same_page}
-use Rattle.ub_index.proofs.LeadFacts.{kept_fitting, moved}
+use Rattle.ub_index.proofs.KeptFacts.{kept_named, same_page}
+use Rattle.ub_index.proofs.LeadFacts.{moved}
 
 -- an entry of a page that fits doesn't name it
 one_of : (P : Entry → Type 0) (before : List Entry) (x : Entry) (after : List Entry) → AllByRecursion P (before ++ (x ∷ after)) → P x
@@ -43,17 +43,7 @@ stops_some last pages key (suc level) entry end n fault some (inr (named, below,
 -- where a page stays, it is refused as it was
 kept_refused : (last : ℕ) (old new : List (List ℕ)) (level : ℕ) (entry : Entry) (end : Option Key) (fault : Option PageFault)
     → slice_get new entry.page ≡ slice_get old entry.page → IsNotTaken last old level entry end fault → IsNotTaken last new level entry end fault
-kept_refused last old new level entry end None same far = elim (slice_get_cases new entry.page).1 [
-  | inl there ↦
-      let near = slice_get_within old entry.page there.0 (sym same ∙ there.2) in
-      absurd (omega (arith, near, far))
-  | inr none ↦ none.0
-]
-kept_refused last old new level entry end (Some fault) same h =
-    let page = same_page old new entry.page same in (
-      same ∙ (h.0 ∙ ap (λ (p : List ℕ). Some p) (sym page)),
-      subst (λ (p : List ℕ). IsUnfit last p level entry end fault) (sym page) h.1,
-    )
+kept_refused last old new level entry end fault same far = search (rules, slice_get_cases, slice_get_within, same_page)
 
 -- where all pages but it stay, ways lead and stop as they did
 module _ (last : ℕ) (old new : List (List ℕ)) (keeps : (n : ℕ) → 1 ≤ n → slice_get new n ≡ slice_get old n) (key : Key) where
@@ -62,7 +52,7 @@ module _ (last : ℕ) (old new : List (List ℕ)) (keeps : (n : ℕ) → 1 ≤ n
   leads_past zero entry end found next some leads = leads
   leads_past (suc level) entry end found next some (named, below, beyond, falls, leads) =
       let same = keeps entry.page some in
-      (kept_fitting last old new (suc level) entry end same named, below, beyond, moved key old new entry below end beyond same falls, leads_past level below beyond found next (below_some last old key (suc level) entry end below beyond named falls) leads)
+      (kept_named last old new (suc level) entry end same named, below, beyond, moved key old new entry below end beyond same falls, leads_past level below beyond found next (below_some last old key (suc level) entry end below beyond named falls) leads)
 
   stops_past : (level : ℕ) (entry : Entry) (end : Option Key) (n : ℕ) (fault : Option PageFault) → 1 ≤ entry.page → StopsAt last old key level entry end n fault
       → StopsAt last new key level entry end n fault
@@ -70,7 +60,7 @@ module _ (last : ℕ) (old new : List (List ℕ)) (keeps : (n : ℕ) → 1 ≤ n
   stops_past (suc level) entry end n fault some (inl here) = inl (here.0, kept_refused last old new (suc level) entry end fault (keeps entry.page some) here.1)
   stops_past (suc level) entry end n fault some (inr (named, below, beyond, falls, stops)) =
       let same = keeps entry.page some in
-      inr (kept_fitting last old new (suc level) entry end same named, below, beyond, moved key old new entry below end beyond same falls, stops_past level below beyond n fault (below_some last old key (suc level) entry end below beyond named falls) stops)
+      inr (kept_named last old new (suc level) entry end same named, below, beyond, moved key old new entry below end beyond same falls, stops_past level below beyond n fault (below_some last old key (suc level) entry end below beyond named falls) stops)
 
 pub ways_miss : (index : IndexView) (old new : StoreFacts) (key : Key) → 1 ≤ index.root
     → ((region : Region) → Leads index old key region → 1 ≤ region.page)
@@ -78,17 +68,4 @@ pub ways_miss : (index : IndexView) (old new : StoreFacts) (key : Key) → 1 ≤
     × (((n : ℕ) → 1 ≤ n → slice_get new.pages n ≡ slice_get old.pages n)
     → ((region : Region) → Leads index old key region ↔ Leads index new key region)
     × ((n : ℕ) (fault : Option PageFault) → Stops index old key n fault ↔ Stops index new key n fault))
-ways_miss index old new key some = (
-  λ region leads. found_some index.last old.pages key index.levels (top index.root) None (entry_at region) region.next some leads,
-  λ n fault stops. stops_some index.last old.pages key index.levels (top index.root) None n fault some stops,
-  λ keeps. (
-    λ region. (
-      λ leads. leads_past index.last old.pages new.pages keeps key index.levels (top index.root) None (entry_at region) region.next some leads,
-      λ leads. leads_past index.last new.pages old.pages (λ n h. sym (keeps n h)) key index.levels (top index.root) None (entry_at region) region.next some leads,
-    ),
-    λ n fault. (
-      λ stops. stops_past index.last old.pages new.pages keeps key index.levels (top index.root) None n fault some stops,
-      λ stops. stops_past index.last new.pages old.pages (λ m h. sym (keeps m h)) key index.levels (top index.root) None n fault some stops,
-    ),
-  ),
-)
+ways_miss index old new key some = search (rules, found_some, stops_some, leads_past, stops_past)

@@ -1,6 +1,7 @@
 -- What the bytes of a page tell of its entries: which of them a key falls to, and whether the page fits.
-use Rattle.std.proofs.Common.{◌≡◌, ◌≤◌, ◌<◌, ◌+◌, ◌-◌, ◌++◌, ◌⊎◌, inl, inr, ℕ, zero, suc, List, [], ◌∷◌, Option, Some, None, IfSome, length, take, drop, slice_get, ◌∙◌, sym, ap, subst, refl, arith}
+use Rattle.std.proofs.Common.{rules, ◌≡◌, ◌≤◌, ◌<◌, ◌+◌, ◌-◌, ◌++◌, ◌⊎◌, inl, inr, ℕ, zero, suc, List, [], ◌∷◌, Option, Some, None, IfSome, length, take, drop, slice_get, ◌∙◌, sym, ap, subst, refl, arith}
 use Rattle.std.proofs.lemmas.Bool.{cases_lt}
+use Rattle.std.proofs.lemmas.List.{drop_all}
 use Rattle.ub_page.proofs.IndexLaws.{length-node_on, node_get}
 use Rattle.ub_page.specs.Index.{IsNode, index_page, node_on}
 use Rattle.ub_page.specs.Slots.{IsSlot, entry_in, first_in}
@@ -25,10 +26,7 @@ rest_first (x ∷ xs) zero e end at = let same : x ≡ e = cc in ap (λ (y : Ent
 rest_first (x ∷ xs) (suc i) e end at = rest_first xs i e end at
 
 rest_none : (xs : List Entry) (i : ℕ) (end : Option Key) → length xs ≤ i → first_or (drop i xs) end ≡ end
-rest_none [] zero end h = refl
-rest_none [] (suc i) end h = refl
-rest_none (x ∷ xs) zero end h = absurd (omega arith)
-rest_none (x ∷ xs) (suc i) end h = rest_none xs i end (omega arith)
+rest_none xs i end h = ap (λ (ys : List Entry). first_or ys end) (drop_all i xs h)
 
 pub after_first : (page : List ℕ) (slot : ℕ) (end : Option Key) → slot < number_at 2 2 page → Some (first_in slot page) ≡ first_or (drop slot (node_on page).entries) end
 after_first page slot end h = sym (rest_first (node_on page).entries slot (entry_in slot page) end (node_get page slot h))
@@ -77,11 +75,10 @@ falls_around page key end next count slot below before after entry same h is lef
 
 -- the last of entries in order is before the end; and entries of which it is so are in order up to the end
 last_before : (xs : List Entry) (i : ℕ) (e : Entry) (end : Option Key) → length xs ≡ suc i → slice_get xs i ≡ Some e → AscendTo xs end → IfSome end (IsBefore e.first)
-last_before [] i e end long at up = cc
 last_before (x ∷ []) zero e end long at up = let same : x ≡ e = cc in subst (λ (y : Entry). IfSome end (IsBefore y.first)) same up.0
-last_before (x ∷ []) (suc i) e end long at up = cc
 last_before (x ∷ y ∷ xs) zero e end long at up = absurd (omega arith)
 last_before (x ∷ y ∷ xs) (suc i) e end long at up = last_before (y ∷ xs) i e end (omega arith) at up.1
+last_before xs i e end long at up = cc
 
 ascend_up_to : (xs : List Entry) (i : ℕ) (e : Entry) (end : Option Key) → length xs ≡ suc i → slice_get xs i ≡ Some e → AreAscending xs → IfSome end (IsBefore e.first) → AscendTo xs end
 ascend_up_to [] i e end long at up to = tt
@@ -108,21 +105,15 @@ module _ (page : List ℕ) (last level count : ℕ) (entry : Entry) (end : Optio
 
   pub fits_so : page ≡ index_page (node_on page) → (node_on page).level ≡ level → first_in 0 page ≡ entry.first → IfSome end (IsBefore (first_in (count - 1) page))
       → Fits last page level entry end
-  fits_so spelled level_is begins to = record {
-    is = record { spelled = spelled; is = is };
-    level_is = level_is;
-    begins = first_here ∙ ap (λ (k : Key). Some k) begins;
-    ascends = ascend_up_to (node_on page).entries (count - 1) (entry_in (count - 1) page) end long last_here is.ascending to;
-  }
+  fits_so spelled level_is begins to = search (rules, first_here, ascend_up_to, long, last_here)
 
   pub last_ends : AscendTo (node_on page).entries end → IfSome end (IsBefore (first_in (count - 1) page))
   last_ends up = last_before (node_on page).entries (count - 1) (entry_in (count - 1) page) end long last_here up
 
 -- the page that stands under a number is the page of that number
 pub page_is : (pages : List (List ℕ)) (n : ℕ) (page : List ℕ) → slice_get pages n ≡ Some page → page_in pages n ≡ page
-page_is [] n page at = cc
-page_is (p ∷ pages) zero page at = cc
 page_is (p ∷ pages) (suc n) page at = page_is pages n page at
+page_is pages n page at = cc
 
 pub is_refused : (pages : List (List ℕ)) (last level : ℕ) (entry : Entry) (end : Option Key) (page : List ℕ) (fault : PageFault)
     → slice_get pages entry.page ≡ Some page → IsUnfit last page level entry end fault → IsNotTaken last pages level entry end (Some fault)

@@ -1,5 +1,5 @@
 -- What a search after a region finds on an index: the first of its regions that has a property.
-use Rattle.std.proofs.Common.{◌≡◌, ◌≤◌, ◌<◌, ◌↔◌, Bor, inl, inr, ℕ, zero, suc, max, true, List, [], ◌∷◌, Option, Some, None, IfOk, Result, Ok, Err, slice_get, drop, ◌∙◌, sym, ap, subst, refl, arith, nat_le, if◌then◌else◌}
+use Rattle.std.proofs.Common.{rules, ◌≡◌, ◌≤◌, ◌<◌, ◌↔◌, Bor, inl, inr, ℕ, zero, suc, max, true, List, [], ◌∷◌, Option, Some, None, IfOk, Result, Ok, Err, slice_get, drop, ◌∙◌, sym, ap, subst, refl, arith, nat_le, if◌then◌else◌}
 use Rattle.std.proofs.lemmas.Bool.{cases_Bool, le-leb, lt-leb}
 use Rattle.std.proofs.lemmas.Option.{slice_get_within, slice_get_cases}
 use Rattle.ub_bigmin.specs.Box.{Corners, HoldsAny}
@@ -88,30 +88,13 @@ Reaches index store z from (Some region) =
 
 module _ (index : IndexView) (store : StoreFacts) (is : IsIndexOn index store) (after : Option Region) where
   starts : (from : Option Key) → IsFrom index store after from → IsStarted index.last (entries_in index store) after from
-  starts from h = by_after after h
-    where
-      by_after : (o : Option Region) → IsFrom index store o from → IsStarted index.last (entries_in index store) o from
-      by_after None here = record { start = 0; at = here ∙ sym (begins index store is); later = λ i r there. (λ x. omega arith, λ x. tt) }
-      by_after (Some region) (found, given, next) =
-          let there = way_ends_at index store region.first found is (given.way is.honest) in
-          record {
-            start = suc (index_holding region.first (first_keys (entries_in index store)));
-            at = next ∙ there.next;
-            later = λ i r here.
-                later_than region.first (first_keys (entries_in index store)) i r.first (up index store is) (begins index store is) (region_first index.last (entries_in index store) i r here);
-          }
+  starts from h = search (rules, begins, way_ends_at, later_than, up, region_first)
 
   -- the region that is reached, as one of the list
   reached : (z start : ℕ) (from : Key) (found : Option Region) → slice_get (first_keys (entries_in index store)) start ≡ Some from → Reaches index store z from found
       → found ≡ (if nat_le z index.last then slice_get (regions_of index.last (entries_in index store))
       (max start (index_holding (record { z = z; number = 0 }) (first_keys (entries_in index store)))) else None)
-  reached z start from None at past = rw (lt-leb z index.last past) refl
-  reached z start from (Some region) at (le, given) =
-      let there = way_ends_at index store (at_least from z) region is (given.way is.honest) in
-      let place = holding_max (first_keys (entries_in index store)) start from z (up index store is) at in
-      rw (le-leb z index.last le)
-      (sym (region_there index.last (entries_in index store) (index_holding (at_least from z) (first_keys (entries_in index store))) region there given.from given.to)
-      ∙ ap (λ (n : ℕ). slice_get (regions_of index.last (entries_in index store)) n) place)
+  reached z start from found at past = search (rules, lt-leb, way_ends_at, holding_max, up, le-leb, region_there, slice_get)
 
   none_found : (P : Region → Type 0) → IsFrom index store after None → First (λ r. IsLater after r × P r) (regions_of index.last (entries_in index store)) None
   none_found P from =

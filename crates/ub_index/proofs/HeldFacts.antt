@@ -1,5 +1,5 @@
 -- What the ends of a page tell of it, and which pages are held that were checked.
-use Rattle.std.proofs.Common.{◌≡◌, ◌<◌, ◌^◌, ◌⊎◌, inl, inr, ℕ, List, Option, Some, None, Result, Ok, Err, IfOk, IfErr, sym, subst, refl, arith}
+use Rattle.std.proofs.Common.{rules, ◌≡◌, ◌<◌, ◌^◌, ◌⊎◌, inl, inr, ℕ, List, Option, Some, None, Result, Ok, Err, IfOk, IfErr, sym, subst, refl, arith}
 use Rattle.std.proofs.lemmas.Bool.{cases_eq}
 use Rattle.ub_page.proofs.IndexLaws.{length-node_on, node_parts}
 use Rattle.ub_page.specs.Index.{node_on, HasHead, IsIndexKind}
@@ -9,7 +9,7 @@ use Rattle.ub_store.specs.Cache.{NoneMore, NoneMoreBut, page_at}
 use Rattle.ub_store.specs.Facts.{IsHonest}
 use Rattle.ub_store.specs.View.{PagerView}
 use Rattle.ub_table.specs.declared.fault.PageFault.{PageFault}
-use Rattle.ub_table.specs.declared.fault.PageFault.TheVariants.{WrongKind, OldFormat, Unclean, BadCount, BadName, BadRow, BadOrder, OutOfRegion, BadPadding}
+use Rattle.ub_table.specs.declared.fault.PageFault.TheVariants.{WrongKind, BadCount, OutOfRegion}
 use Rattle.ub_table.specs.declared.row.Key.{Key}
 use Rattle.ub_index.specs.Fitting.{FitsAtEnds, IsUnfit, IsUnfitAtEnds}
 use Rattle.ub_index.specs.Held.{KeepsChecked, NoneMoreButIndex}
@@ -44,12 +44,7 @@ unfit_of last page level entry end WrongKind is h = h
 unfit_of last page level entry end BadCount is (inl h) = inl h
 unfit_of last page level entry end BadCount is (inr h) = inr (is, h.2)
 unfit_of last page level entry end OutOfRegion is h = (is, h.2, λ fits. h.3 (ends_with last page level entry end h.0 h.1 fits))
-unfit_of last page level entry end BadRow is h = absurd h
-unfit_of last page level entry end BadOrder is h = absurd h
-unfit_of last page level entry end BadPadding is h = absurd h
-unfit_of last page level entry end OldFormat is h = absurd h
-unfit_of last page level entry end Unclean is h = absurd h
-unfit_of last page level entry end BadName is h = absurd h
+unfit_of last page level entry end fault is h = absurd h
 
 pub ok_so : {T : Type 0} (r : Result T PageFault) (P Q : Type 0) → (P → Q) → IfOk r (λ x. P) → IfOk r (λ x. Q)
 ok_so (Ok x) P Q f h = f h
@@ -62,16 +57,7 @@ err_so (Err e) P Q f h = f e h
 -- what begins otherwise is refused for that
 unfit_other : (last : ℕ) (page : List ℕ) (level : ℕ) (entry : Entry) (end : Option Key) (fault : PageFault) → ¬ (IsIndexKind page) → IsUnfitAtEnds page level entry end fault
     → IsUnfit last page level entry end fault
-unfit_other last page level entry end WrongKind other h = h
-unfit_other last page level entry end BadCount other (inl h) = absurd (other h.0)
-unfit_other last page level entry end BadCount other (inr h) = absurd (other h.0)
-unfit_other last page level entry end OutOfRegion other h = absurd (other h.0)
-unfit_other last page level entry end BadRow other h = absurd h
-unfit_other last page level entry end BadOrder other h = absurd h
-unfit_other last page level entry end BadPadding other h = absurd h
-unfit_other last page level entry end OldFormat other h = absurd h
-unfit_other last page level entry end Unclean other h = absurd h
-unfit_other last page level entry end BadName other h = absurd h
+unfit_other last page level entry end fault other h = search rules
 
 -- of a page that was checked the ends tell whether it fits, and why it is refused
 module _ (last : ℕ) (page : List ℕ) (level : ℕ) (entry : Entry) (end : Option Key) (was : IsIndexPage last page ⊎ (¬ (IsIndexKind page))) where
@@ -106,12 +92,7 @@ keeps_on last old mid new before after was = after (before was)
 
 pub more_but : (last : ℕ) (old new : List (ℕ × List ℕ)) (n : ℕ) → NoneMoreBut n old new
     → ((page : List ℕ) → page_at new n ≡ Some page → (page_at old n ≡ Some page) ⊎ IsIndexPage last page) → NoneMoreButIndex last old new
-more_but last old new n others here m page at = elim (cases_eq m n) [
-  | inl same ↦
-      let now = here page (subst (λ (k : ℕ). page_at new k ≡ Some page) same at) in
-      subst (λ (k : ℕ). (page_at old k ≡ Some page) ⊎ IsIndexPage last page) (sym same) now
-  | inr other ↦ inl (others m page other at)
-]
+more_but last old new n others here m page at = search rules
 
 pub more_gone : (last : ℕ) (old new : List (ℕ × List ℕ)) (n : ℕ) → NoneMoreBut n old new → page_at new n ≡ None → NoneMoreButIndex last old new
 more_gone last old new n others gone = more_but last old new n others (λ page at. cc)
@@ -121,10 +102,4 @@ abbrev pub Keeps : ℕ → PagerView → PagerView → Type 0
 Keeps last old new = KeepsChecked last old new × NoneMoreButIndex last old.cached new.cached
 
 pub both_on : (last : ℕ) (old mid new : PagerView) → Keeps last old mid → Keeps last mid new → Keeps last old new
-both_on last old mid new before after = (
-  keeps_on last old mid new before.0 after.0,
-  λ n page at. elim (after.1 n page at) [
-    | inl was ↦ before.1 n page was
-    | inr is ↦ inr is
-  ],
-)
+both_on last old mid new before after = search (rules, keeps_on)

@@ -1,5 +1,5 @@
 -- What becomes of an index where its pages stay, and what stands on pages that tell given entries.
-use Rattle.std.proofs.Common.{◌≡◌, ℕ, zero, suc, List, [], ◌∷◌, Option, Some, None, slice_get, ◌∙◌, sym, ap, subst, refl}
+use Rattle.std.proofs.Common.{rules, ◌≡◌, ℕ, zero, suc, List, [], ◌∷◌, Option, Some, None, slice_get, ◌∙◌, sym, ap, subst, refl}
 use Rattle.std.specs.List.{flat_map}
 use Rattle.ub_region.specs.declared.entry.Entry.{Entry}
 use Rattle.ub_table.specs.declared.row.Key.{Key}
@@ -10,22 +10,10 @@ use Rattle.ub_index.proofs.Lists.{IsNotBefore, ascend_later, each_later, each_sa
 -- a page that is as it was is the one that it was
 pub same_page : (old new : List (List ℕ)) (n : ℕ) → slice_get new n ≡ slice_get old n → page_in new n ≡ page_in old n
 same_page [] [] n h = refl
-same_page [] (q ∷ new) zero h = cc
-same_page [] (q ∷ new) (suc n) h = no_page new n h
-  where
-    no_page : (pages : List (List ℕ)) (n : ℕ) → slice_get pages n ≡ None → page_in pages n ≡ []
-    no_page [] n h = refl
-    no_page (q ∷ pages) zero h = cc
-    no_page (q ∷ pages) (suc n) h = no_page pages n h
-same_page (p ∷ old) [] zero h = cc
-same_page (p ∷ old) [] (suc n) h = no_page old n (sym h)
-  where
-    no_page : (pages : List (List ℕ)) (n : ℕ) → slice_get pages n ≡ None → [] ≡ page_in pages n
-    no_page [] n h = refl
-    no_page (q ∷ pages) zero h = cc
-    no_page (q ∷ pages) (suc n) h = no_page pages n h
-same_page (p ∷ old) (q ∷ new) zero h = cc
+same_page [] (q ∷ new) (suc n) h = same_page [] new n h
+same_page (p ∷ old) [] (suc n) h = same_page old [] n h
 same_page (p ∷ old) (q ∷ new) (suc n) h = same_page old new n h
+same_page old new n h = cc
 
 pub same_entries : (old new : List (List ℕ)) (n : ℕ) → slice_get new n ≡ slice_get old n → entries_of new n ≡ entries_of old n
 same_entries old new n h = ap (λ (page : List ℕ). entries_of (page ∷ []) 0) (same_page old new n h)
@@ -43,12 +31,7 @@ kept_list old new level entries h =
 
 pub kept_named : (last : ℕ) (old new : List (List ℕ)) (level : ℕ) (entry : Entry) (end : Option Key) → slice_get new entry.page ≡ slice_get old entry.page
     → NamesFitting last old level entry end → NamesFitting last new level entry end
-kept_named last old new level entry end same h =
-    let page = same_page old new entry.page same in
-    record {
-      there = same ∙ (h.there ∙ ap (λ (p : List ℕ). Some p) (sym page));
-      fits = subst (λ (p : List ℕ). Fits last p level entry end) (sym page) h.fits;
-    }
+kept_named last old new level entry end same h = search (rules, same_page)
 
 pub kept_index : (last : ℕ) (old new : List (List ℕ)) (level : ℕ) (entry : Entry) (end : Option Key) → PagesStay old new (pages_under old level entry) → IsUnder last old level entry end
     → IsUnder last new level entry end
@@ -79,15 +62,7 @@ under_later last pages (suc level) entry end later h k = (
 -- a page that tells these entries fits the entry that names it
 told_named : (last : ℕ) (pages : List (List ℕ)) (level : ℕ) (entries : List Entry) (entry : Entry) (end : Option Key) → IsTold last pages level entries entry → AscendTo entries end
     → NamesFitting last pages level entry end
-told_named last pages level entries entry end h up = record {
-  there = h.there;
-  fits = record {
-    is = h.is;
-    level_is = h.level_is;
-    begins = ap (λ (xs : List Entry). first_or xs None) h.entries_are ∙ h.begins;
-    ascends = subst (λ (xs : List Entry). AscendTo xs end) (sym h.entries_are) up;
-  };
-}
+told_named last pages level entries entry end h up = search rules
 
 pub told_index : (last : ℕ) (pages : List (List ℕ)) (level : ℕ) (entries : List Entry) (entry : Entry) (end : Option Key) → IsTold last pages (suc level) entries entry → AscendTo entries end
     → EachTo (IsUnder last pages level) entries end → IsUnder last pages (suc level) entry end

@@ -1,12 +1,10 @@
 -- Which keys a region holds to which a way leads, and what becomes of ways where a store grows.
-use Rattle.std.proofs.Common.{◌≡◌, ◌≤◌, ◌∙◌, ◌⊎◌, ◌↔◌, inl, inr, ℕ, zero, suc, List, [], ◌∷◌, ◌++◌, Option, Some, None, IfSome, length, ap, sym, subst, refl, arith, slice_get}
+use Rattle.std.proofs.Common.{rules, ◌≡◌, ◌≤◌, ◌∙◌, ◌⊎◌, ◌↔◌, inl, inr, ℕ, zero, suc, List, [], ◌∷◌, ◌++◌, Option, Some, None, IfSome, length, ap, sym, subst, refl, arith, slice_get}
 use Rattle.std.proofs.lemmas.Bool.{cases_Bool, cases_lt}
 use Rattle.std.proofs.lemmas.List.{length-append}
 use Rattle.std.proofs.lemmas.Option.{slice_get_within}
 use Rattle.ub_index.specs.Spans.{first_keys, region_of}
 use Rattle.ub_bytes.specs.Bytes.{number_at}
-use Rattle.std.specs.List.{AllByRecursion}
-use Rattle.ub_page.specs.Entries.{IsEntry}
 use Rattle.ub_region.specs.declared.entry.Entry.{Entry}
 use Rattle.ub_region.specs.Regions.{index_holding}
 use Rattle.ub_store.specs.Facts.{StoreFacts, IsHonest, zero_page}
@@ -14,19 +12,18 @@ use Rattle.ub_table.proofs.Laws.{before_of, not_before_origin, not_before_self, 
 use Rattle.ub_table.specs.Keys.{IsBefore, precedes}
 use Rattle.ub_table.specs.declared.row.Key.{Key}
 use Rattle.ub_index.specs.Fitting.{FallsTo}
-use Rattle.ub_index.specs.Index.{AscendTo, EachTo, Fits, IsIndexPage, IsUnder, NamesFitting, entries_of, first_or, page_in, top}
+use Rattle.ub_index.specs.Index.{AscendTo, IsIndexPage, IsUnder, NamesFitting, entries_of, first_or, page_in, top}
 use Rattle.ub_index.specs.Searching.{Gives}
 use Rattle.ub_index.specs.Standing.{AddsNoIndexPage, OldStayOutside}
 use Rattle.ub_index.specs.View.{IndexView, IsIndexOn, IsRegionAt, Leads, Stops, entries_in, entry_at}
 use Rattle.ub_index.specs.Way.{HoldsKey, LeadsTo, StopsAt}
 use Rattle.ub_region.specs.declared.region.Region.{Region}
-use Rattle.ub_index.proofs.KeptFacts.{same_entries, same_page}
+use Rattle.ub_index.proofs.KeptFacts.{kept_named, same_entries}
 use Rattle.ub_index.proofs.KeyFacts.{before_le, le_trans}
-use Rattle.ub_index.proofs.Lists.{ascend_right, each_right}
 use Rattle.ub_index.proofs.PlaceFacts.{region_found}
 use Rattle.ub_index.proofs.SpanFacts.{with_span}
-use Rattle.ub_index.proofs.WayFacts.{falls_from, holds_below, way_ends_at}
-use Rattle.ub_index.proofs.WaysFacts.{compare, ends_from, ends_to, first_up_to}
+use Rattle.ub_index.proofs.WayFacts.{falls_from, holds_below, under_below, way_ends_at}
+use Rattle.ub_index.proofs.WaysFacts.{compare, ends_from, ends_to, first_up_to, up_below}
 
 some_first : (after : List Entry) (end : Option Key) (limit : Key) → end ≡ Some limit → (first : Key) × (first_or after end ≡ Some first)
 some_first [] end limit e = (limit, e)
@@ -65,8 +62,7 @@ module _ (last : ℕ) (pages : List (List ℕ)) where
   before_next key zero entry end found next h leads =
       subst (λ (o : Option Key). IfSome o (IsBefore found.first)) (sym leads.1) (subst (λ (e : Entry). IfSome end (IsBefore e.first)) (sym leads.0) h)
   before_next key (suc level) entry end found next h (named, below, beyond, falls, leads) =
-      let up : AscendTo (below ∷ falls.after) end =
-      ascend_right falls.before (below ∷ falls.after) end (subst (λ (xs : List Entry). AscendTo xs end) falls.parts named.fits.ascends) in
+      let up = up_below last pages key (suc level) entry end below beyond named falls in
       before_next key level below beyond found next (subst (λ (o : Option Key). IfSome o (IsBefore below.first)) (sym falls.next_is) up.0) leads
 
   -- something follows it, where something follows what the way begins with
@@ -124,7 +120,7 @@ module _ (last : ℕ) (pages : List (List ℕ)) where
       apart : NamesFitting last pages (suc level) entry end → (a : Entry) (o : Option Key) (falls : FallsTo key (entries_of pages entry.page) end a o)
           → (b : Entry) (p : Option Key) (other : FallsTo key (entries_of pages entry.page) end b p) → (m : List Entry) → falls.after ≡ m ++ (b ∷ other.after) → ⊥
       apart named a o falls b p other m behind =
-          let up : AscendTo (a ∷ falls.after) end = ascend_right falls.before (a ∷ falls.after) end (subst (λ (xs : List Entry). AscendTo xs end) falls.parts named.fits.ascends) in
+          let up = up_below last pages key (suc level) entry end a o named falls in
           let sooner : IsBefore key b.first =
           later_than key m b other.after end (subst (λ (xs : List Entry). AscendTo xs end) behind up.1) (subst (λ (xs : List Entry). IfSome (first_or xs None) (IsBefore key)) behind falls.to) in
           elim other.from [
@@ -134,18 +130,27 @@ module _ (last : ℕ) (pages : List (List ℕ)) where
             | inr later ↦ later sooner
           ]
 
--- a key that isn't before the first of entries falls to one of them that doesn't begin after it
-falls_in : (last : ℕ) (key : Key) (x : Entry) (xs : List Entry) (end : Option Key) → AllByRecursion (IsEntry last) (x ∷ xs) → ¬ (IsBefore key x.first)
-    → (below : Entry) × (next : Option Key) × FallsTo key (x ∷ xs) end below next × (¬ (IsBefore key below.first))
-falls_in last key x [] end all from = (x, end, record { before = []; after = []; parts = refl; next_is = refl; from = inr from; to = tt }, from)
-falls_in last key x (y ∷ ys) end all from = elim (cases_Bool (precedes key y.first)) [
-  | inl t ↦ (x, Some y.first, record { before = []; after = y ∷ ys; parts = refl; next_is = refl; from = inr from; to = before_of key y.first t }, from)
+-- a key that isn't before the first of entries falls to one of them
+falls_in : (key : Key) (xs : List Entry) (first : Key) (end : Option Key) → first_or xs None ≡ Some first → ¬ (IsBefore key first)
+    → (below : Entry) × (next : Option Key) × FallsTo key xs end below next
+falls_in key [] first end begins from = cc
+falls_in key (x ∷ []) first end begins from = (x, end, record { before = []; after = []; parts = refl; next_is = refl; from = inl refl; to = tt })
+falls_in key (x ∷ y ∷ ys) first end begins from = elim (cases_Bool (precedes key y.first)) [
+  | inl t ↦ (x, Some y.first, record { before = []; after = y ∷ ys; parts = refl; next_is = refl; from = inl refl; to = before_of key y.first t })
   | inr f ↦
-      let r = falls_in last key y ys end all.1 (λ yes. let t = precedes_of key y.first yes in cc) in (
+      let later : ¬ (IsBefore key y.first) = λ yes. let t = precedes_of key y.first yes in cc in
+      let r = falls_in key (y ∷ ys) y.first end refl later in
+      let is = r.2 in (
         r.0,
         r.1,
-        record { before = x ∷ r.2.before; after = r.2.after; parts = ap (λ (zs : List Entry). x ∷ zs) r.2.parts; next_is = r.2.next_is; from = inr r.3; to = r.2.to },
-        r.3,
+        record {
+          before = x ∷ is.before;
+          after = is.after;
+          parts = ap (λ (zs : List Entry). x ∷ zs) is.parts;
+          next_is = is.next_is;
+          from = inr (falls_from key (y ∷ ys) y.first end r.1 r.0 refl later is);
+          to = is.to;
+        },
       )
 ]
 
@@ -154,21 +159,11 @@ module _ (last : ℕ) (pages : List (List ℕ)) (key : Key) where
   way_there : (level : ℕ) (entry : Entry) (end : Option Key) → IsUnder last pages level entry end → ¬ (IsBefore key entry.first)
       → (found : Entry) × (next : Option Key) × LeadsTo last pages key level entry end found next
   way_there zero entry end is from = (entry, end, (refl, refl))
-  way_there (suc level) entry end is from = by_entries (way_there level) (entries_of pages entry.page) refl
-    where
-      by_entries : ((below : Entry) (beyond : Option Key) → IsUnder last pages level below beyond → ¬ (IsBefore key below.first)
-          → (found : Entry) × (next : Option Key) × LeadsTo last pages key level below beyond found next)
-          → (xs : List Entry) → entries_of pages entry.page ≡ xs → (found : Entry) × (next : Option Key) × LeadsTo last pages key (suc level) entry end found next
-      by_entries go [] e = let no : None ≡ Some entry.first = ap (λ (zs : List Entry). first_or zs None) (sym e) ∙ is.0.fits.begins in cc
-      by_entries go (x ∷ xs) e =
-          let begins : Some x.first ≡ Some entry.first = ap (λ (zs : List Entry). first_or zs None) (sym e) ∙ is.0.fits.begins in
-          let first : entry.first ≡ x.first = cc in
-          let r = falls_in last key x xs end (subst (λ (zs : List Entry). AllByRecursion (IsEntry last) zs) e is.0.fits.is.is.entries) (subst (λ (k : Key). ¬ (IsBefore key k)) first from) in
-          let falls : FallsTo key (entries_of pages entry.page) end r.0 r.1 = subst (λ (zs : List Entry). FallsTo key zs end r.0 r.1) (sym e) r.2 in
-          let each : EachTo (IsUnder last pages level) (r.0 ∷ falls.after) end =
-          each_right (IsUnder last pages level) falls.before (r.0 ∷ falls.after) end (subst (λ (zs : List Entry). EachTo (IsUnder last pages level) zs end) falls.parts is.1) in
-          let below = go r.0 r.1 (subst (λ (o : Option Key). IsUnder last pages level r.0 o) (sym falls.next_is) each.0) r.3 in
-          (below.0, below.1, (is.0, r.0, r.1, falls, below.2))
+  way_there (suc level) entry end is from =
+      let (below, beyond, falls) = falls_in key (entries_of pages entry.page) entry.first end is.0.fits.begins from in
+      let later = falls_from key (entries_of pages entry.page) entry.first end beyond below is.0.fits.begins from falls in
+      let way = way_there level below beyond (under_below last pages key level entry end below beyond is falls) later in
+      (way.0, way.1, (is.0, below, beyond, falls, way.2))
 
 -- and so each region is led to
 pub led_to : (index : IndexView) (store : StoreFacts) (i : ℕ) (region : Region) → IsIndexOn index store → IsRegionAt (entries_in index store) i region
@@ -184,85 +179,58 @@ pub regions_led_to : (index : IndexView) (store : StoreFacts) → IsIndexOn inde
     × ((i : ℕ) (region : Region) → IsRegionAt (entries_in index store) i region → Leads index store region.first region)
 regions_led_to index store is = (λ key region leads. way_ends_at index store key region is leads, λ i region at. led_to index store i region is at)
 
--- a page that fits does, where it stays
-pub kept_fitting : (last : ℕ) (old new : List (List ℕ)) (level : ℕ) (entry : Entry) (end : Option Key) → slice_get new entry.page ≡ slice_get old entry.page
-    → NamesFitting last old level entry end → NamesFitting last new level entry end
-kept_fitting last old new level entry end same h =
-    let page = same_page old new entry.page same in
-    record {
-      there = same ∙ (h.there ∙ ap (λ (p : List ℕ). Some p) (sym page));
-      fits = subst (λ (p : List ℕ). Fits last p level entry end) (sym page) h.fits;
-    }
-
 -- where a page stays, a key falls to the entry to which it fell
 pub moved : (key : Key) (a b : List (List ℕ)) (entry below : Entry) (end beyond : Option Key) → slice_get b entry.page ≡ slice_get a entry.page → FallsTo key (entries_of a entry.page) end below beyond
     → FallsTo key (entries_of b entry.page) end below beyond
 moved key a b entry below end beyond same falls = subst (λ (xs : List Entry). FallsTo key xs end below beyond) (sym (same_entries a b entry.page same)) falls
 
+abbrev IsIndexAt : ℕ → List (List ℕ) → ℕ → Type 0
+IsIndexAt last pages n = (slice_get pages n ≡ Some (page_in pages n)) × IsIndexPage last (page_in pages n)
+
 -- what becomes of ways where the pages that there were stay, and others may stand after them
 module _ (last : ℕ) (old new : List (List ℕ)) (keeps : OldStayOutside [] old new) (key : Key) where
   -- one that led to an entry leads there still
-  pub still_leads : (level : ℕ) (entry : Entry) (end : Option Key) (found : Entry) (next : Option Key) → LeadsTo last old key level entry end found next
+  still_leads : (level : ℕ) (entry : Entry) (end : Option Key) (found : Entry) (next : Option Key) → LeadsTo last old key level entry end found next
       → LeadsTo last new key level entry end found next
   still_leads zero entry end found next leads = leads
   still_leads (suc level) entry end found next (named, below, beyond, falls, leads) =
       let same = keeps entry.page (slice_get_within old entry.page (page_in old entry.page) named.there) tt in
-      (kept_fitting last old new (suc level) entry end same named, below, beyond, moved key old new entry below end beyond same falls, still_leads level below beyond found next leads)
+      (kept_named last old new (suc level) entry end same named, below, beyond, moved key old new entry below end beyond same falls, still_leads level below beyond found next leads)
 
-  -- one that leads to an entry led there, or stopped where no page was
-  pub led_or_stopped : (level : ℕ) (entry : Entry) (end : Option Key) (found : Entry) (next : Option Key) → LeadsTo last new key level entry end found next
-      → LeadsTo last old key level entry end found next ⊎ ((n : ℕ) × StopsAt last old key level entry end n None)
+  -- one that leads to an entry led there, or stopped where no page was and one of an index came
+  led_or_stopped : (level : ℕ) (entry : Entry) (end : Option Key) (found : Entry) (next : Option Key) → LeadsTo last new key level entry end found next
+      → LeadsTo last old key level entry end found next ⊎ ((n : ℕ) × StopsAt last old key level entry end n None × (length old ≤ n) × IsIndexAt last new n)
   led_or_stopped zero entry end found next leads = inl leads
   led_or_stopped (suc level) entry end found next (named, below, beyond, falls, leads) = elim (cases_lt entry.page (length old)) [
     | inl near ↦
         let same = sym (keeps entry.page near tt) in
-        let was = kept_fitting last new old (suc level) entry end same named in
+        let was = kept_named last new old (suc level) entry end same named in
         let fell = moved key new old entry below end beyond same falls in
         elim (led_or_stopped level below beyond found next leads) [
           | inl led ↦ inl (was, below, beyond, fell, led)
-          | inr stopped ↦ inr (stopped.0, inr (was, below, beyond, fell, stopped.1))
+          | inr stopped ↦ inr (stopped.0, inr (was, below, beyond, fell, stopped.1), stopped.2, stopped.3)
         ]
-    | inr far ↦ inr (entry.page, inl (refl, far))
+    | inr far ↦ inr (entry.page, inl (refl, far), far, (named.there, named.fits.is))
   ]
 
--- it led there, if no page that came is one of an index
-module _ (last : ℕ) (old new : List (List ℕ)) (keeps : OldStayOutside [] old new) (none : AddsNoIndexPage last old new) (key : Key) where
-  pub led : (level : ℕ) (entry : Entry) (end : Option Key) (found : Entry) (next : Option Key) → LeadsTo last new key level entry end found next
+  -- so it led there, if no page that came is one of an index
+  led : AddsNoIndexPage last old new → (level : ℕ) (entry : Entry) (end : Option Key) (found : Entry) (next : Option Key) → LeadsTo last new key level entry end found next
       → LeadsTo last old key level entry end found next
-  led zero entry end found next leads = leads
-  led (suc level) entry end found next (named, below, beyond, falls, leads) = elim (cases_lt entry.page (length old)) [
-    | inl near ↦
-        let same = sym (keeps entry.page near tt) in (
-          kept_fitting last new old (suc level) entry end same named,
-          below,
-          beyond,
-          moved key new old entry below end beyond same falls,
-          led level below beyond found next leads,
-        )
-    | inr far ↦ absurd (none entry.page (page_in new entry.page) far named.there named.fits.is)
+  led none level entry end found next leads = elim (led_or_stopped level entry end found next leads) [
+    | inl was ↦ was
+    | inr (n, stops, far, page) ↦ absurd (none n (page_in new n) far page.0 page.1)
   ]
 
 -- a page of zeros is none of an index
 pub blank_is_none : (last : ℕ) → ¬ (IsIndexPage last zero_page)
 unfolding number_at
-blank_is_none last h =
-    let low : 1 ≤ number_at 1 1 zero_page = h.is.low in
-    let none : number_at 1 1 zero_page ≡ 0 = refl in
-    let bad : 1 ≤ 0 = subst (λ (n : ℕ). 1 ≤ n) none low in
-    omega arith
+blank_is_none last h = search rules
 
 -- the same of the regions of an index
 pub ways_hold : (index : IndexView) (store : StoreFacts) (key : Key) (region : Region) → Leads index store key region
     → HoldsKey key region.first region.next × HoldsKey region.first region.first region.next
     × ((other : Key) → HoldsKey other region.first region.next → Leads index store other region)
-ways_hold index store key region leads = (
-  holds_found index.last store.pages key index.levels (top index.root) None (entry_at region) region.next (record { from = not_before_origin key; to = tt }) leads,
-  record {
-    from = not_before_self region.first;
-    to = before_next index.last store.pages key index.levels (top index.root) None (entry_at region) region.next tt leads;
-  },
-  λ other h. held_way index.last store.pages key other index.levels (top index.root) None (entry_at region) region.next leads h,
-)
+ways_hold index store key region leads = search (rules, holds_found, not_before_origin, not_before_self, before_next, held_way)
 
 pub ways_are_one : (index : IndexView) (store : StoreFacts) (key : Key) (a b : Region) → Leads index store key a → Leads index store key b
     → (entry_at a ≡ entry_at b) × (a.next ≡ b.next)
@@ -270,23 +238,16 @@ ways_are_one index store key a b to_a to_b = one_way index.last store.pages key 
 
 -- so over an honest store one region is given for a key
 pub one_given : (index : IndexView) (store : StoreFacts) (key : Key) (a b : Region) → IsHonest store → Gives index store key a → Gives index store key b → a ≡ b
-one_given index store key a b honest given_a given_b =
-    let same = ways_are_one index store key a b (given_a.way honest) (given_b.way honest) in
-    with_span index.last a given_a.from given_a.to
-    ∙ (ap (λ (e : Entry). region_of index.last e a.next) same.0 ∙ ap (λ (o : Option Key). region_of index.last (entry_at b) o) same.1)
-    ∙ sym (with_span index.last b given_b.from given_b.to)
+one_given index store key a b honest given_a given_b = search (rules, ways_are_one, with_span)
 
 pub ways_stay : (index : IndexView) (old new : StoreFacts) (key : Key) (region : Region) → OldStayOutside [] old.pages new.pages
     → (Leads index old key region → Leads index new key region)
     × (Leads index new key region → Leads index old key region ⊎ ((n : ℕ) × Stops index old key n None))
-ways_stay index old new key region keeps = (
-  λ leads. still_leads index.last old.pages new.pages keeps key index.levels (top index.root) None (entry_at region) region.next leads,
-  λ leads. led_or_stopped index.last old.pages new.pages keeps key index.levels (top index.root) None (entry_at region) region.next leads,
-)
+ways_stay index old new key region keeps = search (rules, still_leads, led_or_stopped, led)
 
 pub ways_are_the_same : (index : IndexView) (old new : StoreFacts) (key : Key) (region : Region) → OldStayOutside [] old.pages new.pages → AddsNoIndexPage index.last old.pages new.pages
     → Leads index old key region ↔ Leads index new key region
 ways_are_the_same index old new key region keeps none = (
   λ leads. still_leads index.last old.pages new.pages keeps key index.levels (top index.root) None (entry_at region) region.next leads,
-  λ leads. led index.last old.pages new.pages keeps none key index.levels (top index.root) None (entry_at region) region.next leads,
+  λ leads. led index.last old.pages new.pages keeps key none index.levels (top index.root) None (entry_at region) region.next leads,
 )

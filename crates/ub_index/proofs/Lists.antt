@@ -3,6 +3,7 @@ use Rattle.std.proofs.Common.{◌≡◌, ◌++◌, ℕ, List, [], ◌∷◌, Opt
 use Rattle.std.specs.List.{AllByRecursion, flat_map}
 use Rattle.ub_index.specs.Index.{first_or, AscendTo, EachTo}
 use Rattle.ub_region.specs.declared.entry.Entry.{Entry}
+use Rattle.ub_region.proofs.Laws.{all_append, all_left, all_right}
 use Rattle.ub_table.proofs.Laws.{before_trans}
 use Rattle.ub_table.specs.Keys.{IsBefore}
 use Rattle.ub_table.specs.declared.row.Key.{Key}
@@ -44,10 +45,9 @@ IsNotBefore (Some end) None = Unit {0}
 IsNotBefore (Some end) (Some later) = ¬ (IsBefore later end)
 
 pub if_later : (key : Key) (end later : Option Key) → IfSome end (IsBefore key) → IsNotBefore end later → IfSome later (IsBefore key)
-if_later key None None h k = tt
 if_later key None (Some b) h k = absurd k
-if_later key (Some a) None h k = tt
 if_later key (Some a) (Some b) h k = before_le key a b h k
+if_later key end later h k = tt
 
 pub ascend_later : (xs : List Entry) (end later : Option Key) → AscendTo xs end → IsNotBefore end later → AscendTo xs later
 ascend_later [] end later h k = tt
@@ -66,22 +66,13 @@ ascend_first x [] end h = h.0
 ascend_first x (y ∷ xs) None h = tt
 ascend_first x (y ∷ xs) (Some key) h = before_trans x.first y.first key h.0 (ascend_first y xs (Some key) h.1)
 
-pub all_left : (P : ℕ → Type 0) (xs ys : List ℕ) → AllByRecursion P (xs ++ ys) → AllByRecursion P xs
-all_left P [] ys h = tt
-all_left P (x ∷ xs) ys h = (h.0, all_left P xs ys h.1)
-
-pub all_right : (P : ℕ → Type 0) (xs ys : List ℕ) → AllByRecursion P (xs ++ ys) → AllByRecursion P ys
-all_right P [] ys h = h
-all_right P (x ∷ xs) ys h = all_right P xs ys h.1
-
 -- two functions of entries agree on a list where they agree on each whose numbers all have a property
-pub same_each : (P : ℕ → Type 0) (numbers : Entry → List ℕ) (f g : Entry → List Entry) → ((x : Entry) → AllByRecursion P (numbers x) → f x ≡ g x)
+pub same_each : {X : Type 0} (P : ℕ → Type 0) (numbers : Entry → List ℕ) (f g : Entry → List X) → ((x : Entry) → AllByRecursion P (numbers x) → f x ≡ g x)
     → (xs : List Entry) → AllByRecursion P (flat_map numbers xs) → flat_map f xs ≡ flat_map g xs
 same_each P numbers f g same [] h = refl
-same_each P numbers f g same (x ∷ xs) h =
-    let first : f x ≡ g x = same x (all_left P (numbers x) (flat_map numbers xs) h) in
-    let rest : flat_map f xs ≡ flat_map g xs = same_each P numbers f g same xs (all_right P (numbers x) (flat_map numbers xs) h) in
-    ap (λ (a : List Entry). a ++ flat_map f xs) first ∙ ap (λ (b : List Entry). g x ++ b) rest
+same_each {X = X} P numbers f g same (x ∷ xs) h =
+    ap (λ (a : List X). a ++ flat_map f xs) (same x (all_left P (numbers x) (flat_map numbers xs) h))
+    ∙ ap (λ (b : List X). g x ++ b) (same_each P numbers f g same xs (all_right P (numbers x) (flat_map numbers xs) h))
 
 pub each_same : (P : ℕ → Type 0) (numbers : Entry → List ℕ) (A B : Entry → Option Key → Type 0) → ((x : Entry) (end : Option Key) → AllByRecursion P (numbers x) → A x end → B x end)
     → (xs : List Entry) (end : Option Key) → AllByRecursion P (flat_map numbers xs) → EachTo A xs end → EachTo B xs end
@@ -89,6 +80,8 @@ each_same P numbers A B same [] end h k = tt
 each_same P numbers A B same (x ∷ xs) end h k =
     (same x (first_or xs end) (all_left P (numbers x) (flat_map numbers xs) h) k.0, each_same P numbers A B same xs end (all_right P (numbers x) (flat_map numbers xs) h) k.1)
 
-pub all_join : (P : Entry → Type 0) (xs ys : List Entry) → AllByRecursion P xs → AllByRecursion P ys → AllByRecursion P (xs ++ ys)
-all_join P [] ys h k = k
-all_join P (x ∷ xs) ys h k = (h.0, all_join P xs ys h.1 k)
+-- what holds of all that each of entries gives holds of all that they give
+pub each_all : {X : Type 0} (Q : X → Type 0) (give : Entry → List X) (P : Entry → Option Key → Type 0) → ((x : Entry) (end : Option Key) → P x end → AllByRecursion Q (give x))
+    → (xs : List Entry) (end : Option Key) → EachTo P xs end → AllByRecursion Q (flat_map give xs)
+each_all Q give P all [] end h = tt
+each_all Q give P all (x ∷ xs) end h = all_append Q (give x) (flat_map give xs) (all x (first_or xs end) h.0) (each_all Q give P all xs end h.1)

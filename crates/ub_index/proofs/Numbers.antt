@@ -8,6 +8,7 @@ use Rattle.ub_region.proofs.Laws.{all_append, all_left, all_more, all_right}
 use Rattle.ub_table.specs.declared.row.Key.{Key}
 use Rattle.ub_index.specs.Standing.{PagesStay, IsOutside}
 use Rattle.ub_index.proofs.KeptFacts.{same_entries}
+use Rattle.ub_index.proofs.Lists.{each_all, same_each}
 use Rattle.ub_index.specs.Index.{entries_of, first_or, page_in, EachTo, IsUnder, pages_under}
 
 pub differs : (a b : ℕ) → nat_eq a b ≡ false → a ≢ b
@@ -33,11 +34,7 @@ distinct_right (x ∷ xs) ys h = distinct_right xs ys h.1
 pub distinct_left : (xs ys : List ℕ) → IsDistinct nat_eq (xs ++ ys) → IsDistinct nat_eq xs
 unfolding IsDistinct
 distinct_left [] ys h = tt
-distinct_left (x ∷ xs) ys h = (all_first xs ys h.0, distinct_left xs ys h.1)
-  where
-    all_first : (us bs : List ℕ) → AllByRecursion (λ m. nat_eq x m ≡ false) (us ++ bs) → AllByRecursion (λ m. nat_eq x m ≡ false) us
-    all_first [] bs k = tt
-    all_first (a ∷ us) bs k = (k.0, all_first us bs k.1)
+distinct_left (x ∷ xs) ys h = (all_left (λ m. nat_eq x m ≡ false) xs ys h.0, distinct_left xs ys h.1)
 
 pub distinct_apart : (xs ys : List ℕ) → IsDistinct nat_eq (xs ++ ys) → StandApart xs ys
 unfolding IsDistinct
@@ -51,11 +48,6 @@ apart_swap xs (y ∷ ys) h = (
   all_more (λ x. IsOutside x (y ∷ ys)) (λ x. y ≢ x) (λ x k e. k.0 (sym e)) xs h,
   apart_swap xs ys (all_more (λ x. IsOutside x (y ∷ ys)) (λ x. IsOutside x ys) (λ x k. k.1) xs h),
 )
-
-each_all : (Q : ℕ → Type 0) (numbers : Entry → List ℕ) (P : Entry → Option Key → Type 0) → ((x : Entry) (o : Option Key) → P x o → AllByRecursion Q (numbers x))
-    → (xs : List Entry) (end : Option Key) → EachTo P xs end → AllByRecursion Q (flat_map numbers xs)
-each_all Q numbers P f [] end h = tt
-each_all Q numbers P f (x ∷ xs) end h = all_append Q (numbers x) (flat_map numbers xs) (f x (first_or xs end) h.0) (each_all Q numbers P f xs end h.1)
 
 -- the pages under an entry are pages of the store
 pub within_store : (last : ℕ) (pages : List (List ℕ)) (level : ℕ) (entry : Entry) (end : Option Key) → IsUnder last pages level entry end
@@ -78,26 +70,18 @@ distinct_join (x ∷ xs) ys h k apart = (
   distinct_join xs ys h.1 k apart.1,
 )
 
--- two functions of entries agree on a list where they agree on each whose numbers all have a property
-same_numbers : (P : ℕ → Type 0) (numbers f g : Entry → List ℕ) → ((x : Entry) → AllByRecursion P (numbers x) → f x ≡ g x)
-    → (xs : List Entry) → AllByRecursion P (flat_map numbers xs) → flat_map f xs ≡ flat_map g xs
-same_numbers P numbers f g same [] h = refl
-same_numbers P numbers f g same (x ∷ xs) h =
-    ap (λ (a : List ℕ). a ++ flat_map f xs) (same x (all_left P (numbers x) (flat_map numbers xs) h))
-    ∙ ap (λ (b : List ℕ). g x ++ b) (same_numbers P numbers f g same xs (all_right P (numbers x) (flat_map numbers xs) h))
-
 -- where the pages under an entry stay, they are the same
 pub kept_pages : (old new : List (List ℕ)) (level : ℕ) (entry : Entry) → PagesStay old new (pages_under old level entry) → pages_under new level entry ≡ pages_under old level entry
 kept_pages old new zero entry h = refl
 kept_pages old new (suc level) entry h =
     ap (λ (ns : List ℕ). entry.page ∷ ns)
     (ap (λ (entries : List Entry). flat_map (pages_under new level) entries) (same_entries old new entry.page h.0)
-    ∙ same_numbers (λ n. slice_get new n ≡ slice_get old n) (pages_under old level) (pages_under new level) (pages_under old level) (kept_pages old new level) (entries_of old entry.page) h.1)
+    ∙ same_each (λ n. slice_get new n ≡ slice_get old n) (pages_under old level) (pages_under new level) (pages_under old level) (kept_pages old new level) (entries_of old entry.page) h.1)
 
 pub kept_pages_list : (old new : List (List ℕ)) (level : ℕ) (entries : List Entry) → PagesStay old new (flat_map (pages_under old level) entries)
     → flat_map (pages_under new level) entries ≡ flat_map (pages_under old level) entries
 kept_pages_list old new level entries h =
-    same_numbers (λ n. slice_get new n ≡ slice_get old n) (pages_under old level) (pages_under new level) (pages_under old level) (kept_pages old new level) entries h
+    same_each (λ n. slice_get new n ≡ slice_get old n) (pages_under old level) (pages_under new level) (pages_under old level) (kept_pages old new level) entries h
 
 -- a number that numbers are less than is none of them
 pub outside_less : (n : ℕ) (numbers : List ℕ) → AllByRecursion (λ m. m < n) numbers → IsOutside n numbers

@@ -1,7 +1,9 @@
 -- The entries of an index as those of a table's regions, and the index of the region that holds a key.
-use Rattle.std.proofs.Common.{◌≡◌, ◌≤◌, ◌+◌, ◌⊎◌, inl, inr, ℕ, zero, suc, true, false, List, [], ◌∷◌, Option, Some, None, length, slice_get, ◌∙◌, sym, ap, subst, refl, arith}
+use Rattle.std.proofs.Common.{rules, ◌≡◌, ◌≤◌, ◌+◌, ◌⊎◌, inl, inr, ℕ, zero, suc, true, false, List, [], ◌∷◌, Option, Some, None, length, slice_get, ◌∙◌, sym, ap, subst, refl, arith}
 use Rattle.std.proofs.lemmas.Bool.{and_from, and_parts, cases_Bool}
 use Rattle.std.proofs.lemmas.Option.{slice_get_within, slice_get_cases}
+use Rattle.std.proofs.lemmas.List.Elements.{All-from_recursion}
+use Rattle.ub_region.proofs.Laws.{all_more}
 use Rattle.std.specs.List.{All, AllByRecursion, flat_map}
 use Rattle.ub_index.specs.Spans.{first_keys, region_of}
 use Rattle.ub_index.proofs.Laws.{first_at}
@@ -16,9 +18,9 @@ use Rattle.ub_index.specs.Index.{entries_of, first_or, AscendTo, EachTo, IsUnder
 use Rattle.ub_index.specs.Searching.{Gives, key_before}
 use Rattle.ub_index.specs.View.{IndexView, IsIndexOn, IsRegionAt, IsPreviousRegion, entries_in, entry_at}
 use Rattle.ub_region.specs.declared.region.Region.{Region}
-use Rattle.ub_index.proofs.Lists.{all_join}
+use Rattle.ub_index.proofs.Lists.{each_all}
 use Rattle.ub_index.proofs.OrderFacts.{under_first}
-use Rattle.ub_index.proofs.WayFacts.{in_order, not_true, way_ends_at}
+use Rattle.ub_index.proofs.WayFacts.{first_is, in_order, not_true, way_ends_at}
 use Rattle.ub_index.specs.Way.{LeadsTo}
 
 length-first_keys : (entries : List Entry) → length (first_keys entries) ≡ length entries
@@ -26,38 +28,23 @@ length-first_keys [] = refl
 length-first_keys (entry ∷ entries) = ap (λ (n : ℕ). suc n) (length-first_keys entries)
 
 ascending : (xs : List Entry) → AscendTo xs None → are_ascending (first_keys xs) ≡ true
-ascending [] up = refl
-ascending (x ∷ []) up = refl
 ascending (x ∷ y ∷ xs) up = and_from _ _ (precedes_of x.first y.first up.0) (ascending (y ∷ xs) up.1)
+ascending xs up = refl
 
 single : (Q : Entry → Type 0) (pages : List (List ℕ)) (xs : List Entry) → AllByRecursion Q xs → AllByRecursion Q (flat_map (under pages zero) xs)
 single Q pages [] h = tt
 single Q pages (x ∷ xs) h = (h.0, single Q pages xs h.1)
 
-all_through : (U : Entry → List Entry) (P : Entry → Option Key → Type 0) (Q : Entry → Type 0) → ((x : Entry) (end : Option Key) → P x end → AllByRecursion Q (U x))
-    → (xs : List Entry) (end : Option Key) → EachTo P xs end → AllByRecursion Q (flat_map U xs)
-all_through U P Q all [] end each = tt
-all_through U P Q all (x ∷ xs) end each = all_join Q (U x) (flat_map U xs) (all x (first_or xs end) each.0) (all_through U P Q all xs end each.1)
-
 under_entries : (last : ℕ) (pages : List (List ℕ)) (level : ℕ) (entry : Entry) (end : Option Key) → IsUnder last pages (suc level) entry end
     → AllByRecursion (IsEntry last) (under pages (suc level) entry)
 under_entries last pages zero entry end is = single (IsEntry last) pages (entries_of pages entry.page) is.0.fits.is.is.entries
 under_entries last pages (suc level) entry end is =
-    all_through (under pages (suc level)) (IsUnder last pages (suc level)) (IsEntry last) (under_entries last pages level) (entries_of pages entry.page) end is.1
-
-within_of : (last : ℕ) (xs : List Entry) → AllByRecursion (IsEntry last) xs → All (λ e. e.first.z ≤ last) xs
-within_of last [] h i d lt = absurd (omega arith)
-within_of last (x ∷ xs) h zero d lt = h.0.z
-within_of last (x ∷ xs) h (suc i) d lt = within_of last xs h.1 i d (omega arith)
+    each_all (IsEntry last) (under pages (suc level)) (IsUnder last pages (suc level)) (under_entries last pages level) (entries_of pages entry.page) end is.1
 
 number_of : (last : ℕ) (xs : List Entry) (i : ℕ) (key : Key) → AllByRecursion (IsEntry last) xs → slice_get (first_keys xs) i ≡ Some key → key.number ≤ 16777215
 number_of last [] i key h at = cc
 number_of last (x ∷ xs) zero key h at = let same : x.first ≡ key = cc in let le = h.0.number in subst (λ (k : Key). k.number ≤ 16777215) same le
 number_of last (x ∷ xs) (suc i) key h at = number_of last xs i key h.1 at
-
-first_is : (xs : List Entry) → first_or xs None ≡ slice_get (first_keys xs) 0
-first_is [] = refl
-first_is (x ∷ xs) = refl
 
 module _ (index : IndexView) (store : StoreFacts) (is : IsIndexOn index store) where
   pub each_entry : AllByRecursion (IsEntry index.last) (entries_in index store)
@@ -74,7 +61,9 @@ module _ (index : IndexView) (store : StoreFacts) (is : IsIndexOn index store) w
   begins = sym (first_is (entries_in index store)) ∙ under_first index.last store.pages index.levels (top index.root) None is.under_it
 
   pub within : All (λ e. e.first.z ≤ index.last) (entries_in index store)
-  within = within_of index.last (entries_in index store) each_entry
+  within =
+      All-from_recursion (λ (e : Entry). e.first.z ≤ index.last) (entries_in index store)
+      (all_more (IsEntry index.last) (λ e. e.first.z ≤ index.last) (λ e h. h.z) (entries_in index store) each_entry)
 
   pub small_number : (i : ℕ) (key : Key) → slice_get (first_keys (entries_in index store)) i ≡ Some key → key.number ≤ 16777215
   small_number i key at = number_of index.last (entries_in index store) i key each_entry at
@@ -82,9 +71,7 @@ module _ (index : IndexView) (store : StoreFacts) (is : IsIndexOn index store) w
 -- the index of the region that holds a key is no less than that of a first key that isn't after it
 pub index_ge : (key : Key) (firsts : List Key) (j : ℕ) (first : Key) → are_ascending firsts ≡ true → slice_get firsts j ≡ Some first → precedes key first ≡ false
     → j ≤ index_holding key firsts
-index_ge key [] j first up at f = cc
 index_ge key (a ∷ firsts) zero first up at f = omega arith
-index_ge key (a ∷ []) (suc j) first up at f = cc
 index_ge key (a ∷ b ∷ firsts) (suc j) first up at f = elim (cases_Bool (precedes key b)) [
   | inl t ↦ absurd (not_here j at t)
   | inr before ↦ let more = index_ge key (b ∷ firsts) j first (and_parts _ _ up).1 at f in rw before (omega arith)
@@ -95,6 +82,7 @@ index_ge key (a ∷ b ∷ firsts) (suc j) first up at f = elim (cases_Bool (prec
     not_here (suc i) there t =
         let later = ascending_get (b ∷ firsts) (and_parts _ _ up).1 0 (suc i) (omega arith) b first refl there in
         let again = precedes_trans key b first t later in cc
+index_ge key firsts j first up at f = cc
 
 -- and less than that of one that is
 pub index_below : (key : Key) (firsts : List Key) (j : ℕ) → ((first : Key) → slice_get firsts (suc j) ≡ Some first → precedes key first ≡ true) → index_holding key firsts ≤ j ⊎ (length firsts ≤ j)
@@ -132,60 +120,20 @@ index_of_first firsts j first up at = index_is first firsts j first up at (not_s
 -- the regions beside one
 module _ (index : IndexView) (store : StoreFacts) (is : IsIndexOn index store) (i : ℕ) (region : Region) (at : IsRegionAt (entries_in index store) i region) where
   pub after_none : region.next ≡ None → length (entries_in index store) ≡ i + 1
-  after_none none =
-      let past : slice_get (first_keys (entries_in index store)) (suc i) ≡ None = sym at.next ∙ none in
-      let near = at.within in
-      elim ((slice_get_cases (first_keys (entries_in index store)) (suc i)).1) [
-        | inl some ↦ let there = some.2 in cc
-        | inr far ↦ let le = far.0 in omega (arith, length-first_keys (entries_in index store))
-      ]
+  after_none none = search (rules, slice_get, within, slice_get_cases, length-first_keys)
 
   pub after_some : (key : Key) (next : Region) → region.next ≡ Some key → Gives index store key next → IsRegionAt (entries_in index store) (i + 1) next
-  after_some key next is_next given =
-      let there : slice_get (first_keys (entries_in index store)) (suc i) ≡ Some key = sym at.next ∙ is_next in
-      let holds = index_of_first (first_keys (entries_in index store)) (suc i) key (up index store is) there in
-      let one : suc i ≡ i + 1 = omega arith in
-      subst (λ (n : ℕ). IsRegionAt (entries_in index store) n next) (holds ∙ one) (way_ends_at index store key next is (given.way is.honest))
+  after_some key next is_next given = search (rules, slice_get, index_of_first, up, way_ends_at)
 
 -- the greatest key before one: no key of an entry lies between
 none_before : (z n : ℕ) → key_before z n ≡ None → (z ≡ 0) × (n ≡ 0)
 none_before zero zero h = (refl, refl)
-none_before zero (suc n) h = cc
 none_before (suc z) zero h = cc
-none_before (suc z) (suc n) h = cc
+none_before z (suc n) h = cc
 
 greatest_before : (z n : ℕ) (key : Key) → key_before z n ≡ Some key
     → IsBefore key (record { z = z; number = n }) × ((first : Key) → first.number ≤ 16777215 → IsBefore first (record { z = z; number = n }) → ¬ (IsBefore key first))
-greatest_before zero zero key h = cc
-greatest_before (suc z) zero key h =
-    let same : record { z = z; number = 4294967295 } ≡ key = cc in
-    subst (λ (k : Key). IsBefore k (record { z = suc z; number = 0 }) × ((first : Key) → first.number ≤ 16777215 → IsBefore first (record { z = suc z; number = 0 }) → ¬ (IsBefore k first))) same
-    (before_from (record { z = z; number = 4294967295 }) (record { z = suc z; number = 0 }) (inl (omega arith)), between)
-  where
-    between : (first : Key) → first.number ≤ 16777215 → IsBefore first (record { z = suc z; number = 0 }) → ¬ (IsBefore (record { z = z; number = 4294967295 }) first)
-    between first le up down = elim (before_parts first (record { z = suc z; number = 0 }) up) [
-      | inl lt ↦ elim (before_parts (record { z = z; number = 4294967295 }) first down) [
-        | inl gt ↦ omega arith
-        | inr both ↦ let far = both.1 in omega arith
-      ]
-      | inr both ↦ let none = both.1 in omega arith
-    ]
-greatest_before z (suc n) key h =
-    let same : record { z = z; number = n } ≡ key = cc in
-    subst (λ (k : Key). IsBefore k (record { z = z; number = suc n }) × ((first : Key) → first.number ≤ 16777215 → IsBefore first (record { z = z; number = suc n }) → ¬ (IsBefore k first))) same
-    (before_from (record { z = z; number = n }) (record { z = z; number = suc n }) (inr (refl, omega arith)), between)
-  where
-    between : (first : Key) → first.number ≤ 16777215 → IsBefore first (record { z = z; number = suc n }) → ¬ (IsBefore (record { z = z; number = n }) first)
-    between first le up down = elim (before_parts first (record { z = z; number = suc n }) up) [
-      | inl lt ↦ elim (before_parts (record { z = z; number = n }) first down) [
-        | inl gt ↦ omega arith
-        | inr both ↦ let e = both.0 in omega arith
-      ]
-      | inr same ↦ elim (before_parts (record { z = z; number = n }) first down) [
-        | inl gt ↦ let e = same.0 in omega arith
-        | inr both ↦ let a = same.1 in let b = both.1 in omega arith
-      ]
-    ]
+greatest_before z n key h = search (rules, before_from, up, before_parts)
 
 pub first_there : (entries : List Entry) (i : ℕ) (region : Region) → IsRegionAt entries i region → slice_get (first_keys entries) i ≡ Some region.first
 first_there entries i region at = first_at entries i (entry_at region) at.entry

@@ -1,5 +1,5 @@
 -- What searches leave, one after the other.
-use Rattle.std.proofs.Common.{◌≡◌, ◌≤◌, ◌<◌, IsTrue, ℕ, List, Option, Some, None, Result, Ok, Err, ◌∙◌, sym, ap, subst, refl}
+use Rattle.std.proofs.Common.{rules, ◌≡◌, ◌≤◌, ◌<◌, IsTrue, ℕ, List, Option, Some, None, Result, Ok, Err, ◌∙◌, sym, ap, subst, refl}
 use Rattle.std.specs.Result.{IsErrAnd}
 use Rattle.ub_region.specs.declared.entry.Entry.{Entry}
 use Rattle.ub_store.specs.Facts.{StoreFacts, IsHonest, page_count}
@@ -28,12 +28,8 @@ abbrev pub pager_with : StoreFacts → Trace → List (ℕ × List ℕ) → Page
 pager_with store trace cached = record { store = store; trace = trace; cached = cached }
 
 pub same_store : (T U : Type 0) (e : IndexFault) (s : StoreFacts) → store_after {A = U} (Err e) s ≡ store_after {A = T} (Err e) s
-same_store T U (Page n fault) s = refl
-same_store T U Full s = refl
-same_store T U (Store store.Memory) s = refl
 same_store T U (Store store.Device) s = refl
-same_store T U (Store store.NoPage) s = refl
-same_store T U (Store store.BadSize) s = refl
+same_store T U fault s = refl
 
 pub frame : {T : Type 0} (r : Result T IndexFault) (old mid new : PagerView) → mid.store ≡ old.store → mid.trace ≡ old.trace
     → new ≡ record mid { store = store_after r mid.store; cached = new.cached } → new ≡ record old { store = store_after r old.store; cached = new.cached }
@@ -48,6 +44,12 @@ step_keeps h = (h.checked, h.more)
 
 pub down_keeps : {T : Type 0} {Sought : Key → Type 0} {index : IndexView} {old new : PagerView} {r : Result T IndexFault} → GoesDown Sought index old new r → Keeps index.last old new
 down_keeps h = (h.checked, h.more)
+
+-- what is refused as a call was that came after others
+refused_so : (T U : Type 0) (Sought : Key → Type 0) (index : IndexView) (old mid new : PagerView) → mid.store ≡ old.store → mid.trace ≡ old.trace → Keeps index.last old mid
+    → (r : Result T IndexFault) (e : IndexFault) → IsErrAnd r (λ x. x ≡ e) → new ≡ record mid { store = store_after {A = U} (Err e) mid.store; cached = new.cached }
+    → Keeps index.last mid new → (AreChecked index.last old → IsWayFault index old.store Sought e) → GoesDown Sought index old new r
+refused_so T U Sought index old mid new stores traces kept r e is same keeps faults = search (rules, both_on, err_is, frame, same_store)
 
 -- a step that is refused, after those before it
 module _ (T U : Type 0) (Sought : Key → Type 0) (index : IndexView) (key : Key) (sought : Sought key) (level : ℕ) (some : 0 < level) (entry : Entry) (end : Option Key)
@@ -64,40 +66,18 @@ module _ (T U : Type 0) (Sought : Key → Type 0) (index : IndexView) (key : Key
   fault_of (Store store.NoPage) sure h =
       let far : page_count old.store ≤ entry.page = subst (λ (s : StoreFacts). page_count s ≤ entry.page) stores h in
       (entry.page, far, λ honest. (key, sought, stops honest sure entry.page None (stops_here old.store old.store refl index.last key level entry end None some far)))
-  fault_of (Store store.BadSize) sure h = h
-  fault_of Full sure h = h
+  fault_of fault sure h = h
 
   pub step_refused : (r : Result T IndexFault) (e : IndexFault) → IsErrAnd r (λ x. x ≡ e) → StepsDown {A = U} index.last level entry end mid new (Err e) → GoesDown Sought index old new r
-  step_refused r e is h = subst (λ (x : Result T IndexFault). GoesDown Sought index old new x) (sym (err_is r e is)) (record {
-    same = frame (failed {T = T} e) old mid new stores traces (h.same ∙ ap (λ (s : StoreFacts). pager_with s mid.trace new.cached) (same_store T U e mid.store));
-    checked = (both_on index.last old mid new kept (step_keeps h)).0;
-    more = (both_on index.last old mid new kept (step_keeps h)).1;
-    faults = λ sure. fault_of e sure (h.faults (kept.0 sure));
-  })
+  step_refused r e is h =
+      refused_so T U Sought index old mid new stores traces kept r e is h.same (step_keeps h) (λ sure. fault_of e sure (h.faults (kept.0 sure)))
 
 -- a search that was refused as another one was, which went down to these keys among others, after some pages were read
 module _ (T U : Type 0) (A B : Key → Type 0) (index : IndexView) (old mid new : PagerView) (wider : AreChecked index.last old → (k : Key) → A k → B k) (stores : mid.store ≡ old.store) (traces : mid.trace ≡ old.trace)
     (kept : Keeps index.last old mid) where
   wider_fault : (e : IndexFault) → AreChecked index.last old → IsWayFault index mid.store A e → IsWayFault index old.store B e
-  wider_fault (Page n fault) sure h = λ honest.
-      let there = h (subst (λ (s : StoreFacts). IsHonest s) (sym stores) honest) in
-      (there.0, wider sure there.0 there.1, subst (λ (s : StoreFacts). Stops index s there.0 n (Some fault)) stores there.2)
-  wider_fault (Store store.Memory) sure h = tt
-  wider_fault (Store store.Device) sure h = subst (λ (s : StoreFacts). IsTrue s.can_fail) stores h
-  wider_fault (Store store.NoPage) sure h = (
-    h.0,
-    subst (λ (s : StoreFacts). page_count s ≤ h.0) stores h.1,
-    λ honest.
-        let there = h.2 (subst (λ (s : StoreFacts). IsHonest s) (sym stores) honest) in
-        (there.0, wider sure there.0 there.1, subst (λ (s : StoreFacts). Stops index s there.0 h.0 None) stores there.2),
-  )
-  wider_fault (Store store.BadSize) sure h = h
-  wider_fault Full sure h = h
+  wider_fault fault sure h = search rules
 
   pub search_refused : (r : Result T IndexFault) (e : IndexFault) → IsErrAnd r (λ x. x ≡ e) → GoesDown {A = U} A index mid new (Err e) → GoesDown B index old new r
-  search_refused r e is h = subst (λ (x : Result T IndexFault). GoesDown B index old new x) (sym (err_is r e is)) (record {
-    same = frame (failed {T = T} e) old mid new stores traces (h.same ∙ ap (λ (s : StoreFacts). pager_with s mid.trace new.cached) (same_store T U e mid.store));
-    checked = (both_on index.last old mid new kept (down_keeps h)).0;
-    more = (both_on index.last old mid new kept (down_keeps h)).1;
-    faults = λ sure. wider_fault e sure (h.faults (kept.0 sure));
-  })
+  search_refused r e is h =
+      refused_so T U B index old mid new stores traces kept r e is h.same (down_keeps h) (λ sure. wider_fault e sure (h.faults (kept.0 sure)))

@@ -1,5 +1,5 @@
 -- Searches among the regions in order.
-use Rattle.std.proofs.Common.{◌≡◌, ◌<◌, ◌≤◌, ◌-◌, inl, inr, ℕ, zero, suc, max, true, false, List, [], ◌∷◌, Option, Some, None, length, ◌↔◌, ◌∙◌, sym, ap, refl, arith, slice_get, subst, nat_le, if◌then◌else◌}
+use Rattle.std.proofs.Common.{rules, ◌≡◌, ◌<◌, ◌≤◌, ◌⊎◌, drop, inl, inr, ℕ, zero, suc, max, true, false, List, [], ◌∷◌, Option, Some, None, length, ◌↔◌, ◌∙◌, sym, ap, refl, arith, slice_get, subst, nat_le, if◌then◌else◌}
 use Rattle.std.proofs.lemmas.Bool.{cases_lt, cases_eq, cases_Bool, le-leb, lt-leb, and_parts}
 use Rattle.std.proofs.lemmas.Option.{slice_get_read, slice_get_within, get_or_from_slice_get, slice_get_cases}
 use Rattle.std.specs.List.{All, Contains}
@@ -16,63 +16,27 @@ use Rattle.ub_region.specs.declared.region.Region.{Region}
 use Rattle.ub_index.proofs.IndexFacts.{first_at}
 use Rattle.ub_index.proofs.SpanFacts.{region_with}
 
--- what a region's index in the list tells of its entry
+-- the key of an address that none is before
+abbrev lowest : ℕ → Key
+lowest z = record { z = z; number = 0 }
+
+-- a region in the list is that of the entry there
 region_entry : (last : ℕ) (entries : List Entry) (i : ℕ) (r : Region) → slice_get (regions_of last entries) i ≡ Some r
-    → (entry : Entry) × (slice_get entries i ≡ Some entry) × (entry.first ≡ r.first) × (r.from ≡ r.first.z)
+    → (entry : Entry) × (slice_get entries i ≡ Some entry) × (r ≡ region_with (span_end last (first_keys (drop (suc i) entries))) (slice_get (first_keys entries) (suc i)) entry)
 region_entry last [] i r at = cc
-region_entry last (e ∷ entries) zero r at =
-    let whole : Region = region_with (span_end last (first_keys entries)) (slice_get (first_keys entries) 0) e in
-    let same : whole ≡ r = cc in
-    (e, refl, ap (λ (q : Region). q.first) same, subst (λ (q : Region). q.from ≡ q.first.z) same refl)
+region_entry last (e ∷ entries) zero r at = (e, refl, cc)
 region_entry last (e ∷ entries) (suc i) r at = region_entry last entries i r at
 
 pub region_first : (last : ℕ) (entries : List Entry) (i : ℕ) (r : Region) → slice_get (regions_of last entries) i ≡ Some r → slice_get (first_keys entries) i ≡ Some r.first
-region_first last [] i r at = cc
-region_first last (e ∷ entries) zero r at =
-    let whole : Region = region_with (span_end last (first_keys entries)) (slice_get (first_keys entries) 0) e in
-    let same : whole ≡ r = cc in
-    ap (λ (q : Region). Some q.first) same
-region_first last (e ∷ entries) (suc i) r at = region_first last entries i r at
+region_first last entries i r at =
+    let there = region_entry last entries i r at in
+    first_at entries i there.0 there.1 ∙ ap (λ (q : Region). Some q.first) (sym there.2)
 
-ends_from : (z : ℕ) (first next : Key) → precedes first next ≡ true → (z ≤ address_before next.z next.number) ↔ (precedes (record { z = z; number = 0 }) next ≡ true)
-ends_from z first next up = by_number next.z next.number (before_of first next up)
-  where
-    by_number : (y n : ℕ) → IsBefore first (record { z = y; number = n }) → (z ≤ address_before y n) ↔ (precedes (record { z = z; number = 0 }) (record { z = y; number = n }) ≡ true)
-    by_number y zero before = (to, from)
-      where
-        positive : IsBefore first (record { z = y; number = 0 }) → 0 < y
-        positive h = elim (before_parts first (record { z = y; number = 0 }) h) [
-          | inl lt ↦ omega arith
-          | inr both ↦ let no = both.1 in absurd (omega arith)
-        ]
+starts_at : (last : ℕ) (entries : List Entry) (i : ℕ) (r : Region) → slice_get (regions_of last entries) i ≡ Some r → r.from ≡ r.first.z
+starts_at last entries i r at = subst (λ (q : Region). q.from ≡ q.first.z) (sym (region_entry last entries i r at).2) refl
 
-        to : z ≤ y - 1 → precedes (record { z = z; number = 0 }) (record { z = y; number = 0 }) ≡ true
-        to le = let some = positive before in before_from (record { z = z; number = 0 }) (record { z = y; number = 0 }) (inl (omega arith))
-
-        back : IsBefore (record { z = z; number = 0 }) (record { z = y; number = 0 }) → z ≤ y - 1
-        back h = elim (before_parts (record { z = z; number = 0 }) (record { z = y; number = 0 }) h) [
-          | inl lt ↦ omega arith
-          | inr both ↦ let no = both.1 in absurd (omega arith)
-        ]
-
-        from : precedes (record { z = z; number = 0 }) (record { z = y; number = 0 }) ≡ true → z ≤ y - 1
-        from t = back t
-    by_number y (suc n) before = (to, from)
-      where
-        to : z ≤ y → precedes (record { z = z; number = 0 }) (record { z = y; number = suc n }) ≡ true
-        to le = elim (cases_lt z y) [
-          | inl lt ↦ before_from (record { z = z; number = 0 }) (record { z = y; number = suc n }) (inl lt)
-          | inr ge ↦ let same : z ≡ y = omega arith in before_from (record { z = z; number = 0 }) (record { z = y; number = suc n }) (inr (same, omega arith))
-        ]
-
-        back : IsBefore (record { z = z; number = 0 }) (record { z = y; number = suc n }) → z ≤ y
-        back h = elim (before_parts (record { z = z; number = 0 }) (record { z = y; number = suc n }) h) [
-          | inl lt ↦ omega arith
-          | inr both ↦ let same = both.0 in omega arith
-        ]
-
-        from : precedes (record { z = z; number = 0 }) (record { z = y; number = suc n }) ≡ true → z ≤ y
-        from t = back t
+ends_from : (z : ℕ) (first next : Key) → precedes first next ≡ true → (z ≤ address_before next.z next.number) ↔ (precedes (lowest z) next ≡ true)
+ends_from z first next up = search (rules, before_parts, before_of, before_from)
 
 index_zero : (key first : Key) (firsts : List Key) → are_ascending (first ∷ firsts) ≡ true → precedes key first ≡ true → index_holding key (first ∷ firsts) ≡ 0
 index_zero key first [] up t = refl
@@ -80,67 +44,51 @@ index_zero key first (next ∷ firsts) up t = rw (precedes_trans key first next 
 
 -- a span ends at an address or later exactly from the region on that holds the least key of the address
 reaches : (last z : ℕ) (entries : List Entry) → are_ascending (first_keys entries) ≡ true → z ≤ last → (i : ℕ) (r : Region) → slice_get (regions_of last entries) i ≡ Some r
-    → (z ≤ r.to) ↔ (index_holding (record { z = z; number = 0 }) (first_keys entries) ≤ i)
-reaches last z [] up le i r at = cc
-reaches last z (e ∷ []) up le zero r at =
-    let whole : Region = region_with last None e in
-    let same : whole ≡ r = cc in
-    let end : last ≡ r.to = ap (λ (q : Region). q.to) same in
-    (λ x. omega arith, λ x. omega arith)
-reaches last z (e ∷ []) up le (suc i) r at = cc
+    → (z ≤ r.to) ↔ (index_holding (lowest z) (first_keys entries) ≤ i)
+reaches last z (e ∷ []) up le zero r at = let end : r.to ≡ last = ap (λ (q : Region). q.to) (region_entry last (e ∷ []) zero r at).2 in (λ x. omega arith, λ x. omega arith)
 reaches last z (e ∷ next ∷ entries) up le zero r at =
-    let whole : Region = region_with (address_before next.first.z next.first.number) (Some next.first) e in
-    let same : whole ≡ r = cc in
-    let end : address_before next.first.z next.first.number ≡ r.to = ap (λ (q : Region). q.to) same in
+    let end : r.to ≡ address_before next.first.z next.first.number = ap (λ (q : Region). q.to) (region_entry last (e ∷ next ∷ entries) zero r at).2 in
     let is = ends_from z e.first next.first (and_parts _ _ up).0 in
-    elim (cases_Bool (precedes (record { z = z; number = 0 }) next.first)) [
+    elim (cases_Bool (precedes (lowest z) next.first)) [
       | inl t ↦ let far = is.1 t in rw t (λ x. omega arith, λ x. omega arith)
       | inr f ↦ rw f (λ x. absurd (let t = is.0 (omega arith) in cc), λ x. absurd (omega arith))
     ]
 reaches last z (e ∷ next ∷ entries) up le (suc i) r at =
     let both : (precedes e.first next.first ≡ true) × (are_ascending (first_keys (next ∷ entries)) ≡ true) = and_parts _ _ up in
     let rest_up = both.1 in
-    let more : (z ≤ r.to) ↔ (index_holding (record { z = z; number = 0 }) (first_keys (next ∷ entries)) ≤ i) = reaches last z (next ∷ entries) rest_up le i r at in
-    elim (cases_Bool (precedes (record { z = z; number = 0 }) next.first)) [
+    let more : (z ≤ r.to) ↔ (index_holding (lowest z) (first_keys (next ∷ entries)) ≤ i) = reaches last z (next ∷ entries) rest_up le i r at in
+    elim (cases_Bool (precedes (lowest z) next.first)) [
       | inl t ↦
-          let none : index_holding (record { z = z; number = 0 }) (first_keys (next ∷ entries)) ≡ 0 =
-          index_zero (record { z = z; number = 0 }) next.first (first_keys entries) rest_up t in
+          let none : index_holding (lowest z) (first_keys (next ∷ entries)) ≡ 0 = index_zero (lowest z) next.first (first_keys entries) rest_up t in
           let far : z ≤ r.to = more.1 (omega (arith, none)) in
           rw t (λ x. omega arith, λ x. far)
       | inr f ↦ rw f (λ x. let n = more.0 x in omega arith, λ x. more.1 (omega arith))
     ]
+reaches last z entries up le i r at = cc
 
 -- the region that holds the least key of an address begins at that address or before
-begins_by : (z : ℕ) (first : Key) (firsts : List Key) (i : ℕ) (found : Key) → first.z ≤ z → index_holding (record { z = z; number = 0 }) (first ∷ firsts) ≡ i
+begins_by : (z : ℕ) (first : Key) (firsts : List Key) (i : ℕ) (found : Key) → first.z ≤ z → index_holding (lowest z) (first ∷ firsts) ≡ i
     → slice_get (first ∷ firsts) i ≡ Some found → found.z ≤ z
 begins_by z first [] zero found le is at = let same : first ≡ found = cc in let e = ap (λ (k : Key). k.z) same in omega arith
 begins_by z first [] (suc i) found le is at = cc
 begins_by z first (next ∷ firsts) zero found le is at = let same : first ≡ found = cc in let e = ap (λ (k : Key). k.z) same in omega arith
-begins_by z first (next ∷ firsts) (suc i) found le is at = elim (cases_Bool (precedes (record { z = z; number = 0 }) next)) [
+begins_by z first (next ∷ firsts) (suc i) found le is at = elim (cases_Bool (precedes (lowest z) next)) [
   | inl t ↦ let none : 0 ≡ suc i = rw t at is in absurd (omega arith)
-  | inr f ↦ let rest : suc (index_holding (record { z = z; number = 0 }) (next ∷ firsts)) ≡ suc i = rw f at is in
+  | inr f ↦ let rest : suc (index_holding (lowest z) (next ∷ firsts)) ≡ suc i = rw f at is in
       begins_by z next firsts i found (below f) (omega arith) at
 ]
   where
-    below : precedes (record { z = z; number = 0 }) next ≡ false → next.z ≤ z
+    below : precedes (lowest z) next ≡ false → next.z ≤ z
     below f = elim (cases_lt z next.z) [
-      | inl lt ↦ let t = before_from (record { z = z; number = 0 }) next (inl lt) in cc
+      | inl lt ↦ let t = before_from (lowest z) next (inl lt) in cc
       | inr ge ↦ ge
     ]
 
 -- no span ends after the last address
 ends_by_last : (last : ℕ) (entries : List Entry) → All (λ entry. entry.first.z ≤ last) entries → (i : ℕ) (r : Region) → slice_get (regions_of last entries) i ≡ Some r → r.to ≤ last
-ends_by_last last [] within i r at = cc
-ends_by_last last (e ∷ []) within zero r at =
-    let whole : Region = region_with last None e in
-    let same : whole ≡ r = cc in
-    let end : last ≡ r.to = ap (λ (q : Region). q.to) same in
-    omega arith
-ends_by_last last (e ∷ []) within (suc i) r at = cc
+ends_by_last last (e ∷ []) within zero r at = let end : r.to ≡ last = ap (λ (q : Region). q.to) (region_entry last (e ∷ []) zero r at).2 in omega arith
 ends_by_last last (e ∷ next ∷ entries) within zero r at =
-    let whole : Region = region_with (address_before next.first.z next.first.number) (Some next.first) e in
-    let same : whole ≡ r = cc in
-    let end : address_before next.first.z next.first.number ≡ r.to = ap (λ (q : Region). q.to) same in
+    let end : r.to ≡ address_before next.first.z next.first.number = ap (λ (q : Region). q.to) (region_entry last (e ∷ next ∷ entries) zero r at).2 in
     let small : next.first.z ≤ last = within 1 next (omega arith) in
     let le = at_most next.first.z next.first.number in
     omega arith
@@ -150,6 +98,7 @@ ends_by_last last (e ∷ next ∷ entries) within zero r at =
     at_most y (suc n) = omega arith
 ends_by_last last (e ∷ next ∷ entries) within (suc i) r at =
     ends_by_last last (next ∷ entries) (λ k d lt. within (suc k) d (omega arith)) i r at
+ends_by_last last entries within i r at = cc
 
 module _ (last : ℕ) (entries : List Entry) (up : are_ascending (first_keys entries) ≡ true) where
   contained : (r : Region) (found : Contains (regions_of last entries) r) → slice_get (regions_of last entries) found.0 ≡ Some r
@@ -189,7 +138,7 @@ module _ (last : ℕ) (entries : List Entry) (up : are_ascending (first_keys ent
   module _ (within : All (λ entry. entry.first.z ≤ last) entries) (after : Option Region) (start : ℕ)
       (later : (i : ℕ) (r : Region) → slice_get (regions_of last entries) i ≡ Some r → IsLater after r ↔ (start ≤ i)) where
     abbrev found_at : ℕ → Option Region
-    found_at z = if nat_le z last then slice_get (regions_of last entries) (max start (index_holding (record { z = z; number = 0 }) (first_keys entries))) else None
+    found_at z = if nat_le z last then slice_get (regions_of last entries) (max start (index_holding (lowest z) (first_keys entries))) else None
 
     pub seek_first : (z : ℕ) → First (λ r. IsLater after r × (z ≤ r.to)) (regions_of last entries) (found_at z)
     seek_first z = elim (cases_lt last z) [
@@ -200,23 +149,19 @@ module _ (last : ℕ) (entries : List Entry) (up : are_ascending (first_keys ent
     ]
 
     module _ (boxes : List Corners) (entry : Entry) (at_start : slice_get entries start ≡ Some entry) where
+      starts_here : (i : ℕ) (r : Region) → slice_get (regions_of last entries) i ≡ Some r → start ≡ i → r.from ≡ entry.first.z
+      starts_here i r at e = search (rules, slice_get, first_at, region_first, starts_at)
+
       -- a later region does not begin before the first one that is
       begins_from : (i : ℕ) (r : Region) → slice_get (regions_of last entries) i ≡ Some r → start ≤ i → entry.first.z ≤ r.from
-      begins_from i r at le =
-          let there = region_entry last entries i r at in
-          elim (cases_eq start i) [
-            | inl e ↦
-                let again : slice_get entries start ≡ Some there.0 = ap (slice_get entries) e ∙ there.1 in
-                let same : entry ≡ there.0 = cc in
-                let firsts : entry.first.z ≡ r.first.z = ap (λ (x : Entry). x.first.z) same ∙ ap (λ (k : Key). k.z) there.2 in
-                let start_of = there.3 in
-                omega arith
-            | inr ne ↦
-                let before = ascending_get (first_keys entries) up start i (omega arith) entry.first r.first (first_at entries start entry at_start) (region_first last entries i r at) in
-                let le = address_le entry.first r.first (before_of entry.first r.first before) in
-                let start_of = there.3 in
-                omega arith
-          ]
+      begins_from i r at le = elim (cases_eq start i) [
+        | inl e ↦ let same = starts_here i r at e in omega arith
+        | inr ne ↦
+            let before = ascending_get (first_keys entries) up start i (omega arith) entry.first r.first (first_at entries start entry at_start) (region_first last entries i r at) in
+            let le = address_le entry.first r.first before in
+            let start_of = starts_at last entries i r at in
+            omega arith
+      ]
         where
           address_le : (a b : Key) → IsBefore a b → a.z ≤ b.z
           address_le a b h = elim (before_parts a b h) [
@@ -256,27 +201,18 @@ module _ (last : ℕ) (entries : List Entry) (up : are_ascending (first_keys ent
               let end = m.3 in
               omega arith
 
-          from_origin : (firsts : List Key) (i : ℕ) (found : Key) → slice_get firsts 0 ≡ Some origin → index_holding (record { z = z; number = 0 }) firsts ≡ i → slice_get firsts i ≡ Some found → found.z ≤ z
+          from_origin : (firsts : List Key) (i : ℕ) (found : Key) → slice_get firsts 0 ≡ Some origin → index_holding (lowest z) firsts ≡ i → slice_get firsts i ≡ Some found → found.z ≤ z
           from_origin [] i found o is at = cc
           from_origin (first ∷ firsts) i found o is at =
               let same : first ≡ origin = cc in
               let none : first.z ≡ 0 = ap (λ (k : Key). k.z) same in
               begins_by z first firsts i found (omega arith) is at
 
-          begun : (n : ℕ) (r : Region) → slice_get (regions_of last entries) n ≡ Some r → n ≡ max start (index_holding (record { z = z; number = 0 }) (first_keys entries)) → r.from ≤ z
-          begun n r at is =
-              let there = region_entry last entries n r at in
-              elim (cases_eq start n) [
-                | inl e ↦
-                    let again : slice_get entries start ≡ Some there.0 = ap (slice_get entries) e ∙ there.1 in
-                    let same : entry ≡ there.0 = cc in
-                    let firsts : entry.first.z ≡ r.first.z = ap (λ (x : Entry). x.first.z) same ∙ ap (λ (k : Key). k.z) there.2 in
-                    let start_of = there.3 in
-                    let le = least.1 in
-                    omega arith
-                | inr ne ↦
-                    let index : index_holding (record { z = z; number = 0 }) (first_keys entries) ≡ n = omega arith in
-                    let le = from_origin (first_keys entries) n r.first begins index (region_first last entries n r at) in
-                    let start_of = there.3 in
-                    omega arith
-              ]
+          begun : (n : ℕ) (r : Region) → slice_get (regions_of last entries) n ≡ Some r → n ≡ max start (index_holding (lowest z) (first_keys entries)) → r.from ≤ z
+          begun n r at is = elim (cases_eq start n) [
+            | inl e ↦ let same = starts_here n r at e in let le = least.1 in omega arith
+            | inr ne ↦
+                let le = from_origin (first_keys entries) n r.first begins (omega arith) (region_first last entries n r at) in
+                let start_of = starts_at last entries n r at in
+                omega arith
+          ]

@@ -1,5 +1,5 @@
 -- What an index is to those who keep regions on other pages of its store.
-use Rattle.std.proofs.Common.{Ok, ◌≡◌, ◌≤◌, ◌<◌, ◌∙◌, ◌^◌, ℕ, zero, List, [], ◌∷◌, Some, None, length, nat_eq, ap, sym, subst, refl, arith, slice_get, inl, suc, Bool, Option, option_map, ◌⊎◌, inr, slice_set}
+use Rattle.std.proofs.Common.{rules, Ok, ◌≡◌, ◌≤◌, ◌<◌, ◌∙◌, ◌^◌, ℕ, zero, List, [], ◌∷◌, Some, None, length, nat_eq, ap, sym, subst, refl, arith, slice_get, inl, suc, Bool, Option, option_map, ◌⊎◌, inr, slice_set}
 use Rattle.std.specs.List.{AllByRecursion, IsDistinct, flat_map}
 use Rattle.ub_index.specs.Spans.{ArePlaces}
 use Rattle.ub_page.specs.Entries.{IsEntry}
@@ -48,17 +48,12 @@ told_there last small pages level entries entry at is begins =
       begins = begins;
     }
 
--- the page of a root that names one region is one
+-- a root that names one region is one
+root_node : (last page : ℕ) → 1 ≤ page → page < 4294967296 → IsNode last (node 1 (top page ∷ []))
+root_node last page some less = search rules
+
 pub root_page_is : (last page : ℕ) → last < 2 ^ 128 → 1 ≤ page → page < 4294967296 → IsIndexPage last (root_page page)
-root_page_is last page small some less =
-    node_is last small (node 1 (top page ∷ [])) (record {
-      low = omega arith;
-      high = omega arith;
-      some = omega arith;
-      few = omega arith;
-      entries = (record { z = omega arith; number = omega arith; some_page = some; page = less }, tt);
-      ascending = tt;
-    })
+root_page_is last page small some less = node_is last small (node 1 (top page ∷ [])) (root_node last page some less)
 
 some_entries : (xs : List Entry) (key : Key) → first_or xs None ≡ Some key → 1 ≤ length xs
 some_entries [] key h = cc
@@ -67,11 +62,7 @@ some_entries (x ∷ xs) key h = omega arith
 -- the entries of an index are those of a table's regions
 pub are_places : (index : IndexView) (store : StoreFacts) → IsIndexOn index store
     → ArePlaces index.last (entries_in index store) × (1 ≤ length (entries_in index store)) × AllByRecursion (IsEntry index.last) (entries_in index store)
-are_places index store is = (
-  (begins index store is, within index store is, up index store is),
-  some_entries (entries_in index store) origin (under_first index.last store.pages index.levels (top index.root) None is.under_it),
-  each_entry index store is,
-)
+are_places index store is = search (rules, begins, within, up, some_entries, under_first, each_entry)
 
 -- pages that are none of those put anew stay
 pub stay_apart : (old new : List (List ℕ)) (numbers ns : List ℕ) → OldStayOutside numbers old new → AllByRecursion (λ n. n < length old) ns → StandApart ns numbers → PagesStay old new ns
@@ -110,35 +101,14 @@ put_get (p ∷ pages) (suc n) page lt = put_get pages n page (omega arith)
 
 pub put_checked : (last n : ℕ) (put : List ℕ) (old new : PagerView) → new.store.honest ≡ old.store.honest → IsIndexPage last put
     → (page_at new.cached n ≡ option_map (λ _. put) (page_at old.cached n)) ⊎ (page_at new.cached n ≡ None) → SameBut n old.cached new.cached → KeepsChecked last old new
-put_checked last n put old new honest is here others was good m page held = elim (cases_eq m n) [
-  | inl same ↦ inl (subst (λ (p : List ℕ). IsIndexPage last p) (sym (put_page (subst (λ (k : ℕ). page_at new.cached k ≡ Some page) same held))) is)
-  | inr other ↦ was (subst (λ (b : Bool). IsTrue b) honest good) m page (sym (others m other) ∙ held)
-]
-  where
-    mapped : (o : Option (List ℕ)) → option_map (λ _. put) o ≡ Some page → page ≡ put
-    mapped None e = cc
-    mapped (Some p) e = cc
-
-    put_page : page_at new.cached n ≡ Some page → page ≡ put
-    put_page at = elim here [
-      | inl renewed ↦ mapped (page_at old.cached n) (sym renewed ∙ at)
-      | inr gone ↦ cc
-    ]
+put_checked last n put old new honest is here others was good m page held = search (rules, option_map)
 
 -- where the page of a root stands that names one region, there is an index of one region
 is_alone : (root page last : ℕ) (store : StoreFacts) → last < 2 ^ 128 → IsHonest store → 1 ≤ root → 1 ≤ page → page < 2 ^ 32
     → slice_get store.pages root ≡ Some (root_page page) → IsAlone (index_view root 1 last) page store
 unfolding IsDistinct
 is_alone root page last store small honest some_root some few at =
-    let is_node : IsNode last (record { level = 1; entries = top page ∷ [] }) = record {
-      low = omega arith;
-      high = omega arith;
-      some = omega arith;
-      few = omega arith;
-      entries = (record { z = omega arith; number = omega arith; some_page = some; page = omega arith }, tt);
-      ascending = tt;
-    } in
-    let told = told_there last small store.pages 1 (top page ∷ []) (top root) at is_node refl in
+    let told = told_there last small store.pages 1 (top page ∷ []) (top root) at (root_node last page some (omega arith)) refl in
     let pages : pages_under store.pages 1 (top root) ≡ root ∷ [] =
     ap (λ (xs : List Entry). root ∷ flat_map (pages_under store.pages zero) xs) told.entries_are in
     record {

@@ -1,5 +1,5 @@
 -- What a call leaves that brings a page, looks at it, and forgets it where it is refused.
-use Rattle.std.proofs.Common.{◌≡◌, ℕ, List, Option, Some, None, Result, slice_get, Ok, Err, IfOk, IfErr, ◌∙◌, sym, ap, subst}
+use Rattle.std.proofs.Common.{rules, ◌≡◌, ℕ, List, Option, Some, None, Result, slice_get, Ok, Err, IfOk, IfErr, ◌∙◌, sym, ap, subst}
 use Rattle.std.specs.Result.{IsErrAnd}
 use Rattle.ub_region.specs.declared.entry.Entry.{Entry}
 use Rattle.ub_store.specs.Cache.{NoneMoreBut, page_at}
@@ -59,14 +59,7 @@ names_fitting pages last level entry end page at fits =
 pub refused_after : (T U : Type 0) (Sought : Key → Type 0) (index : IndexView) (old mid new : PagerView) (x : T) (n : ℕ) (fault : PageFault) → GoesDown Sought index old mid (Ok x)
     → new ≡ record mid { cached = new.cached } → NoneMoreBut n mid.cached new.cached → page_at new.cached n ≡ None
     → (AreChecked index.last old → IsWayFault index old.store Sought (Page n fault)) → GoesDown {A = U} Sought index old new (Err (Page n fault))
-refused_after T U Sought index old mid new x n fault h same others gone why =
-    let kept = both_on index.last old mid new (h.checked, h.more) (keeps_gone index.last mid new n (same_honest mid new same) others gone, more_gone index.last mid.cached new.cached n others gone) in
-    record {
-      same = forgets old mid new (ap (λ (p : PagerView). p.store) h.same) (ap (λ (p : PagerView). p.trace) h.same) same;
-      checked = kept.0;
-      more = kept.1;
-      faults = why;
-    }
+refused_after T U Sought index old mid new x n fault h same others gone why = search (rules, both_on, keeps_gone, same_honest, more_gone, forgets)
 
 -- what the pager holds under a number is one page
 pub held_once : (held : List (ℕ × List ℕ)) (n : ℕ) (p q : List ℕ) → page_at held n ≡ Some p → page_at held n ≡ Some q → p ≡ q
@@ -75,15 +68,7 @@ held_once held n p q one two = cc
 -- a step is made, or refused, as the page of its entry is brought
 module _ (last level : ℕ) (entry : Entry) (end : Option Key) (old new : PagerView) where
   step_fault : (e : IndexFault) → IsBringFault last old.store level entry end e → IsStepFault last old.store level entry end e
-  step_fault (Page n fault) (same, page, at, unfit) = (
-    same,
-    λ honest. is_refused old.store.pages last level entry end page fault (subst (λ (m : ℕ). slice_get old.store.pages m ≡ Some page) same (at honest)) unfit,
-  )
-  step_fault (Store store.Memory) h = h
-  step_fault (Store store.Device) h = h
-  step_fault (Store store.NoPage) h = h
-  step_fault (Store store.BadSize) h = h
-  step_fault Full h = h
+  step_fault fault h = search (rules, is_refused, slice_get)
 
   pub step_misfits : {T : Type 0} (r : Result T IndexFault) (e : IndexFault) → IsErrAnd r (λ x. x ≡ e) → BringsFitting last level entry end old new (Err e) → Steps last level entry end old new r
   step_misfits {T = T} r e is h = subst (λ (x : Result T IndexFault). Steps last level entry end old new x) (sym (err_is r e is)) (record {

@@ -1,5 +1,5 @@
 -- The way down to a key: its steps, and where it ends on pages on which an index stands.
-use Rattle.std.proofs.Common.{◌≡◌, ◌<◌, ◌-◌, ◌^◌, ◌++◌, inl, inr, ℕ, zero, suc, false, List, [], ◌∷◌, Option, Some, None, IfSome, length, slice_get, ◌∙◌, sym, ap, subst, refl, arith, append_assoc}
+use Rattle.std.proofs.Common.{rules, ◌≡◌, ◌<◌, ◌-◌, ◌^◌, ◌++◌, inl, inr, ℕ, zero, suc, false, List, [], ◌∷◌, Option, Some, None, IfSome, length, slice_get, ◌∙◌, sym, ap, subst, refl, arith, append_assoc}
 use Rattle.std.proofs.lemmas.Bool.{cases_Bool}
 use Rattle.std.proofs.lemmas.Grind.{flat_map-append}
 use Rattle.std.proofs.lemmas.Option.{slice_get_within}
@@ -64,14 +64,7 @@ rest_begins last pages level (x ∷ xs) end each =
 
 pub falls_from : (key : Key) (entries : List Entry) (first : Key) (end next : Option Key) (below : Entry) → first_or entries None ≡ Some first → ¬ (IsBefore key first)
     → FallsTo key entries end below next → ¬ (IsBefore key below.first)
-falls_from key entries first end next below begins from h = elim h.from [
-  | inl none ↦
-      let parts : entries ≡ below ∷ h.after = h.parts ∙ ap (λ (xs : List Entry). xs ++ (below ∷ h.after)) none in
-      let same : Some below.first ≡ Some first = subst (λ (xs : List Entry). first_or xs None ≡ Some first) parts begins in
-      let is : first ≡ below.first = cc in
-      subst (λ (k : Key). ¬ (IsBefore key k)) is from
-  | inr later ↦ later
-]
+falls_from key entries first end next below begins from h = search rules
 
 pub falls_to : (key : Key) (after : List Entry) (end : Option Key) → IfSome end (IsBefore key) → IfSome (first_or after None) (IsBefore key) → IfSome (first_or after end) (IsBefore key)
 falls_to key [] end to h = to
@@ -81,6 +74,13 @@ falls_to key (x ∷ xs) end to h = h
 pub holds_below : (key : Key) (entries : List Entry) (first : Key) (end next : Option Key) (below : Entry) → FallsTo key entries end below next → IfSome end (IsBefore key)
     → IfSome next (IsBefore key)
 holds_below key entries first end next below h to = subst (λ (o : Option Key). IfSome o (IsBefore key)) (sym h.next_is) (falls_to key h.after end to h.to)
+
+-- below an entry to which a key falls stands what an index has there
+pub under_below : (last : ℕ) (pages : List (List ℕ)) (key : Key) (level : ℕ) (entry : Entry) (end : Option Key) (below : Entry) (beyond : Option Key)
+    → IsUnder last pages (suc level) entry end → FallsTo key (entries_of pages entry.page) end below beyond → IsUnder last pages level below beyond
+under_below last pages key level entry end below beyond is falls =
+    subst (λ (o : Option Key). IsUnder last pages level below o) (sym falls.next_is)
+    (each_right (IsUnder last pages level) falls.before (below ∷ falls.after) end (subst (λ (xs : List Entry). EachTo (IsUnder last pages level) xs end) falls.parts is.1)).0
 
 regroup : (b p q r : List Entry) (x : Entry) → b ++ ((p ++ (x ∷ q)) ++ r) ≡ (b ++ p) ++ (x ∷ (q ++ r))
 regroup b p q r x = ap (λ (xs : List Entry). b ++ xs) (append_assoc p (x ∷ q) r) ∙ sym (append_assoc b p (x ∷ (q ++ r)))
@@ -99,23 +99,20 @@ place last pages key (suc level) entry end found next from to is (named, below, 
     let each : EachTo (IsUnder last pages level) (below ∷ falls.after) end =
     each_right (IsUnder last pages level) falls.before (below ∷ falls.after) end
     (subst (λ (xs : List Entry). EachTo (IsUnder last pages level) xs end) falls.parts is.1) in
-    let under_it : IsUnder last pages level below beyond = subst (λ (o : Option Key). IsUnder last pages level below o) (sym falls.next_is) each.0 in
     let in_it : IsPlace key (under pages level below) beyond found next =
     place last pages key level below beyond found next
     (falls_from key (entries_of pages entry.page) entry.first end beyond below is.0.fits.begins from falls)
-    (holds_below key (entries_of pages entry.page) entry.first end beyond below falls to) under_it leads in
+    (holds_below key (entries_of pages entry.page) entry.first end beyond below falls to) (under_below last pages key level entry end below beyond is falls) leads in
     let u = flat_map (under pages level) falls.before in
     let v = flat_map (under pages level) falls.after in
     record {
-      before = flat_map (under pages level) falls.before ++ in_it.before;
-      after = in_it.after ++ flat_map (under pages level) falls.after;
+      before = u ++ in_it.before;
+      after = in_it.after ++ v;
       parts = ap (λ (xs : List Entry). flat_map (under pages level) xs) falls.parts
           ∙ (flat_map-append (under pages level) falls.before (below ∷ falls.after)
-          ∙ (ap (λ (xs : List Entry). flat_map (under pages level) falls.before ++ (xs ++ flat_map (under pages level) falls.after)) in_it.parts
-          ∙ regroup (flat_map (under pages level) falls.before) in_it.before in_it.after (flat_map (under pages level) falls.after) found));
+          ∙ (ap (λ (xs : List Entry). u ++ (xs ++ v)) in_it.parts ∙ regroup u in_it.before in_it.after v found));
       next_is = in_it.next_is
-          ∙ (ap (λ (o : Option Key). first_or in_it.after o) (falls.next_is ∙ rest_begins last pages level falls.after end each.1)
-          ∙ sym (first_append in_it.after (flat_map (under pages level) falls.after) end));
+          ∙ (ap (λ (o : Option Key). first_or in_it.after o) (falls.next_is ∙ rest_begins last pages level falls.after end each.1) ∙ sym (first_append in_it.after v end));
       from = in_it.from;
       to = in_it.to;
     }
@@ -141,6 +138,10 @@ holding key (b ∷ x ∷ before) found after up from to =
     let later : ¬ (IsBefore key x.first) = λ yes. from (before_trans key x.first found.first yes (before_found x before found after up.1)) in
     rw (not_true key x.first later) (ap (λ (n : ℕ). suc n) (holding key (x ∷ before) found after up.1 from to))
 
+pub first_is : (xs : List Entry) → first_or xs None ≡ slice_get (first_keys xs) 0
+first_is [] = refl
+first_is (x ∷ xs) = refl
+
 region_in : (before : List Entry) (region : Region) (after : List Entry) → region.next ≡ first_or after None
     → IsRegionAt (before ++ (entry_at region ∷ after)) (length before) region
 region_in before region after is = record { within = within before; entry = entry before; next = is ∙ beyond before }
@@ -153,12 +154,8 @@ region_in before region after is = record { within = within before; entry = entr
     entry [] = refl
     entry (x ∷ b) = entry b
 
-    last_one : (after : List Entry) → first_or after None ≡ slice_get (first_keys after) 0
-    last_one [] = refl
-    last_one (x ∷ xs) = refl
-
     beyond : (b : List Entry) → first_or after None ≡ slice_get (first_keys (b ++ (entry_at region ∷ after))) (suc (length b))
-    beyond [] = last_one after
+    beyond [] = first_is after
     beyond (x ∷ b) = beyond b
 
 -- the entries of an index are in order
@@ -201,7 +198,4 @@ module _ (last : ℕ) (small : last < 2 ^ 128) (pages : List (List ℕ)) (key : 
   never_stops zero entry end n fault is h = h
   never_stops (suc level) entry end n fault is (inl here) = named_not_refused (suc level) entry end fault is.0 here.1
   never_stops (suc level) entry end n fault is (inr (named, below, beyond, falls, stops)) =
-      let each : EachTo (IsUnder last pages level) (below ∷ falls.after) end =
-      each_right (IsUnder last pages level) falls.before (below ∷ falls.after) end
-      (subst (λ (xs : List Entry). EachTo (IsUnder last pages level) xs end) falls.parts is.1) in
-      never_stops level below beyond n fault (subst (λ (o : Option Key). IsUnder last pages level below o) (sym falls.next_is) each.0) stops
+      never_stops level below beyond n fault (under_below last pages key level entry end below beyond is falls) stops

@@ -1,12 +1,13 @@
 -- Two ways down over the same pages: a way to a key that isn't before where the first one ended ends there or later.
-use Rattle.std.proofs.Common.{◌≡◌, ◌++◌, ◌⊎◌, inl, inr, ℕ, zero, suc, List, [], ◌∷◌, Option, Some, None, IfSome, ◌∙◌, sym, ap, subst, refl}
+use Rattle.std.proofs.Common.{rules, ◌≡◌, ◌++◌, ◌⊎◌, inl, inr, ℕ, zero, suc, List, [], ◌∷◌, Option, Some, None, IfSome, ◌∙◌, sym, ap, subst, refl}
 use Rattle.std.proofs.lemmas.Bool.{cases_Bool}
 use Rattle.ub_region.specs.declared.entry.Entry.{Entry}
 use Rattle.ub_table.proofs.Laws.{before_trans, not_before_self, not_both_before, precedes_of}
 use Rattle.ub_table.specs.Keys.{IsBefore, precedes}
 use Rattle.ub_table.specs.declared.row.Key.{Key}
 use Rattle.ub_store.specs.Facts.{StoreFacts}
-use Rattle.ub_index.specs.Index.{first_or, top, AscendTo}
+use Rattle.ub_index.specs.Fitting.{FallsTo}
+use Rattle.ub_index.specs.Index.{entries_of, first_or, top, AscendTo, NamesFitting}
 use Rattle.ub_index.specs.Searching.{at_least}
 use Rattle.ub_index.specs.View.{IndexView, Leads}
 use Rattle.ub_index.specs.Way.{HoldsKey, LeadsTo}
@@ -37,11 +38,7 @@ first_up_to (y ∷ m) x a end up first is =
 
 -- where entries that end before `end` begin isn't after the end
 rest_up_to : (a : List Entry) (end : Option Key) → AscendTo a end → (first last : Key) → first_or a end ≡ Some first → end ≡ Some last → ¬ (IsBefore last first)
-rest_up_to [] end up first last is is_end = let same : first ≡ last = cc in subst (λ (k : Key). ¬ (IsBefore k first)) same (not_before_self first)
-rest_up_to (x ∷ a) end up first last is is_end =
-    let same : x.first ≡ first = cc in
-    let before : IfSome (Some last) (IsBefore x.first) = subst (λ (o : Option Key). IfSome o (IsBefore x.first)) is_end (ascend_first x a end up) in
-    λ down. not_both_before x.first last before (subst (λ (k : Key). IsBefore last k) (sym same) down)
+rest_up_to a end up first last is is_end = search (rules, not_before_self, ascend_first, not_both_before)
 
 module _ (last : ℕ) (pages : List (List ℕ)) where
   -- the way ends not before where it begins
@@ -58,6 +55,11 @@ module _ (last : ℕ) (pages : List (List ℕ)) where
       with_end [] x a o = refl
       with_end (y ∷ m) x a o = refl
 
+  pub up_below : (key : Key) (level : ℕ) (entry : Entry) (end : Option Key) (below : Entry) (beyond : Option Key) → NamesFitting last pages level entry end
+      → (falls : FallsTo key (entries_of pages entry.page) end below beyond) → AscendTo (below ∷ falls.after) end
+  up_below key level entry end below beyond named falls =
+      ascend_right falls.before (below ∷ falls.after) end (subst (λ (xs : List Entry). AscendTo xs end) falls.parts named.fits.ascends)
+
   -- and what follows it begins not after the end
   pub ends_to : (key : Key) (level : ℕ) (entry : Entry) (end : Option Key) (found : Entry) (next : Option Key) → LeadsTo last pages key level entry end found next
       → (first limit : Key) → next ≡ Some first → end ≡ Some limit → ¬ (IsBefore limit first)
@@ -65,16 +67,13 @@ module _ (last : ℕ) (pages : List (List ℕ)) where
   ends_to key (suc level) entry end found next (named, below, beyond, falls, leads) first limit is is_end =
       by_beyond beyond refl (λ middle e. ends_to key level below beyond found next leads first middle is e)
     where
-      up : AscendTo (below ∷ falls.after) end
-      up = ascend_right falls.before (below ∷ falls.after) end (subst (λ (xs : List Entry). AscendTo xs end) falls.parts named.fits.ascends)
-
       no_end : (a : List Entry) → first_or a end ≡ None → ¬ (IsBefore limit first)
       no_end [] none = cc
       no_end (x ∷ a) none = cc
 
       by_beyond : (o : Option Key) → beyond ≡ o → ((middle : Key) → beyond ≡ Some middle → ¬ (IsBefore middle first)) → ¬ (IsBefore limit first)
       by_beyond None e below_it = no_end falls.after (sym falls.next_is ∙ e)
-      by_beyond (Some middle) e below_it = le_trans first middle limit (below_it middle e) (rest_up_to falls.after end up.1 middle limit (sym falls.next_is ∙ e) is_end)
+      by_beyond (Some middle) e below_it = le_trans first middle limit (below_it middle e) (rest_up_to falls.after end (up_below key (suc level) entry end below beyond named falls).1 middle limit (sym falls.next_is ∙ e) is_end)
 
   pub two_ways : (k1 k2 : Key) (level : ℕ) (entry : Entry) (end : Option Key) (f1 : Entry) (n1 : Option Key) (f2 : Entry) (n2 : Option Key)
       → LeadsTo last pages k1 level entry end f1 n1 → LeadsTo last pages k2 level entry end f2 n2 → IfSome end (IsBefore k2)
@@ -91,19 +90,13 @@ module _ (last : ℕ) (pages : List (List ℕ)) where
             subst (λ (e : Entry). LeadsTo last pages k1 level e o2 f1 n1) same.0 (subst (λ (o : Option Key). LeadsTo last pages k1 level x1 o f1 n1) nexts leads1) in
             two_ways k1 k2 level x2 o2 f1 n1 f2 n2 leads leads2 to_below from is before later
         | inr other ↦ elim other [
-          | inl behind ↦ later_on behind.0 (subst (λ (xs : List Entry). AscendTo xs end) behind.1 up1.1) (falls1.next_is ∙ ap (λ (xs : List Entry). first_or xs end) behind.1)
+          | inl behind ↦ later_on behind.0 (subst (λ (xs : List Entry). AscendTo xs end) behind.1 (up_below k1 (suc level) entry end x1 o1 named1 falls1).1) (falls1.next_is ∙ ap (λ (xs : List Entry). first_or xs end) behind.1)
           | inr ahead ↦
-              absurd (later (sooner ahead.0 (subst (λ (xs : List Entry). AscendTo xs end) ahead.1 up2.1)
+              absurd (later (sooner ahead.0 (subst (λ (xs : List Entry). AscendTo xs end) ahead.1 (up_below k2 (suc level) entry end x2 o2 named2 falls2).1)
               (subst (λ (o : Option Key). IfSome o (IsBefore k2)) (falls2.next_is ∙ ap (λ (xs : List Entry). first_or xs end) ahead.1) to_below)))
         ]
       ]
     where
-      up1 : AscendTo (x1 ∷ falls1.after) end
-      up1 = ascend_right falls1.before (x1 ∷ falls1.after) end (subst (λ (xs : List Entry). AscendTo xs end) falls1.parts named1.fits.ascends)
-
-      up2 : AscendTo (x2 ∷ falls2.after) end
-      up2 = ascend_right falls2.before (x2 ∷ falls2.after) end (subst (λ (xs : List Entry). AscendTo xs end) falls2.parts named2.fits.ascends)
-
       to_below : IfSome o2 (IsBefore k2)
       to_below = subst (λ (o : Option Key). IfSome o (IsBefore k2)) (sym falls2.next_is) (falls_to k2 falls2.after end to falls2.to)
 

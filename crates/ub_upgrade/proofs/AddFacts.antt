@@ -75,10 +75,6 @@ grow_by m n a b r fault h k j l = search rules
 
 -- ---- pages that are held
 
--- what is there under the first look-up is there under the second, which finds nothing
-none_there : (o p : Option (List ℕ)) → ((page : List ℕ) → o ≡ Some page → p ≡ Some page) → p ≡ None → o ≡ None
-none_there o p h k = search rules
-
 pub holds_put : {A : Type 0} (a b : PagerView) (page : List ℕ) (n : ℕ) (r : Result A StoreFault) → OnOk r (page_at b.cached n ≡ option_map (λ _. page) (page_at a.cached n))
     → OnErr r (page_at b.cached n ≡ None) → SameBut n a.cached b.cached → HoldsNoMore a b
 holds_put a b page n r h k j = search rules
@@ -108,11 +104,6 @@ adds_trans a b c h k = search rules
 
 pager_same : (a b : PagerView) → SameTrace a b → b.store ≡ written a.store b.store → b ≡ record a { store = written a.store b.store; cached = b.cached }
 pager_same a b h k = search rules
-
--- a page of the store was brought
-pub brought : {A : Type 0} (a b : PagerView) (r : Result A StoreFault) → SameTrace a b → Reads a.store b.store r → HoldsNoMore a b
-    → AddsPages a b × Counts r a.store b.store × (b.store.pages ≡ a.store.pages)
-brought a b r h k j = search rules
 
 -- a page of zeros was added
 pub page_begun : {A : Type 0} (a b : PagerView) (r : Result A StoreFault) → SameTrace a b → b.cached ≡ a.cached → Extends a.store b.store r

@@ -1,5 +1,5 @@
 -- The header that was read, and why pages aren't brought over.
-use Rattle.std.proofs.Common.{rules, ◌≡◌, ◌∙◌, ℕ, Bool, Option, Some, Result, IfErr, ap}
+use Rattle.std.proofs.Common.{rules, ◌≡◌, ◌∙◌, ℕ, Bool, Option, Some, Result, IfErr, ap, refl}
 use Rattle.ub_page.specs.Header.{AreSame}
 use Rattle.ub_page.specs.declared.header.Header.{Header}
 use Rattle.ub_page.specs.declared.header.OldHeader.{OldHeader}
@@ -16,13 +16,9 @@ header_with schema next rows regions root levels unclean = record { schema = sch
 -- two headers that agree in each part are one
 same_header : (a b : Header) → AreSame a b → a ≡ b
 same_header a b s =
-    ap (λ (x : Schema). header_with x a.next a.rows a.regions a.root a.levels a.unclean) (same_schema a.schema b.schema s.name s.columns s.dims s.page_rows s.signed)
-    ∙ ap (λ (n : ℕ). header_with b.schema n a.rows a.regions a.root a.levels a.unclean) s.next
-    ∙ ap (λ (n : ℕ). header_with b.schema b.next n a.regions a.root a.levels a.unclean) s.rows
-    ∙ ap (λ (n : ℕ). header_with b.schema b.next b.rows n a.root a.levels a.unclean) s.regions
-    ∙ ap (λ (n : ℕ). header_with b.schema b.next b.rows b.regions n a.levels a.unclean) s.root
-    ∙ ap (λ (n : ℕ). header_with b.schema b.next b.rows b.regions b.root n a.unclean) s.levels
-    ∙ ap (λ (x : Bool). header_with b.schema b.next b.rows b.regions b.root b.levels x) s.unclean
+    let schema = same_schema a.schema b.schema s.name s.columns s.dims s.page_rows s.signed in
+    let whole : header_with a.schema a.next a.rows a.regions a.root a.levels a.unclean ≡ b = rw (schema, s.next, s.rows, s.regions, s.root, s.levels, s.unclean) refl in
+    whole
 
 abbrev old_with : ℕ → Header → OldHeader
 old_with version header = record { version = version; header = header }

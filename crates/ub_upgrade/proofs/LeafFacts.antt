@@ -98,14 +98,8 @@ read_ended {A} B P Q R heading a b (Err f) e is same read adds counts fault = rw
   where
     by_fault : (e : UpgradeFault) → R ≡ record Q { failed_reads = counted_old {A = B} (Err e) Q.failed_reads } → IsBuildFault heading Q (calm a.store) e → BringsOver {A = A} P R a b (Err e)
     by_fault (Old store.Device) read fault = record { read = read_on P Q R (λ n. raised n 1) same read; same = adds.same; counts = counts; grows = adds.grows; held = adds.held }
-    by_fault (Old store.NoPage) read fault = record { read = read_on P Q R (λ n. n) same read; same = adds.same; counts = counts; grows = adds.grows; held = adds.held }
-    by_fault (Old store.Memory) read fault = record { read = read_on P Q R (λ n. n) same read; same = adds.same; counts = counts; grows = adds.grows; held = adds.held }
-    by_fault (Old store.BadSize) read fault = absurd fault
     by_fault (New store.Device) read fault = let no_way : false ≡ true = fault in cc
-    by_fault (New store.NoPage) read fault = absurd fault
-    by_fault (New store.Memory) read fault = record { read = read_on P Q R (λ n. n) same read; same = adds.same; counts = counts; grows = adds.grows; held = adds.held }
-    by_fault (New store.BadSize) read fault = record { read = read_on P Q R (λ n. n) same read; same = adds.same; counts = counts; grows = adds.grows; held = adds.held }
-    by_fault (Page n f) read fault = record { read = read_on P Q R (λ n. n) same read; same = adds.same; counts = counts; grows = adds.grows; held = adds.held }
+    by_fault e read fault = record { read = read_on P Q R (λ n. n) same read; same = adds.same; counts = counts; grows = adds.grows; held = adds.held }
 
 -- ---- the whole
 

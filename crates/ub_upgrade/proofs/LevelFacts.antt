@@ -4,9 +4,11 @@ use Rattle.std.proofs.lemmas.Grind.{flat_map-append}
 use Rattle.std.proofs.lemmas.List.{append-nil, length-append}
 use Rattle.std.specs.List.{AllByRecursion, IsDistinct, flat_map}
 use Rattle.ub_index.specs.Spans.{ArePlaces, first_keys}
+use Rattle.ub_index.proofs.FitFacts.{page_is}
 use Rattle.ub_index.proofs.KeptFacts.{kept_index, kept_list, same_page, told_index}
-use Rattle.ub_index.proofs.Lists.{all_left as numbers_left, all_right as numbers_right, ascend_first, ascend_left, ascend_right, each_left, each_right, each_same}
+use Rattle.ub_index.proofs.Lists.{ascend_first, ascend_left, ascend_right, each_left, each_right, each_same}
 use Rattle.ub_index.proofs.Numbers.{StandApart, distinct_apart, distinct_cons, distinct_join, distinct_left, distinct_right, kept_pages_list}
+use Rattle.ub_index.proofs.StandFacts.{told_there}
 use Rattle.ub_index.specs.Index.{IsTold, AscendTo, EachTo, IsUnder, entries_of, first_or, page_in, pages_under, under}
 use Rattle.ub_index.specs.Standing.{PagesStay, IsOutside}
 use Rattle.ub_page.proofs.IndexLaws.{length-node_on, node_get, node_parts}
@@ -14,7 +16,7 @@ use Rattle.ub_page.specs.Index.{IsNode, Node, index_page, node_on}
 use Rattle.ub_bytes.specs.Bytes.{number_at}
 use Rattle.ub_page.specs.Entries.{AreAscending, IsEntry, entry_on}
 use Rattle.ub_region.specs.declared.entry.Entry.{Entry}
-use Rattle.ub_region.proofs.Laws.{all_append, all_left, all_more, all_right}
+use Rattle.ub_region.proofs.Laws.{all_append, all_both, all_left, all_more, all_right}
 use Rattle.ub_table.proofs.Laws.{before_of}
 use Rattle.ub_table.specs.Keys.{IsBefore, are_ascending, origin}
 use Rattle.ub_table.specs.declared.row.Key.{Key}
@@ -25,9 +27,8 @@ use Rattle.ub_upgrade.specs.Levels.{Cut, IsIndexOf, IsLevel, name_of, names_of}
 -- ---- names
 
 pub names_join : (pages : List (List ℕ)) (n a b m c : ℕ) → c ≡ a + b → m ≡ n + a → names_of pages n c ≡ names_of pages n a ++ names_of pages m b
-names_join pages n zero b m c e f = search rules
-names_join pages n (suc a) b m zero e f = search rules
 names_join pages n (suc a) b m (suc c) e f = search (rules, (names_join pages (suc n) a b m c (omega arith) (omega arith)))
+names_join pages n a b m c e f = search rules
 
 pub names_kept : (old new : List (List ℕ)) (n count to : ℕ) → n + count ≤ to → ((m : ℕ) → m < to → slice_get new m ≡ slice_get old m) → names_of new n count ≡ names_of old n count
 names_kept old new n zero to le kept = refl
@@ -61,15 +62,9 @@ cut_more pages level n (suc count) m entries part is (first, rest, parts, some_f
 
 -- ---- one page
 
-page_is : (pages : List (List ℕ)) (n : ℕ) (page : List ℕ) → slice_get pages n ≡ Some page → page_in pages n ≡ page
-page_is [] n page at = cc
-page_is (p ∷ pages) zero page at = let same : p ≡ page = cc in same
-page_is (p ∷ pages) (suc n) page at = page_is pages n page at
-
-ascending_of : (entries : List Entry) (end : Option Key) → AscendTo entries end → AreAscending entries
-ascending_of [] end h = tt
-ascending_of (x ∷ []) end h = tt
+pub ascending_of : (entries : List Entry) (end : Option Key) → AscendTo entries end → AreAscending entries
 ascending_of (x ∷ y ∷ entries) end h = (h.0, ascending_of (y ∷ entries) end h.1)
+ascending_of entries end h = tt
 
 first_is : (entries : List Entry) (entry : Entry) → slice_get entries 0 ≡ Some entry → first_or entries None ≡ Some entry.first
 first_is entries entry h = search rules
@@ -86,13 +81,7 @@ told last pages level n part end small low high some few each up at =
     let entries : entries_of pages n ≡ part = ap (λ (x : Node). x.entries) on in
     let count : length part ≡ number_at 2 2 (page_in pages n) = ap length (sym entries) ∙ length-node_on (page_in pages n) in
     let first : slice_get (entries_of pages n) 0 ≡ Some (entry_on 16 (page_in pages n)) = node_get (page_in pages n) 0 (omega arith) in
-    record {
-      there = at ∙ ap (λ (p : List ℕ). Some p) (sym page);
-      is = record { spelled = page ∙ ap index_page (sym on); is = subst (λ (x : Node). IsNode last x) (sym on) is };
-      level_is = ap (λ (x : Node). x.level) on;
-      entries_are = entries;
-      begins = ap (λ (es : List Entry). first_or es None) (sym entries) ∙ first_is (entries_of pages n) (entry_on 16 (page_in pages n)) first;
-    }
+    told_there last small pages level part (name_of pages n) at is (ap (λ (es : List Entry). first_or es None) (sym entries) ∙ first_is (entries_of pages n) (entry_on 16 (page_in pages n)) first)
 
 -- a name of entries in order is before their end, and in range
 name_before : (part : List Entry) (end : Option Key) (first : Key) → AscendTo part end → first_or part None ≡ Some first → IfSome end (IsBefore first)
@@ -114,8 +103,14 @@ module _ (last : ℕ) (pages : List (List ℕ)) (level : ℕ) (small : last < 25
   abbrev numbers : List Entry → List ℕ
   numbers nodes = flat_map (pages_under pages level) nodes
 
+  -- the entries of each page are those that it tells
+  abbrev Tell : ℕ → ℕ → List Entry → Type 0
+  Tell n zero nodes = nodes ≡ []
+  Tell n (suc count) nodes = (part : List Entry) × (rest : List Entry) × (nodes ≡ part ++ rest) × (entries_of pages n ≡ part) × Tell (suc n) count rest
+
   -- what stands above these nodes, named by so many entries from a page on
-  record IsAbove (nodes names : List Entry) : Type 0 where
+  record IsAbove (n count : ℕ) (nodes names : List Entry) : Type 0 where
+    tell : Tell n count nodes
     begins : first_or names None ≡ first_or nodes None
     ascends : AscendTo names None
     each : AllByRecursion (IsEntry last) names
@@ -123,9 +118,9 @@ module _ (last : ℕ) (pages : List (List ℕ)) (level : ℕ) (small : last < 25
     entries_are : flat_map (under pages (suc level)) names ≡ flat_map (under pages level) nodes
 
   above : (n count : ℕ) (nodes : List Entry) → 1 ≤ n → n + count ≤ 2 ^ 32 → Cut pages (suc level) n count nodes → AscendTo nodes None → AllByRecursion (IsEntry last) nodes
-      → EachTo (IsUnder last pages level) nodes None → IsAbove nodes (names_of pages n count)
+      → EachTo (IsUnder last pages level) nodes None → IsAbove n count nodes (names_of pages n count)
   above n zero nodes some fits h up each unders =
-      rw h (record { begins = refl; ascends = tt; each = tt; under_them = tt; entries_are = refl })
+      rw h (record { tell = refl; begins = refl; ascends = tt; each = tt; under_them = tt; entries_are = refl })
   above n (suc count) nodes some fits (part, rest, is, some_part, few, at, more) up each unders =
       let up_all : AscendTo (part ++ rest) None = subst (λ (es : List Entry). AscendTo es None) is up in
       let each_all : AllByRecursion (IsEntry last) (part ++ rest) = subst (λ (es : List Entry). AllByRecursion (IsEntry last) es) is each in
@@ -139,6 +134,7 @@ module _ (last : ℕ) (pages : List (List ℕ)) (level : ℕ) (small : last < 25
       subst (λ (o : Option Key). EachTo (IsUnder last pages level) part o) (sym on.begins) (each_left (IsUnder last pages level) part rest None unders_all) in
       let tells = told last pages (suc level) n part (first_or names None) small (omega arith) (omega arith) some_part few each_part up_part at in
       record {
+        tell = (part, rest, is, tells.entries_are, on.tell);
         begins = sym (ap (λ (es : List Entry). first_or es None) is ∙ first_part part rest (name_of pages n).first tells.begins);
         ascends = (name_before part (first_or names None) (name_of pages n).first up_part tells.begins, on.ascends);
         each = (name_entry last n part (name_of pages n).first each_part tells.begins some (omega arith), on.each);
@@ -147,19 +143,6 @@ module _ (last : ℕ) (pages : List (List ℕ)) (level : ℕ) (small : last < 25
             ∙ ap (λ (es : List Entry). flat_map (under pages level) part ++ es) on.entries_are
             ∙ sym (flat_map-append (under pages level) part rest) ∙ ap (λ (es : List Entry). flat_map (under pages level) es) (sym is);
       }
-
-  -- the entries of each page are those that it tells
-  abbrev Tell : ℕ → ℕ → List Entry → Type 0
-  Tell n zero nodes = nodes ≡ []
-  Tell n (suc count) nodes = (part : List Entry) × (rest : List Entry) × (nodes ≡ part ++ rest) × (entries_of pages n ≡ part) × Tell (suc n) count rest
-
-  tell : (n count : ℕ) (nodes : List Entry) → Cut pages (suc level) n count nodes → AscendTo nodes None → AllByRecursion (IsEntry last) nodes → Tell n count nodes
-  tell n zero nodes h up each = h
-  tell n (suc count) nodes (part, rest, is, some_part, few, at, more) up each =
-      let up_all : AscendTo (part ++ rest) None = subst (λ (es : List Entry). AscendTo es None) is up in
-      let each_all : AllByRecursion (IsEntry last) (part ++ rest) = subst (λ (es : List Entry). AllByRecursion (IsEntry last) es) is each in
-      let tells = told last pages (suc level) n part (first_or rest None) small (omega arith) (omega arith) some_part few (all_left (IsEntry last) part rest each_all) (ascend_left part rest None up_all) at in
-      (part, rest, is, tells.entries_are, tell (suc n) count rest more (ascend_right part rest None up_all) (all_right (IsEntry last) part rest each_all))
 
   abbrev above_numbers : List Entry → List ℕ
   above_numbers names = flat_map (pages_under pages (suc level)) names
@@ -172,21 +155,24 @@ module _ (last : ℕ) (pages : List (List ℕ)) (level : ℕ) (small : last < 25
   numbers_join : (part rest nodes : List Entry) → nodes ≡ part ++ rest → numbers nodes ≡ numbers part ++ numbers rest
   numbers_join part rest nodes is = ap numbers is ∙ flat_map-append (pages_under pages level) part rest
 
-  -- a number below n that isn't one of the pages below is none of those from n on
-  outside_up : (x n count : ℕ) (nodes : List Entry) → Tell n count nodes → x < n → IsOutside x (numbers nodes) → IsOutside x (above_numbers (names_of pages n count))
-  outside_up x n zero nodes h less out = tt
-  outside_up x n (suc count) nodes (part, rest, is, tells, more) less out =
-      let all : IsOutside x (numbers part ++ numbers rest) = subst (λ (ns : List ℕ). IsOutside x ns) (numbers_join part rest nodes is) out in
-      let here : x ≢ n = λ e. omega arith in
-      subst (λ (ns : List ℕ). IsOutside x ns) (sym (split n count part tells)) (
-        here,
-        all_append (λ m. x ≢ m) (numbers part) (above_numbers (names_of pages (suc n) count)) (numbers_left (λ m. x ≢ m) (numbers part) (numbers rest) all)
-            (outside_up x (suc n) count rest more (omega arith) (numbers_right (λ m. x ≢ m) (numbers part) (numbers rest) all)),
+  all_up : (P : ℕ → Type 0) (n count to : ℕ) (nodes : List Entry) → n + count ≤ to → ((m : ℕ) → n ≤ m → m < to → P m) → Tell n count nodes → AllByRecursion P (numbers nodes)
+      → AllByRecursion P (above_numbers (names_of pages n count))
+  all_up P n zero to nodes le has h all = tt
+  all_up P n (suc count) to nodes le has (part, rest, is, tells, more) all =
+      let both : AllByRecursion P (numbers part ++ numbers rest) = subst (λ (ns : List ℕ). AllByRecursion P ns) (numbers_join part rest nodes is) all in
+      subst (λ (ns : List ℕ). AllByRecursion P ns) (sym (split n count part tells)) (
+        has n (omega arith) (omega arith),
+        all_append P (numbers part) (above_numbers (names_of pages (suc n) count)) (all_left P (numbers part) (numbers rest) both)
+            (all_up P (suc n) count to rest (omega arith) (λ m le less. has m (omega arith) less) more (all_right P (numbers part) (numbers rest) both)),
       )
 
+  -- a number below n that isn't one of the pages below is none of those from n on
+  outside_up : (x n count : ℕ) (nodes : List Entry) → Tell n count nodes → x < n → IsOutside x (numbers nodes) → IsOutside x (above_numbers (names_of pages n count))
+  outside_up x n count nodes h less out = all_up (λ m. x ≢ m) n count (n + count) nodes (omega arith) (λ m low l e. omega arith) h out
+
   apart_up : (xs : List ℕ) (n count : ℕ) (nodes : List Entry) → Tell n count nodes → AllByRecursion (λ x. x < n) xs → StandApart xs (numbers nodes) → StandApart xs (above_numbers (names_of pages n count))
-  apart_up [] n count nodes h less out = tt
-  apart_up (x ∷ xs) n count nodes h less out = (outside_up x n count nodes h less.0 out.0, apart_up xs n count nodes h less.1 out.1)
+  apart_up xs n count nodes h less out =
+      all_both (λ x. x < n) (λ x. IsOutside x (numbers nodes)) (λ x. IsOutside x (above_numbers (names_of pages n count))) (λ x l o. outside_up x n count nodes h l o) xs less out
 
   below : (n : ℕ) (xs : List ℕ) → AllByRecursion (λ x. x < n) xs → IsOutside n xs
   below n xs less = all_more (λ x. x < n) (λ x. n ≢ x) (λ x l e. omega arith) xs less
@@ -201,8 +187,8 @@ module _ (last : ℕ) (pages : List (List ℕ)) (level : ℕ) (small : last < 25
       let join = numbers_join part rest nodes is in
       let all : IsDistinct nat_eq (numbers part ++ numbers rest) = subst (λ (ns : List ℕ). IsDistinct nat_eq ns) join apart in
       let less_all : AllByRecursion (λ x. x < n) (numbers part ++ numbers rest) = subst (λ (ns : List ℕ). AllByRecursion (λ x. x < n) ns) join less in
-      let less_part = numbers_left (λ x. x < n) (numbers part) (numbers rest) less_all in
-      let less_rest = numbers_right (λ x. x < n) (numbers part) (numbers rest) less_all in
+      let less_part = all_left (λ x. x < n) (numbers part) (numbers rest) less_all in
+      let less_rest = all_right (λ x. x < n) (numbers part) (numbers rest) less_all in
       let names = above_numbers (names_of pages (suc n) count) in
       let on = distinct_up (suc n) count rest more (further n (numbers rest) less_rest) (distinct_right (numbers part) (numbers rest) all) in
       let out : IsOutside n names = outside_up n (suc n) count rest more (omega arith) (below n (numbers rest) less_rest) in
@@ -211,23 +197,11 @@ module _ (last : ℕ) (pages : List (List ℕ)) (level : ℕ) (small : last < 25
       (distinct_cons n (numbers part ++ names) (all_append (λ m. n ≢ m) (numbers part) names (below n (numbers part) less_part) out)
       (distinct_join (numbers part) names (distinct_left (numbers part) (numbers rest) all) on between))
 
-  all_up : (P : ℕ → Type 0) (n count to : ℕ) (nodes : List Entry) → n + count ≤ to → ((m : ℕ) → n ≤ m → m < to → P m) → Tell n count nodes → AllByRecursion P (numbers nodes)
-      → AllByRecursion P (above_numbers (names_of pages n count))
-  all_up P n zero to nodes le has h all = tt
-  all_up P n (suc count) to nodes le has (part, rest, is, tells, more) all =
-      let both : AllByRecursion P (numbers part ++ numbers rest) = subst (λ (ns : List ℕ). AllByRecursion P ns) (numbers_join part rest nodes is) all in
-      subst (λ (ns : List ℕ). AllByRecursion P ns) (sym (split n count part tells)) (
-        has n (omega arith) (omega arith),
-        all_append P (numbers part) (above_numbers (names_of pages (suc n) count)) (numbers_left P (numbers part) (numbers rest) both)
-            (all_up P (suc n) count to rest (omega arith) (λ m le less. has m (omega arith) less) more (numbers_right P (numbers part) (numbers rest) both)),
-      )
-
   -- the level above one, whose pages are cut of it behind all of its pages
   pub level_up : (from middle to count : ℕ) (nodes entries : List Entry) → IsLevel last pages from middle level nodes entries → from ≤ middle → 1 ≤ middle → middle + count ≡ to → to ≤ 2 ^ 32
       → Cut pages (suc level) middle count nodes → IsLevel last pages from to (suc level) (names_of pages middle count) entries
   level_up from middle to count nodes entries is order some sum fits cut =
       let up = above middle count nodes some (omega arith) cut is.ascends is.each is.under_them in
-      let tells = tell middle count nodes cut is.ascends is.each in
       let less = all_more (λ n. (from ≤ n) × (n < middle)) (λ n. n < middle) (λ n h. h.1) (numbers nodes) is.within in
       let wide = all_more (λ n. (from ≤ n) × (n < middle)) (λ n. (from ≤ n) × (n < to)) (λ n h. (h.0, (let l = h.1 in omega arith))) (numbers nodes) is.within in
       record {
@@ -236,8 +210,8 @@ module _ (last : ℕ) (pages : List (List ℕ)) (level : ℕ) (small : last < 25
         each = up.each;
         under_them = up.under_them;
         entries_are = up.entries_are ∙ is.entries_are;
-        apart = distinct_up middle count nodes tells less is.apart;
-        within = all_up (λ n. (from ≤ n) × (n < to)) middle count to nodes (omega arith) (λ m le l. (omega arith, l)) tells wide;
+        apart = distinct_up middle count nodes up.tell less is.apart;
+        within = all_up (λ n. (from ≤ n) × (n < to)) middle count to nodes (omega arith) (λ m le l. (omega arith, l)) up.tell wide;
       }
 
 -- ---- a level stays where its pages do
@@ -260,7 +234,7 @@ level_kept last old new from to level nodes entries kept is =
 
 -- ---- the entries of regions as the level below the lowest
 
-ascend_of : (entries : List Entry) → are_ascending (first_keys entries) ≡ true → AscendTo entries None
+pub ascend_of : (entries : List Entry) → are_ascending (first_keys entries) ≡ true → AscendTo entries None
 ascend_of [] up = tt
 ascend_of (x ∷ []) up = (tt, tt)
 ascend_of (x ∷ y ∷ entries) up = let parts = and_parts _ _ up in (before_of x.first y.first parts.0, ascend_of (y ∷ entries) parts.1)

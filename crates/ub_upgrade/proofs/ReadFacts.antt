@@ -2,7 +2,7 @@
 use Rattle.std.proofs.lemmas.Grind.{common_steps}
 use Rattle.std.proofs.Common.{rules, ◌≡◌, ◌<◌, ◌≤◌, ◌+◌, ◌-◌, ◌*◌, ◌↔◌, ◌&&◌, ◌++◌, inl, inr, ℕ, suc, get_or, Bool, true, IsTrue, List, [], ◌∷◌, Some, None, Err, length, take, drop, ◌∙◌, ap, subst, refl, arith, slice_get, slice_index_or}
 use Rattle.std.proofs.lemmas.Bool.{and_parts, cases_eq, cases_lt}
-use Rattle.std.proofs.lemmas.List.{length-append, length-take, length-drop, take-append-le, drop-append-le}
+use Rattle.std.proofs.lemmas.List.{drop_all, length-append, length-take, length-drop, take-append-le, take_all, drop-append-le}
 use Rattle.std.proofs.lemmas.List.Elements.{All-from_recursion}
 use Rattle.std.specs.List.{All, AllByRecursion}
 use Rattle.ub_zaddr.specs.Address.{last_address}
@@ -39,8 +39,6 @@ and_true b = search rules
 -- entries after others are in order where the first of them is after the last of those
 joined : (xs ys : List Entry) (key : Key) (f : Entry) → are_ascending (first_keys xs) ≡ true → are_ascending (first_keys ys) ≡ true → last_first xs ≡ Some key → slice_get ys 0 ≡ Some f
     → are_ascending (first_keys (xs ++ ys)) ≡ precedes key f.first
-joined [] ys key f up rest last first = cc
-joined (x ∷ []) [] key f up rest last first = cc
 joined (x ∷ []) (y ∷ ys) key f up rest last first =
     let same : x.first ≡ key = cc in
     let also : y ≡ f = cc in
@@ -49,11 +47,11 @@ joined (x ∷ []) (y ∷ ys) key f up rest last first =
 joined (x ∷ z ∷ xs) ys key f up rest last first =
     let parts = and_parts _ _ up in
     ap (λ (b : Bool). b && are_ascending (first_keys ((z ∷ xs) ++ ys))) parts.0 ∙ joined (z ∷ xs) ys key f parts.1 rest last first
+joined xs ys key f up rest last first = cc
 
 pub ascends : (entries : List Entry) → AreAscending entries → are_ascending (first_keys entries) ≡ true
-ascends [] up = refl
-ascends (x ∷ []) up = refl
 ascends (x ∷ y ∷ entries) up = search (rules, (ascends (y ∷ entries) up.1), precedes_of)
+ascends entries up = refl
 
 pub begun_after : (before entries : List Entry) (key : Key) (d : Entry) (b : Bool) → AreBegun before → AreAscending entries → last_first before ≡ Some key → 1 ≤ length entries
     → b ≡ precedes key (get_or entries 0 d).first → (b ≡ true) ↔ AreBegun (before ++ entries)
@@ -71,19 +69,11 @@ begun_first [] (y ∷ entries) d b none up some tells = grind (arith, common_ste
 
 -- the last of entries after others
 pub last_behind : (xs ys : List Entry) (d : Entry) → 1 ≤ length ys → last_first (xs ++ ys) ≡ Some (get_or ys (length ys - 1) d).first
-last_behind [] [] d some = search rules
 last_behind [] (y ∷ []) d some = refl
 last_behind [] (y ∷ z ∷ ys) d some = search (rules, (last_behind [] (z ∷ ys) d (omega arith)))
-last_behind (x ∷ []) [] d some = search rules
 last_behind (x ∷ []) (y ∷ ys) d some = search (rules, (last_behind [] (y ∷ ys) d some))
 last_behind (x ∷ z ∷ xs) ys d some = search (rules, (last_behind (z ∷ xs) ys d some))
-
--- a list of no more than so many
-take_all : {X : Type 0} (k : ℕ) (xs : List X) → length xs ≤ k → take k xs ≡ xs
-take_all k xs j = grind (arith, common_steps)
-
-drop_all : {X : Type 0} (k : ℕ) (xs : List X) → length xs ≤ k → drop k xs ≡ []
-drop_all k xs j = grind (arith, common_steps)
+last_behind xs ys d some = search rules
 
 -- the first page of a chain that goes on
 pub first_goes_on : (chain : List ℕ) (n m : ℕ) → slice_index_or (chain ++ n ∷ []) 0 m ≡ slice_index_or chain 0 n
@@ -97,12 +87,6 @@ long_front : (entries : List Entry) → length (take 170 entries) ≡ 170 → 17
 long_front entries long = omega (arith, length-take 170 entries)
 
 module _ (dims : ℕ) (pages : List (List ℕ)) where
-  pub full_length : (chain : List ℕ) (entries : List Entry) (n : ℕ) → AreFull dims pages chain entries n → length entries ≡ 170 * length chain
-  full_length [] entries n h = ap length h
-  full_length (a ∷ chain) entries n h =
-      let rest = full_length chain (drop 170 entries) n h.2 in
-      omega (arith, rest, length-drop 170 entries, long_front entries h.1)
-
   full_some : (chain : List ℕ) (entries : List Entry) (n : ℕ) → AreFull dims pages chain entries n → AllByRecursion (λ n. 1 ≤ n) chain
   full_some [] entries n h = tt
   full_some (a ∷ chain) entries n h = (h.0.some, full_some chain (drop 170 entries) n h.2)

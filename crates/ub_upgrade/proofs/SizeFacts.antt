@@ -3,9 +3,6 @@ use Rattle.std.proofs.Common.{rules, ◌≡◌, ◌≤◌, ◌<◌, ◌+◌, ◌
 use Rattle.std.proofs.lemmas.Bool.{lt-leb}
 use Rattle.ub_upgrade.specs.Levels.{most_pages, pages_above, pages_for}
 
-pub pages_are : (count pages : ℕ) → count ≤ 170 * pages → 170 * pages < count + 170 → pages ≡ pages_for count
-pages_are count pages some few = omega arith
-
 -- a level of two pages or more is the fourth at most, and the one above it has so few as it must
 pub low_level : (level count : ℕ) → 2 ≤ count → count ≤ most_pages level → level ≤ 4
 low_level level count h k = search rules

@@ -1,6 +1,6 @@
 -- The pages of a store hold one directory of format 1 alone that begins on a page, and reading finds it.
 use Rattle.std.proofs.lemmas.Grind.{common_steps}
-use Rattle.std.proofs.Common.{rules, ◌≡◌, ◌<◌, ◌≤◌, ◌+◌, ◌-◌, ◌^◌, ◌++◌, inl, inr, ℕ, zero, suc, true, List, [], ◌∷◌, Option, Some, Result, length, take, drop, ◌∙◌, sym, ap, subst, refl, arith, slice_get, slice_index_or, append_assoc}
+use Rattle.std.proofs.Common.{rules, ◌≡◌, ◌<◌, ◌≤◌, ◌+◌, ◌-◌, ◌^◌, ◌++◌, inl, inr, ℕ, zero, suc, true, List, [], ◌∷◌, Option, Some, None, Result, length, take, drop, ◌∙◌, sym, ap, subst, refl, arith, slice_get, slice_index_or, append_assoc}
 use Rattle.std.proofs.Math.Seq.{take-append-add}
 use Rattle.std.proofs.lemmas.Bool.{and_parts, and_from}
 use Rattle.std.proofs.lemmas.List.{length-append, length-drop, take-append-drop}
@@ -17,6 +17,8 @@ use Rattle.ub_store.specs.Facts.{StoreFacts, IsHonest, page_count}
 use Rattle.ub_table.proofs.Laws.{before_of}
 use Rattle.ub_table.specs.Keys.{are_ascending}
 use Rattle.ub_table.specs.declared.fault.PageFault.{PageFault}
+use Rattle.ub_upgrade.proofs.BringFacts.{some_same}
+use Rattle.ub_upgrade.proofs.LevelFacts.{ascend_of, ascending_of}
 use Rattle.ub_upgrade.specs.Chain.{IsChain}
 use Rattle.ub_upgrade.specs.Reading.{HeadingView, IsDirectory, Spells, AreBelow, AreFull, AreBegun, HasPart, IsMisfit, IsPartFault, IsReadUpTo}
 use Rattle.ub_upgrade.specs.Building.{HasBuilt, IsBuildFault, IsBuilt, IsPassing}
@@ -26,50 +28,38 @@ use Rattle.ub_upgrade.specs.declared.fault.UpgradeFault.{UpgradeFault}
 use Rattle.ub_upgrade.specs.declared.fault.UpgradeFault.TheVariants.{Page, Old, New}
 use Rattle.ub_store.specs.declared.fault.StoreFault.TheVariants as store
 
-some_same : {X : Type 0} (o : Option X) (x y : X) → o ≡ Some x → o ≡ Some y → x ≡ y
-some_same o x y a b = cc
-
 ascending_take : (n : ℕ) (entries : List Entry) → AreAscending entries → AreAscending (take n entries)
-ascending_take zero [] up = tt
-ascending_take zero (x ∷ entries) up = tt
-ascending_take (suc n) [] up = tt
-ascending_take (suc zero) (x ∷ []) up = tt
-ascending_take (suc (suc n)) (x ∷ []) up = tt
-ascending_take (suc zero) (x ∷ y ∷ entries) up = tt
 ascending_take (suc (suc n)) (x ∷ y ∷ entries) up = (up.0, ascending_take (suc n) (y ∷ entries) up.1)
+ascending_take zero entries up = tt
+ascending_take (suc n) [] up = tt
+ascending_take (suc zero) (x ∷ entries) up = tt
+ascending_take (suc (suc n)) (x ∷ []) up = tt
 
 ascending_drop : (n : ℕ) (entries : List Entry) → AreAscending entries → AreAscending (drop n entries)
-ascending_drop zero [] up = tt
 ascending_drop zero (x ∷ entries) up = up
-ascending_drop (suc n) [] up = tt
 ascending_drop (suc n) (x ∷ []) up = ascending_drop n [] tt
 ascending_drop (suc n) (x ∷ y ∷ entries) up = ascending_drop n (y ∷ entries) up.1
+ascending_drop n entries up = tt
 
 ascends_back : (entries : List Entry) → are_ascending (first_keys entries) ≡ true → AreAscending entries
-ascends_back [] up = tt
-ascends_back (x ∷ []) up = tt
-ascends_back (x ∷ y ∷ entries) up = let parts = and_parts _ _ up in (before_of x.first y.first parts.0, ascends_back (y ∷ entries) parts.1)
+ascends_back entries up = ascending_of entries None (ascend_of entries up)
 
 -- the first entries of a directory
 begun_of : (last : ℕ) (entries : List Entry) → ArePlaces last entries → AreBegun entries
 begun_of last entries j = search rules
 
 begun_take : (n : ℕ) (entries : List Entry) → AreBegun entries → AreBegun (take n entries)
-begun_take zero [] h = tt
-begun_take zero (e ∷ entries) h = tt
-begun_take (suc n) [] h = tt
 begun_take (suc n) (e ∷ entries) h = (h.0, keys_up (suc n) (e ∷ entries) h.1)
   where
     keys_up : (n : ℕ) (entries : List Entry) → are_ascending (first_keys entries) ≡ true → are_ascending (first_keys (take n entries)) ≡ true
-    keys_up zero [] up = refl
-    keys_up zero (x ∷ entries) up = refl
-    keys_up (suc n) [] up = refl
-    keys_up (suc zero) (x ∷ []) up = refl
-    keys_up (suc (suc n)) (x ∷ []) up = refl
-    keys_up (suc zero) (x ∷ y ∷ entries) up = refl
     keys_up (suc (suc n)) (x ∷ y ∷ entries) up =
         let parts = and_parts _ _ up in
         and_from _ _ parts.0 (keys_up (suc n) (y ∷ entries) parts.1)
+    keys_up zero entries up = refl
+    keys_up (suc n) [] up = refl
+    keys_up (suc zero) (x ∷ entries) up = refl
+    keys_up (suc (suc n)) (x ∷ []) up = refl
+begun_take n entries h = tt
 
 module _ (dims : ℕ) (few : dims ≤ 4) (pages : List (List ℕ)) where
   -- the pages of this chain spell the entries, as parts of a directory in range
@@ -266,20 +256,16 @@ module _ (heading : HeadingView) (few : heading.dims ≤ 4) (old : StoreFacts) (
 
   -- a directory that is there, all of whose regions have pages, is not refused but for want of memory or of numbers, or where a store failed
   pub not_refused : (new : StoreFacts) (fault : UpgradeFault) → AreBelow (page_count old) all → IsBuildFault heading old new fault → IsPassing fault
-  not_refused new (Old store.Memory) below h = tt
   not_refused new (Old store.BadSize) below h = absurd h
-  not_refused new (Old store.Device) below h = tt
   not_refused new (Old store.NoPage) below (n, past, inl asked) =
       let on = aligned_there asked.0 asked.1 n asked.2 in
       let within = listed_in heading.dims few old.pages n on.rest on.more on.listed in
       absurd (omega arith)
   not_refused new (Old store.NoPage) below (n, past, inr h) =
       absurd (never_named h.chain h.before h.number h.asked h.part h.index n (record { first = h.first; page = n }) below h.range (h.page honest) h.names refl past)
-  not_refused new (New store.Memory) below h = tt
-  not_refused new (New store.BadSize) below h = tt
-  not_refused new (New store.Device) below h = tt
   not_refused new (New store.NoPage) below h = absurd h
   not_refused new (Page n fault) below (page, at, r) = absurd (never_part r.0 r.1 n r.2 page fault (at honest) r.3)
+  not_refused new fault below h = tt
 
   -- what was built is the index of that directory
   pub built_same : (new then : StoreFacts) (root : Root) → IsBuilt heading old new then root → HasBuilt heading new then root all

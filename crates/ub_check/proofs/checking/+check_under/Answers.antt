@@ -1,9 +1,8 @@
-use Rattle.std.proofs.Common.{Err, ◌≡◌, ◌≤◌, ◌<◌, ◌+◌, ◌-◌, ◌∙◌, suc, ℕ, List, Some, OnOk, drop, length, slice_get, slice_index_or, ap, arith, rules, subst, sym}
-use Rattle.std.proofs.lemmas.Option.{slice_get-get_or}
+use Rattle.std.proofs.Common.{Err, ◌≡◌, ◌≤◌, ◌<◌, ◌+◌, ◌-◌, suc, ℕ, List, OnOk, length, slice_index_or, arith, rules, subst, sym}
 use Rattle.ub_index.specs.Descending.{Steps}
-use Rattle.ub_index.specs.Index.{NamesFitting, first_or}
+use Rattle.ub_index.specs.Index.{NamesFitting}
 use Rattle.ub_region.specs.declared.entry.Entry.{Entry}
-use Rattle.ub_check.proofs.CheckingFacts.{below_stops, page_stops, page_taken, walked_more}
+use Rattle.ub_check.proofs.CheckingFacts.{below_stops, entry_there, page_stops, page_taken, walked_more}
 use Rattle.ub_check.specs.inner.Checking.{IsWalkedTo, TakesOn, Walks}
 use Rattle.ub_check.proofs.checking.+check_under.Goals as goal
 
@@ -29,14 +28,11 @@ returns-in_err-check_under-clause-effect g t c =
     let i = c.loop-i.i in
     let within : i < length entries = search rules in
     let read : c.index.result.now ≡ slice_index_or entries i c.index.result.now = search rules in
-    let at : slice_get entries i ≡ Some c.index.result.now = slice_get-get_or entries i c.index.result.now within ∙ ap (λ (e : Entry). Some e) (sym read) in
-    let one : suc i ≡ i + 1 = omega arith in
-    let next : c.first_from-next.result ≡ first_or (drop (suc i) entries) c.args.end =
-    c.first_from-next.ensures ∙ (ap (λ (es : List Entry). first_or (drop (i + 1) es) c.args.end) c.as_slice.ensures.value ∙ ap (λ (j : ℕ). first_or (drop j entries) c.args.end) (sym one)) in
+    let here = entry_there entries _ i c.index.result.now c.args.end c.first_from-next.result within read c.as_slice.ensures.value c.first_from-next.ensures in
     subst (λ (n : ℕ). Walks c.args.schema.now c.args.last n c.args.entry.now c.args.end c.args.walk.now c.args.pager.now c.check_under.new.pager c.from_residual-in_err-check_under.result) level
     (below_stops c.args.schema.now c.args.last (c.args.level - 1) c.args.entry.now c.args.end c.args.walk.now c.args.pager.now entries c.entries_at.new.pager c.in_ok-entries.ensures.effect.same c.in_ok-entries.ensures.effect.checked
     (λ honest. subst (λ (n : ℕ). NamesFitting c.args.last c.args.pager.now.store.pages n c.args.entry.now c.args.end) (sym level) (c.in_ok-entries.ensures.named honest))
-    (λ honest. c.in_ok-entries.ensures.entries honest) c.loop-i.pager c.loop-i.walk i c.index.result.now c.first_from-next.result c.loop-i.invariant at next
+    (λ honest. c.in_ok-entries.ensures.entries honest) c.loop-i.pager c.loop-i.walk i c.index.result.now c.first_from-next.result c.loop-i.invariant here.0 here.1
     c.from_residual-in_err-check_under.result c.in_err-check_under.field-0.0 c.check_under.new.pager c.from_residual-in_err-check_under.ensures.1 c.in_err-check_under.ensures.effect)
 
 pub loop-i-preserved : goal.loop-i-preserved
@@ -45,13 +41,11 @@ loop-i-preserved g t c =
     let i = c.loop-i.i in
     let within : i < length entries = search rules in
     let read : c.index.result.now ≡ slice_index_or entries i c.index.result.now = search rules in
-    let at : slice_get entries i ≡ Some c.index.result.now = slice_get-get_or entries i c.index.result.now within ∙ ap (λ (e : Entry). Some e) (sym read) in
+    let here = entry_there entries _ i c.index.result.now c.args.end c.first_from-next.result within read c.as_slice.ensures.value c.first_from-next.ensures in
     let one : suc i ≡ i + 1 = omega arith in
-    let next : c.first_from-next.result ≡ first_or (drop (suc i) entries) c.args.end =
-    c.first_from-next.ensures ∙ (ap (λ (es : List Entry). first_or (drop (i + 1) es) c.args.end) c.as_slice.ensures.value ∙ ap (λ (j : ℕ). first_or (drop j entries) c.args.end) (sym one)) in
     subst (λ (j : ℕ). IsWalkedTo c.args.schema.now c.args.last (c.args.level - 1) entries c.args.end c.entries_at.new.pager c.check_under.new.pager c.args.walk.now c.check_under.new.walk j) one
     (walked_more c.args.schema.now c.args.last (c.args.level - 1) entries c.args.end c.entries_at.new.pager c.loop-i.pager c.args.walk.now c.loop-i.walk i
-    c.index.result.now c.first_from-next.result c.loop-i.invariant at next c.check_under.new.pager c.check_under.new.walk
+    c.index.result.now c.first_from-next.result c.loop-i.invariant here.0 here.1 c.check_under.new.pager c.check_under.new.walk
     c.in_ok-check_under.ensures.effect.same c.in_ok-check_under.ensures.effect.checked c.in_ok-check_under.ensures.bound c.in_ok-check_under.ensures.taken)
 
 pub returns-clause-taken : goal.returns-clause-taken
