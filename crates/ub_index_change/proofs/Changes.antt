@@ -8,7 +8,7 @@ use Rattle.ub_table.proofs.Laws.{not_before_self, not_both_before}
 use Rattle.ub_table.specs.Keys.{IsBefore}
 use Rattle.ub_table.specs.declared.row.Key.{Key}
 use Rattle.ub_index_change.specs.Changed.{Becomes, BeginFrom, Replaces, StandOn, Stays}
-use Rattle.ub_index.specs.Index.{IsTold, entries_of, first_or, AscendTo, EachTo, IsUnder, under, pages_under}
+use Rattle.ub_index.specs.Index.{entries_of, first_or, AscendTo, EachTo, IsUnder, under, pages_under}
 use Rattle.ub_index.proofs.Lists.{IsNotBefore, ascend_first, ascend_join, ascend_later, ascend_left, ascend_right, each_join, each_later, each_left, each_right, each_same}
 use Rattle.ub_index.proofs.KeptFacts.{kept_list, kept_index, under_later, told_index}
 
@@ -75,6 +75,15 @@ not_before g [] [] (Some key) h k = λ yes. not_both_before g.first key k yes
 not_before g [] (a ∷ after) end h k = λ yes. not_both_before g.first a.first k yes
 not_before g (n ∷ news) after end h k = h
 
+-- where an entry became others, the entries of its page are in order still
+pub ascend_mended : (before : List Entry) (below : Entry) (after news : List Entry) (end : Option Key) → AscendTo (before ++ (below ∷ after)) end → BeginFrom below.first news
+    → AscendTo news (first_or after end) → AscendTo (before ++ (news ++ after)) end
+ascend_mended before below after news end up later in_it =
+    let from_below = ascend_right before (below ∷ after) end up in
+    let no_sooner = not_before below news after end later from_below.0 in
+    ascend_join before (news ++ after) end (ascend_later before (Some below.first) (first_or (news ++ after) end) (ascend_left before (below ∷ after) end up) no_sooner)
+    (ascend_join news after end in_it from_below.1)
+
 pub first_of : (g : Entry) (before news after : List Entry) (first : Key) → first_or (before ++ (g ∷ after)) None ≡ Some first
     → BeginFrom g.first news → AscendTo (g ∷ after) None → BeginFrom first (before ++ (news ++ after))
 first_of g (b ∷ before) news after first e h k =
@@ -89,19 +98,16 @@ pub no_end : (end : Option Key) → IsNotBefore end None
 no_end None = tt
 no_end (Some key) = tt
 
--- the entry that names a page of entries in order is before their end
-told_before : (last : ℕ) (pages : List (List ℕ)) (level : ℕ) (entries : List Entry) (entry : Entry) (end : Option Key) → IsTold last pages level entries entry → AscendTo entries end
-    → IfSome end (IsBefore entry.first)
-told_before last pages level [] entry end h up = let no : None ≡ Some entry.first = h.begins in cc
-told_before last pages level (x ∷ xs) entry end h up =
-    let same : Some x.first ≡ Some entry.first = h.begins in
-    let is : x.first ≡ entry.first = cc in
+-- the key with which entries in order begin is before their end
+pub begun_before : (entries : List Entry) (first : Key) (end : Option Key) → first_or entries None ≡ Some first → AscendTo entries end → IfSome end (IsBefore first)
+begun_before [] first end begins up = cc
+begun_before (x ∷ xs) first end begins up =
+    let is : x.first ≡ first = cc in
     subst (λ (key : Key). IfSome end (IsBefore key)) is (ascend_first x xs end up)
 
-first_told : (last : ℕ) (pages : List (List ℕ)) (level : ℕ) (entries rest : List Entry) (entry : Entry) (end : Option Key) → IsTold last pages level entries entry
-    → first_or (entries ++ rest) end ≡ Some entry.first
-first_told last pages level [] rest entry end h = let no : None ≡ Some entry.first = h.begins in cc
-first_told last pages level (x ∷ xs) rest entry end h = let same : Some x.first ≡ Some entry.first = h.begins in same
+pub begun_joined : (entries rest : List Entry) (first : Key) (end : Option Key) → first_or entries None ≡ Some first → first_or (entries ++ rest) end ≡ Some first
+begun_joined [] rest first end begins = cc
+begun_joined (x ∷ xs) rest first end begins = begins
 
 stood : (last : ℕ) (pages : List (List ℕ)) (level n : ℕ) (entry : Entry) (end : Option Key) (entries told : List Entry) → AscendTo entries end
     → EachTo (IsUnder last pages level) entries end → BeginFrom entry.first entries → StandOn last pages (suc level) n entries told → Stays last pages (suc level) entry end told
@@ -110,7 +116,7 @@ stood last pages level n entry end entries told up each later h = elim h [
   | inr more ↦ elim more [
     | inl one ↦
         rw one.1 (record {
-          ascends = (told_before last pages (suc level) entries one.0 end one.3 up, tt);
+          ascends = (begun_before entries one.0.first end one.3.begins up, tt);
           later = subst (λ (o : Option Key). IfSome o (λ key. ¬ (IsBefore key entry.first))) one.3.begins later;
           each = (told_index last pages level entries one.0 end one.3 up each, tt);
         })
@@ -121,14 +127,14 @@ stood last pages level n entry end entries told up each later h = elim h [
         let up_all : AscendTo (l ++ r) end = subst (λ (xs : List Entry). AscendTo xs end) parts up in
         let each_all : EachTo (IsUnder last pages level) (l ++ r) end = subst (λ (xs : List Entry). EachTo (IsUnder last pages level) xs end) parts each in
         let later_all : BeginFrom entry.first (l ++ r) = subst (λ (xs : List Entry). BeginFrom entry.first xs) parts later in
-        let middle : first_or r end ≡ Some two.1.first = ap (λ (xs : List Entry). first_or xs end) (sym (append-nil r)) ∙ first_told last pages (suc level) r [] two.1 end two.6 in
+        let middle : first_or r end ≡ Some two.1.first = ap (λ (xs : List Entry). first_or xs end) (sym (append-nil r)) ∙ begun_joined r [] two.1.first end two.6.begins in
         let up_left : AscendTo l (Some two.1.first) = subst (λ (o : Option Key). AscendTo l o) middle (ascend_left l r end up_all) in
         let each_l : EachTo (IsUnder last pages level) l (Some two.1.first) =
         subst (λ (o : Option Key). EachTo (IsUnder last pages level) l o) middle (each_left (IsUnder last pages level) l r end each_all) in
         let up_right = ascend_right l r end up_all in
         rw two.3 (record {
-          ascends = (told_before last pages (suc level) l two.0 (Some two.1.first) two.5 up_left, (told_before last pages (suc level) r two.1 end two.6 up_right, tt));
-          later = subst (λ (o : Option Key). IfSome o (λ key. ¬ (IsBefore key entry.first))) (first_told last pages (suc level) l r two.0 None two.5) later_all;
+          ascends = (begun_before l two.0.first (Some two.1.first) two.5.begins up_left, (begun_before r two.1.first end two.6.begins up_right, tt));
+          later = subst (λ (o : Option Key). IfSome o (λ key. ¬ (IsBefore key entry.first))) (begun_joined l r two.0.first None two.5.begins) later_all;
           each = (
             told_index last pages level l two.0 (Some two.1.first) two.5 up_left each_l,
             (told_index last pages level r two.1 end two.6 up_right (each_right (IsUnder last pages level) l r end each_all), tt),
@@ -154,8 +160,6 @@ stays last old new f fs next (suc level) entry end told up later ends is (before
     let each_below = each_right (IsUnder last old level) before (below ∷ after) end each_all in
     let in_it = stays last old new f fs next level below (first_or after end) news up later from_below.0 each_below.0 becomes in
     let no_sooner = not_before below news after end in_it.later from_below.0 in
-    let up_before = ascend_later before (Some below.first) (first_or (news ++ after) end) (ascend_left before (below ∷ after) end up_all) no_sooner in
-    let up_after = ascend_join news after end in_it.ascends from_below.1 in
     let each_before = each_same (λ n. slice_get new n ≡ slice_get old n) (pages_under old level) (IsUnder last old level) (IsUnder last new level) (kept_index last old new level)
     before (first_or (news ++ after) end) kept_before
     (each_later (IsUnder last old level) (under_later last old level) before (Some below.first) (first_or (news ++ after) end)
@@ -164,7 +168,7 @@ stays last old new f fs next (suc level) entry end told up later ends is (before
     (each_same (λ n. slice_get new n ≡ slice_get old n) (pages_under old level) (IsUnder last old level) (IsUnder last new level) (kept_index last old new level)
     after end kept_after each_below.1) in
     stood last new level entry.page entry end (before ++ (news ++ after)) told
-    (ascend_join before (news ++ after) end up_before up_after)
+    (ascend_mended before below after news end up_all in_it.later in_it.ascends)
     (each_join (IsUnder last new level) before (news ++ after) end each_before each_after)
     (first_of below before news after entry.first begins in_it.later (ascend_later (below ∷ after) end None from_below (no_end end)))
     stand

@@ -1,6 +1,7 @@
 -- How a change goes a level down and back up.
-use Rattle.std.proofs.Common.{inl, inr, [], ◌∷◌, ◌++◌, ◌+◌, ◌≤◌, length, IfErr, ◌≡◌, ◌<◌, ◌-◌, ℕ, zero, suc, List, Option, Some, None, Result, Ok, Err, IfOk, ◌∙◌, sym, ap, subst, refl, arith, slice_get}
+use Rattle.std.proofs.Common.{inl, inr, ◌∷◌, ◌++◌, ◌+◌, ◌≤◌, length, IfErr, ◌≡◌, ◌<◌, ◌-◌, ℕ, zero, suc, List, Option, Some, None, Result, Ok, Err, ◌∙◌, sym, ap, subst, refl, arith, slice_get}
 use Rattle.std.proofs.lemmas.Bool.{cases_lt}
+use Rattle.std.proofs.lemmas.List.{length-append}
 use Rattle.std.specs.Result.{IsErrAnd}
 use Rattle.ub_region.specs.declared.entry.Entry.{Entry}
 use Rattle.ub_store.specs.Facts.{StoreFacts, IsHonest}
@@ -16,7 +17,7 @@ use Rattle.ub_index.specs.declared.fault.IndexFault.{IndexFault}
 use Rattle.ub_index.specs.declared.fault.IndexFault.TheVariants.{Full, Page, Store}
 use Rattle.ub_index_change.specs.declared.told.Told.{Told}
 use Rattle.ub_index_change.specs.declared.told.Told.TheVariants.{Same, Gone, One, Two}
-use Rattle.ub_index_change.proofs.FullFacts.{ends_all, ends_few, full_next, full_way}
+use Rattle.ub_index_change.proofs.FullFacts.{ends_all, ends_few, full_taken}
 use Rattle.ub_index.proofs.HeldFacts.{both_on, Keeps}
 use Rattle.ub_index.proofs.SearchFacts.{err_is, failed, frame, pager_with, same_store}
 use Rattle.ub_index.proofs.WayFacts.{stops_here, stops_on}
@@ -40,10 +41,6 @@ turns_on last pages key added (suc level) entry end before after below next from
       subst (λ (xs : List Entry). Mends (suc level) entry xs below o.falls.after news middle to told) (sym o.before_is)
           (subst (λ (xs : List Entry). Mends (suc level) entry before below xs news middle to told) (sym o.after_is) mends),
     )
-
-pub turned_so : (r : Result Told IndexFault) (A B : Told → Type 0) → ((told : Told) → A told → B told) → IfOk r A → IfOk r B
-turned_so (Ok told) A B f h = f told h
-turned_so (Err e) A B f h = tt
 
 -- why the page that an entry names isn't opened is why the change is refused
 opened_fault : (last : ℕ) (old : StoreFacts) (key : Key) (level : ℕ) (entry : Entry) (end : Option Key) (next : ℕ) (e : IndexFault) → 0 < level
@@ -116,10 +113,6 @@ below_refused T U last level key entry below end after next old mid new r e some
           (subst (λ (s : StoreFacts). IsTurnFault last s key (level - 1) below after next e) stores h.faults);
     })
 
-longer : (before : List Entry) (below : Entry) (after : List Entry) → length (before ++ (below ∷ after)) ≡ length before + length after + 1
-longer [] below after = omega arith
-longer (b ∷ before) below after = let more = longer before below after in omega arith
-
 -- where the lowest pages are all full, and this one is, there is one more
 full_here : (last : ℕ) (pages : List (List ℕ)) (key : Key) (added : Option Entry) (level : ℕ) (entry : Entry) (end : Option Key) (before : List Entry) (below : Entry) (next : Option Key)
     (after : List Entry) (from middle : Spelled) (left right : Entry) → 0 < level → OpensTo last pages key level entry end before below next after
@@ -129,13 +122,13 @@ full_here last pages key added zero entry end before below next after from middl
 full_here last pages key added (suc level) entry end before below next after from middle left right some o turns long more =
     let one : suc level - 1 ≡ level = omega arith in
     let turn : Turns last pages key added level below next from middle (Two left right) = subst (λ (n : ℕ). Turns last pages key added n below next from middle (Two left right)) one turns in
-    let way = full_way last pages key added level below next from middle left right turn in
-    let next_is = full_next last pages key added level below next from middle left right turn in
+    let taken = full_taken last pages key added level below next from middle left right turn in
+    let next_is = taken.1 in
     let parts : entries_of pages entry.page ≡ before ++ (below ∷ after) =
     o.falls.parts ∙ (ap (λ (xs : List Entry). xs ++ (below ∷ o.falls.after)) o.before_is ∙ ap (λ (xs : List Entry). before ++ (below ∷ xs)) o.after_is) in
     let few : length (entries_of pages entry.page) ≤ 170 = o.named.fits.is.is.few in
-    let count : length (entries_of pages entry.page) ≡ length before + length after + 1 = ap (λ (xs : List Entry). length xs) parts ∙ longer before below after in
-    (suc level, inl (refl, (o.named, omega arith, below, next, o.falls, way)), omega arith)
+    let count : length (entries_of pages entry.page) ≡ length before + length after + 1 = ap (λ (xs : List Entry). length xs) parts ∙ omega (arith, length-append before (below ∷ after)) in
+    (suc level, inl (refl, (o.named, omega arith, below, next, o.falls, taken.0)), omega arith)
 
 pub mend_refused : (last level : ℕ) (key : Key) (added : Option Entry) (entry : Entry) (end : Option Key) (before : List Entry) (below : Entry) (next : Option Key) (after : List Entry)
     (from middle : Spelled) (news : Told) (old new : PagerView) (r : Result Told IndexFault) → 0 < level → middle.next ≤ from.next + (level - 1)

@@ -1,11 +1,12 @@
 -- A region's entry that goes: what is left is an index, the root of which doesn't name one page alone.
-use Rattle.std.proofs.Common.{◌≡◌, ◌≤◌, ◌<◌, ◌^◌, ◌++◌, ◌⊎◌, ◌==◌, inl, inr, ℕ, zero, suc, nat_eq, List, [], ◌∷◌, Option, Some, None, Result, Ok, Err, length, slice_get, ◌∙◌, sym, ap, subst, refl, arith}
+use Rattle.std.proofs.Common.{◌≡◌, ◌≤◌, ◌<◌, ◌^◌, ◌++◌, ◌⊎◌, ◌==◌, inl, inr, ℕ, zero, suc, nat_eq, List, [], ◌∷◌, Option, Some, None, IfErr, Result, Ok, Err, length, slice_get, ◌∙◌, sym, ap, subst, refl, arith}
 use Rattle.std.proofs.lemmas.Bool.{cases_Bool, cases_lt, eqb-true}
 use Rattle.std.proofs.lemmas.List.{append-nil}
 use Rattle.std.specs.List.{AllByRecursion, IsDistinct, flat_map}
 use Rattle.ub_page.specs.Index.{node_on}
 use Rattle.ub_page.specs.Entries.{IsEntry}
 use Rattle.ub_region.specs.declared.entry.Entry.{Entry}
+use Rattle.ub_region.proofs.Laws.{all_more}
 use Rattle.ub_store.specs.Facts.{StoreFacts, IsHonest, page_count}
 use Rattle.ub_store.specs.View.{PagerView}
 use Rattle.ub_table.proofs.Laws.{not_before_self}
@@ -13,10 +14,10 @@ use Rattle.ub_table.specs.Keys.{IsBefore, origin}
 use Rattle.ub_table.specs.declared.fault.PageFault.{PageFault}
 use Rattle.ub_table.specs.declared.row.Key.{Key}
 use Rattle.ub_index_change.specs.Changed.{Replaces}
-use Rattle.ub_index_change.specs.Changing.{AreOnce, IsAtMostOne, IsFine, IsNoGrowth, IsNoNew, IsUnspelled, Mends, Spelled, Spreads, Stand, StayBut, Turns, named_as, so_far}
+use Rattle.ub_index_change.specs.Changing.{AreOnce, IsAtMostOne, IsNoGrowth, IsNoNew, IsUnspelled, Spelled, Spreads, Stand, StayBut, Turns, named_as, so_far}
 use Rattle.ub_index.specs.Standing.{IsOutside}
 use Rattle.ub_index.specs.Index.{entries_of, first_or, page_in, pages_under, EachTo, IsUnder, under, top}
-use Rattle.ub_index_change.specs.Lowering.{IsLowerFault, IsLowest, IsRootRefused, Lowers, LowersTo, MakesLow, PreparesDrop, ReadsRoots, entries_then, page_then, sole_page, spelled_page, spelled_or, unless_first}
+use Rattle.ub_index_change.specs.Lowering.{IsDropFault, IsLowerFault, IsLowest, IsRootRefused, Lowers, LowersTo, MakesLow, PreparesDrop, ReadsRoots, entries_then, page_then, sole_page, spelled_page, spelled_or, unless_first}
 use Rattle.ub_index_change.specs.Preparing.{ChangeView, IsIndexThen, IsPrepared, MakesIndex, Settles, change_view}
 use Rattle.ub_index.specs.View.{IsReachedOnce, pages_of_index, IndexView, IsIndexOn, IsRegionAt, entries_in, entry_at}
 use Rattle.ub_index.specs.declared.fault.IndexFault.{IndexFault}
@@ -28,12 +29,12 @@ use Rattle.ub_index_change.specs.declared.told.Told.{Told}
 use Rattle.ub_index_change.specs.declared.told.Told.TheVariants.{Same, Gone, One, Two}
 use Rattle.ub_index.proofs.KeptFacts.{same_page}
 use Rattle.ub_index.proofs.FitFacts.{page_is}
-use Rattle.ub_index_change.proofs.FullFacts.{mended_few}
-use Rattle.ub_index.proofs.Numbers.{differs, distinct_cons, distinct_first, distinct_rest, within_store}
+use Rattle.ub_index_change.proofs.FullFacts.{mended_few, mends_or, settles_or}
+use Rattle.ub_index.proofs.Numbers.{differs, distinct_cons, distinct_first, distinct_rest, outside_less, within_store}
 use Rattle.ub_index.proofs.OrderFacts.{under_first}
-use Rattle.ub_index_change.proofs.ReadyFacts.{entry_is, made_one, root_entry}
+use Rattle.ub_index_change.proofs.ReadyFacts.{IsMade, entry_is, made_one, root_entry}
 use Rattle.ub_index.proofs.PlaceFacts.{region_found}
-use Rattle.ub_index_change.proofs.RefusedFacts.{far_outside, root_not_refused, unspelled_of, with_other, with_sheets, with_stand, with_stay}
+use Rattle.ub_index_change.proofs.RefusedFacts.{root_not_refused, unspelled_of, with_other, with_sheets, with_stand, with_stay}
 use Rattle.ub_index.proofs.HeldFacts.{both_on, Keeps}
 use Rattle.ub_index.proofs.SearchFacts.{frame}
 use Rattle.ub_index_change.proofs.TurnFacts.{Risen, rises}
@@ -52,16 +53,12 @@ narrow last old key zero entry end from to told (told_is, same) = (subst (λ (t 
 narrow last old key (suc level) entry end from to told (named, below, next, falls, middle, news, turns, mends) =
     let in_it = narrow last old key level below next from middle news turns in
     let few : length (falls.before ++ (below ∷ falls.after)) ≤ 170 = subst (λ (xs : List Entry). length xs ≤ 170) falls.parts named.fits.is.is.few in
-    let up = by_news news in_it.0 mends few in
+    let up : IsAtMostOne told × (to.next ≡ middle.next) = elim (mends_or (suc level) entry falls.before below falls.after news middle to told mends) [
+      | inl still ↦ (subst (λ (t : Told). IsAtMostOne t) (sym still.1) tt, ap (λ (s : Spelled). s.next) still.2)
+      | inr spread ↦
+          spread_narrow (suc level) entry (falls.before ++ (named_as news below ++ falls.after)) middle to told (mended_few falls.before below falls.after news in_it.0 few) spread
+    ] in
     (up.0, up.1 ∙ in_it.1)
-  where
-    by_news : (t : Told) → IsAtMostOne t → Mends (suc level) entry falls.before below falls.after t middle to told → length (falls.before ++ (below ∷ falls.after)) ≤ 170
-        → IsAtMostOne told × (to.next ≡ middle.next)
-    by_news Same n m few = (subst (λ (t : Told). IsAtMostOne t) (sym m.0) tt, ap (λ (s : Spelled). s.next) m.1)
-    by_news Gone n m few = spread_narrow (suc level) entry (falls.before ++ (named_as Gone below ++ falls.after)) middle to told (mended_few falls.before below falls.after Gone n few) m
-    by_news (One other) n m few =
-        spread_narrow (suc level) entry (falls.before ++ (named_as (One other) below ++ falls.after)) middle to told (mended_few falls.before below falls.after (One other) n few) m
-    by_news (Two left right) n m few = absurd n
 
 -- a page that is spelled stands; one that isn't spelled isn't among the sheets
 pub spelled_then : (later : List (List ℕ)) (sheets : List Sheet) (n : ℕ) → Stand later sheets
@@ -129,9 +126,7 @@ module _ (last : ℕ) (old later : List (List ℕ)) (sheets : List Sheet) (own :
         → IsIndexThen last later to at Are × ((n : ℕ) → IsOutside n own → IsOutside n (pages_under later at (top to)))
     lower_made zero root to at some high is once are among lowers = absurd (omega arith)
     lower_made (suc below) root to at some high is once are among (inl (same, same_level)) =
-        subst (λ (n : ℕ). IsIndexThen last later n at Are × ((m : ℕ) → IsOutside m own → IsOutside m (pages_under later at (top n)))) (sym same)
-        (subst (λ (l : ℕ). IsIndexThen last later root l Are × ((m : ℕ) → IsOutside m own → IsOutside m (pages_under later l (top root)))) (sym same_level)
-        (record { low = some; high = high; under_it = is; reached = once; entries_are = are }, among))
+        rw (same, same_level) (record { low = some; high = high; under_it = is; reached = once; entries_are = are }, among)
     lower_made (suc below) root to at some high is once are among (inr (page, sole, more, lowers)) =
         let here = entries_same root (root_there below root among) in
         let one = sole_is (entries_of later root) page (ap (λ (xs : List Entry). sole_page xs) (sym here) ∙ sole) in
@@ -156,10 +151,7 @@ module _ (last : ℕ) (old later : List (List ℕ)) (sheets : List Sheet) (own :
   lowest_then root (suc below) some is among (inr none) =
       inr (not_sole last (entries_of later root) origin is.0.fits.is.is.entries is.0.fits.begins (ap (λ (xs : List Entry). sole_page xs) (sym (entries_same root (root_there below root among))) ∙ none))
 
--- what goes leaves nothing that could be wrong
-gone_fine : (last : ℕ) (found : Entry) (next : Option Key) → IsFine last None found next
-gone_fine last found next = record { up = tt; later = tt; entries = tt }
-
+-- where an entry goes before which another one begins, the list begins as it did
 begin_other : (before : List Entry) (f : Entry) (after : List Entry) → IsBefore origin f.first → first_or (before ++ (f ∷ after)) None ≡ Some origin
     → first_or (before ++ ([] ++ after)) None ≡ Some origin
 begin_other [] f after later h = let same : f.first ≡ origin = cc in absurd (not_before_self origin (subst (λ (k : Key). IsBefore origin k) same later))
@@ -173,7 +165,7 @@ module _ (index : IndexView) (store : StoreFacts) (i : ℕ) (region : Region) (s
   r : Risen index.last store.pages region.first None index.levels (top index.root) None (so_far [] (page_count store)) middle told
   r = rises index.last small store.pages region.first None index.levels (top index.root) None (so_far [] (page_count store)) middle told (omega arith) is.under_it
       (root_entry index.last store.pages index.root index.levels is.some few own is.under_it)
-      (distinct_rest 0 (pages_of_index index store) own) (λ found next leads. gone_fine index.last found next) turns
+      (distinct_rest 0 (pages_of_index index store) own) (λ found next leads. record { up = tt; later = tt; entries = tt }) turns
 
   same_next : middle.next ≡ page_count store
   same_next = (narrow index.last store.pages region.first index.levels (top index.root) None (so_far [] (page_count store)) middle told turns).1
@@ -194,49 +186,40 @@ module _ (index : IndexView) (store : StoreFacts) (i : ℕ) (region : Region) (s
 
   -- one entry is told, and the root stays at first
   one_told : ((other : Entry) × (named_as told (top index.root) ≡ other ∷ [])) × (first ≡ change_view middle (page_count store) index.root index.levels)
-  one_told = by_told told refl settles (narrow index.last store.pages region.first index.levels (top index.root) None (so_far [] (page_count store)) middle told turns).0
-    where
-      by_told : (t : Told) → told ≡ t → Settles index.root index.levels t (page_count store) middle first → IsAtMostOne told
-          → ((other : Entry) × (named_as told (top index.root) ≡ other ∷ [])) × (first ≡ change_view middle (page_count store) index.root index.levels)
-      by_told Same e h n = ((top index.root, ap (λ (t : Told). named_as t (top index.root)) e), h)
-      by_told Gone e h n = absurd h
-      by_told (One other) e h n = ((other, ap (λ (t : Told). named_as t (top index.root)) e), h)
-      by_told (Two left right) e h n = absurd (subst (λ (t : Told). IsAtMostOne t) e n)
+  one_told = elim (settles_or index.root index.levels told (page_count store) middle first settles) [
+    | inl one ↦ ((one.1, one.2), one.3)
+    | inr two ↦
+        absurd (subst (λ (t : Told). IsAtMostOne t) two.2
+        (narrow index.last store.pages region.first index.levels (top index.root) None (so_far [] (page_count store)) middle told turns).0)
+  ]
 
   first_sheets : first.sheets ≡ r.sheets
   first_sheets = ap (λ (c : ChangeView). c.sheets) one_told.1 ∙ r.sheets_are
 
   on_index : (to at : ℕ) → Lowers first.sheets store.pages first.root first.levels to at → Lowers r.sheets store.pages index.root index.levels to at
   on_index to at h =
-      let root = ap (λ (c : ChangeView). c.root) one_told.1 in
-      let levels = ap (λ (c : ChangeView). c.levels) one_told.1 in
-      subst (λ (xs : List Sheet). Lowers xs store.pages index.root index.levels to at) first_sheets
-      (subst (λ (n : ℕ). Lowers first.sheets store.pages n index.levels to at) root
-      (subst (λ (n : ℕ). Lowers first.sheets store.pages first.root n to at) levels h))
+      subst (λ (xs : List Sheet). Lowers xs store.pages index.root index.levels to at) r.sheets_are
+      (subst (λ (c : ChangeView). Lowers c.sheets store.pages c.root c.levels to at) one_told.1 h)
 
   module _ (later : List (List ℕ)) (stand : Stand later r.sheets) (stay : StayBut store.pages later r.sheets (pages_of_index index store)) where
-    made_first : IsIndexThen index.last later index.root index.levels (Replaces r.found [] (entries_in index store))
+    made_first : IsMade index store (page_count store) middle.next later index.root index.levels (Replaces r.found [] (entries_in index store))
     made_first =
-        (made_one index small is.some high store region.first None (so_far [] (page_count store)) middle told (omega arith) refl is own few r
-        (gone_fine index.last r.found r.next) begins later stand stay one_told.0.0 one_told.0.1).0
-
-    among_first : (n : ℕ) → IsOutside n (pages_of_index index store) → IsOutside n (pages_under later index.levels (top index.root))
-    among_first n out =
-        (made_one index small is.some high store region.first None (so_far [] (page_count store)) middle told (omega arith) refl is own few r
-        (gone_fine index.last r.found r.next) begins later stand stay one_told.0.0 one_told.0.1).1 n (none_new n) out
+        made_one index small is.some high store region.first None (so_far [] (page_count store)) middle told (omega arith) refl is own few r
+        (record { up = tt; later = tt; entries = tt }) begins later stand stay one_told.0.0 one_told.0.1
 
     lowered_all : (to at : ℕ) → Lowers first.sheets store.pages first.root first.levels to at → IsIndexThen index.last later to at (Replaces r.found [] (entries_in index store))
         × ((n : ℕ) → IsOutside n (pages_of_index index store) → IsOutside n (pages_under later at (top to)))
     lowered_all to at h =
         lower_made index.last store.pages later r.sheets (pages_of_index index store) stand stay (Replaces r.found [] (entries_in index store)) index.levels index.root to at
-        is.some high made_first.under_it made_first.reached made_first.entries_are among_first (on_index to at h)
+        is.some high made_first.0.under_it made_first.0.reached made_first.0.entries_are (λ n out. made_first.1 n (none_new n) out) (on_index to at h)
 
   -- no root is refused to which it gives way, and which isn't spelled
   pub root_taken : (n : ℕ) (fault : Option PageFault) → ¬ (IsRootRefused index.last store.pages first n fault)
   root_taken n fault (level, lowers, unspelled, refused) =
       let far : (m : ℕ) → length store.pages ≤ m → IsUnspelled m r.sheets =
       λ m beyond. r.outside m (none_new m)
-      (far_outside m (length store.pages) (pages_of_index index store) beyond (within_store index.last store.pages index.levels (top index.root) None is.under_it)) in
+      (outside_less m (pages_of_index index store) (all_more (λ n. n < length store.pages) (λ n. n < m) (λ n near. omega arith) (pages_of_index index store)
+      (within_store index.last store.pages index.levels (top index.root) None is.under_it))) in
       let made = lowered_all (with_sheets store.pages r.sheets) (with_stand store.pages r.sheets r.once far) (with_stay store.pages r.sheets (pages_of_index index store)) n level lowers in
       let free : IsUnspelled n r.sheets = subst (λ (xs : List Sheet). IsUnspelled n xs) first_sheets (unspelled_of first.sheets n unspelled) in
       root_not_refused index.last small store.pages (with_sheets store.pages r.sheets) n level fault made.0.low made.0.under_it (with_other store.pages r.sheets n free) refused
@@ -245,7 +228,13 @@ module _ (index : IndexView) (store : StoreFacts) (i : ℕ) (region : Region) (s
     sheets_are : change.sheets ≡ r.sheets
     sheets_are = ap (λ (c : ChangeView). c.sheets) lowers.same ∙ (ap (λ (c : ChangeView). c.sheets) one_told.1 ∙ r.sheets_are)
 
-    module _ (later : List (List ℕ)) (stand : Stand later r.sheets) (stay : StayBut store.pages later r.sheets (pages_of_index index store)) where
+    module _ (later : List (List ℕ)) (all_stand : Stand later change.sheets) (all_stay : StayBut store.pages later change.sheets (pages_of_index index store)) where
+      stand : Stand later r.sheets
+      stand = subst (λ (xs : List Sheet). Stand later xs) sheets_are all_stand
+
+      stay : StayBut store.pages later r.sheets (pages_of_index index store)
+      stay = subst (λ (xs : List Sheet). StayBut store.pages later xs (pages_of_index index store)) sheets_are all_stay
+
       lowered_there : IsIndexThen index.last later change.root change.levels (Replaces r.found [] (entries_in index store))
           × ((n : ℕ) → IsOutside n (pages_of_index index store) → IsOutside n (pages_under later change.levels (top change.root)))
       lowered_there = lowered_all later stand stay change.root change.levels lowers.lowers
@@ -261,19 +250,15 @@ module _ (index : IndexView) (store : StoreFacts) (i : ℕ) (region : Region) (s
       once = subst (λ (xs : List Sheet). AreOnce xs) (sym sheets_are) r.once;
       own = λ n foreign. subst (λ (xs : List Sheet). IsUnspelled n xs) (sym sheets_are) (r.outside n (none_new n) foreign.1);
       makes = λ later stand stay.
-          subst (λ (e : Entry). IsIndexThen index.last later change.root change.levels (Replaces e [] (entries_in index store))) found_is
-          (lowered_there later (subst (λ (xs : List Sheet). Stand later xs) sheets_are stand) (subst (λ (xs : List Sheet). StayBut store.pages later xs (pages_of_index index store)) sheets_are stay)).0;
-      no_other = λ later stand stay n foreign.
-          (lowered_there later (subst (λ (xs : List Sheet). Stand later xs) sheets_are stand) (subst (λ (xs : List Sheet). StayBut store.pages later xs (pages_of_index index store)) sheets_are stay)).1
-          n foreign.1;
+          subst (λ (e : Entry). IsIndexThen index.last later change.root change.levels (Replaces e [] (entries_in index store))) found_is (lowered_there later stand stay).0;
+      no_other = λ later stand stay n foreign. (lowered_there later stand stay).1 n foreign.1;
     }
 
     pub dropped_low : (change.next ≡ change.start) × MakesLow index store change
     dropped_low = (
       ap (λ (c : ChangeView). c.next) lowers.same ∙ (ap (λ (c : ChangeView). c.next) one_told.1 ∙ (same_next
           ∙ (sym (ap (λ (c : ChangeView). c.start) one_told.1) ∙ sym (ap (λ (c : ChangeView). c.start) lowers.same)))),
-      λ later stand stay.
-          low_then later (subst (λ (xs : List Sheet). Stand later xs) sheets_are stand) (subst (λ (xs : List Sheet). StayBut store.pages later xs (pages_of_index index store)) sheets_are stay),
+      low_then,
     )
 
 pub roots_taken : (index : IndexView) (store : StoreFacts) (i : ℕ) (region : Region) (change : ChangeView) (n : ℕ) (fault : Option PageFault) → index.last < 2 ^ 128 → index.levels ≤ 16
@@ -283,30 +268,23 @@ roots_taken index store i region change n fault small high few is own at later (
     root_taken index store i region small high few is own at later change middle told turns settles n fault
 
 -- a root doesn't give way for other reasons
-no_growth : (last : ℕ) (old : StoreFacts) (change : ChangeView) (e : IndexFault) → IsLowerFault last old change e → IsNoGrowth e
-no_growth last old change (Store store.Memory) h = tt
-no_growth last old change (Store store.Device) h = tt
-no_growth last old change (Store store.NoPage) h = tt
-no_growth last old change (Store store.BadSize) h = h
-no_growth last old change (Page n fault) h = tt
-no_growth last old change Full h = h
-
--- what it leaves of the pages that are held
-roots_keep : {T : Type 0} {change : ChangeView} {r : Result T IndexFault} (last l : ℕ) (old new : PagerView) → last ≡ l → ReadsRoots last change old new r → Keeps l old new
-roots_keep last l old new same h = subst (λ (n : ℕ). Keeps n old new) same (h.checked, h.more)
+drop_fault : (T : Type 0) (index : IndexView) (key : Key) (old : StoreFacts) (change : ChangeView) (r : Result T IndexFault)
+    → (IsHonest old → IsPrepared index old key None (page_count old) (so_far [] (page_count old)) change) → IfErr r (IsLowerFault index.last old change) → IfErr r (IsDropFault index old key)
+drop_fault T index key old change (Ok x) made h = tt
+drop_fault T index key old change (Err e) made h = (no_growth e h, inr (change, made, h))
+  where
+    no_growth : (e : IndexFault) → IsLowerFault index.last old change e → IsNoGrowth e
+    no_growth (Store store.Memory) h = tt
+    no_growth (Store store.Device) h = tt
+    no_growth (Store store.NoPage) h = tt
+    no_growth (Store store.BadSize) h = h
+    no_growth (Page n fault) h = tt
+    no_growth Full h = h
 
 pub dropped_effect : (T : Type 0) (index : IndexView) (last : ℕ) (key : Key) (old mid new : PagerView) (change : ChangeView) (r : Result T IndexFault) → last ≡ index.last
     → mid.store ≡ old.store → mid.trace ≡ old.trace → Keeps index.last old mid → (IsHonest old.store → IsPrepared index old.store key None (page_count old.store) (so_far [] (page_count old.store)) change)
     → ReadsRoots last change mid new r → PreparesDrop index key old new r
-dropped_effect T index last key old mid new change (Ok x) lasts stores traces kept made h = record {
-  same = frame (Ok x) old mid new stores traces h.same;
-  checked = (both_on index.last old mid new kept (roots_keep last index.last mid new lasts h)).0;
-  more = (both_on index.last old mid new kept (roots_keep last index.last mid new lasts h)).1;
-  faults = tt;
-}
-dropped_effect T index last key old mid new change (Err e) lasts stores traces kept made h = record {
-  same = frame {T = T} (Err e) old mid new stores traces h.same;
-  checked = (both_on index.last old mid new kept (roots_keep last index.last mid new lasts h)).0;
-  more = (both_on index.last old mid new kept (roots_keep last index.last mid new lasts h)).1;
-  faults = (no_growth last mid.store change e h.faults, inr (change, made, subst (λ (l : ℕ). IsLowerFault l old.store change e) lasts (subst (λ (s : StoreFacts). IsLowerFault last s change e) stores h.faults)));
-}
+dropped_effect T index last key old mid new change r lasts stores traces kept made h =
+    let keeps = both_on index.last old mid new kept (subst (λ (n : ℕ). Keeps n mid new) lasts (h.checked, h.more)) in
+    let faults = subst (λ (l : ℕ). IfErr r (IsLowerFault l old.store change)) lasts (subst (λ (s : StoreFacts). IfErr r (IsLowerFault last s change)) stores h.faults) in
+    record { same = frame r old mid new stores traces h.same; checked = keeps.0; more = keeps.1; faults = drop_fault T index key old.store change r made faults }

@@ -1,6 +1,6 @@
 -- How full the pages are of an index that has only grown.
 use Rattle.std.proofs.Common.{◌≡◌, ◌≤◌, ◌<◌, ◌+◌, ◌*◌, ◌^◌, ◌++◌, ◌⊎◌, inl, inr, ℕ, zero, suc, List, [], ◌∷◌, Option, length, take, drop, slice_get, sym, ap, subst, refl, arith, take-append-drop, None}
-use Rattle.std.proofs.Math.Nat.{suc-mul}
+use Rattle.std.proofs.Math.Nat.{pow-le-pow_right, pow-suc, suc-mul}
 use Rattle.std.proofs.lemmas.Bool.{cases_lt}
 use Rattle.std.proofs.lemmas.List.{length-append, length-drop, length-take-le}
 use Rattle.std.specs.List.{AllByRecursion, flat_map}
@@ -87,24 +87,20 @@ half_stood last pages level n entries told many all h = elim h [
   ]
 ]
 
--- where something came in the place of an entry, there are as many entries at least
-as_many : (before news after : List Entry) (below : Entry) → 1 ≤ length news → length (before ++ (below ∷ after)) ≤ length (before ++ (news ++ after))
-as_many before news after below some =
-    let old = length-append before (below ∷ after) in
-    let new = length-append before (news ++ after) in
-    let rest = length-append news after in
-    omega arith
-
--- the entries of a page of which one became others that are half full
+-- the entries of a page of which one became others that are half full: they are no fewer, and half full too
 halves_mended : (old new : List (List ℕ)) (level : ℕ) (entries before after news : List Entry) (below : Entry) → entries ≡ before ++ (below ∷ after)
-    → PagesStay old new (flat_map (pages_under old level) before) → PagesStay old new (flat_map (pages_under old level) after)
-    → AllByRecursion (IsHalfFull old level) entries → AllByRecursion (IsHalfFull new level) news → AllByRecursion (IsHalfFull new level) (before ++ (news ++ after))
+    → PagesStay old new (flat_map (pages_under old level) before) → PagesStay old new (flat_map (pages_under old level) after) → AllByRecursion (IsHalfFull old level) entries
+    → AllByRecursion (IsHalfFull new level) news × (1 ≤ length news) → AllByRecursion (IsHalfFull new level) (before ++ (news ++ after)) × (length entries ≤ length (before ++ (news ++ after)))
 halves_mended old new level entries before after news below parts kept_before kept_after all in_it =
     let all_parts : AllByRecursion (IsHalfFull old level) (before ++ (below ∷ after)) = subst (λ (xs : List Entry). AllByRecursion (IsHalfFull old level) xs) parts all in
-    all_append (IsHalfFull new level) before (news ++ after)
-    (kept_halves old new level before kept_before (all_left (IsHalfFull old level) before (below ∷ after) all_parts))
-    (all_append (IsHalfFull new level) news after in_it
-    (kept_halves old new level after kept_after (all_right (IsHalfFull old level) before (below ∷ after) all_parts).1))
+    let count : length entries ≡ length (before ++ (below ∷ after)) = ap (λ (xs : List Entry). length xs) parts in
+    let some = in_it.1 in (
+      all_append (IsHalfFull new level) before (news ++ after)
+          (kept_halves old new level before kept_before (all_left (IsHalfFull old level) before (below ∷ after) all_parts))
+          (all_append (IsHalfFull new level) news after in_it.0
+          (kept_halves old new level after kept_after (all_right (IsHalfFull old level) before (below ∷ after) all_parts).1)),
+      omega (arith, count, some, length-append before (below ∷ after), length-append before (news ++ after), length-append news after),
+    )
 
 -- the entry that is half full at the place of a part
 half_below : (pages : List (List ℕ)) (level : ℕ) (entries before after : List Entry) (below : Entry) → entries ≡ before ++ (below ∷ after)
@@ -119,11 +115,9 @@ half_becomes last old new f fs next zero entry end told some h half =
     (halves_low new told, subst (λ (xs : List Entry). 1 ≤ length xs) (sym h.2) some)
 half_becomes last old new f fs next (suc level) entry end told some (before, after, below, news, parts, becomes, kept_before, kept_after, stand) half =
     let in_it = half_becomes last old new f fs next level below (first_or after end) news some becomes (half_below old level (entries_of old entry.page) before after below parts half.1) in
-    let all = halves_mended old new level (entries_of old entry.page) before after news below parts kept_before kept_after half.1 in_it.0 in
-    let count = as_many before news after below in_it.1 in
-    let old_count : length (entries_of old entry.page) ≡ length (before ++ (below ∷ after)) = ap (λ (xs : List Entry). length xs) parts in
-    let many : 85 ≤ length (before ++ (news ++ after)) = (let had = half.0 in omega arith) in
-    half_stood last new level entry.page (before ++ (news ++ after)) told many all stand
+    let mended = halves_mended old new level (entries_of old entry.page) before after news below parts kept_before kept_after half.1 in_it in
+    let count = mended.1 in
+    half_stood last new level entry.page (before ++ (news ++ after)) told (let had = half.0 in omega arith) mended.0 stand
 
 -- what a filled root becomes: it is filled still, or two that are half full
 abbrev pub AreFilled : List (List ℕ) → ℕ → List Entry → Type 0
@@ -154,12 +148,10 @@ pub filled_becomes : (last : ℕ) (old new : List (List ℕ)) (f : Entry) (fs : 
 filled_becomes last old new f fs next zero root end told some h filled = absurd filled
 filled_becomes last old new f fs next (suc level) root end told some (before, after, below, news, parts, becomes, kept_before, kept_after, stand) filled =
     let in_it = half_becomes last old new f fs next level below (first_or after end) news some becomes (half_below old level (entries_of old root.page) before after below parts filled.1) in
-    let all = halves_mended old new level (entries_of old root.page) before after news below parts kept_before kept_after filled.1 in_it.0 in
-    let count = as_many before news after below in_it.1 in
-    let old_count : length (entries_of old root.page) ≡ length (before ++ (below ∷ after)) = ap (λ (xs : List Entry). length xs) parts in
-    let there = length-append before (below ∷ after) in
-    filled_stood last new level root.page (before ++ (news ++ after)) told (omega arith)
-    (more_still level (length (entries_of old root.page)) (length (before ++ (news ++ after))) (omega arith) filled.0) all stand
+    let mended = halves_mended old new level (entries_of old root.page) before after news below parts kept_before kept_after filled.1 in_it in
+    let some_news = in_it.1 in
+    filled_stood last new level root.page (before ++ (news ++ after)) told (omega (arith, some_news, length-append before (news ++ after), length-append news after))
+    (more_still level (length (entries_of old root.page)) (length (before ++ (news ++ after))) mended.1 filled.0) mended.0 stand
 
 -- a root that names two half full pages is filled
 pub filled_over : (last : ℕ) (pages : List (List ℕ)) (level : ℕ) (left right root : Entry) → IsTold last pages (suc level) (left ∷ right ∷ []) root → AreFilled pages level (left ∷ right ∷ [])
@@ -180,46 +172,25 @@ each_many A f p h (suc k) (x ∷ xs) few all =
     let sum : k * p + p ≤ length (f x ++ flat_map f xs) = omega arith in
     subst (λ (n : ℕ). n ≤ length (f x ++ flat_map f xs)) (sym more) sum
 
--- a half full entry leads to 85 times as many regions as each below it does at least
-half_many : (pages : List (List ℕ)) (level p : ℕ) → ((x : Entry) → IsHalfFull pages level x → p ≤ length (under pages level x)) → (entry : Entry) → IsHalfFull pages (suc level) entry
-    → 85 * p ≤ length (under pages (suc level) entry)
-half_many pages level p h entry half = each_many (IsHalfFull pages level) (under pages level) p h 85 (entries_of pages entry.page) half.0 half.1
+-- a half full entry leads to 85 regions at least for each of as many pages as there can be on each level
+halves_many : (pages : List (List ℕ)) (level : ℕ) (entry : Entry) → IsHalfFull pages level entry → 85 ^ level ≤ length (under pages level entry)
+halves_many pages zero entry half = omega arith
+halves_many pages (suc level) entry half =
+    let many = each_many (IsHalfFull pages level) (under pages level) (85 ^ level) (halves_many pages level) 85 (entries_of pages entry.page) half.0 half.1 in
+    let more : 85 ^ suc level ≡ 85 ^ level * 85 = pow-suc 85 level in
+    omega arith
 
-some_under : (pages : List (List ℕ)) (level : ℕ) (entry : Entry) → IsHalfFull pages level entry → 1 ≤ length (under pages level entry)
-some_under pages zero entry half = omega arith
-some_under pages (suc level) entry half = let many = half_many pages level 1 (some_under pages level) entry half in omega arith
-
-under_one : (pages : List (List ℕ)) (level : ℕ) (entry : Entry) → IsHalfFull pages (suc level) entry → 85 ≤ length (under pages (suc level) entry)
-under_one pages level entry half = let many = half_many pages level 1 (some_under pages level) entry half in omega arith
-
-under_two : (pages : List (List ℕ)) (level : ℕ) (entry : Entry) → IsHalfFull pages (suc (suc level)) entry → 7225 ≤ length (under pages (suc (suc level)) entry)
-under_two pages level entry half = let many = half_many pages (suc level) 85 (under_one pages level) entry half in omega arith
-
-under_three : (pages : List (List ℕ)) (level : ℕ) (entry : Entry) → IsHalfFull pages (suc (suc (suc level))) entry → 614125 ≤ length (under pages (suc (suc (suc level))) entry)
-under_three pages level entry half = let many = half_many pages (suc (suc level)) 7225 (under_two pages level) entry half in omega arith
-
-under_four : (pages : List (List ℕ)) (level : ℕ) (entry : Entry) → IsHalfFull pages (suc (suc (suc (suc level)))) entry → 52200625 ≤ length (under pages (suc (suc (suc (suc level)))) entry)
-under_four pages level entry half = let many = half_many pages (suc (suc (suc level))) 614125 (under_three pages level) entry half in omega arith
-
--- a filled root of level 6 or more leads to 4437053125 regions and more
+-- a filled root of level 6 or more leads to 8874106250 regions and more
 filled_many : (pages : List (List ℕ)) (level : ℕ) (root : Entry) → 6 ≤ level → IsFilledRoot pages level root → 4294967296 ≤ length (under pages level root)
 filled_many pages zero root high filled = absurd filled
-filled_many pages (suc zero) root high filled = absurd (omega arith)
-filled_many pages (suc (suc zero)) root high filled = absurd (omega arith)
-filled_many pages (suc (suc (suc zero))) root high filled = absurd (omega arith)
-filled_many pages (suc (suc (suc (suc zero)))) root high filled = absurd (omega arith)
-filled_many pages (suc (suc (suc (suc (suc zero))))) root high filled = absurd (omega arith)
-filled_many pages (suc (suc (suc (suc (suc (suc level)))))) root high filled =
-    let two : 2 ≤ length (entries_of pages root.page) = two_there filled.0 in
-    let many = each_many (IsHalfFull pages (suc (suc (suc (suc (suc level)))))) (under pages (suc (suc (suc (suc (suc level)))))) 4437053125 under_five 2 (entries_of pages root.page) two filled.1 in
+filled_many pages (suc level) root high filled =
+    let many = each_many (IsHalfFull pages level) (under pages level) (85 ^ level) (halves_many pages level) 2 (entries_of pages root.page) (two_there filled.0) filled.1 in
+    let least : 85 ^ 5 ≤ 85 ^ level = pow-le-pow_right {n = 85} (omega arith) {i = 5} {j = level} (omega arith) in
     omega arith
   where
-    two_there : {n : ℕ} → (suc (suc (suc (suc (suc level)))) ≡ 0) ⊎ (2 ≤ n) → 2 ≤ n
+    two_there : {n : ℕ} → (level ≡ 0) ⊎ (2 ≤ n) → 2 ≤ n
     two_there (inl low) = absurd (omega arith)
     two_there (inr more) = more
-
-    under_five : (x : Entry) → IsHalfFull pages (suc (suc (suc (suc (suc level))))) x → 4437053125 ≤ length (under pages (suc (suc (suc (suc (suc level))))) x)
-    under_five x half = let more = half_many pages (suc (suc (suc (suc level)))) 52200625 (under_four pages level) x half in omega arith
 
 -- an index that is filled has fewer levels than there can be
 pub filled_low_levels : (index : IndexView) (store : StoreFacts) → IsIndexOn index store → IsFilled index store.pages → length (entries_in index store) < 2 ^ 32 → index.levels < 16

@@ -1,13 +1,13 @@
 -- A change that is made: the store grows, the regions' pages are put, and then those that are spelled.
-use Rattle.std.proofs.Common.{◌<◌, ◌∙◌, ℕ, List, [], ◌∷◌, None}
+use Rattle.std.proofs.Common.{◌≡◌, ◌<◌, ◌∙◌, ℕ, List, None, slice_get}
 use Rattle.std.specs.List.{AllByRecursion}
 use Rattle.ub_store.specs.Writing.{Grows}
 use Rattle.ub_region.specs.declared.entry.Entry.{Entry}
-use Rattle.ub_region.proofs.Laws.{all_more}
+use Rattle.ub_region.proofs.Laws.{all_both, all_more}
 use Rattle.ub_store.specs.Facts.{StoreFacts, IsHonest, page_count}
 use Rattle.ub_index_change.specs.Changed.{Replaces}
 use Rattle.ub_index.specs.Standing.{IsOutside}
-use Rattle.ub_index_change.specs.Changing.{Stand, StayBut}
+use Rattle.ub_index_change.specs.Changing.{IsUnspelled, Stand, StayBut}
 use Rattle.ub_index_change.specs.Filling.{IsFilled, KeepsFilled}
 use Rattle.ub_index.specs.Index.{top}
 use Rattle.ub_index_change.specs.Making.{IsCommitted, PutsSheets, StayOutside, changed}
@@ -20,11 +20,9 @@ use Rattle.ub_index.proofs.Numbers.{StandApart, apart_swap, within_store}
 stays : (old grown filled new : StoreFacts) (sheets : List Sheet) (numbers ns : List ℕ) → IsHonest old → IsHonest filled → Grows old grown
     → StayOutside numbers grown.pages filled.pages → PutsSheets sheets filled new → AllByRecursion (λ n. IsOutside n numbers) ns → AllByRecursion (λ n. n < page_count old) ns
     → StayBut old.pages new.pages sheets ns
-stays old grown filled new sheets numbers [] honest good grows others puts apart less = tt
-stays old grown filled new sheets numbers (n ∷ ns) honest good grows others puts apart less = (
-  λ free. puts.others good n free ∙ (others n apart.0 ∙ grows.kept honest n less.0),
-  stays old grown filled new sheets numbers ns honest good grows others puts apart.1 less.1,
-)
+stays old grown filled new sheets numbers ns honest good grows others puts apart less =
+    all_both (λ n. IsOutside n numbers) (λ n. n < page_count old) (λ n. IsUnspelled n sheets → slice_get new.pages n ≡ slice_get old.pages n)
+    (λ n away near free. puts.others good n free ∙ (others n away ∙ grows.kept honest n near)) ns apart less
 
 pub made : (index : IndexView) (old grown filled new : StoreFacts) (from : ℕ) (change : ChangeView) (f : Entry) (fs : List Entry) (numbers : List ℕ) → IsIndexOn index old
     → MakesIndex index old from change (Replaces f fs (entries_in index old)) → Grows old grown → StayOutside numbers grown.pages filled.pages

@@ -2,22 +2,22 @@
 use Rattle.std.proofs.Common.{false, None, ◌≡◌, ◌≢◌, ◌≤◌, ◌<◌, ◌+◌, ◌∙◌, inl, ℕ, zero, suc, List, [], ◌∷◌, ◌++◌, Some, length, take, drop, nat_eq, ap, sym, subst, refl, arith, slice_get}
 use Rattle.std.proofs.lemmas.Bool.{ne_eqb}
 use Rattle.std.proofs.lemmas.List.{length-append}
-use Rattle.std.proofs.lemmas.Option.{slice_get_within}
 use Rattle.std.specs.List.{AllByRecursion, IsDistinct}
 use Rattle.ub_index.specs.Spans.{ArePlaces, first_keys}
 use Rattle.ub_region.specs.declared.entry.Entry.{Entry}
-use Rattle.ub_region.proofs.Laws.{all_more}
+use Rattle.ub_region.proofs.Laws.{all_both, all_more}
 use Rattle.ub_store.specs.Facts.{StoreFacts, page_count}
 use Rattle.ub_table.specs.declared.row.Key.{Key}
 use Rattle.ub_index_change.specs.Changed.{Replaces}
 use Rattle.ub_index.specs.Standing.{IsOutside, AreOwnPages, AreRegionsThere, region_pages}
-use Rattle.ub_index.specs.Index.{IsUnder, page_in, top}
+use Rattle.ub_index.specs.Index.{top}
 use Rattle.ub_index_change.specs.Making.{IsCommitted, changed}
 use Rattle.ub_index_change.specs.Preparing.{ChangeView, IsForeign, added_at}
 use Rattle.ub_index.specs.View.{IsReachedOnce, pages_of_index, IndexView, IsIndexOn, IsRegionAt, entries_in, entry_at}
 use Rattle.ub_region.specs.declared.region.Region.{Region}
-use Rattle.ub_index.proofs.Numbers.{StandApart, apart_swap, distinct_apart, distinct_first, distinct_join, distinct_left, distinct_right, outside_less, within_store}
+use Rattle.ub_index.proofs.Numbers.{apart_swap, distinct_apart, distinct_first, distinct_join, distinct_left, distinct_right, outside_less, within_store}
 use Rattle.ub_index.proofs.PlaceFacts.{index_of_first}
+use Rattle.ub_index_change.proofs.ReadyFacts.{some_page}
 
 -- a property of all pages, where one comes behind one of them, and where one goes
 all_added : (Q : ℕ → Type 0) (before : List Entry) (f e : Entry) (after : List Entry) → AllByRecursion Q (region_pages (before ++ (f ∷ after))) → Q e.page
@@ -52,12 +52,8 @@ module _ (index : IndexView) (old : StoreFacts) (is : IsIndexOn index old) (own 
   pages_there : AllByRecursion (λ n. n < page_count old) (pages_of_index index old)
   pages_there = within_store index.last old.pages index.levels (top index.root) None is.under_it
 
-  some_page : 1 ≤ page_count old
-  some_page = by_level index.levels is.some is.under_it
-    where
-      by_level : (level : ℕ) → 1 ≤ level → IsUnder index.last old.pages level (top index.root) None → 1 ≤ page_count old
-      by_level zero some h = absurd (omega arith)
-      by_level (suc level) some h = let near = slice_get_within old.pages index.root (page_in old.pages index.root) h.0.there in omega arith
+  some_there : 1 ≤ page_count old
+  some_there = some_page index.last old.pages index.levels (top index.root) is.some is.under_it
 
   reached : IsReachedOnce index old
   reached = distinct_left (0 ∷ pages_of_index index old) (region_pages (entries_in index old)) own
@@ -65,16 +61,13 @@ module _ (index : IndexView) (old : StoreFacts) (is : IsIndexOn index old) (own 
   module _ (from : ℕ) (change : ChangeView) (later : page_count old ≤ from) where
     each_region : AllByRecursion (IsRegionPage index old from change) (region_pages (entries_in index old))
     each_region =
-        both (region_pages (entries_in index old)) there
+        all_both (λ n. n < page_count old) (λ n. IsOutside n (0 ∷ pages_of_index index old)) (IsRegionPage index old from change)
+        (λ n near apart. record { some = apart.0; foreign = (inl (omega arith), apart.1) }) (region_pages (entries_in index old)) there
         (apart_swap (0 ∷ pages_of_index index old) (region_pages (entries_in index old)) (distinct_apart (0 ∷ pages_of_index index old) (region_pages (entries_in index old)) own))
-      where
-        both : (ns : List ℕ) → AllByRecursion (λ n. n < page_count old) ns → StandApart ns (0 ∷ pages_of_index index old) → AllByRecursion (IsRegionPage index old from change) ns
-        both [] less apart = tt
-        both (n ∷ ns) less apart = (record { some = apart.0.0; foreign = (inl (let near = less.0 in omega arith), apart.0.1) }, both ns less.1 apart.1)
 
     new_page : page_count old < from → IsRegionPage index old from change (page_count old)
     new_page less = record {
-      some = λ e. let low = some_page in omega arith;
+      some = λ e. let low = some_there in omega arith;
       foreign = (inl less, outside_less (page_count old) (pages_of_index index old) pages_there);
     }
 
@@ -82,18 +75,24 @@ module _ (index : IndexView) (old : StoreFacts) (is : IsIndexOn index old) (own 
     pub foreign_regions : AllByRecursion (IsForeign index old from change) (0 ∷ region_pages (entries_in index old)) × (page_count old < from → IsForeign index old from change (page_count old))
     foreign_regions = (
       (
-        (inl (let low = some_page in omega arith), distinct_first 0 (pages_of_index index old) reached),
+        (inl (let low = some_there in omega arith), distinct_first 0 (pages_of_index index old) reached),
         all_more (IsRegionPage index old from change) (IsForeign index old from change) (λ n h. h.foreign) (region_pages (entries_in index old)) each_region,
       ),
       λ less. (new_page less).foreign,
     )
 
     -- so where it is made, no page serves twice, if none of the regions' does
-    own_then : (f : Entry) (fs : List Entry) (filled new : StoreFacts) → IsCommitted index old from change f fs filled new
-        → IsDistinct nat_eq (region_pages (entries_in (changed index change) new))
-        → AllByRecursion (IsRegionPage index old from change) (region_pages (entries_in (changed index change) new)) → AreOwnPages (changed index change) new
-    own_then f fs filled new made distinct each =
-        distinct_join (0 ∷ pages_of_index (changed index change) new) (region_pages (entries_in (changed index change) new)) made.reached distinct
+    own_then : (f : Entry) (fs : List Entry) (filled new : StoreFacts) (made : IsCommitted index old from change f fs filled new)
+        → IsDistinct nat_eq (region_pages (made.entries_are.before ++ (fs ++ made.entries_are.after)))
+        → (AllByRecursion (IsRegionPage index old from change) (region_pages (made.entries_are.before ++ (f ∷ made.entries_are.after)))
+        → AllByRecursion (IsRegionPage index old from change) (region_pages (made.entries_are.before ++ (fs ++ made.entries_are.after)))) → AreOwnPages (changed index change) new
+    own_then f fs filled new made distinct kept =
+        let r = made.entries_are in
+        let each : AllByRecursion (IsRegionPage index old from change) (region_pages (entries_in (changed index change) new)) =
+        subst (λ (xs : List Entry). AllByRecursion (IsRegionPage index old from change) (region_pages xs)) (sym r.is)
+        (kept (subst (λ (xs : List Entry). AllByRecursion (IsRegionPage index old from change) (region_pages xs)) r.was each_region)) in
+        distinct_join (0 ∷ pages_of_index (changed index change) new) (region_pages (entries_in (changed index change) new)) made.reached
+        (subst (λ (xs : List Entry). IsDistinct nat_eq (region_pages xs)) (sym r.is) distinct)
         (apart_swap (region_pages (entries_in (changed index change) new)) (0 ∷ pages_of_index (changed index change) new)
         (all_more (IsRegionPage index old from change) (λ n. IsOutside n (0 ∷ pages_of_index (changed index change) new)) (λ n h. (h.some, made.no_other n h.foreign))
         (region_pages (entries_in (changed index change) new)) each))
@@ -108,24 +107,16 @@ module _ (index : IndexView) (old : StoreFacts) (is : IsIndexOn index old) (own 
       let distinct : IsDistinct nat_eq (region_pages (r.before ++ (f ∷ r.after))) = subst (λ (xs : List Entry). IsDistinct nat_eq (region_pages xs)) r.was regions_own in
       let less : AllByRecursion (λ n. n < page_count old) (region_pages (r.before ++ (f ∷ r.after))) =
       subst (λ (xs : List Entry). AllByRecursion (λ n. n < page_count old) (region_pages xs)) r.was there in
-      let each : AllByRecursion (IsRegionPage index old (page_count old + 1) change) (region_pages (r.before ++ (f ∷ r.after))) =
-      subst (λ (xs : List Entry). AllByRecursion (IsRegionPage index old (page_count old + 1) change) (region_pages xs)) r.was (each_region (page_count old + 1) change (omega arith)) in
       own_then (page_count old + 1) change (omega arith) f (f ∷ added_at first old ∷ []) filled new made
-      (subst (λ (xs : List Entry). IsDistinct nat_eq (region_pages xs)) (sym r.is)
-      (distinct_added r.before f (added_at first old) r.after distinct (outside_less (page_count old) (region_pages (r.before ++ (f ∷ r.after))) less)))
-      (subst (λ (xs : List Entry). AllByRecursion (IsRegionPage index old (page_count old + 1) change) (region_pages xs)) (sym r.is)
-      (all_added (IsRegionPage index old (page_count old + 1) change) r.before f (added_at first old) r.after each (new_page (page_count old + 1) change (omega arith) (omega arith))))
+      (distinct_added r.before f (added_at first old) r.after distinct (outside_less (page_count old) (region_pages (r.before ++ (f ∷ r.after))) less))
+      (λ each. all_added (IsRegionPage index old (page_count old + 1) change) r.before f (added_at first old) r.after each (new_page (page_count old + 1) change (omega arith) (omega arith)))
 
   pub own_dropped : (change : ChangeView) (f : Entry) (filled new : StoreFacts) → IsCommitted index old (page_count old) change f [] filled new → AreOwnPages (changed index change) new
   own_dropped change f filled new made =
       let r = made.entries_are in
       let distinct : IsDistinct nat_eq (region_pages (r.before ++ (f ∷ r.after))) = subst (λ (xs : List Entry). IsDistinct nat_eq (region_pages xs)) r.was regions_own in
-      let each : AllByRecursion (IsRegionPage index old (page_count old) change) (region_pages (r.before ++ (f ∷ r.after))) =
-      subst (λ (xs : List Entry). AllByRecursion (IsRegionPage index old (page_count old) change) (region_pages xs)) r.was (each_region (page_count old) change (omega arith)) in
-      own_then (page_count old) change (omega arith) f [] filled new made
-      (subst (λ (xs : List Entry). IsDistinct nat_eq (region_pages xs)) (sym r.is) (distinct_dropped r.before f r.after distinct))
-      (subst (λ (xs : List Entry). AllByRecursion (IsRegionPage index old (page_count old) change) (region_pages xs)) (sym r.is)
-      (all_dropped (IsRegionPage index old (page_count old) change) r.before f r.after each))
+      own_then (page_count old) change (omega arith) f [] filled new made (distinct_dropped r.before f r.after distinct)
+      (λ each. all_dropped (IsRegionPage index old (page_count old) change) r.before f r.after each)
 
 -- how many entries there are where others stand in the place of one
 pub count_replaced : (f : Entry) (fs old new : List Entry) → Replaces f fs old new → length new + 1 ≡ length old + length fs

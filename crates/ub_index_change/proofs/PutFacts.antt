@@ -13,17 +13,11 @@ use Rattle.ub_index.specs.Index.{IsIndexPage}
 use Rattle.ub_index_change.specs.Making.{IsPutFault, PutsSheets, SameButSheets}
 use Rattle.ub_index_change.specs.declared.sheet.Sheet.{Sheet}
 use Rattle.ub_index.proofs.HeldFacts.{keeps_on}
-use Rattle.ub_index_change.proofs.BelowFacts.{below_at}
+use Rattle.ub_index_change.proofs.BelowFacts.{sheet_at}
 use Rattle.ub_index.proofs.StandFacts.{put_get, put_checked}
 
 pub then_done : (a b d : StoreFacts) → b ≡ record a { pages = b.pages; synced = b.synced } → d ≡ record b { pages = d.pages; synced = d.synced } → d ≡ record a { pages = d.pages; synced = d.synced }
 then_done a b d same more = more ∙ ap (λ (s : StoreFacts). record s { pages = d.pages; synced = d.synced }) same
-
--- of a page that isn't spelled none of the sheets is
-other_sheet : (sheets : List Sheet) (m i : ℕ) (sheet : Sheet) → slice_get sheets i ≡ Some sheet → IsUnspelled m sheets → m ≢ sheet.number
-other_sheet [] m i sheet at h = cc
-other_sheet (s ∷ sheets) m zero sheet at h = let same : s ≡ sheet = cc in λ e. h.0 (e ∙ sym (ap (λ (x : Sheet). x.number) same))
-other_sheet (s ∷ sheets) m (suc i) sheet at h = other_sheet sheets m i sheet at h.1
 
 -- what lasts after a call that may have synced, where what lasted before is known
 flushed_but : (sheets : List Sheet) (a b d : StoreFacts) → MayFlush b d → (b.synced ≡ a.synced) ⊎ SameButSheets sheets a.pages b.synced → SameButSheets sheets a.pages d.pages
@@ -42,14 +36,14 @@ puts_more r sheets a b d i sheet honesty k at w = record {
 }
   where
     others : IsHonest a → (m : ℕ) → IsUnspelled m sheets → slice_get d.pages m ≡ slice_get a.pages m
-    others honest m free = w.others (honesty ∙ honest) m (other_sheet sheets m i sheet at free) ∙ k.others honest m free
+    others honest m free = w.others (honesty ∙ honest) m (sheet_at (λ s. m ≢ s.number) sheets i sheet at free) ∙ k.others honest m free
 
 stand_next : (sheets : List Sheet) (i : ℕ) (sheet : Sheet) (b d : List (List ℕ)) → AreOnce sheets → slice_get sheets i ≡ Some sheet
     → ((m : ℕ) → m ≢ sheet.number → slice_get d m ≡ slice_get b m) → slice_get d sheet.number ≡ Some sheet.page → Stand b (take i sheets) → Stand d (take (suc i) sheets)
 stand_next [] i sheet b d once at others put stand = cc
 stand_next (s ∷ sheets) zero sheet b d once at others put stand = let same : sheet ≡ s = cc in (subst (λ (x : Sheet). slice_get d x.number ≡ Some x.page) same put, tt)
 stand_next (s ∷ sheets) (suc i) sheet b d once at others put stand =
-    (others s.number (other_sheet sheets s.number i sheet at once.0) ∙ stand.0, stand_next sheets i sheet b d once.1 at others put stand.1)
+    (others s.number (sheet_at (λ x. s.number ≢ x.number) sheets i sheet at once.0) ∙ stand.0, stand_next sheets i sheet b d once.1 at others put stand.1)
 
 pub stands_more : (sheets : List Sheet) (i : ℕ) (sheet : Sheet) (a b d : StoreFacts) → b.honest ≡ a.honest → slice_get sheets i ≡ Some sheet → sheet.number < page_count b
     → WritesAt {A = Unit {0}} sheet.number sheet.page b d (Ok tt) → AreOnce sheets → IsHonest a → Stand b.pages (take i sheets) → Stand d.pages (take (i + 1) sheets)
@@ -66,7 +60,7 @@ pub put_fault : (T : Type 0) (sheets : List Sheet) (i : ℕ) (sheet : Sheet) (a 
 put_fault T sheets i sheet a b store.Device at same pages or device missing count all = sym (ap (λ (s : StoreFacts). s.can_fail) same) ∙ device refl
 put_fault T sheets i sheet a b store.NoPage at same pages or device missing count all =
     let past = missing refl in
-    let below = below_at count sheets i sheet at all in
+    let below = sheet_at (λ s. s.number < count) sheets i sheet at all in
     (omega arith, i, sheet, at, subst (λ (n : ℕ). n ≤ sheet.number) pages past)
 put_fault T sheets i sheet a b store.Memory at same pages (inl e) device missing count all = cc
 put_fault T sheets i sheet a b store.Memory at same pages (inr e) device missing count all = cc
@@ -74,14 +68,9 @@ put_fault T sheets i sheet a b store.BadSize at same pages (inl e) device missin
 put_fault T sheets i sheet a b store.BadSize at same pages (inr e) device missing count all = cc
 
 -- a page of an index that is put leaves the pages that are held checked: it is held in the place of one, or isn't
-page_of : (last : ℕ) (sheets : List Sheet) (i : ℕ) (sheet : Sheet) → slice_get sheets i ≡ Some sheet → AreIndexPages last sheets → IsIndexPage last sheet.page
-page_of last [] i sheet at good = cc
-page_of last (x ∷ sheets) zero sheet at good = let same : x ≡ sheet = cc in subst (λ (s : Sheet). IsIndexPage last s.page) same good.0
-page_of last (x ∷ sheets) (suc i) sheet at good = page_of last sheets i sheet at good.1
-
 pub put_keeps : (last : ℕ) (sheets : List Sheet) (i : ℕ) (sheet : Sheet) (old mid new : PagerView) → new.store.honest ≡ mid.store.honest → slice_get sheets i ≡ Some sheet
     → AreIndexPages last sheets → KeepsChecked last old mid
     → (page_at new.cached sheet.number ≡ option_map (λ _. sheet.page) (page_at mid.cached sheet.number)) ⊎ (page_at new.cached sheet.number ≡ None)
     → SameBut sheet.number mid.cached new.cached → KeepsChecked last old new
 put_keeps last sheets i sheet old mid new honest at good kept here others =
-    keeps_on last old mid new kept (put_checked last sheet.number sheet.page mid new honest (page_of last sheets i sheet at good) here others)
+    keeps_on last old mid new kept (put_checked last sheet.number sheet.page mid new honest (sheet_at (λ s. IsIndexPage last s.page) sheets i sheet at good) here others)

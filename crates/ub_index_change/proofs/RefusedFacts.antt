@@ -1,11 +1,10 @@
 -- Sheets that are put on pages, and a page that isn't among them and fits there.
 use Rattle.std.proofs.Common.{◌≡◌, ◌≢◌, ◌≤◌, ◌<◌, ◌^◌, ◌∙◌, ◌==◌, inl, inr, Bool, ℕ, zero, suc, List, [], ◌∷◌, Option, Some, None, length, slice_get, slice_set, sym, ap, subst, refl, arith, if◌then◌else◌}
 use Rattle.std.proofs.lemmas.Bool.{cases_Bool, cases_lt}
-use Rattle.std.specs.List.{AllByRecursion}
+use Rattle.std.proofs.lemmas.List.{length-set}
 use Rattle.ub_table.specs.Keys.{origin}
 use Rattle.ub_table.specs.declared.fault.PageFault.{PageFault}
 use Rattle.ub_index_change.specs.Changing.{AreOnce, IsUnspelled, Stand, StayBut}
-use Rattle.ub_index.specs.Standing.{IsOutside}
 use Rattle.ub_index.specs.Fitting.{IsNotTaken}
 use Rattle.ub_index.specs.Index.{Fits, IsUnder, NamesFitting, page_in, top}
 use Rattle.ub_index_change.specs.Lowering.{spelled_page}
@@ -23,12 +22,6 @@ put_other (p ∷ pages) zero (suc m) page h = refl
 put_other (p ∷ pages) (suc n) zero page h = refl
 put_other (p ∷ pages) (suc n) (suc m) page h = put_other pages n m page (λ e. h (ap (λ (k : ℕ). suc k) e))
 
-put_length : (pages : List (List ℕ)) (n : ℕ) (page : List ℕ) → length (slice_set pages n page) ≡ length pages
-put_length [] zero page = refl
-put_length [] (suc n) page = refl
-put_length (p ∷ pages) zero page = refl
-put_length (p ∷ pages) (suc n) page = ap (λ (k : ℕ). suc k) (put_length pages n page)
-
 -- the pages with the sheets put
 abbrev pub with_sheets : List (List ℕ) → List Sheet → List (List ℕ)
 with_sheets pages [] = pages
@@ -36,7 +29,7 @@ with_sheets pages (s ∷ sheets) = slice_set (with_sheets pages sheets) s.number
 
 with_length : (pages : List (List ℕ)) (sheets : List Sheet) → length (with_sheets pages sheets) ≡ length pages
 with_length pages [] = refl
-with_length pages (s ∷ sheets) = put_length (with_sheets pages sheets) s.number s.page ∙ with_length pages sheets
+with_length pages (s ∷ sheets) = length-set (with_sheets pages sheets) s.number s.page ∙ with_length pages sheets
 
 pub with_other : (pages : List (List ℕ)) (sheets : List Sheet) (n : ℕ) → IsUnspelled n sheets → slice_get (with_sheets pages sheets) n ≡ slice_get pages n
 with_other pages [] n h = refl
@@ -70,11 +63,6 @@ unspelled_of (s ∷ sheets) n h = elim (cases_Bool (s.number == n)) [
       let e : spelled_page sheets n ≡ None = ap (λ (b : Bool). if b then Some s.page else spelled_page sheets n) (sym f) ∙ h in
       ((λ same. differs s.number n f (sym same)), unspelled_of sheets n e)
 ]
-
--- a number beyond all of those is none of them
-pub far_outside : (m count : ℕ) (numbers : List ℕ) → count ≤ m → AllByRecursion (λ n. n < count) numbers → IsOutside m numbers
-far_outside m count [] far all = tt
-far_outside m count (x ∷ numbers) far all = ((λ e. (let less = all.0 in omega (arith, e, less, far))), far_outside m count numbers far all.1)
 
 -- a root that stays, and on which an index stands then, isn't refused
 pub root_not_refused : (last : ℕ) → last < 2 ^ 128 → (old later : List (List ℕ)) (n level : ℕ) (fault : Option PageFault) → 1 ≤ level → IsUnder last later level (top n) None

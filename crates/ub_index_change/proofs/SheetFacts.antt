@@ -1,6 +1,6 @@
 -- What a change spells over any pages is pages of an index.
-use Rattle.std.proofs.Common.{◌≡◌, ◌≤◌, ◌<◌, ◌^◌, ◌++◌, ◌+◌, ℕ, zero, suc, List, [], ◌∷◌, Option, Some, None, IfSome, length, take, drop, ◌∙◌, sym, ap, subst, refl, arith, take-append-drop}
-use Rattle.std.proofs.lemmas.List.{append-nil, length-drop, length-take-le}
+use Rattle.std.proofs.Common.{◌≡◌, ◌≤◌, ◌<◌, ◌^◌, ◌++◌, ◌+◌, inl, inr, ℕ, zero, suc, List, [], ◌∷◌, Option, Some, None, IfSome, take, drop, ◌∙◌, sym, ap, subst, refl, arith, take-append-drop}
+use Rattle.std.proofs.lemmas.List.{append-nil}
 use Rattle.std.proofs.lemmas.Option.{slice_get_within}
 use Rattle.std.specs.List.{AllByRecursion}
 use Rattle.ub_page.specs.Index.{node_on}
@@ -15,18 +15,19 @@ use Rattle.ub_index_change.specs.Changed.{BeginFrom}
 use Rattle.ub_index_change.specs.Changing.{AreIndexPages, IsFine, Mends, NamesPage, Spelled, Spreads, Turns, named_as, sheet_of, so_far}
 use Rattle.ub_index.specs.Fitting.{FallsTo}
 use Rattle.ub_index.specs.Index.{AscendTo, IsIndexPage, NamesFitting, entries_of, first_or, page_in, top}
-use Rattle.ub_index_change.specs.Preparing.{ChangeView, IsPrepared, IsWithinRegion, Settles, added_at}
+use Rattle.ub_index_change.specs.Preparing.{ChangeView, IsPrepared, IsWithinRegion, added_at}
 use Rattle.ub_index.specs.View.{IndexView, Leads, entry_at}
 use Rattle.ub_index.specs.Way.{LeadsTo}
 use Rattle.ub_region.specs.declared.region.Region.{Region}
 use Rattle.ub_index_change.specs.declared.sheet.Sheet.{Sheet}
 use Rattle.ub_index_change.specs.declared.told.Told.{Told}
 use Rattle.ub_index_change.specs.declared.told.Told.TheVariants.{Same, Gone, One, Two}
-use Rattle.ub_index_change.proofs.Changes.{first_of, no_end, not_before}
+use Rattle.ub_index_change.proofs.Changes.{ascend_mended, begun_before, begun_joined, first_of, no_end}
 use Rattle.ub_index.proofs.LeadFacts.{one_way}
+use Rattle.ub_index_change.proofs.FullFacts.{mends_or, settles_or}
 use Rattle.ub_index_change.proofs.ReadyFacts.{added_fine, leads_entry}
-use Rattle.ub_index.proofs.Lists.{ascend_first, ascend_join, ascend_later, ascend_left, ascend_right}
-use Rattle.ub_index_change.proofs.SpreadFacts.{new_sheets, node_so, spread_named, spread_next, spread_sheets}
+use Rattle.ub_index.proofs.Lists.{ascend_later, ascend_left, ascend_right}
+use Rattle.ub_index_change.proofs.SpreadFacts.{new_sheets, node_so, nodes_so, spread_named, spread_next, spread_sheets}
 use Rattle.ub_index.proofs.StandFacts.{node, node_is}
 
 -- what is spelled of entries in order
@@ -39,20 +40,8 @@ spread_pages last small level entry entries end from to Gone high h all up = tt
 spread_pages last small level entry entries end from to (One other) high h all up =
     (node_is last small (node (suc level) entries) (node_so last level entries end other.first high h.2.begins h.0 all up), tt)
 spread_pages last small level entry entries end from to (Two left right) high h all up =
-    let parts : entries ≡ take 86 entries ++ drop 86 entries = sym (take-append-drop 86 entries) in
-    let all_parts : AllByRecursion (IsEntry last) (take 86 entries ++ drop 86 entries) = subst (λ (xs : List Entry). AllByRecursion (IsEntry last) xs) parts all in
-    let up_parts : AscendTo (take 86 entries ++ drop 86 entries) end = subst (λ (xs : List Entry). AscendTo xs end) parts up in
-    let full : length entries ≡ 171 = h.0 in
-    let few_left : length (take 86 entries) ≤ 170 = (let e = length-take-le 86 entries (omega arith) in omega arith) in
-    let few_right : length (drop 86 entries) ≤ 170 = (let e = length-drop 86 entries in omega arith) in (
-      node_is last small (node (suc level) (drop 86 entries)) (node_so last level (drop 86 entries) end right.first high h.3.begins few_right
-          (all_right (IsEntry last) (take 86 entries) (drop 86 entries) all_parts) (ascend_right (take 86 entries) (drop 86 entries) end up_parts)),
-      (
-        node_is last small (node (suc level) (take 86 entries)) (node_so last level (take 86 entries) (first_or (drop 86 entries) end) left.first high h.2.begins few_left
-            (all_left (IsEntry last) (take 86 entries) (drop 86 entries) all_parts) (ascend_left (take 86 entries) (drop 86 entries) end up_parts)),
-        tt,
-      ),
-    )
+    let on = nodes_so last level entry entries end from to left right high h all up in
+    (node_is last small (node (suc level) (drop 86 entries)) on.1, (node_is last small (node (suc level) (take 86 entries)) on.0, tt))
 
 -- what is told of an entry is in order from its key on up to the end, and in range
 pub record IsOrderly (last : ℕ) (entry : Entry) (end : Option Key) (told : Told) : Type 0 where
@@ -60,17 +49,8 @@ pub record IsOrderly (last : ℕ) (entry : Entry) (end : Option Key) (told : Tol
   pub later : BeginFrom entry.first (named_as told entry)
   pub all : AllByRecursion (IsEntry last) (named_as told entry)
 
--- the entry that names entries in order is before their end
-named_before : (n : ℕ) (entries : List Entry) (entry : Entry) (end : Option Key) → NamesPage n entries entry → AscendTo entries end → IfSome end (IsBefore entry.first)
-named_before n [] entry end h up = let no : None ≡ Some entry.first = h.begins in cc
-named_before n (x ∷ xs) entry end h up =
-    let same : Some x.first ≡ Some entry.first = h.begins in
-    let is : x.first ≡ entry.first = cc in
-    subst (λ (key : Key). IfSome end (IsBefore key)) is (ascend_first x xs end up)
-
 pub first_named : (n : ℕ) (entries rest : List Entry) (entry : Entry) (end : Option Key) → NamesPage n entries entry → first_or (entries ++ rest) end ≡ Some entry.first
-first_named n [] rest entry end h = let no : None ≡ Some entry.first = h.begins in cc
-first_named n (x ∷ xs) rest entry end h = let same : Some x.first ≡ Some entry.first = h.begins in same
+first_named n entries rest entry end h = begun_joined entries rest entry.first end h.begins
 
 spread_orderly : (last level : ℕ) (entry : Entry) (entries : List Entry) (end : Option Key) (from to : Spelled) (told : Told) → Spreads level entry entries from to told → IsEntry last entry
     → 1 ≤ from.next → AllByRecursion (IsEntry last) entries → AscendTo entries end → BeginFrom entry.first entries → IfSome end (IsBefore entry.first) → IsOrderly last entry end told
@@ -89,14 +69,14 @@ spread_orderly last level entry entries end from to told h is low all up later b
     by_up : (t : Told) → Spreads level entry entries from to t → AscendTo (named_as t entry) end
     by_up Same h = (before, tt)
     by_up Gone h = tt
-    by_up (One other) h = (named_before entry.page entries other end h.2 up, tt)
+    by_up (One other) h = (begun_before entries other.first end h.2.begins up, tt)
     by_up (Two left right) h =
         let middle : first_or (drop 86 entries) end ≡ Some right.first =
         ap (λ (xs : List Entry). first_or xs end) (sym (append-nil (drop 86 entries))) ∙ first_named from.next (drop 86 entries) [] right end h.3 in
         let up_left : AscendTo (take 86 entries) (Some right.first) =
         subst (λ (o : Option Key). AscendTo (take 86 entries) o) middle (ascend_left (take 86 entries) (drop 86 entries) end up_parts) in (
-          named_before entry.page (take 86 entries) left (Some right.first) h.2 up_left,
-          (named_before from.next (drop 86 entries) right end h.3 (ascend_right (take 86 entries) (drop 86 entries) end up_parts), tt),
+          begun_before (take 86 entries) left.first (Some right.first) h.2.begins up_left,
+          (begun_before (drop 86 entries) right.first end h.3.begins (ascend_right (take 86 entries) (drop 86 entries) end up_parts), tt),
         )
 
     by_later : (t : Told) → Spreads level entry entries from to t → BeginFrom entry.first (named_as t entry)
@@ -139,10 +119,7 @@ module _ (last : ℕ) (small : last < 2 ^ 128) (pages : List (List ℕ)) (key : 
 
   pub mended_up : (t : Told) → IsOrderly last below next t → AscendTo (mended t) end
   mended_up t o =
-      let no_sooner = not_before below (named_as t below) falls.after end o.later from_below.0 in
-      ascend_join falls.before (named_as t below ++ falls.after) end
-      (ascend_later falls.before (Some below.first) (first_or (named_as t below ++ falls.after) end) (ascend_left falls.before (below ∷ falls.after) end up_all) no_sooner)
-      (ascend_join (named_as t below) falls.after end (subst (λ (n : Option Key). AscendTo (named_as t below) n) falls.next_is o.up) from_below.1)
+      ascend_mended falls.before below falls.after (named_as t below) end up_all o.later (subst (λ (n : Option Key). AscendTo (named_as t below) n) falls.next_is o.up)
 
   mended_later : (t : Told) → IsOrderly last below next t → BeginFrom entry.first (mended t)
   mended_later t o =
@@ -162,14 +139,14 @@ module _ (last : ℕ) (small : last < 2 ^ 128) (pages : List (List ℕ)) (key : 
 
     pub turned_up : (news : Told) → IsOrderly last below next news → Mends (suc level) entry falls.before below falls.after news middle to told
         → IsOrderly last entry end told × AreIndexPages last to.sheets × (from.next ≤ to.next)
-    turned_up Same o m = (
-      subst (λ (t : Told). IsOrderly last entry end t) (sym m.0) (record { up = (before, tt); later = not_before_self entry.first; all = (is, tt) }),
-      subst (λ (s : Spelled). AreIndexPages last s.sheets) (sym m.1) good,
-      (let e = ap (λ (s : Spelled). s.next) m.1 in omega arith),
-    )
-    turned_up Gone o m = spread Gone o m
-    turned_up (One other) o m = spread (One other) o m
-    turned_up (Two left right) o m = spread (Two left right) o m
+    turned_up news o m = elim (mends_or (suc level) entry falls.before below falls.after news middle to told m) [
+      | inl still ↦ (
+        subst (λ (t : Told). IsOrderly last entry end t) (sym still.1) (record { up = (before, tt); later = not_before_self entry.first; all = (is, tt) }),
+        subst (λ (s : Spelled). AreIndexPages last s.sheets) (sym still.2) good,
+        (let e = ap (λ (s : Spelled). s.next) still.2 in omega arith),
+      )
+      | inr spreads ↦ spread news o spreads
+    ]
 
 -- what a turn tells is in order, and what it spells is pages of an index
 pub turned : (last : ℕ) → last < 2 ^ 128 → (pages : List (List ℕ)) (key : Key) (added : Option Entry) (level : ℕ) (entry : Entry) (end : Option Key) (from to : Spelled) (told : Told)
@@ -200,7 +177,18 @@ module _ (index : IndexView) (store : StoreFacts) (small : index.last < 2 ^ 128)
       → ((found : Entry) (after : Option Key) → index.root < page_count store
       → LeadsTo index.last store.pages key index.levels (top index.root) None found after → IsFine index.last added found after)
       → IsPrepared index store key added start (so_far [] next) change → AreIndexPages index.last change.sheets
-  prepared_pages start next change begun fine (middle, told, turns, settles) = by_told told r.0 settles
+  prepared_pages start next change begun fine (middle, told, turns, settles) = elim (settles_or index.root index.levels told start middle change settles) [
+    | inl one ↦ subst (λ (c : ChangeView). AreIndexPages index.last c.sheets) (sym one.3) r.1
+    | inr two ↦
+        let o : IsOrderly index.last (top index.root) None (Two two.0 two.1) = subst (λ (t : Told). IsOrderly index.last (top index.root) None t) two.2 r.0 in
+        let high = two.3 in
+        subst (λ (c : ChangeView). AreIndexPages index.last c.sheets) (sym two.5)
+        (all_append (λ (x : Sheet). IsIndexPage index.last x.page) middle.sheets (sheet_of middle.next (index.levels + 1) (two.0 ∷ two.1 ∷ []) ∷ []) r.1 (
+          node_is index.last small (node (index.levels + 1) (two.0 ∷ two.1 ∷ []))
+              (record { low = omega arith; high = omega arith; some = omega arith; few = omega arith; entries = o.all; ascending = (o.up.0, tt) }),
+          tt,
+        ))
+  ]
     where
       there : index.root < page_count store
       there = root_there index.levels (so_far [] next) middle told low turns
@@ -211,19 +199,6 @@ module _ (index : IndexView) (store : StoreFacts) (small : index.last < 2 ^ 128)
       r : IsOrderly index.last (top index.root) None told × AreIndexPages index.last middle.sheets × (next ≤ middle.next)
       r = turned index.last small store.pages key added index.levels (top index.root) None (so_far [] next) middle told (let t = there in omega arith) root_is tt
           (λ found after leads. fine found after there leads) tt turns
-
-      by_told : (t : Told) → IsOrderly index.last (top index.root) None t → Settles index.root index.levels t start middle change → AreIndexPages index.last change.sheets
-      by_told Same o s = subst (λ (c : ChangeView). AreIndexPages index.last c.sheets) (sym s) r.1
-      by_told Gone o s = absurd s
-      by_told (One other) o s = subst (λ (c : ChangeView). AreIndexPages index.last c.sheets) (sym s) r.1
-      by_told (Two left right) o s =
-          let high = s.0 in
-          subst (λ (c : ChangeView). AreIndexPages index.last c.sheets) (sym s.2)
-          (all_append (λ (x : Sheet). IsIndexPage index.last x.page) middle.sheets (sheet_of middle.next (index.levels + 1) (left ∷ right ∷ []) ∷ []) r.1 (
-            node_is index.last small (node (index.levels + 1) (left ∷ right ∷ []))
-                (record { low = omega arith; high = omega arith; some = omega arith; few = omega arith; entries = o.all; ascending = (o.up.0, tt) }),
-            tt,
-          ))
 
 -- what comes where the way ends is fine, if it is where it ends once
 pub fine_found : (last : ℕ) (pages : List (List ℕ)) (key : Key) (added : Option Entry) (level : ℕ) (entry : Entry) (end : Option Key) (f : Entry) (nf : Option Key) → IsFine last added f nf

@@ -47,12 +47,12 @@ pub spread_outside : (level : ℕ) (entry : Entry) (entries : List Entry) (from 
 spread_outside level entry entries from to Same h n p q = (p, tt)
 spread_outside level entry entries from to Gone h n p q = tt
 spread_outside level entry entries from to (One other) h n p q = (p, tt)
-spread_outside level entry entries from to (Two left right) h n p q = (not_next level entry entries from to left right h n q, (p, tt))
-  where
-    not_next : (level : ℕ) (entry : Entry) (entries : List Entry) (from to : Spelled) (left right : Entry) → Spreads level entry entries from to (Two left right) → (n : ℕ)
-        → IsNoNew from.next to.next n → n ≢ from.next
-    not_next level entry entries from to left right h n (inl less) = λ e. omega arith
-    not_next level entry entries from to left right h n (inr more) = let same = ap (λ (s : Spelled). s.next) h.4 in λ e. omega arith
+spread_outside level entry entries from to (Two left right) h n p q =
+    let same = ap (λ (s : Spelled). s.next) h.4 in
+    ((λ e. elim q [
+      | inl less ↦ omega arith
+      | inr more ↦ omega arith
+    ]), (p, tt))
 
 -- each number is spelled once
 pub spread_once : (level : ℕ) (entry : Entry) (entries : List Entry) (next : ℕ) (told : Told) → entry.page < next → AreOnce (new_sheets level entry entries next told)
@@ -87,6 +87,23 @@ node_so last level entries end first high begins few all up = record {
   entries = all;
   ascending = ascending_up entries end up;
 }
+
+-- the two pages on which entries are spread that are one more than a page has
+pub nodes_so : (last level : ℕ) (entry : Entry) (entries : List Entry) (end : Option Key) (from to : Spelled) (left right : Entry) → suc level ≤ 16
+    → Spreads (suc level) entry entries from to (Two left right) → AllByRecursion (IsEntry last) entries → AscendTo entries end
+    → IsNode last (node (suc level) (take 86 entries)) × IsNode last (node (suc level) (drop 86 entries))
+nodes_so last level entry entries end from to left right high h all up =
+    let parts : entries ≡ take 86 entries ++ drop 86 entries = sym (take-append-drop 86 entries) in
+    let all_parts : AllByRecursion (IsEntry last) (take 86 entries ++ drop 86 entries) = subst (λ (xs : List Entry). AllByRecursion (IsEntry last) xs) parts all in
+    let up_parts : AscendTo (take 86 entries ++ drop 86 entries) end = subst (λ (xs : List Entry). AscendTo xs end) parts up in
+    let full : length entries ≡ 171 = h.0 in
+    let few_left : length (take 86 entries) ≤ 170 = (let e = length-take-le 86 entries (omega arith) in omega arith) in
+    let few_right : length (drop 86 entries) ≤ 170 = (let e = length-drop 86 entries in omega arith) in (
+      node_so last level (take 86 entries) (first_or (drop 86 entries) end) left.first high h.2.begins few_left
+          (all_left (IsEntry last) (take 86 entries) (drop 86 entries) all_parts) (ascend_left (take 86 entries) (drop 86 entries) end up_parts),
+      node_so last level (drop 86 entries) end right.first high h.3.begins few_right
+          (all_right (IsEntry last) (take 86 entries) (drop 86 entries) all_parts) (ascend_right (take 86 entries) (drop 86 entries) end up_parts),
+    )
 
 -- an entry that names a page of entries in range is in range
 pub entry_named : (last n : ℕ) (entries : List Entry) (entry : Entry) → NamesPage n entries entry → AllByRecursion (IsEntry last) entries → 1 ≤ n → n < 2 ^ 32
@@ -148,21 +165,12 @@ module _ (last : ℕ) (small : last < 2 ^ 128) where
   told_spread later level entry entries end from to (One other) high h all up stand =
       (h.2.page_is, told_on later entry.page (suc level) entries other stand.0 (node_so last level entries end other.first high h.2.begins h.0 all up) h.2)
   told_spread later level entry entries end from to (Two left right) high h all up stand =
-      let parts : entries ≡ take 86 entries ++ drop 86 entries = sym (take-append-drop 86 entries) in
-      let all_parts : AllByRecursion (IsEntry last) (take 86 entries ++ drop 86 entries) = subst (λ (xs : List Entry). AllByRecursion (IsEntry last) xs) parts all in
-      let up_parts : AscendTo (take 86 entries ++ drop 86 entries) end = subst (λ (xs : List Entry). AscendTo xs end) parts up in
-      let full : length entries ≡ 171 = h.0 in
-      let few_left : length (take 86 entries) ≤ 170 = (let e = length-take-le 86 entries (omega arith) in omega arith) in
-      let few_right : length (drop 86 entries) ≤ 170 = (let e = length-drop 86 entries in omega arith) in
-      let on_left = node_so last level (take 86 entries) (first_or (drop 86 entries) end) left.first high h.2.begins few_left
-      (all_left (IsEntry last) (take 86 entries) (drop 86 entries) all_parts) (ascend_left (take 86 entries) (drop 86 entries) end up_parts) in
-      let on_right = node_so last level (drop 86 entries) end right.first high h.3.begins few_right
-      (all_right (IsEntry last) (take 86 entries) (drop 86 entries) all_parts) (ascend_right (take 86 entries) (drop 86 entries) end up_parts) in (
-        full,
+      let on = nodes_so last level entry entries end from to left right high h all up in (
+        h.0,
         h.2.page_is,
         h.3.page_is,
-        told_on later entry.page (suc level) (take 86 entries) left stand.1.0 on_left h.2,
-        told_on later from.next (suc level) (drop 86 entries) right stand.0 on_right h.3,
+        told_on later entry.page (suc level) (take 86 entries) left stand.1.0 on.0 h.2,
+        told_on later from.next (suc level) (drop 86 entries) right stand.0 on.1 h.3,
       )
 
   pub stand_told : (later : List (List ℕ)) (level : ℕ) (entry : Entry) (entries : List Entry) (next : ℕ) (told : Told) → ToldOn later level entry entries next told

@@ -10,18 +10,19 @@ use Rattle.ub_region.specs.declared.entry.Entry.{Entry}
 use Rattle.ub_region.proofs.Laws.{all_append, all_both, all_left, all_more, all_right}
 use Rattle.ub_table.specs.declared.row.Key.{Key}
 use Rattle.ub_index.specs.Standing.{PagesStay, IsOutside}
-use Rattle.ub_index_change.specs.Changed.{Becomes, Stays}
+use Rattle.ub_index_change.specs.Changed.{Becomes, StandOn, Stays}
 use Rattle.ub_index.specs.Index.{IsTold, entries_of, first_or, page_in, AscendTo, EachTo, IsUnder, pages_under}
 use Rattle.ub_index_change.specs.Changing.{AreOnce, IsFine, IsNoNew, IsUnspelled, Mends, Spelled, Spreads, Stand, StayBut, Turns, named_as, with_added}
 use Rattle.ub_index.specs.Fitting.{FallsTo}
 use Rattle.ub_index.specs.Way.{LeadsTo}
 use Rattle.ub_index_change.specs.declared.sheet.Sheet.{Sheet}
 use Rattle.ub_index_change.specs.declared.told.Told.{Told}
-use Rattle.ub_index_change.specs.declared.told.Told.TheVariants.{Same, Gone, One, Two}
+use Rattle.ub_index_change.specs.declared.told.Told.TheVariants.{Same}
 use Rattle.ub_index.proofs.KeptFacts.{kept_named, same_entries}
-use Rattle.ub_index_change.proofs.Changes.{not_before, stays}
-use Rattle.ub_index.proofs.Lists.{ascend_join, ascend_later, ascend_left, ascend_right, each_right}
+use Rattle.ub_index_change.proofs.Changes.{ascend_mended, stays}
+use Rattle.ub_index.proofs.Lists.{ascend_right, each_right}
 use Rattle.ub_index.proofs.Numbers.{StandApart, apart_swap, distinct_apart, distinct_cons, distinct_first, distinct_join, distinct_left, distinct_rest, distinct_right, kept_pages_list, outside_less, within_store}
+use Rattle.ub_index_change.proofs.FullFacts.{mends_or}
 use Rattle.ub_index_change.proofs.SheetNumbers.{no_new_left, no_new_right, once_join}
 use Rattle.ub_index_change.proofs.SpreadFacts.{ToldOn, new_sheets, one_pages, pages_among, pages_own, spread_apart, spread_named, spread_next, spread_once, spread_outside, spread_sheets, stand_told, told_spread}
 
@@ -43,23 +44,6 @@ pub record Risen (last : ℕ) (old : List (List ℕ)) (key : Key) (added : Optio
   pub becomes : (later : List (List ℕ)) → Stand later sheets → StayBut old later sheets (pages_under old level entry)
       → Becomes last old later found (named_as (with_added added found) found) next level entry end (named_as told entry)
 
--- the numbers of the pages under an entry, part by part
-parts_under : (pages : List (List ℕ)) (level : ℕ) (entries before after : List Entry) (below : Entry) → entries ≡ before ++ (below ∷ after)
-    → flat_map (pages_under pages level) entries ≡ flat_map (pages_under pages level) before ++ (pages_under pages level below ++ flat_map (pages_under pages level) after)
-parts_under pages level entries before after below parts =
-    ap (λ (xs : List Entry). flat_map (pages_under pages level) xs) parts ∙ flat_map-append (pages_under pages level) before (below ∷ after)
-
--- where an entry became others, the entries of its page are in order still
-mended_up : (last : ℕ) (old later : List (List ℕ)) (level : ℕ) (entry : Entry) (end : Option Key) (before : List Entry) (below : Entry) (after news : List Entry)
-    → IsUnder last old (suc level) entry end → entries_of old entry.page ≡ before ++ (below ∷ after) → Stays last later level below (first_or after end) news
-    → AscendTo (before ++ (news ++ after)) end
-mended_up last old later level entry end before below after news is parts in_it =
-    let up_all : AscendTo (before ++ (below ∷ after)) end = subst (λ (xs : List Entry). AscendTo xs end) parts is.0.fits.ascends in
-    let from_below = ascend_right before (below ∷ after) end up_all in
-    let no_sooner = not_before below news after end in_it.later from_below.0 in
-    let up_before = ascend_later before (Some below.first) (first_or (news ++ after) end) (ascend_left before (below ∷ after) end up_all) no_sooner in
-    ascend_join before (news ++ after) end up_before (ascend_join news after end in_it.ascends from_below.1)
-
 pub unspelled_left : (n : ℕ) (xs ys : List Sheet) → IsUnspelled n xs → IsUnspelled n ys → IsUnspelled n (xs ++ ys)
 unspelled_left n xs ys h k = all_append (λ (s : Sheet). n ≢ s.number) xs ys h k
 
@@ -76,18 +60,17 @@ module _ (last : ℕ) (small : last < 2 ^ 128) (old : List (List ℕ)) (key : Ke
   -- one level up, where the entry below became `news`
   module _ (level : ℕ) (entry below : Entry) (end next : Option Key) (from : Spelled) (room : length old ≤ from.next) (is : IsUnder last old (suc level) entry end)
       (distinct : IsDistinct nat_eq (pages_under old (suc level) entry)) (falls : FallsTo key (entries_of old entry.page) end below next) where
-    A : List ℕ
+    abbrev A : List ℕ
     A = flat_map (pages_under old level) falls.before
 
-    B : List ℕ
+    abbrev B : List ℕ
     B = pages_under old level below
 
-    C : List ℕ
+    abbrev C : List ℕ
     C = flat_map (pages_under old level) falls.after
 
     parts : flat_map (pages_under old level) (entries_of old entry.page) ≡ A ++ (B ++ C)
-    unfolding A B C
-    parts = parts_under old level (entries_of old entry.page) falls.before falls.after below falls.parts
+    parts = ap (λ (xs : List Entry). flat_map (pages_under old level) xs) falls.parts ∙ flat_map-append (pages_under old level) falls.before (below ∷ falls.after)
 
     page_there : entry.page < length old
     page_there = slice_get_within old entry.page (page_in old entry.page) is.0.there
@@ -122,14 +105,10 @@ module _ (last : ℕ) (small : last < 2 ^ 128) (old : List (List ℕ)) (key : Ke
     high : suc level ≤ 16
     high = let h = is.0.fits.is.is.high in let e : (node_on (page_in old entry.page)).level ≡ suc level = is.0.fits.level_is in omega arith
 
-    less_a : AllByRecursion (λ n. n < from.next) A
-    less_a = all_left (λ n. n < from.next) A (B ++ C) less
-
-    less_b : AllByRecursion (λ n. n < from.next) B
-    less_b = all_left (λ n. n < from.next) B C (all_right (λ n. n < from.next) A (B ++ C) less)
-
-    less_c : AllByRecursion (λ n. n < from.next) C
-    less_c = all_right (λ n. n < from.next) B C (all_right (λ n. n < from.next) A (B ++ C) less)
+    less_parts : AllByRecursion (λ n. n < from.next) A × AllByRecursion (λ n. n < from.next) B × AllByRecursion (λ n. n < from.next) C
+    less_parts =
+        let behind = all_right (λ n. n < from.next) A (B ++ C) less in
+        (all_left (λ n. n < from.next) A (B ++ C) less, all_left (λ n. n < from.next) B C behind, all_right (λ n. n < from.next) B C behind)
 
     own_b : IsOutside entry.page B
     own_b = all_left (λ m. entry.page ≢ m) B C (all_right (λ m. entry.page ≢ m) A (B ++ C) own)
@@ -142,14 +121,12 @@ module _ (last : ℕ) (small : last < 2 ^ 128) (old : List (List ℕ)) (key : Ke
     below_whole = (all_right (IsEntry last) falls.before (below ∷ falls.after) entries_all).0
 
     pub below_distinct : IsDistinct nat_eq (pages_under old level below)
-    unfolding B
     below_distinct = distinct_left B C (distinct_right A (B ++ C) apart)
 
     module _ (middle : Spelled) (news : Told) (r : Risen last old key added level below next from middle news) (fine : IsFine last added r.found r.next) (whole : IsEntry last entry)
         (leads : LeadsTo last old key (suc level) entry end r.found r.next) where
       becomes_below : (later : List (List ℕ)) → Stand later r.sheets → StayBut old later r.sheets B
           → Becomes last old later r.found (named_as (with_added added r.found) r.found) r.next level below (first_or falls.after end) (named_as news below)
-      unfolding B
       becomes_below later stand stay =
           subst (λ (o : Option Key). Becomes last old later r.found (named_as (with_added added r.found) r.found) r.next level below o (named_as news below)) falls.next_is (r.becomes later stand stay)
 
@@ -159,18 +136,16 @@ module _ (last : ℕ) (small : last < 2 ^ 128) (old : List (List ℕ)) (key : Ke
           (becomes_below later stand stay)
 
       -- the entries of the page from then on
-      mended : List Entry
+      abbrev mended : List Entry
       mended = falls.before ++ (named_as news below ++ falls.after)
 
       mended_all : AllByRecursion (IsEntry last) mended
-      unfolding mended
       mended_all =
           all_append (IsEntry last) falls.before (named_as news below ++ falls.after) (all_left (IsEntry last) falls.before (below ∷ falls.after) entries_all)
           (all_append (IsEntry last) (named_as news below) falls.after r.named (all_right (IsEntry last) falls.before (below ∷ falls.after) entries_all).1)
 
       mended_pages : (later : List (List ℕ)) → PagesStay old later A → PagesStay old later C
           → flat_map (pages_under later level) mended ≡ A ++ (flat_map (pages_under later level) (named_as news below) ++ C)
-      unfolding mended A C
       mended_pages later kept_a kept_c =
           flat_map-append (pages_under later level) falls.before (named_as news below ++ falls.after)
           ∙ (ap (λ (ns : List ℕ). flat_map (pages_under later level) falls.before ++ ns) (flat_map-append (pages_under later level) (named_as news below) falls.after)
@@ -178,24 +153,35 @@ module _ (last : ℕ) (small : last < 2 ^ 128) (old : List (List ℕ)) (key : Ke
           ∙ ap (λ (ns : List ℕ). flat_map (pages_under old level) falls.before ++ (flat_map (pages_under later level) (named_as news below) ++ ns))
           (kept_pages_list old later level falls.after kept_c)))
 
-      module _ (later : List (List ℕ)) (stand_below : Stand later r.sheets) (stay_below : StayBut old later r.sheets B) (kept_a : PagesStay old later A) (kept_c : PagesStay old later C) where
-        N : List ℕ
+      -- on the later pages, where the store's other pages under the entry are as they were
+      module _ (later : List (List ℕ)) (stand : Stand later r.sheets) (stay : StayBut old later r.sheets (A ++ (B ++ C))) where
+        abbrev S : ℕ → Type 0
+        S n = IsUnspelled n r.sheets → slice_get later n ≡ slice_get old n
+
+        part_below : StayBut old later r.sheets B
+        part_below = all_left S B C (all_right S A (B ++ C) stay)
+
+        kept_a : PagesStay old later A
+        kept_a = stay_apart old later r.sheets from.next B A (λ n lt h. r.outside n (inl lt) h) less_parts.0 before_apart (all_left S A (B ++ C) stay)
+
+        kept_c : PagesStay old later C
+        kept_c = stay_apart old later r.sheets from.next B C (λ n lt h. r.outside n (inl lt) h) less_parts.2 after_apart (all_right S B C (all_right S A (B ++ C) stay))
+
+        abbrev N : List ℕ
         N = flat_map (pages_under later level) (named_as news below)
 
         among_below : (n : ℕ) → IsNoNew from.next middle.next n → IsOutside n B → IsOutside n N
-        unfolding N B
-        among_below n new h = r.among later stand_below stay_below n new h
+        among_below n new h = r.among later stand part_below n new h
 
         off : (ns : List ℕ) → AllByRecursion (λ n. n < from.next) ns → StandApart ns B → StandApart ns N
         off ns lt h = all_both (λ n. n < from.next) (λ n. IsOutside n B) (λ n. IsOutside n N) (λ n less k. among_below n (inl less) k) ns lt h
 
         reached_parts : IsDistinct nat_eq (A ++ (N ++ C))
-        unfolding N B
         reached_parts =
             let a_c = all_more (λ n. IsOutside n (B ++ C)) (λ n. IsOutside n C) (λ n h. all_right (λ m. n ≢ m) B C h) A (distinct_apart A (B ++ C) apart) in
-            let reached_nc = distinct_join N C (r.reached later stand_below stay_below) (distinct_right B C (distinct_right A (B ++ C) apart)) (apart_swap C N (off C less_c after_apart)) in
+            let reached_nc = distinct_join N C (r.reached later stand part_below) (distinct_right B C (distinct_right A (B ++ C) apart)) (apart_swap C N (off C less_parts.2 after_apart)) in
             let apart_a : StandApart A (N ++ C) =
-            all_both (λ n. IsOutside n N) (λ n. IsOutside n C) (λ n. IsOutside n (N ++ C)) (λ n h k. all_append (λ m. n ≢ m) N C h k) A (off A less_a before_apart) a_c in
+            all_both (λ n. IsOutside n N) (λ n. IsOutside n C) (λ n. IsOutside n (N ++ C)) (λ n h k. all_append (λ m. n ≢ m) N C h k) A (off A less_parts.0 before_apart) a_c in
             distinct_join A (N ++ C) (distinct_left A (B ++ C) apart) reached_nc apart_a
 
         among_parts : (n : ℕ) → IsNoNew from.next middle.next n → IsOutside n (A ++ (B ++ C)) → IsOutside n (A ++ (N ++ C))
@@ -205,15 +191,17 @@ module _ (last : ℕ) (small : last < 2 ^ 128) (old : List (List ℕ)) (key : Ke
             (all_append (λ m. n ≢ m) N C (among_below n new (all_left (λ m. n ≢ m) B C right)) (all_right (λ m. n ≢ m) B C right))
 
         reached_mended : IsDistinct nat_eq (flat_map (pages_under later level) mended)
-        unfolding N
         reached_mended = subst (λ (ns : List ℕ). IsDistinct nat_eq ns) (sym (mended_pages later kept_a kept_c)) reached_parts
 
         among_mended : (n : ℕ) → IsNoNew from.next middle.next n → IsOutside n (A ++ (B ++ C)) → IsOutside n (flat_map (pages_under later level) mended)
-        unfolding N
         among_mended n new h = subst (λ (ns : List ℕ). IsOutside n ns) (sym (mended_pages later kept_a kept_c)) (among_parts n new h)
 
+        becomes_then : (told : List Entry) → StandOn last later (suc level) entry.page mended told
+            → Becomes last old later r.found (named_as (with_added added r.found) r.found) r.next (suc level) entry end told
+        becomes_then told there = (falls.before, falls.after, below, named_as news below, falls.parts, becomes_below later stand part_below, kept_a, kept_c, there)
+
       module _ (to : Spelled) (told : Told) (spread : Spreads (suc level) entry mended middle to told) where
-        extra : List Sheet
+        abbrev extra : List Sheet
         extra = new_sheets (suc level) entry mended middle.next told
 
         more : middle.next ≤ to.next
@@ -223,86 +211,52 @@ module _ (last : ℕ) (small : last < 2 ^ 128) (old : List (List ℕ)) (key : Ke
         page_less = let g = r.grown in let p = page_there in omega arith
 
         far : (n : ℕ) → IsNoNew from.next to.next n → n ≢ entry.page → IsOutside n B → IsUnspelled n (r.sheets ++ extra)
-        unfolding B extra
         far n new p h =
             unspelled_left n r.sheets extra (r.outside n (no_new_left from.next middle.next to.next n more new) h)
             (spread_outside (suc level) entry mended middle to told spread n p (no_new_right from.next middle.next to.next n r.grown new))
 
-        -- of a part of the store's pages that stands apart from the way
-        far_of : (later : List (List ℕ)) (ns : List ℕ) → AllByRecursion (λ n. n < from.next) ns → IsOutside entry.page ns → StandApart ns B
-            → StayBut old later (r.sheets ++ extra) ns → PagesStay old later ns
-        far_of later [] lt ow ap_b st = tt
-        far_of later (n ∷ ns) lt ow ap_b st = (st.0 (far n (inl lt.0) (λ e. ow.0 (sym e)) ap_b.0), far_of later ns lt.1 ow.1 ap_b.1 st.1)
-
+        -- what isn't spelled below is as it was, but for the entry's page
         below_stay : (later : List (List ℕ)) (ns : List ℕ) → AllByRecursion (λ n. n < from.next) ns → IsOutside entry.page ns → StayBut old later (r.sheets ++ extra) ns
             → StayBut old later r.sheets ns
-        unfolding extra
         below_stay later [] lt ow st = tt
-        below_stay later (n ∷ ns) lt ow st = (λ free. st.0 (kept_free n lt.0 (λ e. ow.0 (sym e)) free), below_stay later ns lt.1 ow.1 st.1)
-          where
-            kept_free : (m : ℕ) → m < from.next → m ≢ entry.page → IsUnspelled m r.sheets → IsUnspelled m (r.sheets ++ extra)
-            kept_free m lt p free =
-                unspelled_left m r.sheets extra free
-                (spread_outside (suc level) entry mended middle to told spread m p (no_new_right from.next middle.next to.next m r.grown (inl lt)))
+        below_stay later (n ∷ ns) lt ow st = (
+          λ free. st.0 (unspelled_left n r.sheets extra free
+              (spread_outside (suc level) entry mended middle to told spread n (λ e. ow.0 (sym e)) (no_new_right from.next middle.next to.next n r.grown (inl lt.0)))),
+          below_stay later ns lt.1 ow.1 st.1,
+        )
 
         module _ (later : List (List ℕ)) (stand : Stand later (r.sheets ++ extra)) (stay : StayBut old later (r.sheets ++ extra) (pages_under old (suc level) entry)) where
-          stay_parts : StayBut old later (r.sheets ++ extra) (A ++ (B ++ C))
-          stay_parts = subst (λ (ns : List ℕ). StayBut old later (r.sheets ++ extra) ns) parts stay.1
-
           stand_below : Stand later r.sheets
           stand_below = all_left (λ (s : Sheet). slice_get later s.number ≡ Some s.page) r.sheets extra stand
 
-          Q : ℕ → Type 0
-          Q n = IsUnspelled n (r.sheets ++ extra) → slice_get later n ≡ slice_get old n
-
-          below_it : StayBut old later r.sheets B
-          unfolding Q
-          below_it = below_stay later B less_b own_b (all_left Q B C (all_right Q A (B ++ C) stay_parts))
-
-          kept_a : PagesStay old later A
-          unfolding Q
-          kept_a = far_of later A less_a (all_left (λ m. entry.page ≢ m) A (B ++ C) own) before_apart (all_left Q A (B ++ C) stay_parts)
-
-          kept_c : PagesStay old later C
-          unfolding Q
-          kept_c = far_of later C less_c (all_right (λ m. entry.page ≢ m) B C (all_right (λ m. entry.page ≢ m) A (B ++ C) own)) after_apart (all_right Q B C (all_right Q A (B ++ C) stay_parts))
+          stay_below : StayBut old later r.sheets (A ++ (B ++ C))
+          stay_below = below_stay later (A ++ (B ++ C)) less own (subst (λ (ns : List ℕ). StayBut old later (r.sheets ++ extra) ns) parts stay.1)
 
           told_so : ToldOn last small later (suc level) entry mended middle.next told
-          unfolding mended extra
           told_so =
-              let up = mended_up last old later level entry end falls.before below falls.after (named_as news below) is falls.parts (stays_below later stand_below below_it) in
+              let below_it = stays_below later stand_below (part_below later stand_below stay_below) in
+              let up = ascend_mended falls.before below falls.after (named_as news below) end (subst (λ (xs : List Entry). AscendTo xs end) falls.parts is.0.fits.ascends)
+              below_it.later below_it.ascends in
               told_spread last small later level entry mended end middle to told high spread mended_all up
               (all_right (λ (s : Sheet). slice_get later s.number ≡ Some s.page) r.sheets extra stand)
 
           becomes_so : Becomes last old later r.found (named_as (with_added added r.found) r.found) r.next (suc level) entry end (named_as told entry)
-          unfolding A C mended
-          becomes_so = (
-            falls.before,
-            falls.after,
-            below,
-            named_as news below,
-            falls.parts,
-            becomes_below later stand_below below_it,
-            kept_a,
-            kept_c,
-            stand_told last small later (suc level) entry mended middle.next told told_so,
-          )
+          becomes_so = becomes_then later stand_below stay_below (named_as told entry) (stand_told last small later (suc level) entry mended middle.next told told_so)
 
           reached_so : IsDistinct nat_eq (flat_map (pages_under later (suc level)) (named_as told entry))
           reached_so =
-              let out_p = among_mended later stand_below below_it kept_a kept_c entry.page (inl (let p = page_there in omega arith)) own in
+              let out_p = among_mended later stand_below stay_below entry.page (inl (let p = page_there in omega arith)) own in
               let all_less : AllByRecursion (λ n. n < middle.next) (A ++ (B ++ C)) = all_more (λ n. n < from.next) (λ n. n < middle.next) (λ n lt. let g = r.grown in omega arith) (A ++ (B ++ C)) less in
-              let out_q = among_mended later stand_below below_it kept_a kept_c middle.next (inr (omega arith)) (outside_less middle.next (A ++ (B ++ C)) all_less) in
-              pages_own last small later level entry mended middle.next told told_so (reached_mended later stand_below below_it kept_a kept_c) out_p out_q page_less
+              let out_q = among_mended later stand_below stay_below middle.next (inr (omega arith)) (outside_less middle.next (A ++ (B ++ C)) all_less) in
+              pages_own last small later level entry mended middle.next told told_so (reached_mended later stand_below stay_below) out_p out_q page_less
 
           among_so : (n : ℕ) → IsNoNew from.next to.next n → IsOutside n (pages_under old (suc level) entry) → IsOutside n (flat_map (pages_under later (suc level)) (named_as told entry))
           among_so n new h =
               pages_among last small later level entry mended middle to told spread told_so n h.0 (no_new_right from.next middle.next to.next n r.grown new)
-              (among_mended later stand_below below_it kept_a kept_c n (no_new_left from.next middle.next to.next n more new) (subst (λ (ns : List ℕ). IsOutside n ns) parts h.1))
+              (among_mended later stand_below stay_below n (no_new_left from.next middle.next to.next n more new) (subst (λ (ns : List ℕ). IsOutside n ns) parts h.1))
 
         -- where what stands on the page is spelled anew
         rise_spread : Risen last old key added (suc level) entry end from to told
-        unfolding A B C mended extra
         rise_spread = record {
           found = r.found;
           next = r.next;
@@ -314,7 +268,7 @@ module _ (last : ℕ) (small : last < 2 ^ 128) (old : List (List ℕ)) (key : Ke
           outside = λ n new h. far n new h.0 (all_left (λ m. n ≢ m) B C (all_right (λ m. n ≢ m) A (B ++ C) (subst (λ (ns : List ℕ). IsOutside n ns) parts h.1)));
           once = once_join r.sheets extra r.once (spread_once (suc level) entry mended middle.next told page_less)
               (spread_apart (suc level) entry mended middle.next told r.sheets (r.outside entry.page (inl (let p = page_there in omega arith)) own_b)
-              (r.outside middle.next (inr (omega arith)) (outside_less middle.next B (all_more (λ n. n < from.next) (λ n. n < middle.next) (λ n lt. let g = r.grown in omega arith) B less_b))));
+              (r.outside middle.next (inr (omega arith)) (outside_less middle.next B (all_more (λ n. n < from.next) (λ n. n < middle.next) (λ n lt. let g = r.grown in omega arith) B less_parts.1))));
           reached = reached_so;
           among = among_so;
           becomes = becomes_so;
@@ -329,26 +283,10 @@ module _ (last : ℕ) (small : last < 2 ^ 128) (old : List (List ℕ)) (key : Ke
           same_parts : StayBut old later r.sheets (A ++ (B ++ C))
           same_parts = subst (λ (ns : List ℕ). StayBut old later r.sheets ns) parts stay.1
 
-          S : ℕ → Type 0
-          S n = IsUnspelled n r.sheets → slice_get later n ≡ slice_get old n
-
-          same_below : StayBut old later r.sheets B
-          unfolding S
-          same_below = all_left S B C (all_right S A (B ++ C) same_parts)
-
-          same_a : PagesStay old later A
-          unfolding S B
-          same_a = stay_apart old later r.sheets from.next B A (λ n lt h. r.outside n (inl lt) h) less_a before_apart (all_left S A (B ++ C) same_parts)
-
-          same_c : PagesStay old later C
-          unfolding S B
-          same_c = stay_apart old later r.sheets from.next B C (λ n lt h. r.outside n (inl lt) h) less_c after_apart (all_right S B C (all_right S A (B ++ C) same_parts))
-
           page_new : entry.page < from.next
           page_new = let p = page_there in omega arith
 
           same_told : IsTold last later (suc level) mended entry
-          unfolding mended B
           same_told =
               let here = stay.0 (r.outside entry.page (inl page_new) own_b) in
               let kept = kept_named last old later (suc level) entry end here is.0 in
@@ -364,30 +302,18 @@ module _ (last : ℕ) (small : last < 2 ^ 128) (old : List (List ℕ)) (key : Ke
               subst (λ (xs : List Entry). IsTold last later (suc level) xs entry) list told
 
           same_becomes : Becomes last old later r.found (named_as (with_added added r.found) r.found) r.next (suc level) entry end (entry ∷ [])
-          unfolding A C mended
-          same_becomes = (
-            falls.before,
-            falls.after,
-            below,
-            named_as news below,
-            falls.parts,
-            becomes_below later stand same_below,
-            same_a,
-            same_c,
-            inr (inl (entry, refl, refl, same_told)),
-          )
+          same_becomes = becomes_then later stand same_parts (entry ∷ []) (inr (inl (entry, refl, refl, same_told)))
 
           same_reached : IsDistinct nat_eq (flat_map (pages_under later (suc level)) (entry ∷ []))
           same_reached = subst (λ (ns : List ℕ). IsDistinct nat_eq ns) (sym (one_pages last small later level mended entry same_told))
-              (distinct_cons entry.page (flat_map (pages_under later level) mended) (among_mended later stand same_below same_a same_c entry.page (inl page_new) own)
-              (reached_mended later stand same_below same_a same_c))
+              (distinct_cons entry.page (flat_map (pages_under later level) mended) (among_mended later stand same_parts entry.page (inl page_new) own)
+              (reached_mended later stand same_parts))
 
           same_among : (n : ℕ) → IsNoNew from.next middle.next n → IsOutside n (pages_under old (suc level) entry) → IsOutside n (flat_map (pages_under later (suc level)) (entry ∷ []))
           same_among n new h = subst (λ (ns : List ℕ). IsOutside n ns) (sym (one_pages last small later level mended entry same_told))
-              (h.0, among_mended later stand same_below same_a same_c n new (subst (λ (ns : List ℕ). IsOutside n ns) parts h.1))
+              (h.0, among_mended later stand same_parts n new (subst (λ (ns : List ℕ). IsOutside n ns) parts h.1))
 
         rise_same : Risen last old key added (suc level) entry end from middle Same
-        unfolding A B C
         rise_same = record {
           found = r.found;
           next = r.next;
@@ -404,26 +330,17 @@ module _ (last : ℕ) (small : last < 2 ^ 128) (old : List (List ℕ)) (key : Ke
         }
 
       pub rise : (to : Spelled) (told : Told) → Mends (suc level) entry falls.before below falls.after news middle to told → Risen last old key added (suc level) entry end from to told
-      unfolding mended
-      rise to told mends = by_news news refl mends
-        where
-          by_news : (t : Told) → news ≡ t → Mends (suc level) entry falls.before below falls.after t middle to told → Risen last old key added (suc level) entry end from to told
-          by_news Same e (told_is, same) =
-              subst (λ (x : Told). Risen last old key added (suc level) entry end from to x) (sym told_is)
-              (subst (λ (s : Spelled). Risen last old key added (suc level) entry end from s Same) (sym same) (rise_same e))
-          by_news Gone e h = rise_spread to told (subst (λ (t : Told). Spreads (suc level) entry (falls.before ++ (named_as t below ++ falls.after)) middle to told) (sym e) h)
-          by_news (One other) e h = rise_spread to told (subst (λ (t : Told). Spreads (suc level) entry (falls.before ++ (named_as t below ++ falls.after)) middle to told) (sym e) h)
-          by_news (Two left right) e h = rise_spread to told (subst (λ (t : Told). Spreads (suc level) entry (falls.before ++ (named_as t below ++ falls.after)) middle to told) (sym e) h)
+      rise to told mends = elim (mends_or (suc level) entry falls.before below falls.after news middle to told mends) [
+        | inl still ↦ rw (still.1, still.2) (rise_same still.0)
+        | inr spread ↦ rise_spread to told spread
+      ]
 
   no_pages : (later : List (List ℕ)) (xs : List Entry) → flat_map (pages_under later zero) xs ≡ []
   no_pages later [] = refl
   no_pages later (x ∷ xs) = no_pages later xs
 
-  none_distinct : IsDistinct nat_eq []
-  unfolding IsDistinct
-  none_distinct = tt
-
   rise_here : (entry : Entry) (end : Option Key) (from : Spelled) → IsFine last added entry end → Risen last old key added zero entry end from from (with_added added entry)
+  unfolding IsDistinct
   rise_here entry end from fine = record {
     found = entry;
     next = end;
@@ -434,7 +351,7 @@ module _ (last : ℕ) (small : last < 2 ^ 128) (old : List (List ℕ)) (key : Ke
     named = fine.entries;
     outside = λ n new h. tt;
     once = tt;
-    reached = λ later stand stay. subst (λ (ns : List ℕ). IsDistinct nat_eq ns) (sym (no_pages later (named_as (with_added added entry) entry))) none_distinct;
+    reached = λ later stand stay. subst (λ (ns : List ℕ). IsDistinct nat_eq ns) (sym (no_pages later (named_as (with_added added entry) entry))) tt;
     among = λ later stand stay n new h. subst (λ (ns : List ℕ). IsOutside n ns) (sym (no_pages later (named_as (with_added added entry) entry))) tt;
     becomes = λ later stand stay. (refl, refl, refl);
   }
@@ -443,8 +360,7 @@ module _ (last : ℕ) (small : last < 2 ^ 128) (old : List (List ℕ)) (key : Ke
       → IsDistinct nat_eq (pages_under old level entry) → ((found : Entry) (next : Option Key) → LeadsTo last old key level entry end found next → IsFine last added found next)
       → Turns last old key added level entry end from to told → Risen last old key added level entry end from to told
   rises zero entry end from to told room is whole distinct fine (told_is, same) =
-      subst (λ (x : Told). Risen last old key added zero entry end from to x) (sym told_is)
-      (subst (λ (s : Spelled). Risen last old key added zero entry end from s (with_added added entry)) (sym same) (rise_here entry end from (fine entry end (refl, refl))))
+      rw (told_is, same) (rise_here entry end from (fine entry end (refl, refl)))
   rises (suc level) entry end from to told room is whole distinct fine (named, below, next, falls, middle, news, turns, mends) =
       let r = rises level below next from middle news room (below_under level entry below end next from room is distinct falls) (below_whole level entry below end next from room is distinct falls)
       (below_distinct level entry below end next from room is distinct falls) (λ found after leads. fine found after (named, below, next, falls, leads)) turns in

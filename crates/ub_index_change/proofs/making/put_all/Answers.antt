@@ -30,16 +30,14 @@ loop-sheet-preserved g c =
 pub returns-in_err-put-clause-checked : goal.returns-in_err-put-clause-checked
 returns-in_err-put-clause-checked g c = λ last good.
     let inv = c.loop-sheet.invariant in
-    let at : slice_get c.args.sheets.now c.loop-sheet.sheet-index ≡ Some (slice_index_or c.args.sheets.now c.loop-sheet.sheet-index (record { number = 0; page = [] })) =
-    slice_get-get_or c.args.sheets.now c.loop-sheet.sheet-index (record { number = 0; page = [] }) c.loop-sheet-test.true in
-    put_keeps last c.args.sheets.now c.loop-sheet.sheet-index _ c.args.pager.now c.loop-sheet.pager c.put.new.self (ap (λ (s : StoreFacts). s.honest) c.in_err-put.ensures.effect.frame) at good
+    put_keeps last c.args.sheets.now c.loop-sheet.sheet-index _ c.args.pager.now c.loop-sheet.pager c.put.new.self (ap (λ (s : StoreFacts). s.honest) c.in_err-put.ensures.effect.frame)
+    (slice_get-get_or c.args.sheets.now c.loop-sheet.sheet-index (record { number = 0; page = [] }) c.loop-sheet-test.true) good
     (inv.checked last good) (inr c.in_err-put.ensures.forgotten) c.in_err-put.ensures.others
 
 pub returns-in_err-put-clause-refused : goal.returns-in_err-put-clause-refused
 returns-in_err-put-clause-refused g c = λ count below.
     let inv = c.loop-sheet.invariant in
-    let at : slice_get c.args.sheets.now c.loop-sheet.sheet-index ≡ Some (slice_index_or c.args.sheets.now c.loop-sheet.sheet-index (record { number = 0; page = [] })) =
-    slice_get-get_or c.args.sheets.now c.loop-sheet.sheet-index (record { number = 0; page = [] }) c.loop-sheet-test.true in
     if_err (IsPutFault count c.args.sheets.now c.args.pager.now.store) c.from_residual.result c.in_err-put.field-0.0 c.from_residual.ensures.1
-    (put_fault (Unit {0}) c.args.sheets.now c.loop-sheet.sheet-index _ c.args.pager.now.store c.loop-sheet.pager.store c.in_err-put.field-0.0 at inv.same inv.kept.count
+    (put_fault (Unit {0}) c.args.sheets.now c.loop-sheet.sheet-index _ c.args.pager.now.store c.loop-sheet.pager.store c.in_err-put.field-0.0
+    (slice_get-get_or c.args.sheets.now c.loop-sheet.sheet-index (record { number = 0; page = [] }) c.loop-sheet-test.true) inv.same inv.kept.count
     c.in_err-put.ensures.faults c.in_err-put.ensures.effect.device c.in_err-put.ensures.missing count below)

@@ -1,9 +1,7 @@
-use Rattle.std.proofs.Common.{◌≡◌, [], None, IfOk, ap, rules, subst, sym}
-use Rattle.ub_index_change.specs.Changed.{Replaces}
+use Rattle.std.proofs.Common.{[], None, ap, rules, subst, sym}
 use Rattle.ub_index_change.specs.Changing.{AreIndexPages, so_far}
-use Rattle.ub_index_change.specs.Lowering.{LowersTo, MakesLow}
-use Rattle.ub_index_change.specs.Preparing.{ChangeView, IsPrepared, MakesIndex}
-use Rattle.ub_index.specs.View.{entries_in, entry_at}
+use Rattle.ub_index_change.specs.Lowering.{LowersTo}
+use Rattle.ub_index_change.specs.Preparing.{ChangeView, IsPrepared}
 use Rattle.ub_index_change.specs.declared.change.Change.{Change}
 use Rattle.ub_store.specs.Facts.{page_count}
 use Rattle.ub_store.specs.View.{PagerView}
@@ -14,31 +12,25 @@ use Rattle.ub_index_change.proofs.preparing.prepare_drop.Goals as goal
 
 pub returns-clause-ready : goal.returns-clause-ready
 returns-clause-ready g c = λ i is own at later.
-    let store = c.args.pager.now.store in
     let honest = is.honest in
     let first : IsPrepared c.args.index.now c.args.pager.now.store c.args.region.now.first None (page_count c.args.pager.now.store) (so_far [] (page_count c.args.pager.now.store)) c.in_ok-change.change =
     search (rules, honest) in
-    let lowers : IfOk c.lowered.result (LowersTo c.args.pager.now.store.pages c.in_ok-change.change) = search (rules, honest) in
-    if_ok c.lowered.result (LowersTo c.args.pager.now.store.pages c.in_ok-change.change)
-    (λ change. MakesIndex c.args.index.now c.args.pager.now.store (page_count c.args.pager.now.store) change (Replaces (entry_at c.args.region.now) [] (entries_in c.args.index.now c.args.pager.now.store)))
+    if_ok c.lowered.result (LowersTo c.args.pager.now.store.pages c.in_ok-change.change) _
     (λ (change : ChangeView) lowered.
     dropped_makes c.args.index.now c.args.pager.now.store i c.args.region.now c.in_ok-change.ensures.bounds.0 c.in_ok-change.ensures.bounds.1 (search rules) is own at later c.in_ok-change.change
     first.0 first.1 first.2 first.3 change lowered)
-    lowers
+    (search (rules, honest))
 
 pub returns-clause-low : goal.returns-clause-low
 returns-clause-low g c = λ i is own at later.
-    let store = c.args.pager.now.store in
     let honest = is.honest in
     let first : IsPrepared c.args.index.now c.args.pager.now.store c.args.region.now.first None (page_count c.args.pager.now.store) (so_far [] (page_count c.args.pager.now.store)) c.in_ok-change.change =
     search (rules, honest) in
-    let lowers : IfOk c.lowered.result (LowersTo c.args.pager.now.store.pages c.in_ok-change.change) = search (rules, honest) in
-    if_ok c.lowered.result (LowersTo c.args.pager.now.store.pages c.in_ok-change.change)
-    (λ change. (change.next ≡ change.start) × MakesLow c.args.index.now c.args.pager.now.store change)
+    if_ok c.lowered.result (LowersTo c.args.pager.now.store.pages c.in_ok-change.change) _
     (λ (change : ChangeView) lowered.
     dropped_low c.args.index.now c.args.pager.now.store i c.args.region.now c.in_ok-change.ensures.bounds.0 c.in_ok-change.ensures.bounds.1 (search rules) is own at later c.in_ok-change.change
     first.0 first.1 first.2 first.3 change lowered)
-    lowers
+    (search (rules, honest))
 
 pub returns-clause-effect : goal.returns-clause-effect
 returns-clause-effect g c =
@@ -49,13 +41,9 @@ returns-clause-effect g c =
 
 pub returns-clause-pages : goal.returns-clause-pages
 returns-clause-pages g c = λ honest.
-    let first : IsPrepared c.args.index.now c.args.pager.now.store c.args.region.now.first None (page_count c.args.pager.now.store) (so_far [] (page_count c.args.pager.now.store)) c.in_ok-change.change =
-    search (rules, honest) in
-    let lowers : IfOk c.lowered.result (LowersTo c.args.pager.now.store.pages c.in_ok-change.change) = search (rules, honest) in
-    if_ok c.lowered.result (LowersTo c.args.pager.now.store.pages c.in_ok-change.change)
-    (λ (change : ChangeView). AreIndexPages c.args.index.now.last change.sheets)
+    if_ok c.lowered.result (LowersTo c.args.pager.now.store.pages c.in_ok-change.change) _
     (λ (change : ChangeView) lowered.
     subst (λ (v : ChangeView). AreIndexPages c.args.index.now.last v.sheets) (sym lowered.same)
     (dropped_pages c.args.index.now c.args.pager.now.store c.args.region.now.first c.in_ok-change.change c.in_ok-change.ensures.bounds.0 c.in_ok-change.ensures.bounds.2 c.in_ok-change.ensures.bounds.3
-    (search rules) first))
-    lowers
+    (search rules) (search (rules, honest))))
+    (search (rules, honest))

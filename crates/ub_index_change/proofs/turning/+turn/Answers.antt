@@ -6,7 +6,8 @@ use Rattle.ub_region.specs.declared.entry.Entry.{Entry}
 use Rattle.ub_store.specs.Facts.{StoreFacts, IsHonest}
 use Rattle.ub_store.specs.View.{PagerView}
 use Rattle.ub_index_change.proofs.BelowFacts.{still_on}
-use Rattle.ub_index_change.proofs.ClimbFacts.{below_refused, mend_refused, open_refused, turned_so, turns_on}
+use Rattle.ub_index_change.proofs.ClimbFacts.{below_refused, mend_refused, open_refused, turns_on}
+use Rattle.ub_index.proofs.FoundFacts.{if_ok}
 use Rattle.ub_index.proofs.HeldFacts.{both_on}
 use Rattle.ub_index.proofs.StepFacts.{pager_so, steps_keep}
 use Rattle.ub_index_change.proofs.turning.+turn.Goals as goal
@@ -30,9 +31,8 @@ returns-clause-turned g t c = λ honest.
     let turns = subst (λ (s : StoreFacts). Turns c.args.last s.pages c.args.aim.now.key c.args.aim.now.added (c.args.level - 1) c.in_ok-opened.opened.below.entry c.in_ok-opened.opened.below.next c.args.sheets.now
     c.turn.new.sheets c.in_ok-news.news) same
     (c.in_ok-news.ensures.turned (subst (λ (s : StoreFacts). IsHonest s) (sym same) honest)) in
-    turned_so c.mend.result
-    (Mends c.args.level c.args.place.now.entry c.in_ok-opened.opened.before.items c.in_ok-opened.opened.below.entry c.deref.result.now c.in_ok-news.news c.turn.new.sheets c.mend.new.self)
-    (Turns c.args.last c.args.pager.now.store.pages c.args.aim.now.key c.args.aim.now.added c.args.level c.args.place.now.entry c.args.place.now.next c.args.sheets.now c.mend.new.self)
+    if_ok c.mend.result
+    (Mends c.args.level c.args.place.now.entry c.in_ok-opened.opened.before.items c.in_ok-opened.opened.below.entry c.deref.result.now c.in_ok-news.news c.turn.new.sheets c.mend.new.self) _
     (λ told mends.
     turns_on c.args.last c.args.pager.now.store.pages c.args.aim.now.key c.args.aim.now.added c.args.level c.args.place.now.entry c.args.place.now.next
     c.in_ok-opened.opened.before.items c.in_ok-opened.opened.after.items c.in_ok-opened.opened.below.entry c.in_ok-opened.opened.below.next c.args.sheets.now c.turn.new.sheets c.mend.new.self
