@@ -1,103 +1,100 @@
-use crate::bytes::cut;
-use crate::queries::{delete_by, explain_by, select_by, sweep_by};
+use crate::queries::answer_by;
 use crate::regions::{meet, seek, span};
-use crate::reply::{Missed, Reply, number, say, short};
-use crate::tables::Store;
-use std::alloc::{AllocError, Global};
+use crate::reply::{Reply, UNKNOWN, say};
+use crate::words::{Words, add_word};
+use std::alloc::Global;
+use ub_store::PageStore;
 use ub_table::Key;
 use ub_tree::Tree;
 
 /// What a line on a tree is answered.
-pub fn ask(alloc: Global, tree: &mut Tree<Store>, line: &str) -> Reply {
-    let (head, words) = cut(line);
-    match head {
-        "insert" => insert(alloc, tree, words),
-        "fill" => fill(alloc, tree, short(words)?),
-        "empty" => empty(alloc, tree, short(words)?),
-        "remove" => remove(alloc, tree, words),
+pub fn ask<S: PageStore>(alloc: Global, tree: &mut Tree<S>, line: &str) -> Reply {
+    let mut words = Words::new(line);
+    let reply = match words.word() {
+        "insert" => insert(alloc, tree, &mut words),
+        "fill" => fill(alloc, tree, words.short()),
+        "empty" => empty(alloc, tree, words.short()),
+        "remove" => remove(alloc, tree, &mut words),
         "check" => check(alloc, tree),
         "begin" => begin(alloc, tree),
-        "SELECT" => select_by(alloc, tree, line),
-        "EXPLAIN" => explain_by(alloc, tree, line),
-        "DELETE" => delete_by(alloc, tree, line),
-        "sweep" => sweep(alloc, tree, words),
-        _ => look(alloc, tree, line),
-    }
-}
-
-// What a line is answered that only looks.
-fn look(alloc: Global, tree: &mut Tree<Store>, line: &str) -> Reply {
-    let (head, words) = cut(line);
-    match head {
-        "count" => Ok(count(alloc, tree)?),
-        "shape" => Ok(shape(alloc, tree)?),
-        "trace" => Ok(trace(alloc, tree.trace())?),
-        "seek" => seek(alloc, tree, number(words)?),
-        "span" => span(alloc, tree, words),
+        head @ ("SELECT" | "EXPLAIN" | "DELETE") => answer_by(alloc, tree, head, line, 0),
+        "sweep" => {
+            let turns = words.short();
+            answer_by(alloc, tree, "sweep", words.rest, turns)
+        }
+        "seek" => seek(alloc, tree, words.number()),
+        "span" => span(alloc, tree, &mut words),
         "walk" => meet(alloc, tree, 0, true),
-        "meet" => meet(alloc, tree, short(words)?, false),
-        _ => Err(Missed::Words),
+        "meet" => meet(alloc, tree, words.short(), false),
+        "count" => count(alloc, tree),
+        "shape" => shape(alloc, tree),
+        "trace" => trace(alloc, tree.trace()),
+        _ => say(alloc, UNKNOWN),
+    };
+    if words.is_wrong {
+        return say(alloc, UNKNOWN);
     }
+    reply
 }
 
 // Whether a row was there that is taken out, by the words for its address and its number.
-fn remove(alloc: Global, tree: &mut Tree<Store>, words: &str) -> Reply {
-    let (z, row) = cut(words);
+fn remove<S: PageStore>(alloc: Global, tree: &mut Tree<S>, words: &mut Words<'_>) -> Reply {
     let key = Key {
-        z: number(z)?,
-        number: short(row)?,
+        z: words.number(),
+        number: words.short(),
     };
     let is_there = tree.remove(key)?;
     say(alloc, if is_there { "yes" } else { "no" })
 }
 
 // Checks the whole table.
-fn check(alloc: Global, tree: &mut Tree<Store>) -> Reply {
+fn check<S: PageStore>(alloc: Global, tree: &mut Tree<S>) -> Reply {
     tree.check()?;
     say(alloc, "ok")
 }
 
 // Begins the trace anew.
-fn begin(alloc: Global, tree: &mut Tree<Store>) -> Reply {
+fn begin<S: PageStore>(alloc: Global, tree: &mut Tree<S>) -> Reply {
     tree.begin();
     say(alloc, "ok")
 }
 
-// What the turns of a sweep give, by the words for how many and for the query.
-fn sweep(alloc: Global, tree: &mut Tree<Store>, words: &str) -> Reply {
-    let (turns, query) = cut(words);
-    sweep_by(alloc, tree, query, short(turns)?)
+// Puts in a row, by the words for its values: its number.
+fn insert<S: PageStore>(alloc: Global, tree: &mut Tree<S>, words: &mut Words<'_>) -> Reply {
+    let x = words.short();
+    if words.rest.is_empty() {
+        return put(alloc, tree, &[x], &[]);
+    }
+    let y = words.short();
+    let measure = words.signed();
+    put(alloc, tree, &[x, y], &[measure])
 }
 
-// Puts in a row, by the words for its values: its number.
-fn insert(alloc: Global, tree: &mut Tree<Store>, words: &str) -> Reply {
-    let (x, rest) = cut(words);
-    let number = match (tree.schema().dims(), tree.schema().measures()) {
-        (1, 0) => tree.insert(&[short(x)?], &[])?,
-        (2, 1) => {
-            let (y, m) = cut(rest);
-            let measure = m.parse::<i64>().map_err(|_| Missed::Words)?;
-            tree.insert(&[short(x)?, short(y)?], &[measure])?
-        }
-        _ => return Err(Missed::Words),
-    };
+// Puts in a row of these values, where the table's rows have so many: its number.
+fn put<S: PageStore>(alloc: Global, tree: &mut Tree<S>, dims: &[u32], measures: &[i64]) -> Reply {
+    let schema = tree.schema();
+    if schema.dims() as usize != dims.len() || schema.measures() as usize != measures.len() {
+        return say(alloc, UNKNOWN);
+    }
+    let number = tree.insert(dims, measures)?;
     Ok(format!(in alloc; "{number}")?)
 }
 
 // Puts in so many rows, at 0, 1, .. of the first dimension, and at 0 of another one.
-fn fill(alloc: Global, tree: &mut Tree<Store>, count: u32) -> Reply {
+fn fill<S: PageStore>(alloc: Global, tree: &mut Tree<S>, count: u32) -> Reply {
+    let is_line = tree.schema().dims() == 1;
     for x in 0..count {
-        match (tree.schema().dims(), tree.schema().measures()) {
-            (1, 0) => tree.insert(&[x], &[])?,
-            (2, 1) => tree.insert(&[x, 0], &[0])?,
-            _ => return Err(Missed::Words),
-        };
+        if is_line {
+            put(alloc, tree, &[x], &[])?;
+        } else {
+            put(alloc, tree, &[x, 0], &[0])?;
+        }
     }
     say(alloc, "ok")
 }
 
 // Takes so many rows out of a table of one dimension, the first one first, each of which must be there.
-fn empty(alloc: Global, tree: &mut Tree<Store>, count: u32) -> Reply {
+fn empty<S: PageStore>(alloc: Global, tree: &mut Tree<S>, count: u32) -> Reply {
     let mut number = 0u32;
     for x in 0..count {
         number = number.saturating_add(1);
@@ -113,22 +110,22 @@ fn empty(alloc: Global, tree: &mut Tree<Store>, count: u32) -> Reply {
 }
 
 // How many rows and regions there are, and whether the tree has failed.
-fn count(alloc: Global, tree: &Tree<Store>) -> Result<String, AllocError> {
+fn count<S: PageStore>(alloc: Global, tree: &Tree<S>) -> Reply {
     let failed = if tree.has_failed() { " failed" } else { "" };
     let (rows, regions) = (tree.rows(), tree.regions());
-    format!(in alloc; "rows {rows} regions {regions}{failed}")
+    Ok(format!(in alloc; "rows {rows} regions {regions}{failed}")?)
 }
 
 // How many dimensions, measures and columns there are, and how many rows on a page.
-fn shape(alloc: Global, tree: &Tree<Store>) -> Result<String, AllocError> {
+fn shape<S: PageStore>(alloc: Global, tree: &Tree<S>) -> Reply {
     let schema = tree.schema();
     let (dims, measures) = (schema.dims(), schema.measures());
     let (columns, rows) = (schema.columns().len(), schema.page_rows());
-    format!(in alloc; "dims {dims} measures {measures} columns {columns} page-rows {rows}")
+    Ok(format!(in alloc; "dims {dims} measures {measures} columns {columns} page-rows {rows}")?)
 }
 
 // The pages of a trace.
-fn trace(alloc: Global, pages: &[u32]) -> Result<String, AllocError> {
+fn trace(alloc: Global, pages: &[u32]) -> Reply {
     let mut words = String::new(alloc);
     for page in pages {
         let word = format!(in alloc; "{page}")?;
@@ -138,12 +135,4 @@ fn trace(alloc: Global, pages: &[u32]) -> Result<String, AllocError> {
         words.push_str("none")?;
     }
     Ok(words)
-}
-
-/// Adds a word to others, with this between them.
-pub fn add_word(words: &mut String, between: &str, word: &str) -> Result<(), AllocError> {
-    if !words.is_empty() {
-        words.push_str(between)?;
-    }
-    words.push_str(word)
 }

@@ -1,120 +1,125 @@
+use std::alloc::Global;
 use ub_store::Page;
 
-/// A line's first word, and what stands after the space behind it.
-pub fn cut(line: &str) -> (&str, &str) {
-    line.split_once(' ').unwrap_or((line, ""))
+// The bytes of the items so far, and whether one of them was no item; `turn` is how often a step is added to a number.
+#[derive(Drop)]
+struct Spelled {
+    bytes: Vec<u8>,
+    turn: u128,
+    is_wrong: bool,
 }
 
-/// Puts these bytes into a page, from an offset on, and gives the offset behind them; `turn` is how often a step is added to a number.
-pub fn put_items(page: &mut Page, at: usize, items: &str, turn: u128) -> Option<usize> {
-    let mut next = at;
+/// Puts the bytes of items into a page, from an offset on, and gives whether these are items, and there is room.
+pub fn put_items(alloc: Global, page: &mut Page, at: usize, items: &str, turn: u32) -> bool {
+    let mut spelled = Spelled {
+        bytes: Vec::new(alloc),
+        turn: u128::from(turn),
+        is_wrong: false,
+    };
     for item in items.split_whitespace() {
-        next = put_item(page, next, item, turn)?;
+        spelled.add(item);
     }
-    Some(next)
+    !spelled.is_wrong && put_bytes(page, at, spelled.bytes.as_slice())
 }
 
-// The same of one item.
-fn put_item(page: &mut Page, at: usize, item: &str, turn: u128) -> Option<usize> {
-    if let Some(text) = item.strip_prefix('\'') {
-        return put_text(page, at, text);
-    }
-    if let Some(name) = item.strip_prefix('.') {
-        return put_name(page, at, name);
-    }
-    if let Some(entry) = item.strip_prefix('e') {
-        return put_entries(page, at, entry);
-    }
-    if let Some((byte, count)) = item.split_once('*') {
-        let byte = byte.parse::<u8>().ok()?;
-        return put_times(page, at, byte, count.parse::<usize>().ok()?);
-    }
-    let (numbers, width) = item.split_once('/').unwrap_or((item, "1"));
-    let width = width.parse::<u32>().ok()?;
-    match numbers.split_once('~') {
-        Some((from, to)) => {
-            put_range(
-                page,
-                at,
-                width,
-                from.parse::<u128>().ok()?,
-                to.parse::<u128>().ok()?,
-            )
+// Puts bytes into a page, and gives whether there is room.
+fn put_bytes(page: &mut Page, at: usize, bytes: &[u8]) -> bool {
+    let mut next = at;
+    for byte in bytes {
+        if next >= page.len() {
+            return false;
         }
-        None => put_number(page, at, width, stepped(numbers, turn)?),
+        page[next] = *byte;
+        next = next.saturating_add(1);
     }
+    true
 }
 
-// A number, or one and a step that is added so often.
-fn stepped(words: &str, turn: u128) -> Option<u128> {
-    let (from, step) = words.split_once('+').unwrap_or((words, "0"));
-    let all = step.parse::<u128>().ok()?.checked_mul(turn)?;
-    from.parse::<u128>().ok()?.checked_add(all)
-}
-
-// Puts a number on so many bytes, the highest byte first.
-fn put_number(page: &mut Page, at: usize, width: u32, number: u128) -> Option<usize> {
-    let end = at.checked_add(width as usize)?;
-    if end > page.len() {
-        return None;
-    }
-    let mut rest = number;
-    for i in 0..width {
-        let place = end.wrapping_sub(i as usize).wrapping_sub(1);
-        if place < page.len() {
-            page[place] = (rest % 256) as u8;
+impl Spelled {
+    // Adds an item.
+    fn add(&mut self, item: &str) {
+        if let Some(text) = item.strip_prefix('\'') {
+            return self.text(text, 0);
         }
-        rest /= 256;
+        if let Some(name) = item.strip_prefix('.') {
+            self.put(1, name.len() as u128);
+            return self.text(name, 32);
+        }
+        match item.strip_prefix('e') {
+            Some(entries) => self.entries(entries),
+            None => self.numbers(item),
+        }
     }
-    Some(end)
-}
 
-// Puts the numbers from one to another.
-fn put_range(page: &mut Page, at: usize, width: u32, from: u128, to: u128) -> Option<usize> {
-    let mut next = at;
-    for number in from..=to {
-        next = put_number(page, next, width, number)?;
+    // Adds a text, and zeros up to so many bytes.
+    fn text(&mut self, text: &str, room: usize) {
+        self.is_wrong |= self.bytes.extend_from_slice(text.as_bytes()).is_err();
+        for _ in text.len()..room {
+            self.put(1, 0);
+        }
     }
-    Some(next)
-}
 
-// Puts a byte so many times.
-fn put_times(page: &mut Page, at: usize, byte: u8, count: usize) -> Option<usize> {
-    let mut next = at;
-    for _ in 0..count {
-        next = put_number(page, next, 1, u128::from(byte))?;
+    // Adds a number, the same one several times, or those from one to another.
+    fn numbers(&mut self, item: &str) {
+        let (numbers, width) = item.split_once('/').unwrap_or((item, "1"));
+        let width = self.number(width);
+        if let Some((from, to)) = numbers.split_once('~') {
+            let (from, to) = (self.number(from), self.number(to));
+            return self.run(width, from, 1, to.saturating_sub(from).saturating_add(1));
+        }
+        if let Some((number, count)) = numbers.split_once('*') {
+            let (number, count) = (self.number(number), self.number(count));
+            return self.run(width, number, 0, count);
+        }
+        let number = self.stepped(numbers, self.turn);
+        self.put(width, number);
     }
-    Some(next)
-}
 
-// Puts a text.
-fn put_text(page: &mut Page, at: usize, text: &str) -> Option<usize> {
-    let mut next = at;
-    for byte in text.as_bytes() {
-        next = put_number(page, next, 1, u128::from(*byte))?;
+    // Adds so many numbers, the first one and each further one a step away from the one before.
+    fn run(&mut self, width: u128, first: u128, step: u128, count: u128) {
+        let mut number = first;
+        for _ in 0..count {
+            self.put(width, number);
+            number = number.saturating_add(step);
+        }
     }
-    Some(next)
-}
 
-// Puts a name on its 33 bytes: how long it is, its text, and zeros.
-fn put_name(page: &mut Page, at: usize, name: &str) -> Option<usize> {
-    let end = put_times(page, at, 0, 33)?;
-    let text = put_number(page, at, 1, name.len() as u128)?;
-    put_text(page, text, name)?;
-    Some(end)
-}
-
-// Puts an entry of an index or a directory, or a run of them.
-fn put_entries(page: &mut Page, at: usize, words: &str) -> Option<usize> {
-    let (keys, pages) = words.split_once('>')?;
-    let (key, count) = keys.split_once('*').unwrap_or((keys, "1"));
-    let (address, number) = key.split_once(':').unwrap_or((key, "0"));
-    let number = number.parse::<u128>().ok()?;
-    let mut next = at;
-    for turn in 0..count.parse::<u128>().ok()? {
-        next = put_number(page, next, 16, stepped(address, turn)?)?;
-        next = put_number(page, next, 4, number)?;
-        next = put_number(page, next, 4, stepped(pages, turn)?)?;
+    // Adds an entry of an index or a directory, or a run of them.
+    fn entries(&mut self, words: &str) {
+        let (keys, pages) = words.split_once('>').unwrap_or((words, ""));
+        let (key, count) = keys.split_once('*').unwrap_or((keys, "1"));
+        let (address, number) = key.split_once(':').unwrap_or((key, "0"));
+        let (number, count) = (self.number(number), self.number(count));
+        for turn in 0..count {
+            let (address, page) = (self.stepped(address, turn), self.stepped(pages, turn));
+            self.put(16, address);
+            self.put(4, number);
+            self.put(4, page);
+        }
     }
-    Some(next)
+
+    // Adds a number on so many bytes, the highest byte first.
+    fn put(&mut self, width: u128, number: u128) {
+        let bytes = number.to_be_bytes();
+        let from = 16u128.saturating_sub(width) as usize;
+        self.is_wrong |= self.bytes.extend_from_slice(&bytes[from..]).is_err();
+    }
+
+    // A number, or one and a step that is added so often.
+    fn stepped(&mut self, words: &str, turn: u128) -> u128 {
+        let (from, step) = words.split_once('+').unwrap_or((words, "0"));
+        let all = self.number(step).saturating_mul(turn);
+        self.number(from).saturating_add(all)
+    }
+
+    // The number that a word spells.
+    fn number(&mut self, word: &str) -> u128 {
+        match word.parse::<u128>() {
+            Ok(number) => number,
+            Err(_) => {
+                self.is_wrong = true;
+                0
+            }
+        }
+    }
 }

@@ -1,189 +1,140 @@
 // How many calls of its store each line makes, and what is left where one of them fails.
-use crate::reply::{Missed, Reply, words_of};
-use crate::tables::Tables;
-use crate::trial::Trial;
-use std::alloc::Global;
-use ub_store::Page;
+use crate::bench::{Answering, Bench};
+use crate::words::Words;
+use std::alloc::{AllocError, Global};
 
 /// A line of a block, what it is answered, and the calls of the store that it makes, in order: how many pages it reads, how many it
 /// adds then, and how many calls write a page or sync after that, which the runs don't tell from each other.
 #[derive(Clone, Copy)]
 pub struct Call<'a> {
-    pub line: &'a str,
-    pub wanted: &'a str,
-    pub reads: usize,
-    pub adds: usize,
-    pub writes: usize,
+    line: &'a str,
+    wanted: &'a str,
+    reads: u32,
+    adds: u32,
+    all: u32,
 }
 
-/// The call of a line such as `insert 0 0 0 -> 15 | 1 0 2`.
-pub fn call_of(text: &str) -> Option<Call<'_>> {
-    let (text, numbers) = text.split_once(" | ")?;
-    let (line, wanted) = text.split_once(" -> ")?;
-    let (reads, rest) = numbers.split_once(' ')?;
-    let (adds, writes) = rest.split_once(' ')?;
-    Some(Call {
+// How many calls of the store still go well, and how many pages it has; whether all went so, and whether no other line is tried.
+#[derive(Clone, Copy)]
+struct Place {
+    good: u32,
+    pages: u32,
+    is_so: bool,
+    is_over: bool,
+}
+
+// What the readers of a tree tell, and what is asked of one that has failed, and of the store that it leaves: it tells the same, can
+// begin anew, and answers nothing else, and closing it hands the store back.
+const READERS: &str = "shape;trace;count";
+
+const STOPPED: &str =
+    "shape;trace;count;insert 0 0 0;remove 0 1;seek 0;meet 0;span 0;span least on 1;walk;check;shape;trace;count;begin;trace;\
+insert 0 0 0;remove 0 1;seek 0;meet 0;span 0;span least on 1;walk;check;close;size";
+
+/// The call of a line such as `insert 0 0 0 -> 15 | 1 0 2`; of another line it is one that isn't answered as it says.
+pub fn call_of(text: &str) -> Call<'_> {
+    let (line, numbers) = text.split_once(" | ").unwrap_or((text, ""));
+    let (line, wanted) = line.split_once(" -> ").unwrap_or((line, ""));
+    let mut numbers = Words::new(numbers);
+    let (reads, adds, writes) = (numbers.short(), numbers.short(), numbers.short());
+    Call {
         line,
-        wanted,
-        reads: reads.parse::<usize>().ok()?,
-        adds: adds.parse::<usize>().ok()?,
-        writes: writes.parse::<usize>().ok()?,
-    })
-}
-
-// How many calls of the store a line makes.
-fn count_all(call: &Call<'_>) -> usize {
-    call.reads
-        .saturating_add(call.adds)
-        .saturating_add(call.writes)
+        wanted: if numbers.is_wrong { "" } else { wanted },
+        reads,
+        adds,
+        all: reads.saturating_add(adds).saturating_add(writes),
+    }
 }
 
 // How many calls of the store the lines make.
-fn count_calls(calls: &[Call<'_>]) -> usize {
-    let mut count = 0usize;
+fn count_calls(calls: &[Call<'_>]) -> u32 {
+    let mut count = 0u32;
     for call in calls {
-        count = count.saturating_add(count_all(call));
+        count = count.saturating_add(call.all);
     }
     count
 }
 
-// What is asked of a tree that has failed, but for the readers. It is answered nothing else than that it has.
-static REFUSED: &[&str] = &[
-    "insert 0 0 0",
-    "remove 0 1",
-    "seek 0",
-    "meet 0",
-    "span 0",
-    "span least on 1",
-    "walk",
-    "check",
-];
-
-// What the readers of a tree tell: of its rows and regions, its schema, and its trace.
-static READERS: &[&str] = &["count", "shape", "trace"];
-
-/// A trial, and the tables of its lines.
-#[derive(Drop)]
-pub struct Bench<'a> {
-    pub alloc: Global,
-    pub trial: Trial,
-    pub tables: Tables<'a>,
-}
-
-impl<'a> Bench<'a> {
-    /// What a line is answered.
-    pub fn answer(&mut self, line: &str) -> Reply {
-        self.trial.answer(&self.tables, line)
-    }
-
-    /// The same in words.
-    pub fn words(&mut self, line: &str) -> Result<String, Missed> {
-        let reply = self.answer(line);
-        Ok(words_of(self.alloc, reply)?)
-    }
-
-    /// Whether a line is answered so.
-    pub fn is_so(&mut self, line: &str, wanted: &str) -> Result<bool, Missed> {
-        Ok(self.words(line)?.as_str() == wanted)
-    }
-
-    // Whether all these lines are answered so.
-    fn are_all(&mut self, lines: &[&str], wanted: &str) -> Result<bool, Missed> {
-        for line in lines {
-            if !self.is_so(line, wanted)? {
-                return Ok(false);
-            }
+impl<A: Answering> Bench<A> {
+    /// Whether the lines go so over a store of a table's pages that fails at its first call, at its second, and so on.
+    pub fn plays(&mut self, table: &str, calls: &[Call<'_>]) -> bool {
+        let mut is_so = true;
+        for good in 0..=count_calls(calls) {
+            is_so &= self.goes_over(table, calls, good);
         }
-        Ok(true)
-    }
-
-    /// What the readers of the tree tell.
-    pub fn told(&mut self) -> Result<Vec<String>, Missed> {
-        let mut told = Vec::new(self.alloc);
-        for line in READERS {
-            let words = self.words(line)?;
-            told.push(words)?;
-        }
-        Ok(told)
-    }
-
-    // Whether a tree that had told this has failed: it tells the same, can begin anew, and answers nothing else, and closing it hands
-    // the store back.
-    fn is_stopped(&mut self, mut before: Vec<String>) -> Result<bool, Missed> {
-        if let Some(count) = before.first_mut() {
-            count.push_str(" failed")?;
-        }
-        Ok(
-            self.told()? == before
-                && self.are_all(REFUSED, "Failed")?
-                && self.told()? == before
-                && self.is_so("begin", "ok")?
-                && self.is_so("trace", "none")?
-                && self.are_all(REFUSED, "Failed")?
-                && self.is_so("close", "Failed")?,
-        )
-    }
-
-    // Whether all is left as it should be by a line that wrote, added or synced a page and failed: where it was the closing, the store
-    // was handed back.
-    fn is_left(&mut self, line: &str, before: Vec<String>, pages: usize) -> Result<bool, Missed> {
-        let is_over = if line == "close" {
-            self.is_so("close", "none")?
-        } else {
-            self.is_stopped(before)?
-        };
-        Ok(is_over && self.has_pages(pages))
-    }
-
-    // Whether the store that the tree left has so many pages.
-    fn has_pages(&mut self, pages: usize) -> bool {
-        self.trial.count_pages() == Some(pages)
+        is_so
     }
 
     // Whether the lines go so over a store of these pages of which so many calls go well, and the next one fails.
-    fn goes_over(
-        &mut self,
-        pages: &[Page],
-        calls: &[Call<'_>],
-        good: usize,
-    ) -> Result<bool, Missed> {
-        self.trial
-            .take_store(pages, (good as u64).saturating_add(1))?;
-        let mut left = good;
-        let mut count = pages.len();
+    fn goes_over(&mut self, table: &str, calls: &[Call<'_>], good: u32) -> bool {
+        let mut place = self.begin(table, good);
         for call in calls {
-            let before = self.told()?;
-            let mut is_so = true;
-            let all = count_all(call);
-            if left < all {
-                if !self.is_so(call.line, "Device")? {
-                    return Ok(false);
-                }
-                if left >= call.reads {
-                    let added = left.saturating_sub(call.reads).min(call.adds);
-                    return self.is_left(call.line, before, count.saturating_add(added));
-                }
-                // A store fails once.
-                left = usize::MAX;
+            if !place.is_over {
+                self.take(call, &mut place);
             }
-            is_so &= self.is_so(call.line, call.wanted)?;
-            if !is_so {
-                return Ok(false);
-            }
-            left = left.saturating_sub(all);
-            count = count.saturating_add(call.adds);
         }
-        Ok(self.has_pages(count))
+        place.is_so && (place.is_over || self.is_sized(place.pages))
     }
 
-    /// Of how many good calls of the store the lines don't go so, if that is so of any number up to all that they make.
-    pub fn wrong_after(&mut self, name: &str, calls: &[Call<'_>]) -> Result<Option<usize>, Missed> {
-        let pages = self.tables.hurt(name, "")?;
-        for good in 0..=count_calls(calls) {
-            if !self.goes_over(pages.as_slice(), calls, good)? {
-                return Ok(Some(good));
-            }
+    // The place before the first line.
+    fn begin(&mut self, table: &str, good: u32) -> Place {
+        let line = format!(in self.alloc; "store {table} fail {}", good.saturating_add(1));
+        let told = self.answer(line);
+        Place {
+            good,
+            pages: Words::new(told.as_str()).short(),
+            is_so: true,
+            is_over: false,
         }
-        Ok(None)
     }
+
+    // Takes a line.
+    fn take(&mut self, call: &Call<'_>, place: &mut Place) {
+        if place.good < call.all {
+            self.fail(call, place);
+        }
+        if !place.is_over {
+            place.good = place.good.saturating_sub(call.all);
+            place.pages = place.pages.saturating_add(call.adds);
+            place.is_so = self.is_so(call.line, "", call.wanted);
+            place.is_over = !place.is_so;
+        }
+    }
+
+    // Takes a line in which a call fails. Where it was a read, the line can be taken again, and no other call fails.
+    fn fail(&mut self, call: &Call<'_>, place: &mut Place) {
+        let before = self.told(READERS, "");
+        let pages = place
+            .pages
+            .saturating_add(place.good.saturating_sub(call.reads).min(call.adds));
+        place.is_over = place.good >= call.reads;
+        place.good = u32::MAX;
+        place.is_so = self.is_so(call.line, "", "Device")
+            && (!place.is_over || self.is_left(call.line, before.as_str(), pages));
+        place.is_over |= !place.is_so;
+    }
+
+    // Whether all is left as it should be by a line that failed, with so many pages in the store, of a tree that had told this: where it
+    // was the closing, the store was handed back.
+    fn is_left(&mut self, line: &str, before: &str, pages: u32) -> bool {
+        if line == "close" {
+            return self.is_so("close", "", "none") && self.is_sized(pages);
+        }
+        let wanted = self.text(stopped(self.alloc, before, pages));
+        self.is_so(STOPPED, "", wanted.as_str())
+    }
+
+    // Whether the store that the tree left has so many pages.
+    fn is_sized(&mut self, pages: u32) -> bool {
+        let wanted = self.text(format!(in self.alloc; "{pages}"));
+        self.is_so("size", "", wanted.as_str())
+    }
+}
+
+// What is told where a tree has failed that had told this, over a store of so many pages.
+fn stopped(alloc: Global, before: &str, pages: u32) -> Result<String, AllocError> {
+    let failed = "Failed; Failed; Failed; Failed; Failed; Failed; Failed; Failed";
+    format!(in alloc;
+        "{before} failed; {failed}; {before} failed; ok; none; {failed}; Failed; {pages}"
+    )
 }

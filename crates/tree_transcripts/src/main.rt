@@ -46,9 +46,18 @@
 //!                         upgrades it over an old store that fails at its K-th call, and a new one that fails at its N-th; 0 is none
 //!     stops NAME CALLS    each call of both stores in turn fails: o reads a page of the old one; e adds a page to the new one, w writes
 //!                         one there, and r reads one; a w isn't told from an r
+//!
+//! Some of these are told by lines that are asked in turn, and that a text may have too:
+//!
+//!     store NAME          how many pages a store of them has, which is taken and not opened; `store NAME fail K`
+//!     bring K N NAME      upgrades the table over an old store that fails at its K-th call, and a new one that fails at its N-th; `bring`
+//!                         does it once more with the same old store, and a new one that doesn't fail
+//!     old kept, old due   whether the old store has its pages still, and whether it fails at its next call; `due` asks that of the store
+//!                         that the tree left
 #![tactic(auto)]
 
 mod asking;
+mod bench;
 mod bytes;
 mod calls;
 mod hurting;
@@ -56,12 +65,16 @@ mod player;
 mod queries;
 mod regions;
 mod reply;
+mod stores;
 mod tables;
 mod trial;
+mod words;
 
 use player::Player;
+use std::alloc::{AllocError, Global};
 use std::io;
 use std::process::ExitCode;
+use trial::Trial;
 
 fn main(rt: HostRuntime) -> ExitCode {
     match play(&rt) {
@@ -73,9 +86,16 @@ fn main(rt: HostRuntime) -> ExitCode {
 // Plays the text of standard input, and gives whether all its lines are right.
 fn play(rt: &HostRuntime) -> io::Result<bool> {
     let text = io::read_to_string(rt.alloc(), rt.reader())?;
-    let mut player = Player::new(rt.alloc());
-    for line in text.as_str().split('\n') {
-        player.take(rt, line)?;
+    let (told, is_right) = judged(rt.alloc(), text.as_str())?;
+    println!(rt; "{told}")?;
+    Ok(is_right)
+}
+
+// What is printed of the lines of a text, and whether all are right.
+fn judged(alloc: Global, text: &str) -> Result<(String, bool), AllocError> {
+    let mut player = Player::new(alloc, Trial::new(alloc));
+    for line in text.split('\n') {
+        player.take(line);
     }
-    player.end(rt)
+    player.end()
 }

@@ -1,172 +1,156 @@
-use crate::bytes::cut;
-use crate::calls::{Bench, Call, call_of};
-use crate::hurting::Work;
-use crate::reply::{Missed, Reply, words_of};
-use crate::tables::Tables;
-use crate::trial::Trial;
-use std::alloc::Global;
-use std::io;
+use crate::bench::{Answering, Bench};
+use crate::calls::{Call, call_of};
+use crate::words::cut;
+use std::alloc::{AllocError, Global};
 
-// A block of lines, each of which tells what calls of the store it makes.
+// The calls of a block up to now, and the name of its table.
 #[derive(Drop)]
 struct Block<'a> {
     name: &'a str,
     calls: Vec<Call<'a>>,
-    // Whether one of its lines isn't such a line.
-    is_wrong: bool,
 }
 
-/// Takes the lines of a text, and counts those that are answered as they say.
+/// Takes the lines of a text, and holds what they are answered against what they say.
 #[derive(Drop)]
-pub struct Player<'a> {
-    alloc: Global,
-    bench: Bench<'a>,
-    work: Work<'a>,
+pub struct Player<'a, A: Answering> {
+    bench: Bench<A>,
+    // The tables that are hurt by the lines that follow, and what is told of the new table where they are upgraded.
+    names: &'a str,
+    left: &'a str,
     block: Option<Block<'a>>,
     number: u64,
-    right: u64,
+    right: usize,
     wrong: u64,
+    // What is told of the lines that were wrong.
+    told: String,
 }
 
-impl<'a> Player<'a> {
-    /// One with no tables, before the first line.
-    pub fn new(alloc: Global) -> Player<'a> {
+impl<'a, A: Answering> Player<'a, A> {
+    /// One before the first line, who has this one's answers.
+    pub fn new(alloc: Global, answering: A) -> Player<'a, A> {
         Player {
-            alloc,
             bench: Bench {
                 alloc,
-                trial: Trial::new(alloc),
-                tables: Tables::new(alloc),
+                answering,
+                is_out: false,
             },
-            work: Work::Nothing,
+            names: "",
+            left: "",
             block: None,
             number: 0,
             right: 0,
             wrong: 0,
+            told: String::new(alloc),
         }
     }
 
     /// Takes the next line.
-    pub fn take(&mut self, rt: &HostRuntime, line: &'a str) -> io::Result<()> {
+    pub fn take(&mut self, line: &'a str) {
         self.number = self.number.saturating_add(1);
         if line.is_empty() || line.starts_with('#') {
-            return Ok(());
+            return;
         }
-        if line == "end" {
-            return self.end_block(rt);
-        }
-        if let Some(block) = &mut self.block {
-            match call_of(line) {
-                Some(call) => block.calls.push(call)?,
-                None => block.is_wrong = true,
+        match &mut self.block {
+            Some(block) if line != "end" => {
+                self.bench.is_out |= block.calls.push(call_of(line)).is_err();
             }
-            return Ok(());
+            Some(_) => self.end_block(),
+            None => self.take_alone(line),
         }
-        self.take_alone(rt, line)
-    }
-
-    // Takes a line that stands in no block.
-    fn take_alone(&mut self, rt: &HostRuntime, line: &'a str) -> io::Result<()> {
-        let (head, words) = cut(line);
-        match head {
-            "table" | "page" | "pages" => {
-                if let Err(missed) = self.bench.tables.take(line) {
-                    return self.tell(rt, line, Err(missed));
-                }
-                Ok(())
-            }
-            "checks" => {
-                self.work = Work::Check(words);
-                Ok(())
-            }
-            "upgrades" => {
-                let (name, left) = words.split_once(" left ").unwrap_or((words, ""));
-                self.work = Work::Upgrade(name, left);
-                Ok(())
-            }
-            "calls" => {
-                self.block = Some(Block {
-                    name: words,
-                    calls: Vec::new(self.alloc),
-                    is_wrong: false,
-                });
-                Ok(())
-            }
-            _ => self.judge(rt, line),
-        }
-    }
-
-    // Judges a line that says what it is answered.
-    fn judge(&mut self, rt: &HostRuntime, line: &'a str) -> io::Result<()> {
-        let Some((asked, wanted)) = line.split_once(" -> ") else {
-            return self.tell(rt, line, Err(Missed::Words));
-        };
-        let (head, words) = cut(asked);
-        if head == "hurt" {
-            return self.judge_hurts(rt, words, wanted);
-        }
-        let reply = match head {
-            "ends" => self.bench.end(words, wanted),
-            "stops" => self.bench.stop(words),
-            _ => self.bench.answer(asked),
-        };
-        let told = words_of(self.alloc, reply)?;
-        if told.as_str() == wanted {
-            self.right = self.right.saturating_add(1);
-            return Ok(());
-        }
-        self.tell(rt, line, Ok(told))
-    }
-
-    // Judges what is told where tables are hurt in each of these ways.
-    fn judge_hurts(&mut self, rt: &HostRuntime, hurts: &str, wanted: &str) -> io::Result<()> {
-        for hurt in hurts.split(';') {
-            let reply = self.bench.hurt(self.work, hurt, wanted);
-            let told = words_of(self.alloc, reply)?;
-            if told.as_str() == wanted {
-                self.right = self.right.saturating_add(1);
-            } else {
-                self.tell(rt, hurt, Ok(told))?;
-            }
-        }
-        Ok(())
     }
 
     // Ends a block, and judges its lines.
-    fn end_block(&mut self, rt: &HostRuntime) -> io::Result<()> {
-        let Some(block) = self.block.take() else {
-            return self.tell(rt, "end", Err(Missed::Words));
+    fn end_block(&mut self) {
+        if let Some(block) = self.block.take() {
+            let is_so = self.bench.plays(block.name, block.calls.as_slice());
+            let told = if is_so { "" } else { "other calls" };
+            self.judge(block.name, told, "", block.calls.len());
+        }
+    }
+
+    // Takes a line that stands in no block.
+    fn take_alone(&mut self, line: &'a str) {
+        let (head, words) = cut(line);
+        match head {
+            "checks" => (self.names, self.left) = (words, ""),
+            "upgrades" => (self.names, self.left) = words
+                .split_once(" left ")
+                .unwrap_or((words, "")),
+            "calls" => {
+                let calls = Vec::new(self.bench.alloc);
+                self.block = Some(Block { name: words, calls });
+            }
+            _ => self.ask(line),
+        }
+    }
+
+    // Takes a line that says what it is answered; one of a table doesn't, and is answered `ok`.
+    fn ask(&mut self, line: &str) {
+        let (asked, wanted) = line.split_once(" -> ").unwrap_or((line, "ok"));
+        let (head, words) = cut(asked);
+        let told = match head {
+            "hurt" => return self.hurt_all(words, wanted),
+            "upgrade" => self.bench.upgrade(words),
+            "ends" => self.bench.end(words, wanted),
+            "stops" => self.bench.stop(words),
+            _ => self.bench.told(asked, ""),
         };
-        if block.is_wrong {
-            return self.tell(rt, block.name, Err(Missed::Words));
-        }
-        let calls = block.calls.as_slice();
-        match self.bench.wrong_after(block.name, calls) {
-            Ok(None) => {
-                self.right = self.right.saturating_add(calls.len() as u64);
-                Ok(())
-            }
-            Ok(Some(good)) => {
-                let told = format!(in self.alloc; "other calls, where {good} go well")?;
-                self.tell(rt, block.name, Ok(told))
-            }
-            Err(missed) => self.tell(rt, block.name, Err(missed)),
+        let lines = usize::from(asked.len() < line.len());
+        self.judge(line, told.as_str(), wanted, lines);
+    }
+
+    // Takes a line that hurts tables in each of these ways.
+    fn hurt_all(&mut self, hurts: &str, wanted: &str) {
+        for hurt in hurts.split(';') {
+            let told = self.hurt(hurt, wanted);
+            self.judge(hurt, told.as_str(), wanted, 1);
         }
     }
 
-    // Counts a line as wrong, and prints it and what it was answered.
-    fn tell(&mut self, rt: &HostRuntime, line: &str, reply: Reply) -> io::Result<()> {
+    // What is told of the tables that are hurt so: what it tells of the last, or of the first of which something else is told.
+    fn hurt(&mut self, hurts: &str, wanted: &str) -> String {
+        let mut told = String::new(self.bench.alloc);
+        for name in self.names.split_whitespace() {
+            if told.is_empty() || told.as_str() == wanted {
+                let table = format!(in self.bench.alloc; "{name} with {hurts}");
+                let table = self.bench.text(table);
+                told = self.hurt_table(table.as_str());
+            }
+        }
+        told
+    }
+
+    // What is told of one of them.
+    fn hurt_table(&mut self, table: &str) -> String {
+        if self.left.is_empty() {
+            return self.bench.check(table);
+        }
+        let told = self.bench.upgrade(table);
+        self.bench.told_if(told, "open", "", self.left)
+    }
+
+    // Holds what was told of a line against what is wanted: so many lines are right, or it is wrong, and is told with its number.
+    fn judge(&mut self, line: &str, told: &str, wanted: &str, lines: usize) {
+        if told == wanted {
+            self.right = self.right.saturating_add(lines);
+            return;
+        }
         self.wrong = self.wrong.saturating_add(1);
-        let told = words_of(self.alloc, reply)?;
-        println!(rt; "{}: {line}\n    {told}", self.number)
+        let words = format!(in self.bench.alloc; "{}: {line}\n    {told}\n", self.number);
+        let words = self.bench.text(words);
+        self.bench.is_out |= self.told.push_str(words.as_str()).is_err();
     }
 
-    /// Prints how many lines were right and how many wrong, and gives whether none was wrong.
-    pub fn end(&mut self, rt: &HostRuntime) -> io::Result<bool> {
+    /// What is printed at the end, and whether no line was wrong; a block that hasn't ended is.
+    pub fn end(&mut self) -> Result<(String, bool), AllocError> {
         if self.block.is_some() {
-            self.tell(rt, "calls", Err(Missed::Words))?;
+            self.judge("calls", "no end", "", 0);
         }
-        println!(rt; "{} right, {} wrong", self.right, self.wrong)?;
-        Ok(self.wrong == 0)
+        if self.bench.is_out {
+            return Err(AllocError);
+        }
+        let (told, right, wrong) = (self.told.as_str(), self.right, self.wrong);
+        let words = format!(in self.bench.alloc; "{told}{right} right, {wrong} wrong")?;
+        Ok((words, wrong == 0))
     }
 }

@@ -1,10 +1,9 @@
-ghost use Rattle.std.specs.Prelude.{ℕ, length, IfOk};
+ghost use Rattle.std.specs.Prelude.{ℕ, length, IfSome};
 ghost use Rattle.ub_query.specs.Posed.{IsPosed};
 ghost use Rattle.ub_query.specs.Shape.{asked};
 
-use crate::asking::add_word;
-use crate::reply::{Missed, Reply, say, words_of};
-use crate::tables::Store;
+use crate::reply::{NONE, Reply, UNKNOWN, say, words_of};
+use crate::words::add_word;
 use std::alloc::{AllocError, Global};
 use ub_exec::{Answer, delete, execute};
 use ub_lexer::lex;
@@ -12,39 +11,66 @@ use ub_parser::{Statement, parse};
 use ub_plan::explain;
 use ub_planning::{Plan, plan};
 use ub_query::{Cell, Query};
+use ub_store::PageStore;
 use ub_table::{Row, Schema};
 use ub_tetris::{Sweep, SweepFault};
-use ub_tree::Tree;
+use ub_tree::{ReadFault, Tree};
+
+/// What a statement is answered by the plan of its query; what follows `sweep` by so many turns of the sweep.
+pub fn answer_by<S: PageStore>(
+    alloc: Global,
+    tree: &mut Tree<S>,
+    head: &str,
+    text: &str,
+    turns: u32,
+) -> Reply {
+    let columns = tree.schema().columns().len();
+    let Some(plan) = planned(alloc, tree.schema(), text) else {
+        return say(alloc, UNKNOWN);
+    };
+    match head {
+        "SELECT" => select_by(alloc, tree, &plan),
+        "EXPLAIN" => explain_by(alloc, tree, &plan),
+        "DELETE" => delete_by(alloc, tree, &plan),
+        _ => sweep_by(alloc, tree, columns, &plan, turns),
+    }
+}
 
 // The plan of the query of a statement.
-fn planned(alloc: Global, schema: &Schema, text: &str) -> Result<Plan, Missed>
-    ensures { IfOk result (λ p. IsPosed (length schema.now.columns) p.asked) }
+fn planned(alloc: Global, schema: &Schema, text: &str) -> Option<Plan>
+    ensures { IfSome result (λ p. IsPosed (length schema.now.columns) p.asked) }
 {
     let source = text.as_bytes();
-    let tokens = lex(alloc, source)?;
+    let Ok(tokens) = lex(alloc, source) else {
+        return None;
+    };
     if tokens.is_empty() {
-        return Err(Missed::Words);
+        return None;
     }
     match parse(alloc, source, tokens.as_slice(), schema) {
         Ok(Statement::Select(query)) => plan_of(alloc, schema, &query),
         Ok(Statement::Explain(query)) => plan_of(alloc, schema, &query),
         Ok(Statement::Delete(query)) => plan_of(alloc, schema, &query),
-        _ => Err(Missed::Words),
+        _ => None,
     }
 }
 
 // The plan of a query.
-fn plan_of(alloc: Global, schema: &Schema, query: &Query) -> Result<Plan, Missed>
+fn plan_of(alloc: Global, schema: &Schema, query: &Query) -> Option<Plan>
     ensures { (columns : ℕ) → IsPosed columns (asked query.now)
-        → IfOk result (λ p. IsPosed columns p.asked) }
+        → IfSome result (λ p. IsPosed columns p.asked) }
 {
-    Ok(plan(alloc, query, schema)?)
+    match plan(alloc, query, schema) {
+        Ok(plan) => Some(plan),
+        Err(_) => None,
+    }
 }
 
-/// How many pages are read for a query, how many rows it gives, and the rows where they are few.
-pub fn select_by(alloc: Global, tree: &mut Tree<Store>, text: &str) -> Reply {
-    let plan = planned(alloc, tree.schema(), text)?;
-    let answer = execute(alloc, tree, &plan)?;
+// How many pages are read for a query, how many rows it gives, and the rows where they are few.
+fn select_by<S: PageStore>(alloc: Global, tree: &mut Tree<S>, plan: &Plan) -> Reply
+    requires { IsPosed (length tree.old.schema.columns) plan.now.asked }
+{
+    let answer = execute(alloc, tree, plan)?;
     Ok(answered(alloc, &answer)?)
 }
 
@@ -76,34 +102,38 @@ fn add_cells(alloc: Global, words: &mut String, cells: &[Cell]) -> Result<(), Al
     Ok(())
 }
 
-/// The lines that explain a query, with ` | ` between them.
-pub fn explain_by(alloc: Global, tree: &mut Tree<Store>, text: &str) -> Reply {
-    let plan = planned(alloc, tree.schema(), text)?;
-    let lines = explain(alloc, &plan, tree)?;
+// The lines that explain a query, with ` | ` between them.
+fn explain_by<S: PageStore>(alloc: Global, tree: &mut Tree<S>, plan: &Plan) -> Reply {
+    let text = explain(alloc, plan, tree)?;
+    Ok(joined(alloc, text.as_slice())?)
+}
+
+// The lines of a text, with ` | ` between them.
+fn joined(alloc: Global, text: &[u8]) -> Result<String, AllocError> {
     let mut words = String::new(alloc);
-    for line in std::str::from_utf8(lines.as_slice()).unwrap_or("").lines() {
+    for line in std::str::from_utf8(text).unwrap_or("").lines() {
         add_word(&mut words, " | ", line)?;
     }
     Ok(words)
 }
 
-/// How many rows a statement deletes.
-pub fn delete_by(alloc: Global, tree: &mut Tree<Store>, text: &str) -> Reply {
-    let plan = planned(alloc, tree.schema(), text)?;
-    let count = delete(alloc, tree, &plan)?;
+// How many rows a statement deletes.
+fn delete_by<S: PageStore>(alloc: Global, tree: &mut Tree<S>, plan: &Plan) -> Reply
+    requires { IsPosed (length tree.old.schema.columns) plan.now.asked }
+{
+    let count = delete(alloc, tree, plan)?;
     Ok(format!(in alloc; "{count}")?)
 }
 
-/// What so many turns of the sweep of a query give, each with how many pages were read up to then, and how many rows are held. Before
-/// the first one nothing is read and held.
-pub fn sweep_by(alloc: Global, tree: &mut Tree<Store>, text: &str, turns: u32) -> Reply {
-    let columns = tree.schema().columns().len();
-    let plan = planned(alloc, tree.schema(), text)?;
-    swept(alloc, tree, columns, &plan, turns)
-}
-
-// The same by the plan, over a table of so many columns.
-fn swept(alloc: Global, tree: &mut Tree<Store>, columns: usize, plan: &Plan, turns: u32) -> Reply
+// What so many turns of the sweep of a query give over a table of so many columns, each with how many pages were read up to then, and
+// how many rows are held. Before the first one nothing is read and held.
+fn sweep_by<S: PageStore>(
+    alloc: Global,
+    tree: &mut Tree<S>,
+    columns: usize,
+    plan: &Plan,
+    turns: u32,
+) -> Reply
     requires { IsPosed columns plan.now.asked }
 {
     match Sweep::new(alloc, tree, plan) {
@@ -113,10 +143,10 @@ fn swept(alloc: Global, tree: &mut Tree<Store>, columns: usize, plan: &Plan, tur
 }
 
 // The same of a sweep that has begun.
-fn take_turns(
+fn take_turns<S: PageStore>(
     alloc: Global,
     sweep: &mut Sweep,
-    tree: &mut Tree<Store>,
+    tree: &mut Tree<S>,
     columns: usize,
     plan: &Plan,
     turns: u32,
@@ -149,28 +179,28 @@ fn add_turn(
 
 // What the next turn of a sweep over a table of so many columns gives: the measure of a row, or where the query has groups the numbers of
 // the rows of a value.
-fn turn(
+fn turn<S: PageStore>(
     alloc: Global,
     sweep: &mut Sweep,
-    tree: &mut Tree<Store>,
+    tree: &mut Tree<S>,
     columns: usize,
     plan: &Plan,
 ) -> Reply
     requires { IsPosed columns plan.now.asked }
 {
     if tree.schema().columns().len() != columns {
-        return Err(Missed::Words);
+        return say(alloc, UNKNOWN);
     }
     if plan.query().has_groups() {
         return match sweep.next_value(tree, plan) {
             Ok(Some(rows)) => Ok(numbers(alloc, rows.as_slice())?),
-            Ok(None) => say(alloc, "none"),
+            Ok(None) => say(alloc, NONE),
             Err(fault) => refused(alloc, fault),
         };
     }
     match sweep.next(tree, plan) {
         Ok(Some(row)) => Ok(format!(in alloc; "{}", row.measures[0])?),
-        Ok(None) => say(alloc, "none"),
+        Ok(None) => say(alloc, NONE),
         Err(fault) => refused(alloc, fault),
     }
 }
@@ -188,8 +218,8 @@ fn numbers(alloc: Global, rows: &[Row]) -> Result<String, AllocError> {
 // The words of a sweep's fault.
 fn refused(alloc: Global, fault: SweepFault) -> Reply {
     match fault {
-        SweepFault::Tree(fault) => Ok(words_of(alloc, Err(Missed::Tree(fault)))?),
-        SweepFault::Memory => Err(Missed::Memory),
+        SweepFault::Tree(fault) => Ok(words_of(alloc, Err(ReadFault::Tree(fault)))?),
+        SweepFault::Memory => Err(ReadFault::Memory),
         SweepFault::Failed => say(alloc, "Failed"),
     }
 }

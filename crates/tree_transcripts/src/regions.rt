@@ -1,35 +1,36 @@
-use crate::bytes::cut;
-use crate::reply::{Missed, Reply, number, say, short};
-use crate::tables::Store;
+use crate::reply::{NONE, Reply, UNKNOWN, say};
+use crate::words::Words;
 use std::alloc::{AllocError, Global};
 use ub_bigmin::ZBox;
 use ub_page::RegionPage;
+use ub_store::PageStore;
 use ub_table::Key;
 use ub_tree::{Region, Tree, TreeFault};
 use ub_zaddr::{Point, Shape, last};
 
 /// Whether there is a region whose span ends at z or later.
-pub fn seek(alloc: Global, tree: &mut Tree<Store>, z: u128) -> Reply {
-    match tree.seek(z, None)? {
-        Some(_) => say(alloc, "ok"),
-        None => Err(Missed::Nothing),
-    }
+pub fn seek<S: PageStore>(alloc: Global, tree: &mut Tree<S>, z: u128) -> Reply {
+    let found = tree.seek(z, None)?;
+    say(alloc, if found.is_some() { "ok" } else { NONE })
 }
 
 /// The span of the region that ends at an address or later, and its first row and its last, read from its page or from another one.
 /// The word for the last address is `last`; `span least on 1` is the least key alone, with no search before it.
-pub fn span(alloc: Global, tree: &mut Tree<Store>, words: &str) -> Reply {
-    let (word, rest) = cut(words);
-    let mut region = match word {
-        "least" => least(),
-        "last" => sought(tree, last_of(tree))?,
-        _ => sought(tree, number(word)?)?,
+pub fn span<S: PageStore>(alloc: Global, tree: &mut Tree<S>, words: &mut Words<'_>) -> Reply {
+    let Some(region) = sought(tree, words)? else {
+        return say(alloc, NONE);
     };
-    if !rest.is_empty() {
-        region.page = short(rest.strip_prefix("on ").unwrap_or(""))?;
-    }
+    let page = match words.word() {
+        "on" => words.short(),
+        _ => region.page,
+    };
+    held(alloc, tree, &Region { page, ..region })
+}
+
+// The span of a region, and the first row and the last that its page has.
+fn held<S: PageStore>(alloc: Global, tree: &mut Tree<S>, region: &Region) -> Reply {
     let mut held = tree.empty_region();
-    tree.read_region(&region, &mut held)?;
+    tree.read_region(region, &mut held)?;
     let to = address(alloc, region.to, last_of(tree))?;
     let rows = rows(alloc, &held)?;
     Ok(format!(in alloc; "{}..{to} {rows}", region.from)?)
@@ -54,12 +55,17 @@ fn rows(alloc: Global, held: &RegionPage) -> Result<String, AllocError> {
     format!(in alloc; "rows {first}..{end}")
 }
 
-// The first region whose span ends at z or later.
-fn sought(tree: &mut Tree<Store>, z: u128) -> Result<Region, Missed> {
-    match tree.seek(z, None)? {
-        Some(region) => Ok(region),
-        None => Err(Missed::Nothing),
-    }
+// The first region whose span ends at an address or later, by the word for that, or the region of the least key alone, on no page.
+fn sought<S: PageStore>(
+    tree: &mut Tree<S>,
+    words: &mut Words<'_>,
+) -> Result<Option<Region>, TreeFault> {
+    let z = match words.word() {
+        "least" => return Ok(Some(least())),
+        "last" => last_of(tree),
+        word => Words::new(word).number(),
+    };
+    tree.seek(z, None)
 }
 
 // The region of the least key alone, on no page.
@@ -74,13 +80,13 @@ fn least() -> Region {
 }
 
 // The last address of a tree.
-fn last_of(tree: &Tree<Store>) -> u128 {
+fn last_of<S: PageStore>(tree: &Tree<S>) -> u128 {
     last(tree.schema().shape())
 }
 
 // The first region after another one that meets the box; where all regions are walked, `Full` if it isn't the first of all.
-fn next_region(
-    tree: &mut Tree<Store>,
+fn next_region<S: PageStore>(
+    tree: &mut Tree<S>,
     corner: ZBox,
     after: Option<&Region>,
     is_walk: bool,
@@ -94,9 +100,9 @@ fn next_region(
 
 /// How many regions follow each other that meet the box from a corner with these coordinates on, and where the first and the last of
 /// them begin; where all are walked, each is also the first one after the one before it.
-pub fn meet(alloc: Global, tree: &mut Tree<Store>, low: u32, is_walk: bool) -> Reply {
+pub fn meet<S: PageStore>(alloc: Global, tree: &mut Tree<S>, low: u32, is_walk: bool) -> Reply {
     let Some(corner) = box_from(low) else {
-        return Err(Missed::Words);
+        return say(alloc, UNKNOWN);
     };
     let mut after: Option<Region> = None;
     let (mut count, mut first, mut end) = (0u32, 0, 0);

@@ -1,141 +1,120 @@
-use crate::bytes::{cut, put_items};
-use crate::reply::Missed;
+use crate::bytes::put_items;
+use crate::words::{Words, cut};
 use std::alloc::Global;
-use ub_store::{FaultyStore, MAX_PAGES, MemStore, Page, PageStore, StoreFault};
-use ub_tree::TreeFault;
+use ub_store::{FaultyStore, MAX_PAGES, MemStore, Page};
 
 /// A store in memory that fails at one call, or at none.
 pub type Store = FaultyStore<MemStore>;
 
 // The pages of a table that has a name.
 #[derive(Drop)]
-struct Table<'a> {
-    name: &'a str,
+struct Table {
+    name: String,
     pages: Vec<Page>,
 }
 
 /// Tables by their names.
 #[derive(Drop)]
-pub struct Tables<'a> {
+pub struct Tables {
     alloc: Global,
-    tables: Vec<Table<'a>>,
+    tables: Vec<Table>,
 }
 
-impl<'a> Tables<'a> {
+impl Tables {
     /// None.
-    pub fn new(alloc: Global) -> Tables<'a> {
+    pub fn new(alloc: Global) -> Tables {
         Tables {
             alloc,
             tables: Vec::new(alloc),
         }
     }
 
-    /// Takes a line that begins a table, or adds pages to the last one.
-    pub fn take(&mut self, line: &'a str) -> Result<(), Missed> {
+    /// Takes a line that begins a table, or adds pages to the last one, and gives whether it is such a line.
+    pub fn take(&mut self, line: &str) -> bool {
         let (head, words) = cut(line);
         match head {
             "table" => self.begin(words),
             "page" => self.add(1, words),
             _ => {
-                let (count, items) = cut(words);
-                self.add(count.parse::<u32>().map_err(|_| Missed::Words)?, items)
+                let mut words = Words::new(words);
+                let count = words.short();
+                !words.is_wrong && self.add(count, words.rest)
             }
         }
     }
 
-    // Begins a table, of no pages or of another one's; there is no other one of its name then.
-    fn begin(&mut self, words: &'a str) -> Result<(), Missed> {
+    // Begins a table, of no pages or of another one's, in place of one of this name.
+    fn begin(&mut self, words: &str) -> bool {
         let (name, rest) = cut(words);
         let pages = match rest.strip_prefix("= ") {
-            Some(other) => self.by_words(other)?,
-            None => Vec::new(self.alloc),
+            Some(other) => self.pages(other),
+            None => Some(Vec::new(self.alloc)),
         };
-        self.tables.retain(|table| table.name != name);
-        self.tables.push(Table { name, pages })?;
-        Ok(())
+        match (String::from_str(self.alloc, name), pages) {
+            (Ok(name), Some(pages)) => self.tables.push(Table { name, pages }).is_ok(),
+            _ => false,
+        }
     }
 
     // Adds so many pages to the last table.
-    fn add(&mut self, count: u32, items: &str) -> Result<(), Missed> {
+    fn add(&mut self, count: u32, items: &str) -> bool {
         let Some(table) = self.tables.last_mut() else {
-            return Err(Missed::Words);
+            return false;
         };
+        let mut is_well = true;
         for turn in 0..count {
             let mut page = [0; 4096];
-            if put_items(&mut page, 0, items, u128::from(turn)).is_none() {
-                return Err(Missed::Words);
-            }
-            table.pages.push(page)?;
+            is_well &= put_items(self.alloc, &mut page, 0, items, turn);
+            is_well &= table.pages.push(page).is_ok();
         }
-        Ok(())
+        is_well
     }
 
-    // The pages of the table of this name.
-    fn pages(&self, name: &str) -> Result<&[Page], Missed> {
+    // The pages of the last table of this name.
+    fn named(&self, name: &str) -> Option<&[Page]> {
+        let mut found = None;
         for table in self.tables.as_slice() {
-            if table.name == name {
-                return Ok(table.pages.as_slice());
+            if table.name.as_str() == name {
+                found = Some(table.pages.as_slice());
             }
         }
-        Err(Missed::Words)
+        found
     }
 
-    /// The pages of the table of this name in which some bytes are others, by the words for these, with commas between them.
-    pub fn hurt(&self, name: &str, patches: &str) -> Result<Vec<Page>, Missed> {
-        let mut pages = Vec::from_slice(self.alloc, self.pages(name)?)?;
-        for patch in patches.split(',') {
-            if put_patch(pages.as_mut_slice(), patch).is_none() {
-                return Err(Missed::Words);
-            }
+    /// The pages of a table in which some bytes are others, by the words for both.
+    pub fn pages(&self, words: &str) -> Option<Vec<Page>> {
+        let (name, hurts) = words.split_once(" with ").unwrap_or((words, ""));
+        self.hurt(name, hurts)
+    }
+
+    /// The same by its name, and the words for the bytes, with commas between them.
+    pub fn hurt(&self, name: &str, hurts: &str) -> Option<Vec<Page>> {
+        let mut pages = Vec::from_slice(self.alloc, self.named(name)?).ok()?;
+        let mut is_well = true;
+        for words in hurts.split(',') {
+            is_well &= put_hurt(self.alloc, pages.as_mut_slice(), words.trim());
         }
-        Ok(pages)
-    }
-
-    /// The same by the words for both.
-    pub fn by_words(&self, words: &str) -> Result<Vec<Page>, Missed> {
-        let (name, patches) = words.split_once(" with ").unwrap_or((words, ""));
-        self.hurt(name, patches)
+        if is_well { Some(pages) } else { None }
     }
 }
 
 // Puts items into a page, by the words for the page, the offset, and them; or nothing where there are no words.
-fn put_patch(pages: &mut [Page], patch: &str) -> Option<()> {
-    let patch = patch.trim();
-    if patch.is_empty() {
-        return Some(());
+fn put_hurt(alloc: Global, pages: &mut [Page], words: &str) -> bool {
+    let (place, items) = cut(words);
+    let (number, at) = place.split_once('@').unwrap_or(("", ""));
+    match (number.parse::<usize>(), at.parse::<usize>()) {
+        (Ok(number), Ok(at)) => match pages.get_mut(number) {
+            Some(page) => put_items(alloc, page, at, items, 0),
+            None => false,
+        },
+        _ => words.is_empty(),
     }
-    let (place, items) = cut(patch);
-    let (number, at) = place.split_once('@')?;
-    let page = pages.get_mut(number.parse::<usize>().ok()?)?;
-    put_items(page, at.parse::<usize>().ok()?, items, 0)?;
-    Some(())
 }
 
 /// A store of these pages, that fails at its k-th call.
-pub fn store_of(alloc: Global, pages: &[Page], k: u64) -> Result<Store, Missed> {
-    let pages = Vec::from_slice(alloc, pages)?;
+pub fn store_of(pages: Vec<Page>, k: u64) -> Option<Store> {
     if pages.len() > MAX_PAGES as usize {
-        return Err(Missed::Words);
+        return None;
     }
-    Ok(FaultyStore::new(MemStore::of(pages), k))
-}
-
-/// The pages of a store. Each one is read twice where it fails, since a store fails once.
-pub fn pages_of(alloc: Global, store: &mut Store) -> Result<Vec<Page>, Missed> {
-    let mut pages = Vec::new(alloc);
-    for n in 0..store.pages() {
-        let first = store.read_page(n);
-        pages.push(first.or(store.read_page(n)).map_err(missed)?)?;
-    }
-    Ok(pages)
-}
-
-/// What a page of a store has.
-pub fn page_of(store: &mut Store, n: u32) -> Result<Page, Missed> {
-    store.read_page(n).map_err(missed)
-}
-
-// What a store's fault is answered.
-fn missed(fault: StoreFault) -> Missed {
-    Missed::Tree(TreeFault::Store(fault))
+    Some(FaultyStore::new(MemStore::of(pages), k))
 }

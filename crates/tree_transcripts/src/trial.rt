@@ -1,20 +1,54 @@
 use crate::asking::ask;
-use crate::bytes::{cut, put_items};
-use crate::reply::{Missed, Reply, number_after, say};
-use crate::tables::{Store, Tables, page_of, pages_of, store_of};
-use std::alloc::Global;
-use ub_store::{FaultyStore, MemStore, Page, PageStore, Rejected};
+use crate::bench::Answering;
+use crate::reply::{NONE, Reply, UNKNOWN, say, words_of};
+use crate::stores::{has_pages, is_due, look, pages_of};
+use crate::tables::{Store, Tables, store_of};
+use crate::words::{Words, cut};
+use std::alloc::{AllocError, Global};
+use ub_store::{FaultyStore, MemStore, Page, Rejected};
 use ub_table::{Name, PageFault, Schema};
-use ub_tree::{Tree, TreeFault};
+use ub_tree::{ReadFault, Tree, TreeFault};
 
-/// A tree, or the store that it left.
+/// A tree, or the store that it left, and the tables that stores are made of.
 #[derive(Drop)]
 pub struct Trial {
     alloc: Global,
+    tables: Tables,
     tree: Option<Tree<Store>>,
     store: Option<Store>,
-    // The store of the old table that was upgraded.
-    old: Option<Store>,
+    old: Option<Old>,
+}
+
+// The store of the old table that was upgraded, and the pages that it had before.
+#[derive(Drop)]
+struct Old {
+    store: Store,
+    pages: Vec<Page>,
+}
+
+impl Answering for Trial {
+    fn answer(&mut self, line: &str) -> Result<String, AllocError> {
+        let reply = self.reply(line);
+        words_of(self.alloc, reply)
+    }
+}
+
+// Whether the store of the old table has its pages still, or else whether it fails at its next call.
+fn look_old(alloc: Global, old: &mut Option<Old>, words: &str) -> Reply {
+    let Some(old) = old else {
+        return say(alloc, NONE);
+    };
+    let is_so = if words == "kept" {
+        has_pages(&mut old.store, old.pages.as_slice())
+    } else {
+        is_due(&mut old.store)
+    };
+    say(alloc, if is_so { "yes" } else { "no" })
+}
+
+// Lets a tree go.
+fn release(_tree: Option<Tree<Store>>) {
+    // It is dropped here, and by no other step.
 }
 
 // The schema of the plane, or of the line.
@@ -27,68 +61,89 @@ fn schema_of(word: &str) -> Result<Schema, PageFault> {
     }
 }
 
-// Lets a tree go.
-fn release(_tree: Option<Tree<Store>>) {
-    // It is dropped here, and by no other step.
-}
-
 impl Trial {
-    /// One with no tree and no store.
+    /// One with no tables, no tree and no store.
     pub fn new(alloc: Global) -> Trial {
         Trial {
             alloc,
+            tables: Tables::new(alloc),
             tree: None,
             store: None,
             old: None,
         }
     }
 
-    /// What a line is answered.
-    pub fn answer(&mut self, tables: &Tables<'_>, line: &str) -> Reply {
+    // What a line is answered.
+    fn reply(&mut self, line: &str) -> Reply {
         let (head, words) = cut(line);
         match head {
-            "open" if words.is_empty() => self.open(),
-            "open" => self.open_table(tables, words),
-            "again" => self.open_again(number_after(words, "fail")?),
+            "table" | "page" | "pages" => self.take_line(line),
+            "size" | "same" | "bytes" | "due" => self.look(line),
+            "old" => look_old(self.alloc, &mut self.old, words),
+            "store" | "open" | "again" => self.begin(head, words),
             "create" => self.create(words),
+            "bring" => self.bring(words),
             "close" => self.close(),
-            "upgrade" => self.upgrade_well(tables, words),
-            "size" | "same" | "bytes" => match &mut self.store {
-                Some(store) => look(self.alloc, tables, store, line),
-                None => Err(Missed::Nothing),
-            },
             _ => match &mut self.tree {
                 Some(tree) => ask(self.alloc, tree, line),
-                None => Err(Missed::Nothing),
+                None => say(self.alloc, NONE),
             },
         }
     }
 
-    /// Takes a store of these pages that fails at its k-th call, in place of all that there is.
-    pub fn take_store(&mut self, pages: &[Page], k: u64) -> Result<(), Missed> {
-        release(self.tree.take());
-        self.store = Some(store_of(self.alloc, pages, k)?);
-        Ok(())
+    // Takes a line on a table.
+    fn take_line(&mut self, line: &str) -> Reply {
+        let is_taken = self.tables.take(line);
+        say(self.alloc, if is_taken { "ok" } else { UNKNOWN })
     }
 
-    // Opens a store by the words for its table, for where it fails, and for what is hurt in it.
-    fn open_table(&mut self, tables: &Tables<'_>, words: &str) -> Reply {
-        let (front, patches) = words.split_once(" with ").unwrap_or((words, ""));
-        let (name, fault) = cut(front);
-        let k = number_after(fault, "fail")?;
-        let pages = tables.hurt(name, patches)?;
-        self.take_store(pages.as_slice(), k)?;
-        self.open()
+    // What a line is answered on the store that the tree left.
+    fn look(&mut self, line: &str) -> Reply {
+        match &mut self.store {
+            Some(store) => look(self.alloc, &self.tables, store, line),
+            None => say(self.alloc, NONE),
+        }
     }
 
-    // Opens a store of the same pages that fails at its k-th call.
-    fn open_again(&mut self, k: u64) -> Reply {
-        let Some(store) = &mut self.store else {
-            return Err(Missed::Nothing);
+    // Opens the store that there is, or another one that is taken first; or tells how many pages that has.
+    fn begin(&mut self, head: &str, words: &str) -> Reply {
+        let is_taken = match head {
+            "again" => self.take_again(words),
+            _ => words.is_empty() || self.take_table(words),
         };
-        let pages = pages_of(self.alloc, store)?;
-        self.take_store(pages.as_slice(), k)?;
-        self.open()
+        match head {
+            _ if !is_taken => say(self.alloc, UNKNOWN),
+            "store" => self.look("size"),
+            _ => self.open(),
+        }
+    }
+
+    // Takes a store of a table, by the words for it, for where its store fails, and for what is hurt in it.
+    fn take_table(&mut self, words: &str) -> bool {
+        let (front, hurts) = words.split_once(" with ").unwrap_or((words, ""));
+        let mut front = Words::new(front);
+        let (name, k) = (front.word(), front.fault());
+        let pages = self.tables.hurt(name, hurts);
+        self.hold(pages, k)
+    }
+
+    // Takes a store of the pages of the one that there is.
+    fn take_again(&mut self, words: &str) -> bool {
+        let pages = match &mut self.store {
+            Some(store) => pages_of(self.alloc, store),
+            None => None,
+        };
+        self.hold(pages, Words::new(words).fault())
+    }
+
+    // Takes a store of these pages that fails at its k-th call, in place of all that there is.
+    fn hold(&mut self, pages: Option<Vec<Page>>, k: u64) -> bool {
+        release(self.tree.take());
+        self.store = match pages {
+            Some(pages) => store_of(pages, k),
+            None => None,
+        };
+        self.store.is_some()
     }
 
     // Opens the store.
@@ -98,25 +153,24 @@ impl Trial {
                 let opened = Tree::open(self.alloc, store);
                 self.take(opened)
             }
-            None => Err(Missed::Nothing),
+            None => say(self.alloc, NONE),
         }
     }
 
     // Makes an empty table, by the word for its schema and that for where its store fails.
     fn create(&mut self, words: &str) -> Reply {
-        let (word, fault) = cut(words);
-        let k = number_after(fault, "fail")?;
-        let Ok(schema) = schema_of(word) else {
-            return Err(Missed::Words);
+        let mut words = Words::new(words);
+        let Ok(schema) = schema_of(words.word()) else {
+            return say(self.alloc, UNKNOWN);
         };
-        let store = FaultyStore::new(MemStore::new(self.alloc), k);
+        let store = FaultyStore::new(MemStore::new(self.alloc), words.fault());
         let made = Tree::create(self.alloc, store, &schema);
         self.take(made)
     }
 
     // Takes a tree, or the store that is handed back in its place.
-    fn take(&mut self, tree: Result<Tree<Store>, Rejected<Store, TreeFault>>) -> Reply {
-        match tree {
+    fn take(&mut self, made: Result<Tree<Store>, Rejected<Store, TreeFault>>) -> Reply {
+        match made {
             Ok(tree) => {
                 release(self.tree.replace(tree));
                 say(self.alloc, "ok")
@@ -128,13 +182,13 @@ impl Trial {
     // Takes the store that is handed back.
     fn take_back(&mut self, refused: Rejected<Store, TreeFault>) -> Reply {
         self.store = Some(refused.store);
-        Err(Missed::Tree(refused.fault))
+        Err(ReadFault::Tree(refused.fault))
     }
 
     // Closes the tree.
     fn close(&mut self) -> Reply {
         let Some(tree) = self.tree.take() else {
-            return Err(Missed::Nothing);
+            return say(self.alloc, NONE);
         };
         match tree.close() {
             Ok(store) => {
@@ -145,111 +199,38 @@ impl Trial {
         }
     }
 
-    /// Upgrades the old table, over a new store that fails at its k-th call.
-    pub fn upgrade(&mut self, k: u64) -> Reply {
-        match &mut self.old {
-            Some(old) => {
-                let new = FaultyStore::new(MemStore::new(self.alloc), k);
-                let made = Tree::upgrade(self.alloc, old, new);
-                self.take(made)
-            }
-            None => Err(Missed::Nothing),
+    // Upgrades another old table, by the words for the call of its store that fails, for that of the new one, and for it; or with no words
+    // the same one once more.
+    fn bring(&mut self, words: &str) -> Reply {
+        if words.is_empty() {
+            return self.upgrade(0);
         }
-    }
-
-    /// The same of a table of these pages, whose store fails at its k-th call, and the new store at its n-th.
-    pub fn upgrade_old(&mut self, pages: &[Page], k: u64, n: u64) -> Reply {
-        self.old = Some(store_of(self.alloc, pages, k)?);
+        let mut words = Words::new(words);
+        let (k, n) = (u64::from(words.short()), u64::from(words.short()));
+        self.old = old_of(&self.tables, words.rest, k);
         self.upgrade(n)
     }
 
-    // The same by the words for the table, where no store fails. The old table must be as it was.
-    fn upgrade_well(&mut self, tables: &Tables<'_>, words: &str) -> Reply {
-        let pages = tables.by_words(words)?;
-        let reply = self.upgrade_old(pages.as_slice(), 0, 0);
-        if self.is_old(pages.as_slice())? {
-            return reply;
-        }
-        say(self.alloc, "the old table has changed")
-    }
-
-    /// Whether the store of the old table has these pages.
-    pub fn is_old(&mut self, pages: &[Page]) -> Result<bool, Missed> {
+    // Upgrades the old table, over a new store that fails at its n-th call.
+    fn upgrade(&mut self, n: u64) -> Reply {
         match &mut self.old {
-            Some(store) => has_pages(store, pages),
-            None => Ok(false),
+            Some(old) => {
+                let new = FaultyStore::new(MemStore::new(self.alloc), n);
+                let made = Tree::upgrade(self.alloc, &mut old.store, new);
+                self.take(made)
+            }
+            None => say(self.alloc, UNKNOWN),
         }
     }
+}
 
-    /// Whether the store that the tree left has these pages.
-    pub fn has(&mut self, pages: &[Page]) -> Result<bool, Missed> {
-        match &mut self.store {
-            Some(store) => has_pages(store, pages),
-            None => Ok(false),
-        }
-    }
-
-    /// Whether the store of the old table fails at its next call.
-    pub fn is_due(&mut self) -> bool {
-        match &mut self.old {
-            Some(store) => page_of(store, 0).is_err(),
-            None => false,
-        }
-    }
-
-    /// Whether the new store, which the tree left, fails at its next call, though that reads a page that there is.
-    pub fn is_new_due(&mut self) -> bool {
-        match &mut self.store {
-            Some(store) => store.read_page(0) == Err(ub_store::StoreFault::Device),
-            None => false,
-        }
-    }
-
-    /// How many pages the store has that the tree left.
-    pub fn count_pages(&mut self) -> Option<usize> {
-        match &mut self.store {
-            Some(store) => Some(store.pages() as usize),
+// The old table of this name, whose store fails at its k-th call.
+fn old_of(tables: &Tables, table: &str, k: u64) -> Option<Old> {
+    match (tables.pages(table), tables.pages(table)) {
+        (Some(stored), Some(pages)) => match store_of(stored, k) {
+            Some(store) => Some(Old { store, pages }),
             None => None,
-        }
-    }
-}
-
-// Whether a store has these pages, and no other.
-fn has_pages(store: &mut Store, pages: &[Page]) -> Result<bool, Missed> {
-    let mut n = 0u32;
-    for page in pages {
-        if store.pages() <= n || page_of(store, n)? != *page {
-            return Ok(false);
-        }
-        n = n.saturating_add(1);
-    }
-    Ok(store.pages() as usize == pages.len())
-}
-
-// What is answered of a store that a tree left.
-fn look(alloc: Global, tables: &Tables<'_>, store: &mut Store, line: &str) -> Reply {
-    let (head, words) = cut(line);
-    let is_so = match head {
-        "size" => {
-            let count = store.pages();
-            return Ok(format!(in alloc; "{count}")?);
-        }
-        "same" => has_pages(store, tables.by_words(words)?.as_slice())?,
-        _ => has_bytes(store, words)?,
-    };
-    say(alloc, if is_so { "yes" } else { "no" })
-}
-
-// Whether a page of a store has these bytes, by the words for the page, the offset, and them.
-fn has_bytes(store: &mut Store, words: &str) -> Result<bool, Missed> {
-    let (place, items) = cut(words);
-    let (n, at) = place.split_once('@').unwrap_or((place, "0"));
-    let n = n.parse::<u32>().map_err(|_| Missed::Words)?;
-    let at = at.parse::<usize>().map_err(|_| Missed::Words)?;
-    let page = page_of(store, n)?;
-    let mut wanted = page;
-    match put_items(&mut wanted, at, items, 0) {
-        Some(_) => Ok(page == wanted),
-        None => Err(Missed::Words),
+        },
+        _ => None,
     }
 }

@@ -1,0 +1,92 @@
+// What is answered of a store that stands by itself.
+use crate::bytes::put_items;
+use crate::reply::{Reply, say};
+use crate::tables::Tables;
+use crate::words::cut;
+use std::alloc::Global;
+use ub_store::{Page, PageStore, StoreFault};
+
+/// What a line on a store is answered.
+pub fn look<S: PageStore>(alloc: Global, tables: &Tables, store: &mut S, line: &str) -> Reply {
+    let (head, words) = cut(line);
+    let is_so = match head {
+        "size" => return count_pages(alloc, store),
+        "same" => is_same(tables, store, words),
+        "bytes" => has_bytes(alloc, store, words),
+        _ => is_due(store),
+    };
+    say(alloc, if is_so { "yes" } else { "no" })
+}
+
+// How many pages a store has.
+fn count_pages<S: PageStore>(alloc: Global, store: &S) -> Reply {
+    let count = store.pages();
+    Ok(format!(in alloc; "{count}")?)
+}
+
+// Whether a store has the pages of a table.
+fn is_same<S: PageStore>(tables: &Tables, store: &mut S, words: &str) -> bool {
+    match tables.pages(words) {
+        Some(pages) => has_pages(store, pages.as_slice()),
+        None => false,
+    }
+}
+
+/// Whether a store has these pages, and no other.
+pub fn has_pages<S: PageStore>(store: &mut S, pages: &[Page]) -> bool {
+    let mut n = 0u32;
+    let mut is_so = store.pages() as usize == pages.len();
+    for page in pages {
+        is_so &= has_page(store, n, page);
+        n = n.saturating_add(1);
+    }
+    is_so
+}
+
+// Whether the page of this number is this one.
+fn has_page<S: PageStore>(store: &mut S, n: u32, wanted: &Page) -> bool {
+    match store.read_page(n) {
+        Ok(page) => page == *wanted,
+        Err(_) => false,
+    }
+}
+
+/// Whether a store fails at its next call.
+pub fn is_due<S: PageStore>(store: &mut S) -> bool {
+    store.read_page(0) == Err(StoreFault::Device)
+}
+
+// Whether a page of a store has these bytes, by the words for the page, the offset, and them.
+fn has_bytes<S: PageStore>(alloc: Global, store: &mut S, words: &str) -> bool {
+    let (place, items) = cut(words);
+    let (n, at) = place.split_once('@').unwrap_or(("", ""));
+    let Ok(page) = store.read_page(n.parse::<u32>().unwrap_or(u32::MAX)) else {
+        return false;
+    };
+    let mut wanted = page;
+    put_items(
+        alloc,
+        &mut wanted,
+        at.parse::<usize>().unwrap_or(4096),
+        items,
+        0,
+    ) && page == wanted
+}
+
+/// The pages of a store.
+pub fn pages_of<S: PageStore>(alloc: Global, store: &mut S) -> Option<Vec<Page>> {
+    let mut pages = Vec::new(alloc);
+    let mut is_well = true;
+    for n in 0..store.pages() {
+        is_well &= pages.push(page_of(store, n)).is_ok();
+    }
+    if is_well { Some(pages) } else { None }
+}
+
+// A page of a store. It is read twice where that fails, since a store fails once.
+fn page_of<S: PageStore>(store: &mut S, n: u32) -> Page {
+    match store.read_page(n) {
+        Ok(page) => page,
+        Err(_) => store.read_page(n).unwrap_or([0; 4096]),
+    }
+}
