@@ -502,6 +502,7 @@ module _ (last : ℕ) (old later : List (List ℕ)) (sheets : List Sheet) (stand
 
       some_page : 1 ≤ page
       some_page = (subst (λ (xs : List Entry). AllByRecursion (IsEntry last) xs) list named.fits.is.is.entries).0.some_page
+
 root_less : (last : ℕ) (pages : List (List ℕ)) (k : Key) (level root : ℕ) (e : Entry) (n : Option Key) → 1 ≤ level → LeadsTo last pages k level (top root) None e n → root < length pages
 root_less last pages k zero root e n some leads = absurd (omega arith)
 root_less last pages k (suc level) root e n some leads = slice_get_within pages root (page_in pages root) leads.0.there

@@ -64,6 +64,7 @@ no_parts (y ∷ b) x a e = cc
 first_gone : (b : List Entry) (x : Entry) (a ns : List Entry) (first : Key) → first_or (b ++ (x ∷ a)) None ≡ Some first → (x.first ≡ first) ⊎ (first_or (b ++ ns) None ≡ Some first)
 first_gone [] x a ns first h = inl (let same : Some x.first ≡ Some first = h in cc)
 first_gone (y ∷ b) x a ns first h = inr h
+
 pub first_end : (xs : List Entry) (first : Key) (end : Option Key) → first_or xs None ≡ Some first → first_or xs end ≡ Some first
 first_end [] first end h = cc
 first_end (x ∷ xs) first end h = h

@@ -48,11 +48,13 @@ spread_outside level entry entries from to Same h n p q = (p, tt)
 spread_outside level entry entries from to Gone h n p q = tt
 spread_outside level entry entries from to (One other) h n p q = (p, tt)
 spread_outside level entry entries from to (Two left right) h n p q =
-    let same = ap (λ (s : Spelled). s.next) h.4 in
-    ((λ e. elim q [
-      | inl less ↦ omega arith
-      | inr more ↦ omega arith
-    ]), (p, tt))
+    let same = ap (λ (s : Spelled). s.next) h.4 in (
+      (λ e. elim q [
+        | inl less ↦ omega arith
+        | inr more ↦ omega arith
+      ]),
+      (p, tt),
+    )
 
 -- each number is spelled once
 pub spread_once : (level : ℕ) (entry : Entry) (entries : List Entry) (next : ℕ) (told : Told) → entry.page < next → AreOnce (new_sheets level entry entries next told)
