@@ -55,13 +55,12 @@ impl<A: Answering> Bench<A> {
         self.told(lines, words).as_str() == wanted
     }
 
-    /// What was told; or what these lines are answered then, where that isn't what is wanted.
+    /// What was told; and where these lines aren't answered then as is wanted, that with what they are answered, which no line says.
     pub fn told_if(&mut self, told: String, lines: &str, words: &str, wanted: &str) -> String {
         let after = self.told(lines, words);
         if after.as_str() == wanted {
-            told
-        } else {
-            after
+            return told;
         }
+        self.text(format!(in self.alloc; "{told}, and then {after}"))
     }
 }
