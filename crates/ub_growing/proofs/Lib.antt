@@ -1,6 +1,9 @@
+pub mod CutFacts
+pub mod GrowFacts
 pub mod Laws
 pub mod LineFacts
 pub mod ManyFacts
 pub mod NumberFacts
+pub mod OrderFacts
 pub mod PartFacts
 pub mod SortFacts

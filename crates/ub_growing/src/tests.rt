@@ -1,0 +1,155 @@
+// Regions worked out by hand, with two rows on a page: three rows split into the first two by their keys and the last one.
+ghost use Rattle.std.specs.Prelude.{◌≤◌, length};
+
+use crate::{Grown, grow};
+use std::alloc::{AllocError, Global};
+use std::test::Fail;
+use ub_table::{Key, Row};
+use ub_zaddr::Shape;
+
+// A region: the address and the number of its first key, the number of the row that made it, and those of its rows.
+type Worked = (u128, u32, u32, &'static [u32]);
+
+// Five rows of two dimensions, at the addresses 3, 13, 10, 4 and 13. The third splits the first region at 10 and 13, the
+// fourth at 4 and 10, and the last one goes to the region that begins with 13.
+const FIVE: &[[u32; 2]] = &[[1, 1], [2, 3], [3, 0], [0, 2], [2, 3]];
+
+const OF_FIVE: &[Worked] = &[(0, 0, 0, &[1, 4]), (10, 0, 4, &[3]), (13, 0, 3, &[2, 5])];
+
+// Ten rows that ascend: each third row is the only one of a region, which the next one fills.
+const UP: &[[u32; 2]] = &[
+    [1, 0],
+    [2, 0],
+    [3, 0],
+    [4, 0],
+    [5, 0],
+    [6, 0],
+    [7, 0],
+    [8, 0],
+    [9, 0],
+    [10, 0],
+];
+
+const OF_UP: &[Worked] = &[
+    (0, 0, 0, &[1, 2]),
+    (3, 0, 3, &[3, 4]),
+    (5, 0, 5, &[5, 6]),
+    (7, 0, 7, &[7, 8]),
+    (9, 0, 9, &[9, 10]),
+];
+
+// Ten rows that descend: from the third on each leaves the greatest of the first region alone.
+const DOWN: &[[u32; 2]] = &[
+    [10, 0],
+    [9, 0],
+    [8, 0],
+    [7, 0],
+    [6, 0],
+    [5, 0],
+    [4, 0],
+    [3, 0],
+    [2, 0],
+    [1, 0],
+];
+
+const OF_DOWN: &[Worked] = &[
+    (0, 0, 0, &[10, 9]),
+    (3, 0, 10, &[8]),
+    (4, 0, 9, &[7]),
+    (5, 0, 8, &[6]),
+    (6, 0, 7, &[5]),
+    (7, 0, 6, &[4]),
+    (8, 0, 5, &[3]),
+    (9, 0, 4, &[2]),
+    (10, 0, 3, &[1]),
+];
+
+// Nine rows at one address, which their numbers part.
+const ALIKE: &[[u32; 2]] = &[
+    [7, 0],
+    [7, 0],
+    [7, 0],
+    [7, 0],
+    [7, 0],
+    [7, 0],
+    [7, 0],
+    [7, 0],
+    [7, 0],
+];
+
+const OF_ALIKE: &[Worked] = &[
+    (0, 0, 0, &[1, 2]),
+    (7, 3, 3, &[3, 4]),
+    (7, 5, 5, &[5, 6]),
+    (7, 7, 7, &[7, 8]),
+    (7, 9, 9, &[9]),
+];
+
+// The regions of rows at these points, which are numbered from 1 on.
+fn grow_points(alloc: Global, shape: Shape, points: &[[u32; 2]]) -> Result<Grown, AllocError>
+    requires { length points.now ≤ 100 }
+{
+    let mut rows = Vec::new(alloc);
+    for i in 0..points.len() {
+        let [x, y] = points[i];
+        rows.push(Row {
+            number: i as u32 + 1,
+            dims: [x, y, 0, 0],
+            measures: [0; 4],
+        })?;
+    }
+    grow(alloc, shape, 2, rows)
+}
+
+// Whether rows have just these numbers.
+fn have_numbers(rows: &[Row], numbers: &[u32]) -> bool {
+    if rows.len() != numbers.len() {
+        return false;
+    }
+    for i in 0..rows.len() {
+        if rows[i].number != numbers[i] {
+            return false;
+        }
+    }
+    true
+}
+
+// Whether the regions are those that were worked out.
+fn are(grown: &Grown, regions: &[Worked]) -> bool {
+    if grown.len() != regions.len() {
+        return false;
+    }
+    for i in 0..regions.len() {
+        let (z, number, made_by, rows) = regions[i];
+        if grown.first(i) != (Key { z, number })
+            || grown.made_by(i) != made_by
+            || !have_numbers(grown.rows(i), rows)
+        {
+            return false;
+        }
+    }
+    true
+}
+
+#[test]
+fn five_rows_are_three_regions(rt: HostRuntime) -> Result<(), Fail> {
+    let plane = Shape::new(2).expect(&rt, "two dimensions");
+    assert!(rt; are(&grow_points(rt.alloc(), plane, FIVE)?, OF_FIVE));
+    Ok(())
+}
+
+#[test]
+fn rows_on_a_line(rt: HostRuntime) -> Result<(), Fail> {
+    let line = Shape::new(1).expect(&rt, "a line");
+    assert!(rt; are(&grow_points(rt.alloc(), line, UP)?, OF_UP));
+    assert!(rt; are(&grow_points(rt.alloc(), line, DOWN)?, OF_DOWN));
+    assert!(rt; are(&grow_points(rt.alloc(), line, ALIKE)?, OF_ALIKE));
+    Ok(())
+}
+
+#[test]
+fn no_rows_are_one_region(rt: HostRuntime) -> Result<(), Fail> {
+    let line = Shape::new(1).expect(&rt, "a line");
+    assert!(rt; are(&grow_points(rt.alloc(), line, &[])?, &[(0, 0, 0, &[])]));
+    Ok(())
+}
