@@ -3,23 +3,30 @@
 
     tests/edits.py LOG [--write]
 
-LOG is what `rt ci` or `rt must-fail` printed. An edit's first line is `# refused by FUNCTION, `CLAUSE`: WHY`, where the clause is one of the
-function's, or a field of its record, or what a call in it requires; WHY can be left out. The prover names the function by the folder of its
-proof or a line of its code, and the clause by the goal that stayed open; of a record it may name no field, and then any is right. Each line that says otherwise is printed, each edit that was not refused, and each that was
-refused in a lemma and not in a goal; the last line counts. With --write an edit with no such line gets one. Edits that LOG doesn't have are
-not looked at."""
+LOG is what `rt ci` or `rt must-fail` printed. An edit's first line is "# Refused by `FUNCTION`'s `CLAUSE`: WHY", where the clause is one of the
+function's, or a field of its record; a function with one clause that has no name is named alone. The prover names the function by the folder of
+its proof or a line of its code, and the clause by the goal that stayed open. Where that is a loop's invariant, what a call requires, or a record of
+which no field is named, the line names the clause that a person would: then any is right that the function has. Each line that says otherwise is
+printed, each edit that was not refused, and each that was refused in a lemma and not in a goal; the last line counts. With --write an edit with no
+such line gets one. Edits that LOG doesn't have are not looked at."""
 import pathlib
 import re
 import sys
 
 TOP = pathlib.Path(__file__).resolve().parent.parent
+sys.path.insert(0, str(TOP / "docs"))
+
+from promises import place_of
+
 VERDICT = re.compile(r"must-fail (\w+)/(\w+)\.edit: (.*)")
 ANSWER = re.compile(r"\./proofs/((?:[^/: ]+/)+)(?:Answers|Invariants)\.antt:(\d+)")
 UNPROVED = re.compile(r"src/([\w/]+\.rt):(\d+):\d+: it is not proved .*?\(`([\w+-]+)`\)")
 FUNCTION = re.compile(r"\s*(?:pub(?:\([a-z]+\))? )?fn (\w+)")
-HEAD = re.compile(r"# refused by ([\w:]*\w)(?:, `([\w]+)`)?")
+HEAD = re.compile(r"# Refused by `([\w:]+)`(?:'s `(\w+)`)?: ")
 DEFINED = re.compile(r"(?:pub |abbrev )*([\w+-]+) : (goal\.)?")
 FIELD = re.compile(r"\s+(\w+) = ")
+# What is no clause's name.
+GOALS = ("returns", "invariant", "requires")
 
 
 def answered(crate, path, number):
@@ -49,11 +56,11 @@ def user_of(lines, lemma):
 
 def clause_of(goal, field):
     """The clause that a goal is of: its last word behind `clause-`, or the field of the record, or what kind of goal it is."""
+    if "-requires" in goal:
+        return "requires"
     if "-clause-" in goal:
         return goal.rsplit("-clause-", 1)[1].split("-")[0]
-    if goal == "returns" or goal.startswith("returns-"):
-        return field or "returns"
-    return "requires" if "-requires" in goal else "invariant"
+    return (field or "returns") if goal == "returns" or goal.startswith("returns-") else "invariant"
 
 
 def refused_by(crate, text):
@@ -72,6 +79,13 @@ def function_at(crate, path, number):
     return next((found[1] for found in map(FUNCTION.match, reversed(lines[:number])) if found), "")
 
 
+def is_clause(crate, said, clause):
+    """Whether a first line names the clause that the prover does, or one of the function's where the prover names none."""
+    if clause in GOALS or not said[2]:
+        return bool(place_of(f"{crate}::{said[1]}", said[2]))
+    return said[2] == clause
+
+
 def main():
     words = [word for word in sys.argv[1:] if word != "--write"]
     if len(words) != 1:
@@ -83,9 +97,9 @@ def main():
         lines = edit.read_text()
         said = HEAD.match(lines)
         if by and not said and "--write" in sys.argv:
-            edit.write_text(f"# refused by {by[0]}, `{by[1]}`: {name.replace('_', ' ')}\n{lines}")
+            edit.write_text(f"# Refused by `{by[0]}`'s `{by[1]}`: {name.replace('_', ' ')}\n{lines}")
             said = HEAD.match(edit.read_text())
-        is_right = bool(by and said) and said[1].split("::")[-1] == by[0] and (said[2] in (None, by[1]) or by[1] == "returns")
+        is_right = bool(by and said) and said[1].split("::")[-1] == by[0] and is_clause(crate, said, by[1])
         right, wrong = right + is_right, wrong + (not is_right)
         if not is_right:
             print(f"{crate}/{name}: says {said and said[0]!r}; the prover: {by or text[:200]}")
