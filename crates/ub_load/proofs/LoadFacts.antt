@@ -14,6 +14,7 @@ use Rattle.ub_tree.specs.Effects.{IsIndexFull}
 use Rattle.ub_tree.specs.Grown.{IsOnlyGrown}
 use Rattle.ub_tree.specs.Placed.{Placed}
 use Rattle.ub_tree.specs.View.{TreeView, IsSound, regions}
+use Rattle.ub_load.specs.Calls.{Loads}
 use Rattle.ub_load.specs.Field.{trimmed}
 use Rattle.ub_load.specs.LoadedTable.{IsSchemaOf, columns_of, records_of, row_of, rows_of}
 use Rattle.ub_load.specs.LoadedTree.{IsLoadedTree}
@@ -218,6 +219,11 @@ module _ (from b : Reader Source) (header : List (List ℕ)) (s : Took from b he
   told_header name (Err fault) bad = λ text store start.
       let after = at_next start b header s in
       inr (told_first _ _ _ fault (header_is_of_text axes.dims name (map trimmed header) fault bad) (refused_header after axes name fault bad))
+
+-- a text that is refused
+pub not_loaded : (text : List ℕ) (axes : Axes) (page_rows : ℕ) (name : List ℕ) (store : StoreFacts) (result : Result TreeView LoadFault) (e f : LoadFault) → result ≡ Err e → e ≡ f
+    → IsLoadFault axes name text store f → Loads text axes page_rows name store result
+not_loaded text axes page_rows name store result e f is same told = rw (is, same) (record { loaded = λ honest. tt; working = tt; refused = told })
 
 -- at the end nothing is wrong, and all rows are in the tree
 pub all_loaded : {text : List ℕ} {axes : Axes} {page_rows : ℕ} {name : List ℕ} {store : StoreFacts} {number : ℕ} {t : TreeView} {a : Reader Source}

@@ -5,10 +5,11 @@ use Rattle.std.proofs.lemmas.List.{map-append}
 use Rattle.std.proofs.lemmas.List.Elements.{filter_map-append}
 use Rattle.std.proofs.lemmas.Grind.{flat_map-append}
 use Rattle.std.proofs.lemmas.Bool.{eq-eqb, ne_eqb, le-leb, lt-leb}
-use Rattle.std.specs.Prelude.{◌==◌, nat_le, if◌then◌else◌}
+use Rattle.std.specs.Prelude.{◌==◌, nat_le, Result, Err, if◌then◌else◌}
 use Rattle.ub_load.specs.Refusals.{content_refusal, content_refusals, fields_refusal, first_of, record_refusals}
 use Rattle.ub_load.specs.declared.fault.LoadFault.TheVariants.{Csv, Tree}
 use Rattle.ub_load.specs.declared.fault.LoadFault.{LoadFault}
+use Rattle.ub_load.specs.inner.Calls.{Reads}
 use Rattle.ub_table.specs.declared.axes.Axes.{Axes}
 use Rattle.ub_tree.specs.declared.fault.TreeFault.TheVariants as tree
 
@@ -122,3 +123,7 @@ unfolding record_refusals
 record_is_fine axes width r le h =
     let u : nat_le r.0 16777215 ≡ true = le-leb r.0 16777215 le in
     rw u (first-skip (content_refusals axes width r) (None ∷ []) h)
+
+-- what is refused is told as the first refusal
+pub reads_refused : {A : Type 0} {Is : A → Type 0} {refusal : Option LoadFault} {result : Result A LoadFault} {e f : LoadFault} → result ≡ Err e → e ≡ f → refusal ≡ Some f → Reads Is refusal result
+reads_refused is same told = rw (is, same) (record { value = tt; accepted = tt; refused = told })

@@ -4,4 +4,5 @@ pub mod Refusals
 pub mod LoadedTable
 pub mod LoadedTree
 pub mod Loading
+pub mod Calls
 pub mod Appending

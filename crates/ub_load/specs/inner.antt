@@ -1,3 +1,4 @@
 pub mod Records
+pub mod Calls
 pub mod Progress
 pub mod Arranged

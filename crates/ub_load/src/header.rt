@@ -6,6 +6,7 @@ ghost use Rattle.csv.specs.Records.{fields_of};
 ghost use Rattle.ub_load.specs.Field.{trimmed};
 ghost use Rattle.ub_load.specs.LoadedTable.{columns_of, IsSchemaOf};
 ghost use Rattle.ub_load.specs.Refusals.{header_refusal, is_new_name, names_refusal};
+ghost use Rattle.ub_load.specs.inner.Calls.{Reads};
 ghost use Rattle.ub_table.specs.Schema.{AreTableNumbers, IsMask};
 
 use crate::fault::LoadFault;
@@ -24,12 +25,9 @@ pub fn read_schema(
 ) -> Result<Schema, LoadFault>
     requires numbers { AreTableNumbers axes.dims page_rows }
     requires mask { IsMask axes.dims axes.signed }
-    ensures schema { IfOk result (IsSchemaOf (fields_of header.now) axes page_rows name.now) }
+    ensures reads { Reads (IsSchemaOf (fields_of header.now) axes page_rows name.now)
+        (header_refusal axes.dims name.now (columns_of (fields_of header.now))) result }
     ensures few_columns { OnOk result (length (fields_of header.now) ≤ axes.dims + 4) }
-    ensures accepted { OnOk result
-        (header_refusal axes.dims name.now (columns_of (fields_of header.now)) ≡ None) }
-    ensures refused { IfErr result
-        (λ f. header_refusal axes.dims name.now (columns_of (fields_of header.now)) ≡ Some f) }
 {
     let width = header.len();
     let dims = axes.dims as usize;
@@ -47,11 +45,9 @@ pub fn read_schema(
 // The names of the columns in the first places, and the filler in the others; or the first name's refusal.
 fn read_names(header: &ByteRecord, filler: Name) -> Result<[Name; 8], LoadFault>
     requires { length (fields_of header.now) ≤ 8 }
-    ensures names { IfOk result
-        (λ all. take (length (fields_of header.now)) all ≡ columns_of (fields_of header.now)) }
-    ensures accepted { OnOk result (names_refusal (columns_of (fields_of header.now)) ≡ None) }
-    ensures refused { IfErr result
-        (λ fault. names_refusal (columns_of (fields_of header.now)) ≡ Some fault) }
+    ensures { Reads
+        (λ all. take (length (fields_of header.now)) all ≡ columns_of (fields_of header.now))
+        (names_refusal (columns_of (fields_of header.now))) result }
 {
     let mut names = [filler; 8];
     for place in 0..header.len() {

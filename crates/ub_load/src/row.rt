@@ -1,10 +1,10 @@
 //! A record of a CSV text as a row of the table.
 
-ghost use Rattle.std.specs.Prelude.{◌≡◌, ◌+◌, ◌≤◌, ◌<◌, length, IfOk, IfErr, slice_get};
-ghost use Rattle.std.specs.Result.{OnOk};
+ghost use Rattle.std.specs.Prelude.{◌≡◌, ◌+◌, ◌≤◌, ◌<◌, length, slice_get};
 ghost use Rattle.csv.specs.Records.{fields_of};
 ghost use Rattle.ub_load.specs.LoadedTable.{row_of};
 ghost use Rattle.ub_load.specs.Refusals.{content_refusal, fields_refusal};
+ghost use Rattle.ub_load.specs.inner.Calls.{Reads};
 
 use crate::fault::LoadFault;
 use crate::field::read_field;
@@ -21,9 +21,8 @@ pub fn read_row(
 ) -> Result<Row, LoadFault>
     requires few_dims { axes.dims ≤ 4 }
     requires few_columns { width ≤ axes.dims + 4 }
-    ensures row { IfOk result (λ row. row ≡ row_of axes (number, fields_of fields.now)) }
-    ensures accepted { OnOk result (content_refusal axes width (number, fields_of fields.now) ≡ None) }
-    ensures refused { IfErr result (λ f. content_refusal axes width (number, fields_of fields.now) ≡ Some f) }
+    ensures { Reads (λ row. row ≡ row_of axes (number, fields_of fields.now))
+        (content_refusal axes width (number, fields_of fields.now)) result }
 {
     if fields.len() != width {
         return Err(LoadFault::Csv);
@@ -35,9 +34,8 @@ pub fn read_row(
 fn read_values(fields: &ByteRecord, axes: Axes, number: u32) -> Result<Row, LoadFault>
     requires few_dims { axes.dims ≤ 4 }
     requires few_columns { length (fields_of fields.now) ≤ axes.dims + 4 }
-    ensures row { IfOk result (λ row. row ≡ row_of axes (number, fields_of fields.now)) }
-    ensures accepted { OnOk result (fields_refusal axes number (fields_of fields.now) ≡ None) }
-    ensures refused { IfErr result (λ fault. fields_refusal axes number (fields_of fields.now) ≡ Some fault) }
+    ensures { Reads (λ row. row ≡ row_of axes (number, fields_of fields.now))
+        (fields_refusal axes number (fields_of fields.now)) result }
 {
     let mut row = Row {
         number,

@@ -9,7 +9,7 @@ ghost use Rattle.ub_load.specs.Appending.{AreRowsOf, IsRowsFault, heading_refusa
 ghost use Rattle.ub_load.specs.Appending as spec;
 ghost use Rattle.ub_load.specs.LoadedTable.{columns_of, row_of};
 ghost use Rattle.ub_load.specs.Refusals.{first_of};
-ghost use Rattle.ub_load.specs.inner.Arranged.{HasReadFirst, HasRowsFrom, IsOfColumns, IsRefusedFrom};
+ghost use Rattle.ub_load.specs.inner.Arranged.{ArePlaces, HasReadFirst, HasRowsFrom, IsOfColumns, IsRefusedFrom};
 ghost use Rattle.ub_table.specs.Region.{measures_of};
 ghost use Rattle.ub_table.specs.declared.row.TheConstants.{MAX_ROW_NUMBER};
 ghost use Rattle.ub_tree.specs.Change.{Suits};
@@ -197,11 +197,7 @@ fn read_placed(
     axes: Axes,
     number: u32,
 ) -> Result<Row, LoadFault>
-    requires few_dims { axes.dims ≤ 4 }
-    requires covers_dims { axes.dims ≤ length places.now }
-    requires few_columns { length places.now ≤ axes.dims + 4 }
-    requires width { width ≤ 8 }
-    requires inside { All (λ place. place < width) places.now }
+    requires { ArePlaces axes width places.now }
     ensures row { IfOk result
         (λ row. row ≡ row_of axes (number, spec.arranged places.now (fields_of fields.now))) }
     ensures suit { IfOk result (Suits axes.dims (length places.now - axes.dims)) }

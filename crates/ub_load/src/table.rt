@@ -3,19 +3,18 @@
 ghost use Rattle.std.specs.Prelude.{◌≡◌, ◌≤◌, ◌+◌, ℕ, false, List, [], IfOk, IfErr};
 ghost use Rattle.std.specs.Result.{OnOk};
 ghost use Rattle.csv.specs.Records.{fields_of};
+ghost use Rattle.ub_load.specs.Calls.{Loads};
 ghost use Rattle.ub_load.specs.LoadedTable.{axes_with};
-ghost use Rattle.ub_load.specs.LoadedTree.{IsLoadedTree};
-ghost use Rattle.ub_load.specs.Loading.{HasCounted, HasGrown, HasTaken, IsAtWork, IsLoadFault, IsNewFault, IsTakeFault};
+ghost use Rattle.ub_load.specs.Loading.{HasTaken, IsNewFault, IsTakeFault};
+ghost use Rattle.ub_load.specs.inner.Calls.{PutsNext};
 ghost use Rattle.ub_load.specs.inner.Progress.{HasLoadedRecords, HasReadHeader, IsHeaderFault, IsRecordsFault};
 ghost use Rattle.ub_load.specs.inner.Records.{IsAt};
-ghost use Rattle.ub_store.specs.Facts.{page_count, IsHonest};
+ghost use Rattle.ub_store.specs.Facts.{page_count};
 ghost use Rattle.ub_table.specs.Region.{measures_of};
 ghost use Rattle.ub_table.specs.Schema.{AreTableNumbers, IsMask};
 ghost use Rattle.ub_table.specs.declared.row.TheConstants.{MAX_ROW_NUMBER};
 ghost use Rattle.ub_tree.specs.Calls.{IsCreated};
-ghost use Rattle.ub_tree.specs.Change.{IsInserted, Suits};
-ghost use Rattle.ub_tree.specs.Effects.{Changes};
-ghost use Rattle.ub_tree.specs.View.{IsSound};
+ghost use Rattle.ub_tree.specs.Change.{Suits};
 
 use crate::fault::LoadFault;
 use crate::header::read_schema;
@@ -51,11 +50,7 @@ pub fn load<S: PageStore>(
     requires numbers { AreTableNumbers dims page_rows }
     requires mask { IsMask dims signed }
     requires empty { page_count (S.facts store) ≡ 0 }
-    ensures loaded { IsHonest (S.facts store)
-        → IfOk result (IsLoadedTree text.now (axes_with dims signed) page_rows name.now) }
-    ensures working { IfOk result (IsAtWork (S.facts store)) }
-    ensures refused { IfErr result
-        (IsLoadFault (axes_with dims signed) name.now text.now (S.facts store)) }
+    ensures { Loads text.now (axes_with dims signed) page_rows name.now (S.facts store) result }
 {
     let mut reader = reader_of(alloc, text);
     // Each record is read into the place of the one before.
@@ -84,12 +79,8 @@ fn load_from<S: PageStore>(
     requires numbers { AreTableNumbers axes.dims page_rows }
     requires mask { IsMask axes.dims axes.signed }
     requires empty { page_count (S.facts store) ≡ 0 }
-    ensures loaded { (text : List ℕ) → IsAt text [] reader.old → IsHonest (S.facts store)
-        → IfOk result (IsLoadedTree text axes page_rows name.now) }
-    ensures working { (text : List ℕ) → IsAt text [] reader.old
-        → IfOk result (IsAtWork (S.facts store)) }
-    ensures refused { (text : List ℕ) → IsAt text [] reader.old
-        → IfErr result (IsLoadFault axes name.now text (S.facts store)) }
+    ensures { (text : List ℕ) → IsAt text [] reader.old
+        → Loads text axes page_rows name.now (S.facts store) result }
 {
     let schema = read_header(reader, fields, axes, page_rows, name)?;
     let mut tree = new_tree(alloc, store, &schema)?;
@@ -170,11 +161,7 @@ fn load_record<S: PageStore>(
 fn put_row<S: PageStore>(tree: &mut Tree<S>, row: &Row) -> Result<(), TreeFault>
     requires working { tree.old.is_failed ≡ false }
     requires values { Suits tree.old.schema.dims (measures_of tree.old.schema) row.now }
-    ensures inserted { IsSound tree.old → tree.old.next ≡ row.now.number
-        → OnOk result (IsInserted row.now tree.old tree.new) }
-    ensures counted { OnOk result (HasCounted tree.old tree.new) }
-    ensures grown { OnOk result (HasGrown tree.old tree.new) }
-    ensures effect { Changes tree.old tree.new result }
+    ensures { PutsNext row.now tree.old tree.new result }
 {
     tree.insert_row(row)?;
     Ok(())

@@ -1,10 +1,11 @@
 -- What the parts of the reader of rows hand each other.
-use Rattle.std.specs.Prelude.{◌≤◌, ℕ, List, [], ◌∷◌}
+use Rattle.std.specs.Prelude.{◌≤◌, ◌<◌, ◌+◌, ℕ, List, [], ◌∷◌, All, length}
 use Rattle.csv.specs.declared.reader.Reader.{Reader}
 use Rattle.ub_load.specs.Appending.{AreRowsOf, IsRowsFault}
 use Rattle.ub_load.specs.declared.fault.LoadFault.{LoadFault}
 use Rattle.ub_load.specs.declared.fault.LoadFault.TheVariants.{BadNumber, OutOfRange}
 use Rattle.ub_load.specs.inner.Records.{IsAt, Source}
+use Rattle.ub_table.specs.declared.axes.Axes.{Axes}
 use Rattle.ub_table.specs.declared.row.Row.{Row}
 use Rattle.ub_table.specs.declared.schema.Schema.{Schema}
 
@@ -13,6 +14,14 @@ abbrev pub IsOfColumns : ℕ → LoadFault → Type 0
 IsOfColumns width (BadNumber row column) = (1 ≤ column) × (column ≤ width)
 IsOfColumns width (OutOfRange row column) = (1 ≤ column) × (column ≤ width)
 IsOfColumns width _ = Unit {0}
+
+-- the columns of a table with these dimensions stand at these places of a header of so many fields
+pub record ArePlaces (axes : Axes) (fields : ℕ) (places : List ℕ) : Type 0 where
+  pub few_dims : axes.dims ≤ 4
+  pub covers_dims : axes.dims ≤ length places
+  pub few_columns : length places ≤ axes.dims + 4
+  pub width : fields ≤ 8
+  pub inside : All (λ place. place < fields) places
 
 -- a reader at the start of any text gave this record, its first
 abbrev pub HasReadFirst : Reader Source → List (List ℕ) → Reader Source → Type 0

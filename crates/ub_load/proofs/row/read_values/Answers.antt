@@ -6,17 +6,17 @@ use Rattle.std.proofs.lemmas.Result.{err_from_is_err_and}
 use Rattle.csv.specs.Records.{fields_of}
 use Rattle.ub_load.specs.Refusals.{field_refusal}
 use Rattle.ub_load.proofs.RowFacts.{row_of_none, row_with_coordinate, row_with_measure, some_coordinate, told_coordinate}
-use Rattle.ub_load.proofs.RefusalFacts.{each-more, each-refused}
+use Rattle.ub_load.proofs.RefusalFacts.{each-more, each-refused, reads_refused}
 use Rattle.ub_load.proofs.row.read_values.Goals as goal
 use Rattle.ub_load.proofs.row.read_values.Goals.{then-place-axes, else-place-axes}
 
 pub loop-place-init : goal.loop-place-init
 loop-place-init c = record { row = sym (row_of_none c.args.axes c.args.number); accepted = refl }
 
-pub returns-in_err-value-clause-refused : goal.returns-in_err-value-clause-refused
-returns-in_err-value-clause-refused c =
+pub returns-in_err-value : goal.returns-in_err-value
+returns-in_err-value c =
     let p = err_from_is_err_and c.from_residual.result c.from_residual.ensures.1 in
-    rw (p.1, p.2)
+    reads_refused p.1 p.2
     (each-refused (field_refusal c.args.axes c.args.number) (fields_of c.args.fields.now) c.loop-place.place c.field_at.result.now c.in_err-value.field-0.0 c.field_at.ensures
     c.loop-place.invariant.accepted c.in_err-value.ensures)
 

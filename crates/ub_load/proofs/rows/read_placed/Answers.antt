@@ -17,7 +17,7 @@ told_at-requires-clause-columns c =
 
 pub returns-in-Ok-clause-suit : goal.returns-in-Ok-clause-suit
 returns-in-Ok-clause-suit c =
-    rw c.in-Ok.ensures.row
+    rw c.in-Ok.ensures.value
     (accepted_values c.args.axes (length c.args.places.now) c.args.number (fields_of c.arrange.new.ordered) c.requires.few_dims c.requires.covers_dims c.requires.few_columns c.in-Ok.ensures.accepted)
 
 pub returns-in-Ok-clause-accepted : goal.returns-in-Ok-clause-accepted

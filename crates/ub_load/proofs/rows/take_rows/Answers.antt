@@ -1,33 +1,38 @@
-use Rattle.std.proofs.Common.{◌∙◌, sym, arith}
+use Rattle.std.proofs.Common.{◌≡◌, ◌∙◌, ℕ, List, ap, length, sym, arith}
 use Rattle.std.proofs.lemmas.List.{length-map}
 use Rattle.std.proofs.lemmas.Result.{err_from_is_err_and}
 use Rattle.csv.specs.Records.{fields_of}
+use Rattle.ub_load.specs.Appending.{place_in}
 use Rattle.ub_load.specs.Field.{trimmed}
 use Rattle.ub_load.specs.LoadedTable.{columns_of}
 use Rattle.ub_load.proofs.NamedFacts.{heading_few, places_inside}
 use Rattle.ub_load.proofs.ReadingFacts.{read_none, read_one}
 use Rattle.ub_load.proofs.RowsFacts.{all_read, reading_full, reading_none, reading_step, reading_unfit}
 use Rattle.ub_load.proofs.rows.take_rows.Goals as goal
+use Rattle.ub_table.specs.declared.axes.Axes.{Axes}
 use Rattle.ub_table.specs.declared.schema.Schema.{Schema}
 
 pub loop-rows-init : goal.loop-rows-init
 loop-rows-init c = reading_none c.args.reader.now (fields_of c.args.fields.now) c.args.schema.now c.args.next _ c.new-rows.ensures.items
 
-pub read_placed-requires-clause-width : goal.read_placed-requires-clause-width
-read_placed-requires-clause-width c =
+pub read_placed-requires : goal.read_placed-requires
+read_placed-requires c =
     let s : Schema = c.args.schema.now in
     let header = fields_of c.args.fields.now in
     let few = heading_few s.columns (columns_of header) c.requires.fine in
     let width = c.len-width.ensures ∙ sym (length-map header trimmed) in
-    let dims = s.counts.few_dims in
+    let few_dims = s.counts.few_dims in
+    let covers = s.counts.covers_dims in
     let measures = s.counts.few_measures in
-    omega arith
-
-pub read_placed-requires-clause-inside : goal.read_placed-requires-clause-inside
-read_placed-requires-clause-inside c =
-    let s : Schema = c.args.schema.now in
-    let header = fields_of c.args.fields.now in
-    places_inside s.columns (columns_of header) c.args.places.now c.len-width.result c.requires.places (c.len-width.ensures ∙ sym (length-map header trimmed)) c.requires.fine
+    let dims : c.axes-axes.result.dims ≡ s.dims = ap (λ (a : Axes). a.dims) c.axes-axes.ensures in
+    let long : length c.args.places.now ≡ length s.columns = ap (λ (places : List ℕ). length places) c.requires.places ∙ length-map s.columns (place_in (columns_of header)) in
+    record {
+      few_dims = omega arith;
+      covers_dims = omega arith;
+      few_columns = omega arith;
+      width = omega arith;
+      inside = places_inside s.columns (columns_of header) c.args.places.now c.len-width.result c.requires.places width c.requires.fine;
+    }
 
 pub returns-in_err-row-clause-refused : goal.returns-in_err-row-clause-refused
 returns-in_err-row-clause-refused c =

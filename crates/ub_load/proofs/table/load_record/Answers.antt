@@ -43,7 +43,7 @@ put_row-requires-clause-values g c =
     let axes : c.axes-axes.result ≡ axes_of s = c.axes-axes.ensures ∙ ap axes_of c.schema.ensures in
     let width : length c.columns-width.result.now ≡ length s.columns = ap length (c.columns-width.ensures.columns ∙ ap (λ (t : Schema). t.columns) c.schema-2.ensures) in
     let good : content_refusal (axes_of s) (length s.columns) (c.args.number, fields_of c.args.fields.now) ≡ None = rw (axes, width) at c.in_ok-row.ensures.accepted in
-    let is : c.in_ok-row.row ≡ row_of (axes_of s) (c.args.number, fields_of c.args.fields.now) = c.in_ok-row.ensures.row ∙ ap (λ (a : Axes). row_of a (c.args.number, fields_of c.args.fields.now)) axes in
+    let is : c.in_ok-row.row ≡ row_of (axes_of s) (c.args.number, fields_of c.args.fields.now) = c.in_ok-row.ensures.value ∙ ap (λ (a : Axes). row_of a (c.args.number, fields_of c.args.fields.now)) axes in
     rw is (accepted_values (axes_of s) (length s.columns) c.args.number (fields_of c.args.fields.now) s.counts.few_dims s.counts.covers_dims s.counts.few_measures good)
 
 pub returns-in_err-put_row-clause-refused : goal.returns-in_err-put_row-clause-refused
@@ -69,7 +69,7 @@ returns-clause-taken g c =
     let counted = c.in_ok-put_row.ensures.counted in
     let left : c.args.tree.now.next ≢ 16777216 = counted.0 in
     let number : c.args.number ≤ 16777215 = omega arith in
-    let row : c.in_ok-row.row ≡ row_of c.axes-axes.result (c.args.number, fields_of c.args.fields.now) = c.in_ok-row.ensures.row in
+    let row : c.in_ok-row.row ≡ row_of c.axes-axes.result (c.args.number, fields_of c.args.fields.now) = c.in_ok-row.ensures.value in
     let is : c.in_ok-row.row ≡ row_of (axes_of s) (c.args.number, fields_of c.args.fields.now) = row ∙ ap (λ (a : Axes). row_of a (c.args.number, fields_of c.args.fields.now)) axes in
     let made = accepted_row (axes_of s) (length s.columns) c.args.number (fields_of c.args.fields.now) s.counts.few_dims s.counts.covers_dims s.counts.few_measures c.requires.numbered.0 number good in
     let effect = c.in_ok-put_row.ensures.effect in

@@ -22,11 +22,11 @@ returns-clause-read c =
     let call = c.read_record in
     let s = read_one c.args.reader.now call.new.reader c.in_ok-read_record.field-0 (fields_of call.new.fields) c.in_ok-read_record.ensures.read c.if-not-branch.false in
     took_header c.args.reader.now call.new.reader (fields_of call.new.fields) s c.args.axes c.args.page_rows c.args.name.now
-    c.read_schema.result c.read_schema.ensures.schema c.read_schema.ensures.accepted
+    c.read_schema.result c.read_schema.ensures.reads.value c.read_schema.ensures.reads.accepted
 
 pub returns-clause-refused : goal.returns-clause-refused
 returns-clause-refused c =
     let call = c.read_record in
     let s = read_one c.args.reader.now call.new.reader c.in_ok-read_record.field-0 (fields_of call.new.fields) c.in_ok-read_record.ensures.read c.if-not-branch.false in
     told_header c.args.reader.now call.new.reader (fields_of call.new.fields) s c.args.axes c.args.name.now
-    c.read_schema.result c.read_schema.ensures.refused
+    c.read_schema.result c.read_schema.ensures.reads.refused
