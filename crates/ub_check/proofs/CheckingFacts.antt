@@ -1,8 +1,8 @@
 -- The steps of a check: numbers that are put into a set, and entries of a page that are walked through.
 use Rattle.std.proofs.lemmas.Grind.{common_steps}
-use Rattle.std.proofs.Common.{rules, ◌≡◌, ◌≤◌, ◌<◌, ◌+◌, ◌-◌, ◌++◌, inl, inr, ℕ, zero, suc, IsTrue, List, [], ◌∷◌, Option, Some, None, Result, Ok, Err, OnOk, length, take, drop, map, min, slice_get, slice_index_or, ◌^◌, ap, refl, sym, ◌∙◌, arith, subst}
+use Rattle.std.proofs.Common.{rules, ◌≡◌, ◌≤◌, ◌<◌, ◌+◌, ◌-◌, ◌++◌, inl, inr, ℕ, suc, IsTrue, List, [], ◌∷◌, Option, Some, None, Result, Ok, Err, OnOk, length, take, drop, map, min, slice_get, slice_index_or, ◌^◌, ap, refl, sym, ◌∙◌, arith, subst}
 use Rattle.std.proofs.lemmas.List.{append-nil, append_assoc, drop_all, length-append, map-append, take_all}
-use Rattle.std.proofs.Math.Seq.{drop-cons}
+use Rattle.std.proofs.Math.Seq.{drop-cons, take-suc}
 use Rattle.std.proofs.lemmas.Option.{get_or_from_slice_get, slice_get-get_or, slice_get_within}
 use Rattle.std.specs.Result.{IsErrAnd}
 use Rattle.ub_index.specs.Descending.{IsStepFault, Steps}
@@ -38,9 +38,7 @@ module _ {X : Type 0} where
   drop_at xs i x at = drop-cons xs i x (slice_get_within xs i x at) ∙ ap (λ (z : X). z ∷ drop (suc i) xs) (get_or_from_slice_get xs i x x at)
 
   pub take_at : (xs : List X) (i : ℕ) (x : X) → slice_get xs i ≡ Some x → take (suc i) xs ≡ take i xs ++ x ∷ []
-  take_at [] i x at = cc
-  take_at (y ∷ xs) zero x at = let same : y ≡ x = cc in ap (λ (z : X). z ∷ []) same
-  take_at (y ∷ xs) (suc i) x at = ap (λ (zs : List X). y ∷ zs) (take_at xs i x at)
+  take_at xs i x at = take-suc xs i x (slice_get_within xs i x at) ∙ ap (λ (z : X). take i xs ++ z ∷ []) (get_or_from_slice_get xs i x x at)
 
 -- an entry that is read at its index, with where the next one begins
 pub entry_there : (entries slice : List Entry) (i : ℕ) (e : Entry) (end next : Option Key) → i < length entries → e ≡ slice_index_or entries i e → slice ≡ entries

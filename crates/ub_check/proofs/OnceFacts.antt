@@ -56,9 +56,8 @@ module _ (last : ℕ) (small : last < 2 ^ 128) (page : List ℕ) (level : ℕ) w
 taken_once : (last : ℕ) → last < 2 ^ 128 → (pages : List (List ℕ)) (level : ℕ) (entry : Entry) (end : Option Key) (a b : Option PageFault)
     → IsNotTaken last pages level entry end a → IsNotTaken last pages level entry end b → a ≡ b
 taken_once last small pages level entry end None None h k = refl
-taken_once last small pages level entry end None (Some g) h k = search (rules, misfit, misfit_once, slice_get_within)
 taken_once last small pages level entry end (Some f) None h k = search (rules, misfit, misfit_once, slice_get_within)
-taken_once last small pages level entry end (Some f) (Some g) h k = search (rules, misfit, misfit_once, slice_get_within)
+taken_once last small pages level entry end a b h k = search (rules, misfit, misfit_once, slice_get_within)
 
 module _ (asked : Asked) where
   at_once : (e : Entry) (end : Option Key) (before : List Placed) (n m : ℕ) (a b : Option PageFault) → StopsAtRegion asked e end before n a → StopsAtRegion asked e end before m b

@@ -1,8 +1,6 @@
 -- No way goes over page 0.
-use Rattle.std.proofs.Common.{rules, ◌≡◌, ◌≤◌, ◌∙◌, ◌↔◌, inl, inr, ℕ, zero, suc, List, [], ◌∷◌, ◌++◌, Option, Some, None, ap, sym, subst, arith, slice_get}
-use Rattle.std.specs.List.{AllByRecursion}
+use Rattle.std.proofs.Common.{rules, ◌≡◌, ◌≤◌, ◌∙◌, ◌↔◌, inl, inr, ℕ, zero, suc, List, Option, Some, None, ap, sym, subst, arith, slice_get}
 use Rattle.std.proofs.lemmas.Option.{slice_get_cases, slice_get_within}
-use Rattle.ub_page.specs.Entries.{IsEntry}
 use Rattle.ub_region.specs.declared.entry.Entry.{Entry}
 use Rattle.ub_store.specs.Facts.{StoreFacts}
 use Rattle.ub_table.specs.declared.fault.PageFault.{PageFault}
@@ -14,16 +12,13 @@ use Rattle.ub_index.specs.Way.{LeadsTo, StopsAt}
 use Rattle.ub_region.specs.declared.region.Region.{Region}
 use Rattle.ub_index.proofs.KeptFacts.{kept_named, same_page}
 use Rattle.ub_index.proofs.LeadFacts.{moved}
+use Rattle.ub_index.proofs.WaysFacts.{whole_below}
 
 -- an entry of a page that fits doesn't name it
-one_of : (P : Entry → Type 0) (before : List Entry) (x : Entry) (after : List Entry) → AllByRecursion P (before ++ (x ∷ after)) → P x
-one_of P [] x after all = all.0
-one_of P (y ∷ before) x after all = one_of P before x after all.1
-
 pub below_some : (last : ℕ) (pages : List (List ℕ)) (key : Key) (level : ℕ) (entry : Entry) (end : Option Key) (below : Entry) (next : Option Key) → NamesFitting last pages level entry end
     → FallsTo key (entries_of pages entry.page) end below next → 1 ≤ below.page
 below_some last pages key level entry end below next named falls =
-    (one_of (IsEntry last) falls.before below falls.after (subst (λ (xs : List Entry). AllByRecursion (IsEntry last) xs) falls.parts named.fits.is.is.entries)).some_page
+    (whole_below last pages key level entry end below next named falls).some_page
 
 -- what a way leads to doesn't name it
 found_some : (last : ℕ) (pages : List (List ℕ)) (key : Key) (level : ℕ) (entry : Entry) (end : Option Key) (found : Entry) (next : Option Key) → 1 ≤ entry.page
@@ -45,14 +40,22 @@ kept_refused : (last : ℕ) (old new : List (List ℕ)) (level : ℕ) (entry : E
     → slice_get new entry.page ≡ slice_get old entry.page → IsNotTaken last old level entry end fault → IsNotTaken last new level entry end fault
 kept_refused last old new level entry end fault same far = search (rules, slice_get_cases, slice_get_within, same_page)
 
+-- where the pages of the index stay, a way leads where it led
+pub leads_kept : (last : ℕ) (old new : List (List ℕ)) (key : Key)
+    → ((level : ℕ) (entry : Entry) (end : Option Key) → 1 ≤ entry.page → NamesFitting last old level entry end → slice_get new entry.page ≡ slice_get old entry.page)
+    → (level : ℕ) (entry : Entry) (end : Option Key) (found : Entry) (next : Option Key) → 1 ≤ entry.page → LeadsTo last old key level entry end found next
+    → LeadsTo last new key level entry end found next
+leads_kept last old new key keeps zero entry end found next some leads = leads
+leads_kept last old new key keeps (suc level) entry end found next some (named, below, beyond, falls, leads) =
+    let same = keeps (suc level) entry end some named in
+    let rest = leads_kept last old new key keeps level below beyond found next (below_some last old key (suc level) entry end below beyond named falls) leads in
+    (kept_named last old new (suc level) entry end same named, below, beyond, moved key old new entry below end beyond same falls, rest)
+
 -- where all pages but it stay, ways lead and stop as they did
 module _ (last : ℕ) (old new : List (List ℕ)) (keeps : (n : ℕ) → 1 ≤ n → slice_get new n ≡ slice_get old n) (key : Key) where
   leads_past : (level : ℕ) (entry : Entry) (end : Option Key) (found : Entry) (next : Option Key) → 1 ≤ entry.page → LeadsTo last old key level entry end found next
       → LeadsTo last new key level entry end found next
-  leads_past zero entry end found next some leads = leads
-  leads_past (suc level) entry end found next some (named, below, beyond, falls, leads) =
-      let same = keeps entry.page some in
-      (kept_named last old new (suc level) entry end same named, below, beyond, moved key old new entry below end beyond same falls, leads_past level below beyond found next (below_some last old key (suc level) entry end below beyond named falls) leads)
+  leads_past level entry end found next some leads = leads_kept last old new key (λ l x e some named. keeps x.page some) level entry end found next some leads
 
   stops_past : (level : ℕ) (entry : Entry) (end : Option Key) (n : ℕ) (fault : Option PageFault) → 1 ≤ entry.page → StopsAt last old key level entry end n fault
       → StopsAt last new key level entry end n fault

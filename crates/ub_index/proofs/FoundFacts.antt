@@ -64,10 +64,9 @@ region_there last entries i region at from to =
     ∙ ap (λ (r : Region). Some r) (sym (with_span last region from to))))
   where
     end_is : (es : List Entry) (j : ℕ) → span_end last (first_keys (drop j es)) ≡ end_before last (slice_get (first_keys es) j)
-    end_is [] zero = refl
     end_is [] (suc j) = refl
-    end_is (e ∷ es) zero = refl
     end_is (e ∷ es) (suc j) = end_is es j
+    end_is es j = refl
 
 -- from where the regions later than one are
 record IsStarted (last : ℕ) (entries : List Entry) (after : Option Region) (from : Option Key) : Type 0 where

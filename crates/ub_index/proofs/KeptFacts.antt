@@ -60,7 +60,7 @@ under_later last pages (suc level) entry end later h k = (
 )
 
 -- a page that tells these entries fits the entry that names it
-told_named : (last : ℕ) (pages : List (List ℕ)) (level : ℕ) (entries : List Entry) (entry : Entry) (end : Option Key) → IsTold last pages level entries entry → AscendTo entries end
+pub told_named : (last : ℕ) (pages : List (List ℕ)) (level : ℕ) (entries : List Entry) (entry : Entry) (end : Option Key) → IsTold last pages level entries entry → AscendTo entries end
     → NamesFitting last pages level entry end
 told_named last pages level entries entry end h up = search rules
 

@@ -12,7 +12,7 @@ use Rattle.ub_table.proofs.Laws.{before_of, not_before_origin, not_before_self, 
 use Rattle.ub_table.specs.Keys.{IsBefore, precedes}
 use Rattle.ub_table.specs.declared.row.Key.{Key}
 use Rattle.ub_index.specs.Fitting.{FallsTo}
-use Rattle.ub_index.specs.Index.{AscendTo, IsIndexPage, IsUnder, NamesFitting, entries_of, first_or, page_in, top}
+use Rattle.ub_index.specs.Index.{AscendTo, IsIndexPage, IsUnder, entries_of, first_or, page_in, top}
 use Rattle.ub_index.specs.Searching.{Gives}
 use Rattle.ub_index.specs.Standing.{AddsNoIndexPage, OldStayOutside}
 use Rattle.ub_index.specs.View.{IndexView, IsIndexOn, IsRegionAt, Leads, Stops, entries_in, entry_at}
@@ -20,10 +20,11 @@ use Rattle.ub_index.specs.Way.{HoldsKey, LeadsTo, StopsAt}
 use Rattle.ub_region.specs.declared.region.Region.{Region}
 use Rattle.ub_index.proofs.KeptFacts.{kept_named, same_entries}
 use Rattle.ub_index.proofs.KeyFacts.{before_le, le_trans}
+use Rattle.ub_index.proofs.Lists.{ascend_right}
 use Rattle.ub_index.proofs.PlaceFacts.{region_found}
 use Rattle.ub_index.proofs.SpanFacts.{with_span}
 use Rattle.ub_index.proofs.WayFacts.{falls_from, holds_below, under_below, way_ends_at}
-use Rattle.ub_index.proofs.WaysFacts.{compare, ends_from, ends_to, first_up_to, up_below}
+use Rattle.ub_index.proofs.WaysFacts.{compare, end_below, ends_from, ends_to, first_up_to}
 
 some_first : (after : List Entry) (end : Option Key) (limit : Key) → end ≡ Some limit → (first : Key) × (first_or after end ≡ Some first)
 some_first [] end limit e = (limit, e)
@@ -40,6 +41,22 @@ not_behind : (b : List Entry) (x : Entry) (m : List Entry) (y : Entry) (a : List
 not_behind b x m y a e =
     let long = ap length e in
     omega (arith, length-append b (x ∷ (m ++ (y ∷ a))), length-append m (y ∷ a))
+
+-- a key falls to one of entries in order
+module _ (key : Key) (entries : List Entry) (end : Option Key) (ascends : AscendTo entries end) where
+  apart : (a : Entry) (o : Option Key) (falls : FallsTo key entries end a o) (b : Entry) (p : Option Key) (other : FallsTo key entries end b p)
+      → (m : List Entry) → falls.after ≡ m ++ (b ∷ other.after) → ⊥
+  apart a o falls b p other m h = search (rules, ascend_right, later_than, not_behind)
+
+  pub falls_once : (a : Entry) (o : Option Key) (falls : FallsTo key entries end a o) (b : Entry) (p : Option Key) (other : FallsTo key entries end b p) → (a ≡ b) × (o ≡ p)
+  falls_once a o falls b p other =
+      elim (compare falls.before a falls.after other.before b other.after (sym falls.parts ∙ other.parts)) [
+        | inl same ↦ (same.0, falls.next_is ∙ (ap (λ (xs : List Entry). first_or xs end) same.1 ∙ sym other.next_is))
+        | inr apart_so ↦ elim apart_so [
+          | inl behind ↦ absurd (apart a o falls b p other behind.0 behind.1)
+          | inr ahead ↦ absurd (apart b p other a o falls ahead.0 ahead.1)
+        ]
+      ]
 
 module _ (last : ℕ) (pages : List (List ℕ)) where
   -- what a way leads to holds the key, where what it begins with does
@@ -62,8 +79,7 @@ module _ (last : ℕ) (pages : List (List ℕ)) where
   before_next key zero entry end found next h leads =
       subst (λ (o : Option Key). IfSome o (IsBefore found.first)) (sym leads.1) (subst (λ (e : Entry). IfSome end (IsBefore e.first)) (sym leads.0) h)
   before_next key (suc level) entry end found next h (named, below, beyond, falls, leads) =
-      let up = up_below last pages key (suc level) entry end below beyond named falls in
-      before_next key level below beyond found next (subst (λ (o : Option Key). IfSome o (IsBefore below.first)) (sym falls.next_is) up.0) leads
+      before_next key level below beyond found next (end_below last pages key (suc level) entry end below beyond named falls) leads
 
   -- something follows it, where something follows what the way begins with
   next_some : (key : Key) (level : ℕ) (entry : Entry) (end : Option Key) (found : Entry) (next : Option Key) → LeadsTo last pages key level entry end found next
@@ -73,24 +89,18 @@ module _ (last : ℕ) (pages : List (List ℕ)) where
       let middle = some_first falls.after end limit e in
       next_some key level below beyond found next leads middle.0 (falls.next_is ∙ middle.1)
 
-  -- the way to each key that it holds leads to it
-  pub held_way : (key other : Key) (level : ℕ) (entry : Entry) (end : Option Key) (found : Entry) (next : Option Key) → LeadsTo last pages key level entry end found next
-      → HoldsKey other found.first next → LeadsTo last pages other level entry end found next
-  held_way key other zero entry end found next leads h = leads
-  held_way key other (suc level) entry end found next (named, below, beyond, falls, leads) h = (
-    named,
-    below,
-    beyond,
-    record {
-      before = falls.before;
-      after = falls.after;
-      parts = falls.parts;
-      next_is = falls.next_is;
-      from = inr (le_trans below.first found.first other (ends_from last pages key level below beyond found next leads) h.from);
-      to = to_of falls.after falls.next_is;
-    },
-    held_way key other level below beyond found next leads h,
-  )
+  -- each key that it holds falls to the same entry on the way to it
+  pub falls_other : (key other : Key) (level : ℕ) (entry : Entry) (end : Option Key) (found : Entry) (next : Option Key) (below : Entry) (beyond : Option Key)
+      → FallsTo key (entries_of pages entry.page) end below beyond → LeadsTo last pages key level below beyond found next → HoldsKey other found.first next
+      → FallsTo other (entries_of pages entry.page) end below beyond
+  falls_other key other level entry end found next below beyond falls leads h = record {
+    before = falls.before;
+    after = falls.after;
+    parts = falls.parts;
+    next_is = falls.next_is;
+    from = inr (le_trans below.first found.first other (ends_from last pages key level below beyond found next leads) h.from);
+    to = to_of falls.after falls.next_is;
+  }
     where
       to_of : (after : List Entry) → beyond ≡ first_or after end → IfSome (first_or after None) (IsBefore other)
       to_of [] e = tt
@@ -99,36 +109,27 @@ module _ (last : ℕ) (pages : List (List ℕ)) where
           let sooner : IfSome (Some first.0) (IsBefore other) = subst (λ (o : Option Key). IfSome o (IsBefore other)) first.1 h.to in
           before_le other first.0 x.first sooner (ends_to last pages key level below beyond found next leads first.0 x.first first.1 e)
 
+  -- so the way to that key leads to it
+  pub held_way : (key other : Key) (level : ℕ) (entry : Entry) (end : Option Key) (found : Entry) (next : Option Key) → LeadsTo last pages key level entry end found next
+      → HoldsKey other found.first next → LeadsTo last pages other level entry end found next
+  held_way key other zero entry end found next leads h = leads
+  held_way key other (suc level) entry end found next (named, below, beyond, falls, leads) h = (
+    named,
+    below,
+    beyond,
+    falls_other key other level entry end found next below beyond falls leads h,
+    held_way key other level below beyond found next leads h,
+  )
+
   -- the way to a key leads to one entry
   pub one_way : (key : Key) (level : ℕ) (entry : Entry) (end : Option Key) (f1 : Entry) (n1 : Option Key) (f2 : Entry) (n2 : Option Key) → LeadsTo last pages key level entry end f1 n1
       → LeadsTo last pages key level entry end f2 n2 → (f1 ≡ f2) × (n1 ≡ n2)
   one_way key zero entry end f1 n1 f2 n2 h1 h2 = (h1.0 ∙ sym h2.0, h1.1 ∙ sym h2.1)
   one_way key (suc level) entry end f1 n1 f2 n2 (named1, x1, o1, falls1, leads1) (named2, x2, o2, falls2, leads2) =
-      elim (compare falls1.before x1 falls1.after falls2.before x2 falls2.after (sym falls1.parts ∙ falls2.parts)) [
-        | inl same ↦
-            let nexts : o1 ≡ o2 = falls1.next_is ∙ (ap (λ (a : List Entry). first_or a end) same.1 ∙ sym falls2.next_is) in
-            let leads : LeadsTo last pages key level x2 o2 f1 n1 =
-            subst (λ (e : Entry). LeadsTo last pages key level e o2 f1 n1) same.0 (subst (λ (o : Option Key). LeadsTo last pages key level x1 o f1 n1) nexts leads1) in
-            one_way key level x2 o2 f1 n1 f2 n2 leads leads2
-        | inr other ↦ elim other [
-          | inl behind ↦ absurd (apart named1 x1 o1 falls1 x2 o2 falls2 behind.0 behind.1)
-          | inr ahead ↦ absurd (apart named2 x2 o2 falls2 x1 o1 falls1 ahead.0 ahead.1)
-        ]
-      ]
-    where
-      -- the key doesn't fall to an entry behind that to which it falls
-      apart : NamesFitting last pages (suc level) entry end → (a : Entry) (o : Option Key) (falls : FallsTo key (entries_of pages entry.page) end a o)
-          → (b : Entry) (p : Option Key) (other : FallsTo key (entries_of pages entry.page) end b p) → (m : List Entry) → falls.after ≡ m ++ (b ∷ other.after) → ⊥
-      apart named a o falls b p other m behind =
-          let up = up_below last pages key (suc level) entry end a o named falls in
-          let sooner : IsBefore key b.first =
-          later_than key m b other.after end (subst (λ (xs : List Entry). AscendTo xs end) behind up.1) (subst (λ (xs : List Entry). IfSome (first_or xs None) (IsBefore key)) behind falls.to) in
-          elim other.from [
-            | inl none ↦
-                not_behind falls.before a m b other.after
-                (ap (λ (xs : List Entry). falls.before ++ (a ∷ xs)) (sym behind) ∙ (sym falls.parts ∙ (other.parts ∙ ap (λ (xs : List Entry). xs ++ (b ∷ other.after)) none)))
-            | inr later ↦ later sooner
-          ]
+      let same = falls_once key (entries_of pages entry.page) end named1.fits.ascends x1 o1 falls1 x2 o2 falls2 in
+      let leads : LeadsTo last pages key level x2 o2 f1 n1 =
+      subst (λ (e : Entry). LeadsTo last pages key level e o2 f1 n1) same.0 (subst (λ (o : Option Key). LeadsTo last pages key level x1 o f1 n1) same.1 leads1) in
+      one_way key level x2 o2 f1 n1 f2 n2 leads leads2
 
 -- a key that isn't before the first of entries falls to one of them
 falls_in : (key : Key) (xs : List Entry) (first : Key) (end : Option Key) → first_or xs None ≡ Some first → ¬ (IsBefore key first)

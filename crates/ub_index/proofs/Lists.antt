@@ -2,6 +2,7 @@
 use Rattle.std.proofs.Common.{◌≡◌, ◌++◌, ℕ, List, [], ◌∷◌, Option, Some, None, IfSome, ◌∙◌, sym, ap, subst, refl}
 use Rattle.std.specs.List.{AllByRecursion, flat_map}
 use Rattle.ub_index.specs.Index.{first_or, AscendTo, EachTo}
+use Rattle.ub_page.specs.Entries.{AreAscending}
 use Rattle.ub_region.specs.declared.entry.Entry.{Entry}
 use Rattle.ub_region.proofs.Laws.{all_append, all_left, all_right}
 use Rattle.ub_table.proofs.Laws.{before_trans}
@@ -36,6 +37,10 @@ each_right P (x ∷ xs) ys end h = each_right P xs ys end h.1
 pub each_join : (P : Entry → Option Key → Type 0) (xs ys : List Entry) (end : Option Key) → EachTo P xs (first_or ys end) → EachTo P ys end → EachTo P (xs ++ ys) end
 each_join P [] ys end h k = k
 each_join P (x ∷ xs) ys end h k = (subst (λ (o : Option Key). P x o) (sym (first_append xs ys end)) h.0, each_join P xs ys end h.1 k)
+
+pub ascending_of : (entries : List Entry) (end : Option Key) → AscendTo entries end → AreAscending entries
+ascending_of (x ∷ y ∷ entries) end h = (h.0, ascending_of (y ∷ entries) end h.1)
+ascending_of entries end h = tt
 
 -- an end that isn't before another one
 abbrev pub IsNotBefore : Option Key → Option Key → Type 0

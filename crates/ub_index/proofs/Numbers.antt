@@ -83,6 +83,11 @@ pub kept_pages_list : (old new : List (List ℕ)) (level : ℕ) (entries : List 
 kept_pages_list old new level entries h =
     same_each (λ n. slice_get new n ≡ slice_get old n) (pages_under old level) (pages_under new level) (pages_under old level) (kept_pages old new level) entries h
 
+-- entries of regions have no pages of an index below them
+pub no_pages : (pages : List (List ℕ)) (entries : List Entry) → flat_map (pages_under pages zero) entries ≡ []
+no_pages pages [] = refl
+no_pages pages (x ∷ entries) = no_pages pages entries
+
 -- a number that numbers are less than is none of them
 pub outside_less : (n : ℕ) (numbers : List ℕ) → AllByRecursion (λ m. m < n) numbers → IsOutside n numbers
 outside_less n numbers h = all_more (λ m. m < n) (λ m. n ≢ m) (λ m less e. omega arith) numbers h

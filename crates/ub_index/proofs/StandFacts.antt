@@ -55,7 +55,7 @@ root_node last page some less = search rules
 pub root_page_is : (last page : ℕ) → last < 2 ^ 128 → 1 ≤ page → page < 4294967296 → IsIndexPage last (root_page page)
 root_page_is last page small some less = node_is last small (node 1 (top page ∷ [])) (root_node last page some less)
 
-some_entries : (xs : List Entry) (key : Key) → first_or xs None ≡ Some key → 1 ≤ length xs
+pub some_entries : (xs : List Entry) (key : Key) → first_or xs None ≡ Some key → 1 ≤ length xs
 some_entries [] key h = cc
 some_entries (x ∷ xs) key h = omega arith
 

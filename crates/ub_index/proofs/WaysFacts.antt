@@ -1,7 +1,10 @@
 -- Two ways down over the same pages: a way to a key that isn't before where the first one ended ends there or later.
 use Rattle.std.proofs.Common.{rules, ◌≡◌, ◌++◌, ◌⊎◌, inl, inr, ℕ, zero, suc, List, [], ◌∷◌, Option, Some, None, IfSome, ◌∙◌, sym, ap, subst, refl}
 use Rattle.std.proofs.lemmas.Bool.{cases_Bool}
+use Rattle.std.specs.List.{AllByRecursion}
+use Rattle.ub_page.specs.Entries.{IsEntry}
 use Rattle.ub_region.specs.declared.entry.Entry.{Entry}
+use Rattle.ub_region.proofs.Laws.{all_right}
 use Rattle.ub_table.proofs.Laws.{before_trans, not_before_self, not_both_before, precedes_of}
 use Rattle.ub_table.specs.Keys.{IsBefore, precedes}
 use Rattle.ub_table.specs.declared.row.Key.{Key}
@@ -40,25 +43,40 @@ first_up_to (y ∷ m) x a end up first is =
 rest_up_to : (a : List Entry) (end : Option Key) → AscendTo a end → (first last : Key) → first_or a end ≡ Some first → end ≡ Some last → ¬ (IsBefore last first)
 rest_up_to a end up first last is is_end = search (rules, not_before_self, ascend_first, not_both_before)
 
+pub with_none : (m : List Entry) (x : Entry) (a : List Entry) (end : Option Key) → first_or (m ++ (x ∷ a)) end ≡ first_or (m ++ (x ∷ a)) None
+with_none [] x a end = refl
+with_none (y ∷ m) x a end = refl
+
 module _ (last : ℕ) (pages : List (List ℕ)) where
+  -- the entry to which a key falls is in range, and begins not before the one above it
+  pub whole_below : (key : Key) (level : ℕ) (entry : Entry) (end : Option Key) (below : Entry) (beyond : Option Key) → NamesFitting last pages level entry end
+      → FallsTo key (entries_of pages entry.page) end below beyond → IsEntry last below
+  whole_below key level entry end below beyond named falls =
+      (all_right (IsEntry last) falls.before (below ∷ falls.after) (subst (λ (xs : List Entry). AllByRecursion (IsEntry last) xs) falls.parts named.fits.is.is.entries)).0
+
+  pub from_above : (key : Key) (level : ℕ) (entry : Entry) (end : Option Key) (below : Entry) (beyond : Option Key) → NamesFitting last pages level entry end
+      → FallsTo key (entries_of pages entry.page) end below beyond → ¬ (IsBefore below.first entry.first)
+  from_above key level entry end below beyond named falls =
+      first_up_to falls.before below falls.after end (subst (λ (xs : List Entry). AscendTo xs end) falls.parts named.fits.ascends) entry.first
+      (with_none falls.before below falls.after end ∙ subst (λ (xs : List Entry). first_or xs None ≡ Some entry.first) falls.parts named.fits.begins)
+
   -- the way ends not before where it begins
   pub ends_from : (key : Key) (level : ℕ) (entry : Entry) (end : Option Key) (found : Entry) (next : Option Key) → LeadsTo last pages key level entry end found next
       → ¬ (IsBefore found.first entry.first)
   ends_from key zero entry end found next h = subst (λ (e : Entry). ¬ (IsBefore e.first entry.first)) (sym h.0) (not_before_self entry.first)
   ends_from key (suc level) entry end found next (named, below, beyond, falls, leads) =
-      let up : AscendTo (falls.before ++ (below ∷ falls.after)) end = subst (λ (xs : List Entry). AscendTo xs end) falls.parts named.fits.ascends in
-      let begins : first_or (falls.before ++ (below ∷ falls.after)) None ≡ Some entry.first = subst (λ (xs : List Entry). first_or xs None ≡ Some entry.first) falls.parts named.fits.begins in
-      let here = first_up_to falls.before below falls.after end up entry.first (with_end falls.before below falls.after end ∙ begins) in
-      le_trans entry.first below.first found.first here (ends_from key level below beyond found next leads)
-    where
-      with_end : (m : List Entry) (x : Entry) (a : List Entry) (o : Option Key) → first_or (m ++ (x ∷ a)) o ≡ first_or (m ++ (x ∷ a)) None
-      with_end [] x a o = refl
-      with_end (y ∷ m) x a o = refl
+      le_trans entry.first below.first found.first (from_above key (suc level) entry end below beyond named falls) (ends_from key level below beyond found next leads)
 
   pub up_below : (key : Key) (level : ℕ) (entry : Entry) (end : Option Key) (below : Entry) (beyond : Option Key) → NamesFitting last pages level entry end
       → (falls : FallsTo key (entries_of pages entry.page) end below beyond) → AscendTo (below ∷ falls.after) end
   up_below key level entry end below beyond named falls =
       ascend_right falls.before (below ∷ falls.after) end (subst (λ (xs : List Entry). AscendTo xs end) falls.parts named.fits.ascends)
+
+  -- and ends behind it
+  pub end_below : (key : Key) (level : ℕ) (entry : Entry) (end : Option Key) (below : Entry) (beyond : Option Key) → NamesFitting last pages level entry end
+      → FallsTo key (entries_of pages entry.page) end below beyond → IfSome beyond (IsBefore below.first)
+  end_below key level entry end below beyond named falls =
+      subst (λ (o : Option Key). IfSome o (IsBefore below.first)) (sym falls.next_is) (up_below key level entry end below beyond named falls).0
 
   -- and what follows it begins not after the end
   pub ends_to : (key : Key) (level : ℕ) (entry : Entry) (end : Option Key) (found : Entry) (next : Option Key) → LeadsTo last pages key level entry end found next

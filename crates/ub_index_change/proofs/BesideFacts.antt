@@ -22,19 +22,20 @@ use Rattle.ub_index_change.specs.Preparing.{ChangeView, IsPrepared, IsWithinRegi
 use Rattle.ub_index_change.specs.declared.sheet.Sheet.{Sheet}
 use Rattle.ub_index_change.specs.declared.told.Told.{Told}
 use Rattle.ub_index_change.specs.declared.told.Told.TheVariants.{Same, Gone, One, Two}
-use Rattle.ub_index.proofs.KeptFacts.{kept_named, same_entries, same_page}
+use Rattle.ub_index.proofs.KeptFacts.{kept_named, same_entries, same_page, told_named}
 use Rattle.ub_index.proofs.FitFacts.{page_is}
 use Rattle.ub_index.proofs.KeyFacts.{before_le, le_before, le_trans}
 use Rattle.ub_index.proofs.LeadFacts.{before_next, ways_hold}
 use Rattle.ub_index.proofs.Lists.{IsNotBefore, ascend_first, ascend_later, ascend_left, ascend_right, first_append, if_later}
 use Rattle.ub_index.proofs.WayFacts.{before_found}
-use Rattle.ub_index.proofs.WaysFacts.{compare, ends_from, first_up_to}
+use Rattle.ub_index.proofs.WaysFacts.{compare, end_below, ends_from, first_up_to, from_above, up_below, whole_below, with_none}
 use Rattle.ub_index_change.proofs.Changes.{no_end, not_before}
 use Rattle.ub_index_change.proofs.DropFacts.{narrow, sole_is, spelled_then}
+use Rattle.ub_index_change.proofs.FullFacts.{mends_or}
 use Rattle.ub_index_change.proofs.ReadyFacts.{entry_is}
-use Rattle.ub_index_change.proofs.SheetFacts.{IsOrderly, added_fine_at, below_before, below_whole, fine_found, mended_all, mended_up, turned}
+use Rattle.ub_index_change.proofs.SheetFacts.{IsOrderly, added_fine_at, fine_found, mended_all, mended_up, turned}
 use Rattle.ub_index_change.proofs.SheetNumbers.{once_join}
-use Rattle.ub_index_change.proofs.SpelledFacts.{BeginsStill, end_up, first_end, first_none, first_there, IsHigher, IsOff, IsSpelledIn, IsWithin, mends_new, mends_or, next_unspelled, no_parts, off_spelled, own_unspelled, parted, rest_later, same_end, spelled_within, still_first, turned_end, turned_first, turned_once, way_below, with_none}
+use Rattle.ub_index_change.proofs.SpelledFacts.{BeginsStill, end_up, first_end, first_none, first_there, IsHigher, IsOff, IsSpelledIn, IsWithin, mends_new, next_unspelled, no_parts, off_spelled, own_unspelled, parted, rest_later, same_end, spelled_within, still_first, turned_end, turned_first, turned_once, way_below}
 use Rattle.ub_index_change.proofs.SpreadFacts.{new_sheets, root_told, spread_sheets, told_spread}
 use Rattle.ub_index_change.proofs.TurnFacts.{unspelled_left}
 
@@ -75,28 +76,21 @@ module _ (last : ℕ) (old later : List (List ℕ)) (k : Key) (e : Entry) (n n2 
       to = falls.to;
     },
     way_stays level below (first_or falls.after o) (first_or falls.after o2) (subst (λ (q : Option Key). LeadsTo last old k level below q e n) falls.next_is leads)
-        (rest_up falls.after) (rest_is falls.after from_below.1) from_below.0 below_whole_here
+        (rest_up falls.after) (rest_is falls.after from_below.1) from_below.0 (whole_below last old k (suc level) y o below beyond named falls)
         (λ l x p le entry fits from to. free l x p (omega arith) entry fits (le_trans y.first below.first x.first from_entry from) (end_up falls.after o x.first from_below.1 to)),
   )
     where
       same : slice_get later y.page ≡ slice_get old y.page
       same = free (suc level) y o (omega arith) whole named (not_before_self y.first) before
 
-      below_whole_here : IsEntry last below
-      below_whole_here = (all_right (IsEntry last) falls.before (below ∷ falls.after) (subst (λ (xs : List Entry). AllByRecursion (IsEntry last) xs) falls.parts named.fits.is.is.entries)).0
-
       kept : NamesFitting last later (suc level) y o
       kept = kept_named last old later (suc level) y o same named
 
-      up_all : AscendTo (falls.before ++ (below ∷ falls.after)) o
-      up_all = subst (λ (xs : List Entry). AscendTo xs o) falls.parts named.fits.ascends
-
       from_below : AscendTo (below ∷ falls.after) o
-      from_below = ascend_right falls.before (below ∷ falls.after) o up_all
+      from_below = up_below last old k (suc level) y o below beyond named falls
 
       from_entry : ¬ (IsBefore below.first y.first)
-      from_entry = first_up_to falls.before below falls.after o up_all y.first
-          (with_none falls.before below falls.after o ∙ subst (λ (xs : List Entry). first_or xs None ≡ Some y.first) falls.parts named.fits.begins)
+      from_entry = from_above last old k (suc level) y o below beyond named falls
 
       rest_up : (a : List Entry) → IsNotBefore (first_or a o) (first_or a o2)
       rest_up [] = up
@@ -116,17 +110,6 @@ record LeadsStill (last : ℕ) (later : List (List ℕ)) (k : Key) (level : ℕ)
   pub parts : named_as told entry ≡ before ++ (below ∷ after)
   pub to : IfSome (first_or after None) (IsBefore k)
   pub leads : LeadsTo last later k level below (first_or after end) e n
-
-names_told : (last : ℕ) (later : List (List ℕ)) (level : ℕ) (entries : List Entry) (y : Entry) (end : Option Key) → IsTold last later level entries y → AscendTo entries end → NamesFitting last later level y end
-names_told last later level entries y end t up = record {
-  there = t.there;
-  fits = record {
-    is = t.is;
-    level_is = t.level_is;
-    begins = subst (λ (xs : List Entry). first_or xs None ≡ Some y.first) (sym t.entries_are) t.begins;
-    ascends = subst (λ (xs : List Entry). AscendTo xs end) (sym t.entries_are) up;
-  };
-}
 
 module _ (last : ℕ) (small : last < 2 ^ 128) (old later : List (List ℕ)) (k : Key) (e : Entry) (n : Option Key) (k_from : ¬ (IsBefore k e.first)) where
   -- down from a page that tells these entries
@@ -153,11 +136,11 @@ module _ (last : ℕ) (small : last < 2 ^ 128) (old later : List (List ℕ)) (k 
       → IfSome (first_or a None) (IsBefore k) → LeadsTo last later k level x (first_or a end) e n → LeadsStill last later k (suc level) entry end told e n
   told_page level entry end entries middle to Same high h all up stand b x a parts to_it leads =
       let t : IsTold last later (suc level) entries entry = told_spread last small later level entry entries end middle to Same high h all up stand in
-      record { before = []; below = entry; after = []; parts = refl; to = tt; leads = down level entry end b x a (names_told last later (suc level) entries entry end t up) (t.entries_are ∙ parts) to_it leads }
+      record { before = []; below = entry; after = []; parts = refl; to = tt; leads = down level entry end b x a (told_named last later (suc level) entries entry end t up) (t.entries_are ∙ parts) to_it leads }
   told_page level entry end entries middle to Gone high h all up stand b x a parts to_it leads = absurd (no_parts b x a (sym parts ∙ h.0))
   told_page level entry end entries middle to (One other) high h all up stand b x a parts to_it leads =
       let t : IsTold last later (suc level) entries other = (told_spread last small later level entry entries end middle to (One other) high h all up stand).1 in
-      record { before = []; below = other; after = []; parts = refl; to = tt; leads = down level other end b x a (names_told last later (suc level) entries other end t up) (t.entries_are ∙ parts) to_it leads }
+      record { before = []; below = other; after = []; parts = refl; to = tt; leads = down level other end b x a (told_named last later (suc level) entries other end t up) (t.entries_are ∙ parts) to_it leads }
   told_page level entry end entries middle to (Two left right) high h all up stand b x a parts to_it leads =
       by_half (parted (take 86 entries) (drop 86 entries) b x a (take-append-drop 86 entries ∙ parts))
     where
@@ -185,7 +168,7 @@ module _ (last : ℕ) (small : last < 2 ^ 128) (old later : List (List ℕ)) (k 
             after = right ∷ [];
             parts = refl;
             to = end_up m (Some right.first) k up_m to_m;
-            leads = down level left (Some right.first) b x m (names_told last later (suc level) (take 86 entries) left (Some right.first) t.3 up_left) (t.3.entries_are ∙ left_is) (first_none m (Some right.first) k to_m)
+            leads = down level left (Some right.first) b x m (told_named last later (suc level) (take 86 entries) left (Some right.first) t.3 up_left) (t.3.entries_are ∙ left_is) (first_none m (Some right.first) k to_m)
                 (subst (λ (o : Option Key). LeadsTo last later k level x o e n) (begins end right_first) leads);
           }
 
@@ -198,7 +181,7 @@ module _ (last : ℕ) (small : last < 2 ^ 128) (old later : List (List ℕ)) (k 
         after = [];
         parts = refl;
         to = tt;
-        leads = down level right end half.0 x a (names_told last later (suc level) (drop 86 entries) right end t.4 (ascend_right (take 86 entries) (drop 86 entries) end up_parts)) (t.4.entries_are ∙ half.1) to_it leads;
+        leads = down level right end half.0 x a (told_named last later (suc level) (drop 86 entries) right end t.4 (ascend_right (take 86 entries) (drop 86 entries) end up_parts)) (t.4.entries_are ∙ half.1) to_it leads;
       }
 
   -- where a way to the region's entry e0 is to lead, once f has gone, or got another one behind it: there still, unless e0 is f,
@@ -262,10 +245,10 @@ module _ (last : ℕ) (small : last < 2 ^ 128) (old later : List (List ℕ)) (k 
         ]
       where
         below_is : IsEntry last below
-        below_is = below_whole last small old key level entry end from middle to told some is before named below next falls
+        below_is = whole_below last old key (suc level) entry end below next named falls
 
         below_end : IfSome next (IsBefore below.first)
-        below_end = below_before last small old key level entry end from middle to told some is before named below next falls
+        below_end = end_below last old key (suc level) entry end below next named falls
 
         leads_below : LeadsTo last old key level below next f nf
         leads_below = way_below last old key level entry end below next f nf falls leads_f
@@ -274,14 +257,11 @@ module _ (last : ℕ) (small : last < 2 ^ 128) (old later : List (List ℕ)) (k 
         orderly = (turned last small old key added level below next from middle news some below_is below_end (fine_found last old key added level below next f nf fine leads_below)
             (subst (λ (xs : List Sheet). AreIndexPages last xs) (sym empty) tt) turns).0
 
-        up_all : AscendTo (falls.before ++ (below ∷ falls.after)) end
-        up_all = subst (λ (xs : List Entry). AscendTo xs end) falls.parts named.fits.ascends
-
         up : AscendTo (below ∷ falls.after) end
-        up = ascend_right falls.before (below ∷ falls.after) end up_all
+        up = up_below last old key (suc level) entry end below next named falls
 
         up_k : AscendTo (xk ∷ falls_k.after) end
-        up_k = ascend_right falls_k.before (xk ∷ falls_k.after) end (subst (λ (xs : List Entry). AscendTo xs end) falls_k.parts named.fits.ascends)
+        up_k = up_below last old k (suc level) entry end xk ok named falls_k
 
         -- what is spelled on the way down, and what after that
         in_it : AllByRecursion (λ s. IsSpelledIn old level below.first next from.next middle.next s.number) middle.sheets × (from.next ≤ middle.next)
@@ -321,10 +301,10 @@ module _ (last : ℕ) (small : last < 2 ^ 128) (old later : List (List ℕ)) (k 
             stay x.page entry_x.some_page (slice_get_within old x.page (page_in old x.page) fits.there) (off_spelled last old level below.first next (to.sheets ++ more) l x p le fits off placed) fits.fits.is
 
         xk_before : IfSome ok (IsBefore xk.first)
-        xk_before = subst (λ (o : Option Key). IfSome o (IsBefore xk.first)) (sym falls_k.next_is) up_k.0
+        xk_before = end_below last old k (suc level) entry end xk ok named falls_k
 
         whole_k : IsEntry last xk
-        whole_k = (all_right (IsEntry last) falls_k.before (xk ∷ falls_k.after) (subst (λ (xs : List Entry). AllByRecursion (IsEntry last) xs) falls_k.parts named.fits.is.is.entries)).0
+        whole_k = whole_below last old k (suc level) entry end xk ok named falls_k
 
         -- and the entry's own, where all is told the same
         own : to ≡ middle → slice_get later entry.page ≡ slice_get old entry.page
@@ -580,7 +560,7 @@ module _ (index : IndexView) (old : StoreFacts) (key : Key) (added : Option Entr
             subst (λ (c : ChangeView). LeadsThen c.levels c.root) (sym h.2)
             (subst (λ (l : ℕ). LeadsThen l middle.next) one
             (down index.last small old.pages new.pages other e n k_from index.levels (top middle.next) None r.before r.below r.after
-            (names_told index.last new.pages (suc index.levels) (left ∷ right ∷ []) (top middle.next) None t o.up)
+            (told_named index.last new.pages (suc index.levels) (left ∷ right ∷ []) (top middle.next) None t o.up)
             (t.entries_are ∙ ap (λ (t : Told). named_as t (top index.root)) (sym is) ∙ r.parts) r.to r.leads))
 
 -- once a region's entry has gone

@@ -14,7 +14,7 @@ use Rattle.ub_index.specs.Fitting.{FallsTo}
 use Rattle.ub_index.specs.Index.{entries_of, NamesFitting, Fits}
 use Rattle.ub_index_change.specs.FullWay.{EndsFull}
 use Rattle.ub_index.specs.declared.fault.IndexFault.{IndexFault}
-use Rattle.ub_index.specs.declared.fault.IndexFault.TheVariants.{Full, Page, Store}
+use Rattle.ub_index.specs.declared.fault.IndexFault.TheVariants.{Page, Store}
 use Rattle.ub_index_change.specs.declared.told.Told.{Told}
 use Rattle.ub_index_change.specs.declared.told.Told.TheVariants.{Same, Gone, One, Two}
 use Rattle.ub_index_change.proofs.FullFacts.{ends_all, ends_few, full_taken}
@@ -49,10 +49,9 @@ opened_fault last old key level entry end next (Page n fault) some h = λ honest
     subst (λ (m : ℕ). IsTurnFault last old key level entry end next (Page m fault)) (sym h.0)
     (λ good. stops_here old old refl last key level entry end (Some fault) some (h.1 good)) honest
 opened_fault last old key level entry end next (Store store.Memory) some h = tt
-opened_fault last old key level entry end next (Store store.Device) some h = h
 opened_fault last old key level entry end next (Store store.NoPage) some h = (entry.page, h, λ honest. stops_here old old refl last key level entry end None some h)
 opened_fault last old key level entry end next (Store store.BadSize) some h = absurd h
-opened_fault last old key level entry end next Full some h = h
+opened_fault last old key level entry end next e some h = h
 
 pub open_refused : (T U : Type 0) (last level : ℕ) (key : Key) (entry : Entry) (end : Option Key) (next : ℕ) (old new : PagerView) (r : Result T IndexFault) (e : IndexFault) → 0 < level
     → IsErrAnd r (λ x. x ≡ e) → Steps {A = U} last level entry end old new (Err e) → Prepares last level key entry end next old new r
@@ -91,7 +90,6 @@ below_fault : (last : ℕ) (old : StoreFacts) (key : Key) (level : ℕ) (entry b
 below_fault last old key level entry below end after next (Page n fault) some step h = λ honest.
     stops_on old old refl last key level entry below end after n (Some fault) some (step honest) (h honest)
 below_fault last old key level entry below end after next (Store store.Memory) some step h = tt
-below_fault last old key level entry below end after next (Store store.Device) some step h = h
 below_fault last old key level entry below end after next (Store store.NoPage) some step h =
     (h.0, h.1, λ honest. stops_on old old refl last key level entry below end after h.0 None some (step honest) (h.2 honest))
 below_fault last old key level entry below end after next (Store store.BadSize) some step h = (
@@ -99,7 +97,7 @@ below_fault last old key level entry below end after next (Store store.BadSize) 
   λ honest. ends_on last old.pages key level entry below end after next some
       ((step honest).named, (step honest).falls) (h.1 honest),
 )
-below_fault last old key level entry below end after next Full some step h = h
+below_fault last old key level entry below end after next e some step h = h
 
 pub below_refused : (T U : Type 0) (last level : ℕ) (key : Key) (entry below : Entry) (end after : Option Key) (next : ℕ) (old mid new : PagerView) (r : Result T IndexFault) (e : IndexFault)
     → 0 < level → mid.store ≡ old.store → mid.trace ≡ old.trace → Keeps last old mid → (IsHonest old.store → StepsTo last old.store key level entry end below after)
@@ -137,12 +135,8 @@ pub mend_refused : (last level : ℕ) (key : Key) (added : Option Entry) (entry 
     → new ≡ record old { store = old.store; cached = new.cached } → Keeps last old new → IfErr r (IsSpreadFault middle) → (IsAtMostOne news → NeedsNoGrowth r)
     → (length before + length after + 2 ≤ 170 → NeedsNoGrowth r) → Prepares last level key entry end from.next old new r
 mend_refused last level key added entry end before below next after from middle news old new (Ok told) some few opens turns same kept h narrow fits = record { same = same; checked = kept.0; more = kept.1; faults = tt }
-mend_refused last level key added entry end before below next after from middle news old new (Err (Page n fault)) some few opens turns same kept h narrow fits = absurd h
-mend_refused last level key added entry end before below next after from middle news old new (Err Full) some few opens turns same kept h narrow fits = absurd h
 mend_refused last level key added entry end before below next after from middle news old new (Err (Store store.Memory)) some few opens turns same kept h narrow fits =
     record { same = same; checked = kept.0; more = kept.1; faults = tt }
-mend_refused last level key added entry end before below next after from middle news old new (Err (Store store.Device)) some few opens turns same kept h narrow fits = absurd h
-mend_refused last level key added entry end before below next after from middle news old new (Err (Store store.NoPage)) some few opens turns same kept h narrow fits = absurd h
 mend_refused last level key added entry end before below next after from middle news old new (Err (Store store.BadSize)) some few opens turns same kept h narrow fits =
     record { same = same; checked = kept.0; more = kept.1; faults = (omega arith, λ honest. by_news news narrow (opens honest) (turns honest)) }
   where
@@ -159,6 +153,7 @@ mend_refused last level key added entry end before below next after from middle 
     by_news Gone slim o turn = absurd (slim tt).1
     by_news (One other) slim o turn = absurd (slim tt).1
     by_news (Two left right) slim o turn = full_here last old.store.pages key added level entry end before below next after from middle left right some o turn long h
+mend_refused last level key added entry end before below next after from middle news old new (Err e) some few opens turns same kept h narrow fits = absurd h
 
 -- the page that stands there and fits opens to what its entries tell
 pub opens_page : (pages : List (List ℕ)) (last : ℕ) (key : Key) (level : ℕ) (entry : Entry) (end : Option Key) (before : List Entry) (below : Entry) (next : Option Key) (after : List Entry)

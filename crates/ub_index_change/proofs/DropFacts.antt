@@ -21,7 +21,7 @@ use Rattle.ub_index_change.specs.Lowering.{IsDropFault, IsLowerFault, IsLowest, 
 use Rattle.ub_index_change.specs.Preparing.{ChangeView, IsIndexThen, IsPrepared, MakesIndex, Settles, change_view}
 use Rattle.ub_index.specs.View.{IsReachedOnce, pages_of_index, IndexView, IsIndexOn, IsRegionAt, entries_in, entry_at}
 use Rattle.ub_index.specs.declared.fault.IndexFault.{IndexFault}
-use Rattle.ub_index.specs.declared.fault.IndexFault.TheVariants.{Full, Page, Store}
+use Rattle.ub_index.specs.declared.fault.IndexFault.TheVariants.{Full, Store}
 use Rattle.ub_store.specs.declared.fault.StoreFault.TheVariants as store
 use Rattle.ub_region.specs.declared.region.Region.{Region}
 use Rattle.ub_index_change.specs.declared.sheet.Sheet.{Sheet}
@@ -274,12 +274,9 @@ drop_fault T index key old change (Ok x) made h = tt
 drop_fault T index key old change (Err e) made h = (no_growth e h, inr (change, made, h))
   where
     no_growth : (e : IndexFault) → IsLowerFault index.last old change e → IsNoGrowth e
-    no_growth (Store store.Memory) h = tt
-    no_growth (Store store.Device) h = tt
-    no_growth (Store store.NoPage) h = tt
     no_growth (Store store.BadSize) h = h
-    no_growth (Page n fault) h = tt
     no_growth Full h = h
+    no_growth e h = tt
 
 pub dropped_effect : (T : Type 0) (index : IndexView) (last : ℕ) (key : Key) (old mid new : PagerView) (change : ChangeView) (r : Result T IndexFault) → last ≡ index.last
     → mid.store ≡ old.store → mid.trace ≡ old.trace → Keeps index.last old mid → (IsHonest old.store → IsPrepared index old.store key None (page_count old.store) (so_far [] (page_count old.store)) change)

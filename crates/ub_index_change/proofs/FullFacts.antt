@@ -1,20 +1,19 @@
 -- Full pages on the way to a key: which pages a change takes.
-use Rattle.std.proofs.Common.{◌≡◌, ◌≤◌, ◌<◌, ◌+◌, ◌++◌, ◌⊎◌, inl, inr, ℕ, zero, suc, List, [], ◌∷◌, Option, Some, None, IfSome, length, ◌∙◌, sym, ap, subst, refl, arith}
+use Rattle.std.proofs.Common.{◌≡◌, ◌≤◌, ◌<◌, ◌+◌, ◌++◌, ◌⊎◌, inl, inr, ℕ, zero, suc, List, [], ◌∷◌, Option, Some, None, length, ◌∙◌, sym, ap, subst, refl, arith}
 use Rattle.std.proofs.lemmas.Bool.{cases_lt}
 use Rattle.std.proofs.lemmas.List.{length-append}
 use Rattle.ub_region.specs.declared.entry.Entry.{Entry}
 use Rattle.ub_store.specs.Facts.{StoreFacts, page_count}
-use Rattle.ub_table.proofs.Laws.{before_trans}
-use Rattle.ub_table.specs.Keys.{IsBefore}
 use Rattle.ub_table.specs.declared.row.Key.{Key}
 use Rattle.ub_index_change.specs.Changing.{IsAtMostOne, Mends, Spelled, Spreads, Turns, named_as, sheet_of, so_far}
 use Rattle.ub_index.specs.Fitting.{FallsTo}
-use Rattle.ub_index.specs.Index.{entries_of, first_or, top, AscendTo, NamesFitting}
+use Rattle.ub_index.specs.Index.{entries_of, top, NamesFitting}
 use Rattle.ub_index_change.specs.Preparing.{ChangeView, HasFullWay, NeedsPages, Settles, TakesNeeded, change_view}
 use Rattle.ub_index.specs.View.{IndexView}
 use Rattle.ub_index_change.specs.FullWay.{EndsFull, IsFullWay}
 use Rattle.ub_index_change.specs.declared.told.Told.{Told}
 use Rattle.ub_index_change.specs.declared.told.Told.TheVariants.{Same, Gone, One, Two}
+use Rattle.ub_index.proofs.LeadFacts.{falls_once}
 use Rattle.ub_index_change.proofs.SpreadFacts.{spread_next}
 
 -- where one entry became one or none, there are no more than there were
@@ -28,10 +27,8 @@ mended_few before below after news narrow few =
     omega arith
   where
     at_most : (t : Told) → IsAtMostOne t → length (named_as t below) ≤ 1
-    at_most Same n = omega arith
-    at_most Gone n = omega arith
-    at_most (One other) n = omega arith
     at_most (Two left right) n = absurd n
+    at_most t n = omega arith
 
 one_longer : (before : List Entry) (below left right : Entry) (after : List Entry) → length (before ++ (left ∷ right ∷ after)) ≡ suc (length (before ++ (below ∷ after)))
 one_longer before below left right after = omega (arith, length-append before (left ∷ right ∷ after), length-append before (below ∷ after))
@@ -64,52 +61,12 @@ full_taken last old key added (suc level) entry end from to left right (named, b
         let e = ap (λ (s : Spelled). s.next) m.4 in
         ((named, subst (λ (xs : List Entry). length xs ≡ 170) (sym falls.parts) long, below, next, falls, in_it.0), omega arith)
 
--- the key before which the first of entries in order begins is before which each of them begins
-up_to : (key : Key) (m : List Entry) (x : Entry) (a : List Entry) (end : Option Key) → AscendTo (m ++ (x ∷ a)) end → IfSome (first_or (m ++ (x ∷ a)) None) (IsBefore key)
-    → IsBefore key x.first
-up_to key [] x a end up before = before
-up_to key (y ∷ m) x a end up before = before_trans key y.first x.first before (later y m up)
-  where
-    later : (b : Entry) (m : List Entry) → AscendTo (b ∷ (m ++ (x ∷ a))) end → IsBefore b.first x.first
-    later b [] up = up.0
-    later b (c ∷ m) up = before_trans b.first c.first x.first up.0 (later c m up.1)
-
--- of entries in order a key falls to one alone
-one_place : (key : Key) (b1 : List Entry) (x1 : Entry) (a1 b2 : List Entry) (x2 : Entry) (a2 : List Entry) (end : Option Key) → b1 ++ (x1 ∷ a1) ≡ b2 ++ (x2 ∷ a2)
-    → AscendTo (b1 ++ (x1 ∷ a1)) end → AscendTo (b2 ++ (x2 ∷ a2)) end
-    → (b1 ≡ []) ⊎ (¬ (IsBefore key x1.first)) → IfSome (first_or a1 None) (IsBefore key)
-    → (b2 ≡ []) ⊎ (¬ (IsBefore key x2.first)) → IfSome (first_or a2 None) (IsBefore key) → (x1 ≡ x2) × (a1 ≡ a2)
-one_place key [] x1 a1 [] x2 a2 end e up1 up2 from1 to1 from2 to2 = (cc, cc)
-one_place key [] x1 a1 (y ∷ b2) x2 a2 end e up1 up2 from1 to1 (inl none) to2 = let no : y ∷ b2 ≡ [] = none in cc
-one_place key [] x1 a1 (y ∷ b2) x2 a2 end e up1 up2 from1 to1 (inr not) to2 =
-    let rest : a1 ≡ b2 ++ (x2 ∷ a2) = cc in
-    absurd (not (up_to key b2 x2 a2 end up2.1 (subst (λ (xs : List Entry). IfSome (first_or xs None) (IsBefore key)) rest to1)))
-one_place key (x ∷ b1) x1 a1 [] x2 a2 end e up1 up2 (inl none) to1 from2 to2 = let no : x ∷ b1 ≡ [] = none in cc
-one_place key (x ∷ b1) x1 a1 [] x2 a2 end e up1 up2 (inr not) to1 from2 to2 =
-    let rest : a2 ≡ b1 ++ (x1 ∷ a1) = (let same : x2 ∷ a2 ≡ x ∷ (b1 ++ (x1 ∷ a1)) = sym e in cc) in
-    absurd (not (up_to key b1 x1 a1 end up1.1 (subst (λ (xs : List Entry). IfSome (first_or xs None) (IsBefore key)) rest to2)))
-one_place key (x ∷ b1) x1 a1 (y ∷ b2) x2 a2 end e up1 up2 from1 to1 from2 to2 =
-    let rest : b1 ++ (x1 ∷ a1) ≡ b2 ++ (x2 ∷ a2) = cc in
-    one_place key b1 x1 a1 b2 x2 a2 end rest up1.1 up2.1 (inr (not_at x b1 x1 from1)) to1 (inr (not_at y b2 x2 from2)) to2
-  where
-    not_at : (z : Entry) (b : List Entry) (w : Entry) → (z ∷ b ≡ []) ⊎ (¬ (IsBefore key w.first)) → ¬ (IsBefore key w.first)
-    not_at z b w (inl none) = let no : z ∷ b ≡ [] = none in cc
-    not_at z b w (inr not) = not
-
-pub falls_once : (key : Key) (entries : List Entry) (end : Option Key) (x1 : Entry) (n1 : Option Key) (x2 : Entry) (n2 : Option Key) → AscendTo entries end
-    → FallsTo key entries end x1 n1 → FallsTo key entries end x2 n2 → (x1 ≡ x2) × (n1 ≡ n2)
-falls_once key entries end x1 n1 x2 n2 up f1 f2 =
-    let up1 : AscendTo (f1.before ++ (x1 ∷ f1.after)) end = subst (λ (xs : List Entry). AscendTo xs end) f1.parts up in
-    let up2 : AscendTo (f2.before ++ (x2 ∷ f2.after)) end = subst (λ (xs : List Entry). AscendTo xs end) f2.parts up in
-    let same = one_place key f1.before x1 f1.after f2.before x2 f2.after end (sym f1.parts ∙ f2.parts) up1 up2 f1.from f1.to f2.from f2.to in
-    (same.0, f1.next_is ∙ (ap (λ (xs : List Entry). first_or xs end) same.1 ∙ sym f2.next_is))
-
 -- where each page on the way is full, what gets another one behind it becomes two
 pub full_parts : (last : ℕ) (old : List (List ℕ)) (key : Key) (added : Entry) (level : ℕ) (entry : Entry) (end : Option Key) (from to : Spelled) (told : Told)
     → IsFullWay last old key level entry end → Turns last old key (Some added) level entry end from to told → (left : Entry) × (right : Entry) × (told ≡ Two left right)
 full_parts last old key added zero entry end from to told full h = (entry, added, h.0)
 full_parts last old key added (suc level) entry end from to told (named1, count, x1, n1, falls1, way) (named, below, next, falls, middle, news, turns, mends) =
-    let same = falls_once key (entries_of old entry.page) end x1 n1 below next named.fits.ascends falls1 falls in
+    let same = falls_once key (entries_of old entry.page) end named.fits.ascends x1 n1 falls1 below next falls in
     let way_below : IsFullWay last old key level below next =
     subst (λ (e : Entry). IsFullWay last old key level e next) same.0 (subst (λ (o : Option Key). IsFullWay last old key level x1 o) same.1 way) in
     let two = full_parts last old key added level below next from middle news way_below turns in
@@ -128,9 +85,7 @@ full_parts last old key added (suc level) entry end from to told (named1, count,
 pub mends_or : (level : ℕ) (entry : Entry) (before : List Entry) (below : Entry) (after : List Entry) (news : Told) (from to : Spelled) (told : Told)
     → Mends level entry before below after news from to told → ((news ≡ Same) × (told ≡ Same) × (to ≡ from)) ⊎ Spreads level entry (before ++ (named_as news below ++ after)) from to told
 mends_or level entry before below after Same from to told h = inl (refl, h.0, h.1)
-mends_or level entry before below after Gone from to told h = inr h
-mends_or level entry before below after (One other) from to told h = inr h
-mends_or level entry before below after (Two left right) from to told h = inr h
+mends_or level entry before below after news from to told h = inr h
 
 -- no page is given back
 pub mends_next : (level : ℕ) (entry : Entry) (before : List Entry) (below : Entry) (after : List Entry) (news : Told) (from to : Spelled) (told : Told)
@@ -185,7 +140,7 @@ takes_all last old key added (suc level) entry end from to told full (inl all) h
     let count = all.0 in
     omega arith
 takes_all last old key added (suc level) entry end from to told full (inr (named1, room, x1, n1, falls1, ends)) (named, below, next, falls, middle, news, turns, mends) =
-    let same = falls_once key (entries_of old entry.page) end x1 n1 below next named.fits.ascends falls1 falls in
+    let same = falls_once key (entries_of old entry.page) end named.fits.ascends x1 n1 falls1 below next falls in
     let ends_below : EndsFull last old key level below next full =
     subst (λ (e : Entry). EndsFull last old key level e next full) same.0 (subst (λ (o : Option Key). EndsFull last old key level x1 o full) same.1 ends) in
     let in_it = takes_all last old key added level below next from middle news full ends_below turns in

@@ -1,5 +1,5 @@
 -- The pages of a table: none serves twice, and none does after a change. Where a change stands in the list of regions.
-use Rattle.std.proofs.Common.{false, None, ◌≡◌, ◌≢◌, ◌≤◌, ◌<◌, ◌+◌, ◌∙◌, inl, ℕ, zero, suc, List, [], ◌∷◌, ◌++◌, Some, length, take, drop, nat_eq, ap, sym, subst, refl, arith, slice_get}
+use Rattle.std.proofs.Common.{false, None, ◌≡◌, ◌≢◌, ◌≤◌, ◌<◌, ◌+◌, ◌∙◌, inl, ℕ, suc, List, [], ◌∷◌, ◌++◌, Some, length, take, drop, nat_eq, ap, sym, subst, refl, arith, slice_get}
 use Rattle.std.proofs.lemmas.Bool.{ne_eqb}
 use Rattle.std.proofs.lemmas.List.{length-append}
 use Rattle.std.specs.List.{AllByRecursion, IsDistinct}
@@ -16,6 +16,7 @@ use Rattle.ub_index_change.specs.Preparing.{ChangeView, IsForeign, added_at}
 use Rattle.ub_index.specs.View.{IsReachedOnce, pages_of_index, IndexView, IsIndexOn, IsRegionAt, entries_in, entry_at}
 use Rattle.ub_region.specs.declared.region.Region.{Region}
 use Rattle.ub_index.proofs.Numbers.{apart_swap, distinct_apart, distinct_first, distinct_join, distinct_left, distinct_right, outside_less, within_store}
+use Rattle.ub_index.proofs.IndexFacts.{first_at}
 use Rattle.ub_index.proofs.PlaceFacts.{index_of_first}
 use Rattle.ub_index_change.proofs.ReadyFacts.{some_page}
 
@@ -129,11 +130,6 @@ key_in : (before : List Entry) (f : Entry) (after : List Entry) → slice_get (f
 key_in [] f after = refl
 key_in (x ∷ before) f after = key_in before f after
 
-key_at : (entries : List Entry) (i : ℕ) (e : Entry) → slice_get entries i ≡ Some e → slice_get (first_keys entries) i ≡ Some e.first
-key_at [] i e at = cc
-key_at (x ∷ entries) zero e at = let same : x ≡ e = cc in ap (λ (y : Entry). Some y.first) same
-key_at (x ∷ entries) (suc i) e at = key_at entries i e at
-
 put_there : (before fs : List Entry) (f : Entry) (after : List Entry)
     → before ++ (fs ++ after) ≡ take (length before) (before ++ (f ∷ after)) ++ (fs ++ drop (suc (length before)) (before ++ (f ∷ after)))
 put_there [] fs f after = refl
@@ -147,7 +143,7 @@ replaced_at last entries new i region fs places at r =
     subst (λ (xs : List Entry). slice_get (first_keys xs) (length r.before) ≡ Some region.first) (sym r.was) (key_in r.before (entry_at region) r.after) in
     let same : length r.before ≡ i =
     sym (index_of_first (first_keys entries) (length r.before) region.first places.2 here)
-    ∙ index_of_first (first_keys entries) i region.first places.2 (key_at entries i (entry_at region) at.entry) in
+    ∙ index_of_first (first_keys entries) i region.first places.2 (first_at entries i (entry_at region) at.entry) in
     let parts : r.before ++ (fs ++ r.after) ≡ take (length r.before) entries ++ (fs ++ drop (suc (length r.before)) entries) =
     subst (λ (xs : List Entry). r.before ++ (fs ++ r.after) ≡ take (length r.before) xs ++ (fs ++ drop (suc (length r.before)) xs)) (sym r.was)
     (put_there r.before fs (entry_at region) r.after) in

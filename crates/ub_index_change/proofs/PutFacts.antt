@@ -62,10 +62,8 @@ put_fault T sheets i sheet a b store.NoPage at same pages or device missing coun
     let past = missing refl in
     let below = sheet_at (λ s. s.number < count) sheets i sheet at all in
     (omega arith, i, sheet, at, subst (λ (n : ℕ). n ≤ sheet.number) pages past)
-put_fault T sheets i sheet a b store.Memory at same pages (inl e) device missing count all = cc
-put_fault T sheets i sheet a b store.Memory at same pages (inr e) device missing count all = cc
-put_fault T sheets i sheet a b store.BadSize at same pages (inl e) device missing count all = cc
-put_fault T sheets i sheet a b store.BadSize at same pages (inr e) device missing count all = cc
+put_fault T sheets i sheet a b fault at same pages (inl e) device missing count all = cc
+put_fault T sheets i sheet a b fault at same pages (inr e) device missing count all = cc
 
 -- a page of an index that is put leaves the pages that are held checked: it is held in the place of one, or isn't
 pub put_keeps : (last : ℕ) (sheets : List Sheet) (i : ℕ) (sheet : Sheet) (old mid new : PagerView) → new.store.honest ≡ mid.store.honest → slice_get sheets i ≡ Some sheet

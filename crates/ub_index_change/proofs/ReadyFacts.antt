@@ -39,6 +39,7 @@ use Rattle.ub_index_change.proofs.SheetNumbers.{no_new_left, once_join}
 use Rattle.ub_index.proofs.OrderFacts.{first_through, under_first}
 use Rattle.ub_index.proofs.PlaceFacts.{region_found}
 use Rattle.ub_index.proofs.SearchFacts.{err_is, pager_with, same_store}
+use Rattle.ub_index.proofs.WaysFacts.{whole_below}
 use Rattle.ub_index_change.proofs.SpreadFacts.{root_told}
 use Rattle.ub_index_change.proofs.TurnFacts.{Risen, rises, unspelled_left}
 
@@ -140,8 +141,7 @@ pub leads_entry : (last : ℕ) (pages : List (List ℕ)) (key : Key) (level : �
     → LeadsTo last pages key level entry end found next → IsEntry last found
 leads_entry last pages key zero entry end found next whole h = subst (λ (e : Entry). IsEntry last e) (sym h.0) whole
 leads_entry last pages key (suc level) entry end found next whole (named, below, after, falls, leads) =
-    let all : AllByRecursion (IsEntry last) (falls.before ++ (below ∷ falls.after)) = subst (λ (xs : List Entry). AllByRecursion (IsEntry last) xs) falls.parts named.fits.is.is.entries in
-    leads_entry last pages key level below after found next (all_right (IsEntry last) falls.before (below ∷ falls.after) all).0 leads
+    leads_entry last pages key level below after found next (whole_below last pages key (suc level) entry end below after named falls) leads
 
 -- a root's entry is in range, where its page is reached once and isn't the first
 pub root_entry : (last : ℕ) (pages : List (List ℕ)) (root level : ℕ) → 1 ≤ level → length pages < 4294967296 → IsDistinct nat_eq (0 ∷ pages_under pages level (top root))

@@ -15,12 +15,10 @@ use Rattle.ub_index.proofs.StandFacts.{put_get}
 use Rattle.ub_index.proofs.WayFacts.{named_not_refused}
 
 put_other : (pages : List (List ℕ)) (n m : ℕ) (page : List ℕ) → m ≢ n → slice_get (slice_set pages n page) m ≡ slice_get pages m
-put_other [] zero m page h = refl
 put_other [] (suc n) m page h = refl
 put_other (p ∷ pages) zero zero page h = absurd (h refl)
-put_other (p ∷ pages) zero (suc m) page h = refl
-put_other (p ∷ pages) (suc n) zero page h = refl
 put_other (p ∷ pages) (suc n) (suc m) page h = put_other pages n m page (λ e. h (ap (λ (k : ℕ). suc k) e))
+put_other pages n m page h = refl
 
 -- the pages with the sheets put
 abbrev pub with_sheets : List (List ℕ) → List Sheet → List (List ℕ)

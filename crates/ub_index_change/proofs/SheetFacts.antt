@@ -26,6 +26,7 @@ use Rattle.ub_index_change.proofs.Changes.{ascend_mended, begun_before, begun_jo
 use Rattle.ub_index.proofs.LeadFacts.{one_way}
 use Rattle.ub_index_change.proofs.FullFacts.{mends_or, settles_or}
 use Rattle.ub_index_change.proofs.ReadyFacts.{added_fine, leads_entry}
+use Rattle.ub_index.proofs.WaysFacts.{end_below, up_below, whole_below}
 use Rattle.ub_index.proofs.Lists.{ascend_later, ascend_left, ascend_right}
 use Rattle.ub_index_change.proofs.SpreadFacts.{new_sheets, node_so, nodes_so, spread_named, spread_next, spread_sheets}
 use Rattle.ub_index.proofs.StandFacts.{node, node_is}
@@ -94,17 +95,8 @@ module _ (last : ℕ) (small : last < 2 ^ 128) (pages : List (List ℕ)) (key : 
   up_all : AscendTo (falls.before ++ (below ∷ falls.after)) end
   up_all = subst (λ (xs : List Entry). AscendTo xs end) falls.parts named.fits.ascends
 
-  from_below : AscendTo (below ∷ falls.after) end
-  from_below = ascend_right falls.before (below ∷ falls.after) end up_all
-
   all_parts : AllByRecursion (IsEntry last) (falls.before ++ (below ∷ falls.after))
   all_parts = subst (λ (xs : List Entry). AllByRecursion (IsEntry last) xs) falls.parts named.fits.is.is.entries
-
-  pub below_whole : IsEntry last below
-  below_whole = (all_right (IsEntry last) falls.before (below ∷ falls.after) all_parts).0
-
-  pub below_before : IfSome next (IsBefore below.first)
-  below_before = subst (λ (o : Option Key). IfSome o (IsBefore below.first)) (sym falls.next_is) from_below.0
 
   high : suc level ≤ 16
   high = let h = named.fits.is.is.high in let e : (node_on (page_in pages entry.page)).level ≡ suc level = named.fits.level_is in omega arith
@@ -124,7 +116,7 @@ module _ (last : ℕ) (small : last < 2 ^ 128) (pages : List (List ℕ)) (key : 
   mended_later : (t : Told) → IsOrderly last below next t → BeginFrom entry.first (mended t)
   mended_later t o =
       first_of below falls.before (named_as t below) falls.after entry.first (subst (λ (xs : List Entry). first_or xs None ≡ Some entry.first) falls.parts named.fits.begins) o.later
-      (ascend_later (below ∷ falls.after) end None from_below (no_end end))
+      (ascend_later (below ∷ falls.after) end None (up_below last pages key (suc level) entry end below next named falls) (no_end end))
 
   module _ (good : AreIndexPages last middle.sheets) (grown : from.next ≤ middle.next) where
     spread : (t : Told) → IsOrderly last below next t → Spreads (suc level) entry (mended t) middle to told
@@ -161,8 +153,7 @@ turned last small pages key added zero entry end from to told some is before fin
     )
 turned last small pages key added (suc level) entry end from to told some is before fine good (named, below, next, falls, middle, news, turns, mends) =
     let r = turned last small pages key added level below next from middle news some
-    (below_whole last small pages key level entry end from middle to told some is before named below next falls)
-    (below_before last small pages key level entry end from middle to told some is before named below next falls)
+    (whole_below last pages key (suc level) entry end below next named falls) (end_below last pages key (suc level) entry end below next named falls)
     (λ found after leads. fine found after (named, below, next, falls, leads)) good turns in
     turned_up last small pages key level entry end from middle to told some is before named below next falls r.1 r.2 news r.0 mends
 

@@ -18,11 +18,12 @@ use Rattle.ub_index_change.specs.declared.sheet.Sheet.{Sheet}
 use Rattle.ub_index_change.specs.declared.told.Told.{Told}
 use Rattle.ub_index_change.specs.declared.told.Told.TheVariants.{Same, Gone, One, Two}
 use Rattle.ub_index.proofs.KeyFacts.{le_trans}
-use Rattle.ub_index.proofs.Lists.{IsNotBefore, ascend_first, ascend_later, ascend_right, first_append}
+use Rattle.ub_index.proofs.LeadFacts.{falls_once}
+use Rattle.ub_index.proofs.Lists.{IsNotBefore, ascend_first, ascend_later, first_append}
 use Rattle.ub_index.proofs.WayFacts.{before_found}
-use Rattle.ub_index.proofs.WaysFacts.{ends_from, first_up_to}
+use Rattle.ub_index.proofs.WaysFacts.{end_below, ends_from, from_above, up_below}
 use Rattle.ub_index_change.proofs.Changes.{no_end}
-use Rattle.ub_index_change.proofs.FullFacts.{falls_once, mends_next}
+use Rattle.ub_index_change.proofs.FullFacts.{mends_next, mends_or}
 use Rattle.ub_index_change.proofs.SheetFacts.{first_named}
 use Rattle.ub_index_change.proofs.SheetNumbers.{once_join}
 use Rattle.ub_index_change.proofs.SpreadFacts.{new_sheets, spread_apart, spread_once, spread_sheets}
@@ -51,10 +52,6 @@ rest_later (z ∷ m) xs ys end later h = not_before_self z.first
 pub first_there : (m : List Entry) (x : Entry) (a : List Entry) (end : Option Key) → (first : Key) × (first_or (m ++ (x ∷ a)) end ≡ Some first)
 first_there [] x a end = (x.first, refl)
 first_there (y ∷ m) x a end = (y.first, refl)
-
-pub with_none : (m : List Entry) (x : Entry) (a : List Entry) (end : Option Key) → first_or (m ++ (x ∷ a)) end ≡ first_or (m ++ (x ∷ a)) None
-with_none [] x a end = refl
-with_none (y ∷ m) x a end = refl
 
 pub no_parts : (b : List Entry) (x : Entry) (a : List Entry) → b ++ (x ∷ a) ≡ [] → ⊥
 no_parts [] x a e = cc
@@ -100,9 +97,8 @@ BeginsStill _ entry = ⊥
 
 pub still_first : (told : Told) (entry : Entry) (after : List Entry) (end : Option Key) → BeginsStill told entry → first_or (named_as told entry ++ after) end ≡ Some entry.first
 still_first Same entry after end h = refl
-still_first Gone entry after end h = absurd h
-still_first (One other) entry after end h = absurd h
 still_first (Two left right) entry after end h = ap (λ (k : Key). Some k) h
+still_first told entry after end h = absurd h
 
 spread_still : (level : ℕ) (entry : Entry) (entries : List Entry) (from to : Spelled) (told : Told) → Spreads level entry entries from to told → first_or entries None ≡ Some entry.first → BeginsStill told entry
 spread_still level entry entries from to Same h begins = tt
@@ -119,14 +115,6 @@ spread_begins level entry entries end from to Gone h = ap (λ (xs : List Entry).
 spread_begins level entry entries end from to (One other) h = sym (first_end entries other.first end h.2.begins)
 spread_begins level entry entries end from to (Two left right) h =
     sym (first_named entry.page (take 86 entries) (drop 86 entries) left end h.2) ∙ ap (λ (xs : List Entry). first_or xs end) (take-append-drop 86 entries)
-
--- a page's entries, one of which became what is told, are as they were, or are spread
-pub mends_or : (level : ℕ) (entry : Entry) (before : List Entry) (below : Entry) (after : List Entry) (news : Told) (middle to : Spelled) (told : Told) → Mends level entry before below after news middle to told
-    → ((news ≡ Same) × (told ≡ Same) × (to ≡ middle)) ⊎ Spreads level entry (before ++ (named_as news below ++ after)) middle to told
-mends_or level entry before below after Same middle to told m = inl (refl, m.0, m.1)
-mends_or level entry before below after Gone middle to told m = inr m
-mends_or level entry before below after (One other) middle to told m = inr m
-mends_or level entry before below after (Two left right) middle to told m = inr m
 
 -- ---- where a page of the index stood
 
@@ -165,10 +153,9 @@ module _ (last : ℕ) (old : List (List ℕ)) where
   -- what is spread is spelled on the entry's page, and on a new one
   of_new : (P : ℕ → Type 0) (level : ℕ) (entry : Entry) (entries : List Entry) (from to : Spelled) (told : Told) → Spreads level entry entries from to told → P entry.page → (from.next < to.next → P from.next)
       → AllByRecursion (λ s. P s.number) (new_sheets level entry entries from.next told)
-  of_new P level entry entries from to Same m h k = (h, tt)
   of_new P level entry entries from to Gone m h k = tt
-  of_new P level entry entries from to (One other) m h k = (h, tt)
   of_new P level entry entries from to (Two left right) m h k = (k (let e = ap (λ (s : Spelled). s.next) m.4 in omega arith), (h, tt))
+  of_new P level entry entries from to told m h k = (h, tt)
 
   -- and what is spelled after the entry below has become what is told
   pub mends_new : (level : ℕ) (entry : Entry) (before : List Entry) (below : Entry) (after : List Entry) (news : Told) (middle to : Spelled) (told : Told) (P : ℕ → Type 0) → P entry.page
@@ -201,18 +188,8 @@ module _ (last : ℕ) (old : List (List ℕ)) where
         omega (arith, grown, up_to),
       )
     where
-      up_all : AscendTo (falls.before ++ (below ∷ falls.after)) end
-      up_all = subst (λ (xs : List Entry). AscendTo xs end) falls.parts named.fits.ascends
-
-      up : AscendTo (below ∷ falls.after) end
-      up = ascend_right falls.before (below ∷ falls.after) end up_all
-
       below_end : IfSome next (IsBefore below.first)
-      below_end = subst (λ (o : Option Key). IfSome o (IsBefore below.first)) (sym falls.next_is) up.0
-
-      from_entry : ¬ (IsBefore below.first entry.first)
-      from_entry = first_up_to falls.before below falls.after end up_all entry.first
-          (with_none falls.before below falls.after end ∙ subst (λ (xs : List Entry). first_or xs None ≡ Some entry.first) falls.parts named.fits.begins)
+      below_end = end_below last old key (suc level) entry end below next named falls
 
       wider : (m : ℕ) → middle.next ≤ to.next → IsSpelledIn old level below.first next from.next middle.next m → IsSpelledIn old (suc level) entry.first end from.next to.next m
       wider m up_to (inr new) = inr (new.0, omega (arith, new.1, up_to))
@@ -221,8 +198,8 @@ module _ (last : ℕ) (old : List (List ℕ)) where
         low = (let l = h.low in omega arith);
         begin = h.begin;
         begins = h.begins;
-        from = le_trans entry.first below.first h.begin from_entry h.from;
-        to = end_up falls.after end h.begin up.1 (subst (λ (o : Option Key). IfSome o (IsBefore h.begin)) falls.next_is h.to);
+        from = le_trans entry.first below.first h.begin (from_above last old key (suc level) entry end below next named falls) h.from;
+        to = end_up falls.after end h.begin (up_below last old key (suc level) entry end below next named falls).1 (subst (λ (o : Option Key). IfSome o (IsBefore h.begin)) falls.next_is h.to);
       })
 
   -- the page of an entry isn't spelled on the way below it
@@ -251,7 +228,7 @@ module _ (last : ℕ) (old : List (List ℕ)) where
   pub way_below : (key : Key) (level : ℕ) (entry : Entry) (end : Option Key) (below : Entry) (next : Option Key) (f : Entry) (nf : Option Key) → FallsTo key (entries_of old entry.page) end below next
       → LeadsTo last old key (suc level) entry end f nf → LeadsTo last old key level below next f nf
   way_below key level entry end below next f nf falls (named, bf, xf, falls_f, leads) =
-      let one = falls_once key (entries_of old entry.page) end bf xf below next named.fits.ascends falls_f falls in
+      let one = falls_once key (entries_of old entry.page) end named.fits.ascends bf xf falls_f below next falls in
       subst (λ (o : Option Key). LeadsTo last old key level below o f nf) one.1 (subst (λ (e : Entry). LeadsTo last old key level e xf f nf) one.0 leads)
 
   -- what an entry becomes begins where it began, unless a region's entry goes that was the first
@@ -325,8 +302,7 @@ module _ (last : ℕ) (old : List (List ℕ)) where
       by_below (turned_once key added level below next from middle news empty room below_end turns)
     where
       below_end : IfSome next (IsBefore below.first)
-      below_end = subst (λ (o : Option Key). IfSome o (IsBefore below.first)) (sym falls.next_is)
-          (ascend_right falls.before (below ∷ falls.after) end (subst (λ (xs : List Entry). AscendTo xs end) falls.parts named.fits.ascends)).0
+      below_end = end_below last old key (suc level) entry end below next named falls
 
       in_it : AllByRecursion (λ s. IsSpelledIn old level below.first next from.next middle.next s.number) middle.sheets × (from.next ≤ middle.next)
       in_it = spelled_within key added level below next from middle news empty below_end turns

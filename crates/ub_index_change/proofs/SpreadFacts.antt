@@ -4,7 +4,7 @@ use Rattle.std.proofs.lemmas.List.{append-nil, length-drop, length-take-le}
 use Rattle.std.proofs.lemmas.Grind.{flat_map-append}
 use Rattle.std.specs.List.{AllByRecursion, IsDistinct, flat_map}
 use Rattle.ub_page.specs.Index.{IsNode, index_page}
-use Rattle.ub_page.specs.Entries.{AreAscending, IsEntry}
+use Rattle.ub_page.specs.Entries.{IsEntry}
 use Rattle.ub_region.specs.declared.entry.Entry.{Entry}
 use Rattle.ub_region.proofs.Laws.{all_left, all_right}
 use Rattle.ub_table.specs.Keys.{origin}
@@ -18,8 +18,8 @@ use Rattle.ub_index_change.specs.declared.told.Told.{Told}
 use Rattle.ub_index_change.specs.declared.told.Told.TheVariants.{Same, Gone, One, Two}
 use Rattle.ub_index.proofs.Numbers.{distinct_cons}
 use Rattle.ub_index_change.proofs.SheetNumbers.{distinct_put, outside_put}
-use Rattle.ub_index.proofs.Lists.{ascend_left, ascend_right}
-use Rattle.ub_index.proofs.StandFacts.{node, told_there}
+use Rattle.ub_index.proofs.Lists.{ascend_left, ascend_right, ascending_of}
+use Rattle.ub_index.proofs.StandFacts.{node, some_entries, told_there}
 
 -- what is spelled of entries that are named so
 abbrev pub new_sheets : ℕ → Entry → List Entry → ℕ → Told → List Sheet
@@ -44,9 +44,7 @@ spread_next level entry entries from to (Two left right) h = let e = ap (λ (s :
 
 pub spread_outside : (level : ℕ) (entry : Entry) (entries : List Entry) (from to : Spelled) (told : Told) → Spreads level entry entries from to told → (n : ℕ) → n ≢ entry.page
     → IsNoNew from.next to.next n → IsUnspelled n (new_sheets level entry entries from.next told)
-spread_outside level entry entries from to Same h n p q = (p, tt)
 spread_outside level entry entries from to Gone h n p q = tt
-spread_outside level entry entries from to (One other) h n p q = (p, tt)
 spread_outside level entry entries from to (Two left right) h n p q =
     let same = ap (λ (s : Spelled). s.next) h.4 in (
       (λ e. elim q [
@@ -55,39 +53,29 @@ spread_outside level entry entries from to (Two left right) h n p q =
       ]),
       (p, tt),
     )
+spread_outside level entry entries from to told h n p q = (p, tt)
 
 -- each number is spelled once
 pub spread_once : (level : ℕ) (entry : Entry) (entries : List Entry) (next : ℕ) (told : Told) → entry.page < next → AreOnce (new_sheets level entry entries next told)
-spread_once level entry entries next Same less = (tt, tt)
 spread_once level entry entries next Gone less = tt
-spread_once level entry entries next (One other) less = (tt, tt)
 spread_once level entry entries next (Two left right) less = (((λ e. omega arith), tt), (tt, tt))
+spread_once level entry entries next told less = (tt, tt)
 
 pub spread_apart : (level : ℕ) (entry : Entry) (entries : List Entry) (next : ℕ) (told : Told) (sheets : List Sheet) → IsUnspelled entry.page sheets → IsUnspelled next sheets
     → AllByRecursion (λ (y : Sheet). IsUnspelled y.number sheets) (new_sheets level entry entries next told)
-spread_apart level entry entries next Same sheets p q = (p, tt)
 spread_apart level entry entries next Gone sheets p q = tt
-spread_apart level entry entries next (One other) sheets p q = (p, tt)
 spread_apart level entry entries next (Two left right) sheets p q = (q, (p, tt))
-
-ascending_up : (xs : List Entry) (end : Option Key) → AscendTo xs end → AreAscending xs
-ascending_up [] end h = tt
-ascending_up (x ∷ []) end h = tt
-ascending_up (x ∷ y ∷ xs) end h = (h.0, ascending_up (y ∷ xs) end h.1)
-
-some_there : (entries : List Entry) (first : Key) → first_or entries None ≡ Some first → 1 ≤ length entries
-some_there [] first h = cc
-some_there (x ∷ xs) first h = omega arith
+spread_apart level entry entries next told sheets p q = (p, tt)
 
 pub node_so : (last level : ℕ) (entries : List Entry) (end : Option Key) (first : Key) → suc level ≤ 16 → first_or entries None ≡ Some first → length entries ≤ 170
     → AllByRecursion (IsEntry last) entries → AscendTo entries end → IsNode last (node (suc level) entries)
 node_so last level entries end first high begins few all up = record {
   low = omega arith;
   high = high;
-  some = some_there entries first begins;
+  some = some_entries entries first begins;
   few = few;
   entries = all;
-  ascending = ascending_up entries end up;
+  ascending = ascending_of entries end up;
 }
 
 -- the two pages on which entries are spread that are one more than a page has

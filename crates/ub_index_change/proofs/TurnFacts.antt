@@ -20,8 +20,9 @@ use Rattle.ub_index_change.specs.declared.told.Told.{Told}
 use Rattle.ub_index_change.specs.declared.told.Told.TheVariants.{Same}
 use Rattle.ub_index.proofs.KeptFacts.{kept_named, same_entries}
 use Rattle.ub_index_change.proofs.Changes.{ascend_mended, stays}
-use Rattle.ub_index.proofs.Lists.{ascend_right, each_right}
-use Rattle.ub_index.proofs.Numbers.{StandApart, apart_swap, distinct_apart, distinct_cons, distinct_first, distinct_join, distinct_left, distinct_rest, distinct_right, kept_pages_list, outside_less, within_store}
+use Rattle.ub_index.proofs.Lists.{each_right}
+use Rattle.ub_index.proofs.WaysFacts.{up_below, whole_below}
+use Rattle.ub_index.proofs.Numbers.{StandApart, apart_swap, distinct_apart, distinct_cons, distinct_first, distinct_join, distinct_left, distinct_rest, distinct_right, kept_pages_list, no_pages, outside_less, within_store}
 use Rattle.ub_index_change.proofs.FullFacts.{mends_or}
 use Rattle.ub_index_change.proofs.SheetNumbers.{no_new_left, no_new_right, once_join}
 use Rattle.ub_index_change.proofs.SpreadFacts.{ToldOn, new_sheets, one_pages, pages_among, pages_own, spread_apart, spread_named, spread_next, spread_once, spread_outside, spread_sheets, stand_told, told_spread}
@@ -96,9 +97,6 @@ module _ (last : ℕ) (small : last < 2 ^ 128) (old : List (List ℕ)) (key : Ke
     under_below =
         (each_right (IsUnder last old level) falls.before (below ∷ falls.after) end (subst (λ (xs : List Entry). EachTo (IsUnder last old level) xs end) falls.parts is.1)).0
 
-    up_below : AscendTo (below ∷ falls.after) end
-    up_below = ascend_right falls.before (below ∷ falls.after) end (subst (λ (xs : List Entry). AscendTo xs end) falls.parts is.0.fits.ascends)
-
     entries_all : AllByRecursion (IsEntry last) (falls.before ++ (below ∷ falls.after))
     entries_all = subst (λ (xs : List Entry). AllByRecursion (IsEntry last) xs) falls.parts is.0.fits.is.is.entries
 
@@ -117,9 +115,6 @@ module _ (last : ℕ) (small : last < 2 ^ 128) (old : List (List ℕ)) (key : Ke
     pub below_under : IsUnder last old level below next
     below_under = subst (λ (o : Option Key). IsUnder last old level below o) (sym falls.next_is) under_below
 
-    pub below_whole : IsEntry last below
-    below_whole = (all_right (IsEntry last) falls.before (below ∷ falls.after) entries_all).0
-
     pub below_distinct : IsDistinct nat_eq (pages_under old level below)
     below_distinct = distinct_left B C (distinct_right A (B ++ C) apart)
 
@@ -132,7 +127,7 @@ module _ (last : ℕ) (small : last < 2 ^ 128) (old : List (List ℕ)) (key : Ke
 
       stays_below : (later : List (List ℕ)) → Stand later r.sheets → StayBut old later r.sheets B → Stays last later level below (first_or falls.after end) (named_as news below)
       stays_below later stand stay =
-          stays last old later r.found (named_as (with_added added r.found) r.found) r.next level below (first_or falls.after end) (named_as news below) fine.up fine.later up_below.0 under_below
+          stays last old later r.found (named_as (with_added added r.found) r.found) r.next level below (first_or falls.after end) (named_as news below) fine.up fine.later (up_below last old key (suc level) entry end below next is.0 falls).0 under_below
           (becomes_below later stand stay)
 
       -- the entries of the page from then on
@@ -335,10 +330,6 @@ module _ (last : ℕ) (small : last < 2 ^ 128) (old : List (List ℕ)) (key : Ke
         | inr spread ↦ rise_spread to told spread
       ]
 
-  no_pages : (later : List (List ℕ)) (xs : List Entry) → flat_map (pages_under later zero) xs ≡ []
-  no_pages later [] = refl
-  no_pages later (x ∷ xs) = no_pages later xs
-
   rise_here : (entry : Entry) (end : Option Key) (from : Spelled) → IsFine last added entry end → Risen last old key added zero entry end from from (with_added added entry)
   unfolding IsDistinct
   rise_here entry end from fine = record {
@@ -362,7 +353,7 @@ module _ (last : ℕ) (small : last < 2 ^ 128) (old : List (List ℕ)) (key : Ke
   rises zero entry end from to told room is whole distinct fine (told_is, same) =
       rw (told_is, same) (rise_here entry end from (fine entry end (refl, refl)))
   rises (suc level) entry end from to told room is whole distinct fine (named, below, next, falls, middle, news, turns, mends) =
-      let r = rises level below next from middle news room (below_under level entry below end next from room is distinct falls) (below_whole level entry below end next from room is distinct falls)
+      let r = rises level below next from middle news room (below_under level entry below end next from room is distinct falls) (whole_below last old key (suc level) entry end below next named falls)
       (below_distinct level entry below end next from room is distinct falls) (λ found after leads. fine found after (named, below, next, falls, leads)) turns in
       rise level entry below end next from room is distinct falls middle news r (fine r.found r.next (named, below, next, falls, r.leads)) whole
       (named, below, next, falls, r.leads) to told mends

@@ -3,7 +3,7 @@
 use Rattle.std.proofs.Common.{rules}
 use Rattle.std.proofs.Common.{◌≡◌, ◌≢◌, ◌≤◌, ◌<◌, ◌^◌, ◌++◌, ℕ, zero, suc, List, [], ◌∷◌, Option, Some, None, IfSome, nat_eq, map, slice_get, ap, refl, sym, ◌∙◌, arith, subst}
 use Rattle.std.specs.List.{AllByRecursion, IsDistinct, flat_map}
-use Rattle.ub_check.proofs.PlacedFacts.{one_region}
+use Rattle.ub_check.proofs.PlacedFacts.{one_region, some_one}
 use Rattle.ub_index.proofs.FitFacts.{page_is}
 use Rattle.ub_index.proofs.KeyFacts.{le_trans}
 use Rattle.ub_index.proofs.Lists.{ascend_first}
@@ -35,9 +35,6 @@ pub record IsFrom (last : ℕ) (pages : List (List ℕ)) (level : ℕ) (first : 
   pub low : (node_on (page_in pages n)).level ≤ level
   pub is : IsIndexPage last (page_in pages n)
   pub some : 1 ≤ n
-
-some_key : {X : Type 0} (o : Option X) (x y : X) → o ≡ Some x → o ≡ Some y → x ≡ y
-some_key o x y a b = cc
 
 module _ (last : ℕ) (pages : List (List ℕ)) where
   -- what is before the first of entries in order is before their end
@@ -72,7 +69,7 @@ module _ (last : ℕ) (pages : List (List ℕ)) where
   -- of two lists of pages, the one before a key and the other from it on, no page is in both
   apart_at : (level : ℕ) (first key : Key) (end : Option Key) (ns ms : List ℕ) → AllByRecursion (IsFrom last pages level first (Some key)) ns
       → AllByRecursion (IsFrom last pages level key end) ms → StandApart ns ms
-  apart_at level first key end ns ms k j = search (rules, all_more, some_key)
+  apart_at level first key end ns ms k j = search (rules, all_more, some_one)
 
   apart_none : (ns : List ℕ) → StandApart ns []
   apart_none [] = tt

@@ -49,12 +49,11 @@ module _ (head : OldHeader) (from new : StoreFacts) (has : HasOldHeader from hea
   bring_fault (upgrade.Page n fault) h = λ honest _. (h.1, h.2 honest, inr (head, has, inl (h.0, h.3)))
   bring_fault (upgrade.Old store.Device) h = inl h
   bring_fault (upgrade.Old store.NoPage) h = λ _ _. (h.1, h.2, inr (head, has, inl (h.0, h.3)))
-  bring_fault (upgrade.Old store.Memory) h = tt
   bring_fault (upgrade.Old store.BadSize) h = absurd h
   bring_fault (upgrade.New store.Device) h = inr h
   bring_fault (upgrade.New store.NoPage) h = absurd h
-  bring_fault (upgrade.New store.Memory) h = tt
   bring_fault (upgrade.New store.BadSize) h = (head, has, h.0, h.1)
+  bring_fault e h = tt
 
   -- in version 2 a tree stands over the old pages as they are
   abbrev t : TreeView
@@ -78,12 +77,9 @@ module _ (head : OldHeader) (from new : StoreFacts) (has : HasOldHeader from hea
         ap (slice_get from.pages) r.1 ∙ r.2.0,
         inr (head, has, inr (t, stands_there r.0 honest, inl (subst (λ (m : ℕ). StopsTree t m (Some fault)) (sym r.1) (stops_at_root r.0 (Some fault) r.2)))),
       )
-  root_refused (upgrade.Old fault) h = absurd h
-  root_refused (upgrade.New store.Device) h = absurd h
   root_refused (upgrade.New store.NoPage) h = λ honest new_honest.
       let r = h honest new_honest in (head.header.root, r.1, inr (head, has, inr (t, stands_there r.0 honest, stops_at_root r.0 None r.1)))
-  root_refused (upgrade.New store.Memory) h = absurd h
-  root_refused (upgrade.New store.BadSize) h = absurd h
+  root_refused e h = absurd h
 
 pub table_fault : (e : UpgradeFault) (from new : StoreFacts) → IsTableFault from new e → IsUpgradeFault from new (upgrade_fault e)
 table_fault e from new h = search (rules, bring_fault, head_fault, new_fault, root_refused)

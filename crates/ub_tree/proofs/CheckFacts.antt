@@ -42,23 +42,15 @@ module _ (t : TreeView) (small : t.inner.index.last < 2 ^ 128) where
   first_once (Page n a) (Store b) h k = told_once (index.Page n a) (index.Store b) h k
   first_once (Store a) (Page m b) h k = told_once (index.Store a) (index.Page m b) h k
   first_once (Store a) (Store b) h k = told_once (index.Store a) (index.Store b) h k
-  first_once Full g h k = absurd h
-  first_once HasFailed g h k = absurd h
-  first_once Memory g h k = absurd h
-  first_once (Page n a) Full h k = absurd k
-  first_once (Page n a) HasFailed h k = absurd k
-  first_once (Page n a) Memory h k = absurd k
-  first_once (Store a) Full h k = absurd k
-  first_once (Store a) HasFailed h k = absurd k
-  first_once (Store a) Memory h k = absurd k
+  first_once (Page n a) g h k = absurd k
+  first_once (Store a) g h k = absurd k
+  first_once f g h k = absurd h
 
   -- where the pages are well there is none
   pub well_first : IsWell t → (fault : TreeFault) → ¬ (IsFirstFault t fault)
   well_first well (Page n a) h = once.well_first (asked_of t) (told_of t) small t.placed well (index.Page n a) h
   well_first well (Store a) h = once.well_first (asked_of t) (told_of t) small t.placed well (index.Store a) h
-  well_first well Full h = h
-  well_first well HasFailed h = h
-  well_first well Memory h = h
+  well_first well fault h = h
 
   -- and it is what the check answers, but for what passes
   fault_first : t.is_failed ≡ false → IsHonest t.store → (fault : TreeFault) → IsFirstFault t fault → (f : TreeFault) → IsCheckFault t f → (f ≡ fault) ⊎ IsPassing f
@@ -71,14 +63,12 @@ module _ (t : TreeView) (small : t.inner.index.last < 2 ^ 128) where
 
   -- a tree whose pages are well is checked to its end
   well_fault : t.is_failed ≡ false → IsHonest t.store → IsWell t → (f : TreeFault) → IsCheckFault t f → IsPassing f
-  well_fault works honest well Full h = absurd h
   well_fault works honest well HasFailed h = cc
   well_fault works honest well Memory h = inl refl
   well_fault works honest well (Page n fault) h = absurd (well_first well (Page n fault) (h honest))
   well_fault works honest well (Store store.Device) h = inr refl
-  well_fault works honest well (Store store.Memory) h = absurd h
-  well_fault works honest well (Store store.BadSize) h = absurd h
   well_fault works honest well (Store store.NoPage) h = absurd (well_first well (Store store.NoPage) (h honest))
+  well_fault works honest well f h = absurd h
 
   pub well_passes : {T : Type 0} (r : Result T TreeFault) → t.is_failed ≡ false → IsHonest t.store → IsWell t → IfErr r (IsCheckFault t) → IfErr r IsPassing
   well_passes (Ok x) works honest well faults = tt
@@ -110,12 +100,11 @@ module _ (schema : Schema) (index_at : IndexView) (count next rows : ℕ) (chang
     first_is f h = subst (λ (t : Told). IsFirst (asked_of tree) t f) told_is (subst (λ (a : Asked). IsFirst a told f) asked_is h)
 
     check_fault : (f : IndexFault) → IsTableFault schema told old.store f → IsCheckFault tree (index_fault f)
-    check_fault index.Full h = absurd h
     check_fault (index.Page n fault) h = λ honest. first_is (index.Page n fault) (h honest)
     check_fault (index.Store store.Memory) h = tt
     check_fault (index.Store store.Device) h = h
-    check_fault (index.Store store.BadSize) h = absurd h
     check_fault (index.Store store.NoPage) h = λ honest. first_is (index.Store store.NoPage) (h honest)
+    check_fault f h = absurd h
 
     -- the table's check is refused
     run_refused : {T U : Type 0} (r : Result T TreeFault) (f : IndexFault) → IsErrAnd r (λ x. x ≡ index_fault f)

@@ -1,6 +1,6 @@
 -- What a call leaves that calls others: a search, a refusal or a write, as a change.
 use Rattle.std.proofs.Common.{rules}
-use Rattle.std.proofs.Common.{◌≡◌, ◌≢◌, ◌<◌, ◌∙◌, ◌++◌, inl, inr, ◌⊎◌, ℕ, true, List, [], ◌∷◌, Ok, Err, Result, IfErr, OnOk, arith, sym, ap, subst, refl}
+use Rattle.std.proofs.Common.{◌≡◌, ◌≢◌, ◌<◌, ◌∙◌, ◌++◌, inl, inr, ◌⊎◌, ℕ, true, List, [], ◌∷◌, Ok, Err, Result, IfErr, OnOk, arith, sym, subst, refl}
 use Rattle.std.specs.Result.{IsErrAnd}
 use Rattle.ub_index.specs.Standing.{IsOutside}
 use Rattle.ub_index_change.specs.Changing.{IsUnspelled}
@@ -16,9 +16,7 @@ use Rattle.ub_tree.specs.Others.{AreOthersKept, KeepsOthers, WritesIndex, Writes
 use Rattle.ub_tree.specs.View.{TreeView, IsSound, regions}
 use Rattle.ub_tree.specs.declared.fault.TreeFault.{TreeFault}
 use Rattle.ub_tree.specs.declared.fault.TreeFault.TheVariants.{Full, Page, Store, Failed as HasFailed, Memory}
-use Rattle.ub_writing.specs.Marks.{HasMark, is_written}
-use Rattle.ub_writing.specs.declared.mark.Mark.{Mark}
-use Rattle.ub_writing.specs.declared.mark.Mark.TheVariants.{Written}
+use Rattle.ub_writing.specs.Marks.{HasMark}
 use Rattle.ub_tree.specs.inner.Change.{HasStopped, IsStored, IsWriteFault, MakesReady, Writes}
 use Rattle.ub_tree.specs.Told.{IsRegionOf}
 
@@ -53,11 +51,8 @@ unchanged e a left = record { frame = refl; marked = same_marked a; done = tt; l
 
 -- what any change leaves one leaves that puts in a row of this number
 left_of : (n : ℕ) (a c : TreeView) (e : TreeFault) → IsLeft a c e → IsLeftOf n a c e
-left_of n a c Full h = h
-left_of n a c HasFailed h = h
-left_of n a c Memory h = h
 left_of n a c (Page page fault) h = (λ sound free. h.0 sound, inl h.1, h.2)
-left_of n a c (Store fault) h = h
+left_of n a c e h = h
 
 all_left_of : {T : Type 0} (n : ℕ) (a c : TreeView) (r : Result T TreeFault) → IfErr r (IsLeft a c) → IfErr r (IsLeftOf n a c)
 all_left_of n a c (Ok x) h = tt
@@ -68,9 +63,6 @@ changes_of n a c r h = record { frame = h.frame; marked = h.marked; done = h.don
 
 -- and the other way round where it is the number that is next
 left_next : (n : ℕ) (a c : TreeView) (e : TreeFault) → a.next ≡ n → IsLeftOf n a c e → IsLeft a c e
-left_next n a c Full is h = h
-left_next n a c HasFailed is h = h
-left_next n a c Memory is h = h
 left_next n a c (Page page fault) is h = (
   λ sound. h.0 sound (next_free a.schema a.next n (regions a) sound.regions_are (omega arith)),
   elim h.1 [
@@ -79,7 +71,7 @@ left_next n a c (Page page fault) is h = (
   ],
   h.2,
 )
-left_next n a c (Store fault) is h = h
+left_next n a c e is h = h
 
 all_left_next : {T : Type 0} (n : ℕ) (a c : TreeView) (r : Result T TreeFault) → a.next ≡ n → IfErr r (IsLeftOf n a c) → IfErr r (IsLeft a c)
 all_left_next n a c (Ok x) is h = tt
@@ -113,11 +105,10 @@ ready_left : (e : TreeFault) (a c : TreeView) → MakesReady {A = TreeFault} a c
 ready_left Full a c h = (inr h.faults, h.same)
 ready_left HasFailed a c h = (h.faults, h.same)
 ready_left Memory a c h = subst (λ (v : TreeView). Leaves a v) (sym h.same) (same_leaves a)
-ready_left (Page page fault) a c h = (h.faults.0, h.faults.1, h.same)
 ready_left (Store store.Device) a c h = (h.faults, inl h.same)
-ready_left (Store store.NoPage) a c h = (h.faults.0, h.faults.1, h.same)
 ready_left (Store store.BadSize) a c h = (h.faults, subst (λ (v : TreeView). Leaves a v) (sym h.same) (same_leaves a))
 ready_left (Store store.Memory) a c h = absurd h.faults
+ready_left e a c h = (h.faults.0, h.faults.1, h.same)
 
 pub ready_by : {T U : Type 0} (r : Result T TreeFault) (e : TreeFault) (a c : TreeView) → IsErrAnd r (λ x. x ≡ e) → MakesReady {A = U} a c (Err e) → Changes a c r
 ready_by r e a c is h = read_left r e a c is h.same (ready_left e a c (record { same = h.same; faults = h.faults }))
@@ -163,14 +154,8 @@ module _ (a c : TreeView) (span : Region) (of : IsRegionOf a span) where
   ended fault h k = search (rules, writes_told, writes_wider)
 
   wrote_left : (fault : TreeFault) → IsWriteFault a c fault → WritesPage span.page a c → IsLeft a c fault
-  wrote_left Full h kept = absurd h
-  wrote_left HasFailed h kept = absurd h
-  wrote_left Memory h kept = absurd h
-  wrote_left (Page page fault) h kept = absurd h
   wrote_left (Store store.Device) h kept = (h.0, inr (ended (Store store.Device) h.1 kept))
-  wrote_left (Store store.NoPage) h kept = absurd h
-  wrote_left (Store store.BadSize) h kept = absurd h
-  wrote_left (Store store.Memory) h kept = absurd h
+  wrote_left e h kept = absurd h
 
   all_left_by : {T : Type 0} (r : Result T TreeFault) → IfErr r (IsWriteFault a c) → WritesPage span.page a c → IfErr r (IsLeft a c)
   all_left_by (Ok x) faults kept = tt
@@ -185,11 +170,6 @@ module _ (a c : TreeView) (span : Region) (of : IsRegionOf a span) where
 
   pub changes_by : {T U : Type 0} (r : Result T TreeFault) (e : TreeFault) → IsErrAnd r (λ x. x ≡ e) → Writes {A = U} span a c (Err e) → Changes a c r
   changes_by r e is w = left_by r e a c is (changed_by {T = TreeFault} (Err e) (record { frame = w.frame; marked = w.marked; done = tt; faults = w.faults; kept = w.kept; count = w.count }))
-
--- a mark that was written stays so
-pub mark_stays : (was now : Mark) → (now ≡ was) ⊎ (now ≡ Written) → is_written was ≡ true → is_written now ≡ true
-mark_stays was now (inl same) is = ap is_written same ∙ is
-mark_stays was now (inr written) is = ap is_written written
 
 -- nothing is told of what a call gives that was refused
 pub refused_none : {T : Type 0} (P : Type 0) (r : Result T TreeFault) (e : TreeFault) → IsErrAnd r (λ x. x ≡ e) → OnOk r P

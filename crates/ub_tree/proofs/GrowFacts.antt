@@ -1,16 +1,13 @@
 -- A row put into a tree: where its region's rows come to stand, what becomes of the table, and what a call tells of it.
-use Rattle.std.proofs.Common.{◌≡◌, ◌≢◌, ◌<◌, ◌≤◌, ◌+◌, ◌^◌, ◌∙◌, ◌++◌, ◌⊎◌, inl, inr, ℕ, zero, suc, true, false, List, [], ◌∷◌, Ok, Err, Result, IfErr, IfOk, OnOk, Option, None, Some, IfSome, length, map, take, drop, nat_le, nat_lt, sym, ap, subst, refl, arith, slice_get, append_assoc}
+use Rattle.std.proofs.Common.{◌≡◌, ◌≢◌, ◌<◌, ◌≤◌, ◌+◌, ◌^◌, ◌∙◌, ◌++◌, ◌⊎◌, inl, inr, ℕ, zero, suc, true, false, List, [], ◌∷◌, Ok, Err, Result, IfErr, IfOk, OnOk, Option, None, Some, length, map, take, drop, nat_le, nat_lt, sym, ap, subst, refl, arith, slice_get, append_assoc}
 use Rattle.std.proofs.lemmas.Bool.{cases_Bool, ltb-true, ltb-false}
 use Rattle.std.proofs.lemmas.List.Sorted.{length_permutation}
 use Rattle.std.specs.List.{AllByRecursion}
 use Rattle.std.specs.Result.{IsErrAnd}
 pub use Rattle.ub_check.proofs.CheckingFacts.{drop_at}
-use Rattle.ub_index.proofs.KeyFacts.{before_le, le_trans}
-use Rattle.ub_index.proofs.LeadFacts.{ways_hold}
-use Rattle.ub_index.proofs.WaysFacts.{ends_from, ends_to}
+use Rattle.ub_index.proofs.LeadFacts.{falls_once, falls_other, ways_hold}
 use Rattle.ub_index.specs.View.{entry_at}
-use Rattle.ub_index.specs.Index.{entries_of, first_or, top}
-use Rattle.ub_index.specs.Fitting.{FallsTo as FallsToEntry}
+use Rattle.ub_index.specs.Index.{entries_of, top}
 use Rattle.ub_index_change.specs.FullWay.{EndsFull, IsFullWay}
 use Rattle.ub_index.specs.Way.{HoldsKey, LeadsTo}
 use Rattle.ub_region.specs.declared.entry.Entry.{Entry}
@@ -19,7 +16,6 @@ use Rattle.ub_region.specs.Regions.{IsFree, firsts_of, index_holding, insert, ro
 use Rattle.ub_region.specs.Rows.{Halves, has_key, insert_row, split}
 use Rattle.ub_store.specs.Facts.{IsHonest}
 use Rattle.ub_store.specs.declared.fault.StoreFault.TheVariants as store
-use Rattle.ub_table.specs.Keys.{IsBefore}
 use Rattle.ub_table.specs.Region.{RegionRows, IsRegion, IsRow, key_of, measures_of}
 use Rattle.ub_table.specs.declared.fault.PageFault.{PageFault}
 use Rattle.ub_table.specs.declared.fault.PageFault.TheVariants.{BadCount}
@@ -31,8 +27,8 @@ use Rattle.ub_tree.proofs.HoldingFacts.{on_region, read_region}
 use Rattle.ub_tree.proofs.RemovalFacts.{IsHolder, region_stands}
 use Rattle.ub_tree.proofs.RoomFacts.{found_row, number_free, rows_each}
 use Rattle.ub_tree.proofs.ShrinkFacts.{regions_put}
-use Rattle.ub_tree.proofs.TreeFacts.{contained_at, firsts_placed, region_get, placed_there}
-use Rattle.ub_tree.proofs.WayFacts.{falls_once}
+use Rattle.ub_tree.proofs.MeetFacts.{contains_at}
+use Rattle.ub_tree.proofs.TreeFacts.{firsts_placed, region_get, placed_there}
 use Rattle.ub_tree.specs.Change.{IsInserted, IsPutIn, next_after}
 use Rattle.ub_tree.specs.Effects.{ChangesOf, HasNumber, IsTakenIn}
 use Rattle.ub_tree.specs.Holding.{Answers, AnswersKey, AnswersAt, GrowsAt, IsRoomFault}
@@ -41,12 +37,12 @@ use Rattle.ub_tree.specs.Opened.{IsPassing}
 use Rattle.ub_tree.specs.Others.{AddsEntry, KeepsEntries, WritesIndex, WritesPage}
 use Rattle.ub_tree.specs.Placed.{entry_of, regions_in}
 use Rattle.ub_tree.specs.Spans.{first_keys, Region}
-use Rattle.ub_tree.specs.Told.{FallsTo, IsRegionOf, KeepsTold}
+use Rattle.ub_tree.specs.Told.{FallsTo, IsRegionOf}
 use Rattle.ub_tree.specs.View.{TreeView, IsSound, region_count, regions}
 use Rattle.ub_tree.specs.declared.fault.TreeFault.{TreeFault}
-use Rattle.ub_tree.specs.declared.fault.TreeFault.TheVariants.{Full, Page, Store, Failed as HasFailed, Memory}
+use Rattle.ub_tree.specs.declared.fault.TreeFault.TheVariants.{Full, Page, Store}
 use Rattle.ub_region.specs.RegionPage.{RegionView}
-use Rattle.ub_tree.specs.inner.Change.{HasReadAt, IsElsewhereSame, IsPut, IsRegionIn, IsSplitAt, IsStored, KeepsGrown, StoresAt, Writes, placed_with, regions_with, split_of}
+use Rattle.ub_tree.specs.inner.Change.{HasReadAt, IsElsewhereSame, IsRegionIn, IsSplitAt, IsStored, KeepsGrown, StoresAt, placed_with, regions_with, split_of}
 use Rattle.ub_writing.specs.Marks.{HasMark}
 use Rattle.ub_zaddr.specs.Address.{last_address}
 
@@ -247,7 +243,7 @@ key_there t key span region falls on has h = (
     region,
     on,
     found.0,
-    contained_at (λ (_ : Row). Unit {0}) region.rows found.1 found.0 found.2,
+    contains_at region.rows found.1 found.0 found.2,
     found.3,
   )),
 )
@@ -273,38 +269,6 @@ passing_key a key e passing page region falls = (
 pub passing_answers_key : {A : Type 0} (a : TreeView) (key : Key) (r : Result A TreeFault) (e : TreeFault) → IsErrAnd r (λ x. x ≡ e) → IsPassing e → AnswersKey a key r
 passing_answers_key {A} a key (Ok x) e is passing = absurd is
 passing_answers_key {A} a key (Err f) e is passing = subst (λ (x : TreeFault). AnswersKey {A = A} a key (Err x)) (sym is) (passing_key a key e passing)
-
-some_first : (after : List Entry) (end : Option Key) (limit : Key) → end ≡ Some limit → (first : Key) × (first_or after end ≡ Some first)
-some_first [] end limit e = (limit, e)
-some_first (x ∷ after) end limit e = (x.first, refl)
-
--- something follows what a way leads to, where something follows what it begins with
-next_some : (last : ℕ) (pages : List (List ℕ)) (key : Key) (level : ℕ) (entry : Entry) (end : Option Key) (found : Entry) (next : Option Key) → LeadsTo last pages key level entry end found next
-    → (limit : Key) → end ≡ Some limit → (first : Key) × (next ≡ Some first)
-next_some last pages key zero entry end found next leads limit e = (limit, leads.1 ∙ e)
-next_some last pages key (suc level) entry end found next (named, below, beyond, falls, leads) limit e =
-    let middle = some_first falls.after end limit e in
-    next_some last pages key level below beyond found next leads middle.0 (falls.next_is ∙ middle.1)
-
--- each key that a region holds falls to the same entry on the way to it as one of them does
-falls_other : (last : ℕ) (pages : List (List ℕ)) (key other : Key) (level : ℕ) (entry : Entry) (end : Option Key) (found : Entry) (next : Option Key) (below : Entry) (beyond : Option Key)
-    → FallsToEntry key (entries_of pages entry.page) end below beyond → LeadsTo last pages key level below beyond found next → HoldsKey other found.first next
-    → FallsToEntry other (entries_of pages entry.page) end below beyond
-falls_other last pages key other level entry end found next below beyond falls leads h = record {
-  before = falls.before;
-  after = falls.after;
-  parts = falls.parts;
-  next_is = falls.next_is;
-  from = inr (le_trans below.first found.first other (ends_from last pages key level below beyond found next leads) h.from);
-  to = to_of falls.after falls.next_is;
-}
-  where
-    to_of : (after : List Entry) → beyond ≡ first_or after end → IfSome (first_or after None) (IsBefore other)
-    to_of [] e = tt
-    to_of (x ∷ after) e =
-        let first = next_some last pages key level below beyond found next leads x.first e in
-        let sooner : IfSome (Some first.0) (IsBefore other) = subst (λ (o : Option Key). IfSome o (IsBefore other)) first.1 h.to in
-        before_le other first.0 x.first sooner (ends_to last pages key level below beyond found next leads first.0 x.first first.1 e)
 
 -- the way to each key that a region holds is full, where one of them is
 full_way_to : (last : ℕ) (pages : List (List ℕ)) (key other : Key) (level : ℕ) (entry : Entry) (end : Option Key) (found : Entry) (next : Option Key) → LeadsTo last pages key level entry end found next
@@ -340,12 +304,6 @@ room_to : (F G : Type 0) → (F → G) → (t : TreeView) (key other : Key) (fou
     → (e : TreeFault) → IsRoomFault F t key e → IsRoomFault G t other e
 room_to F G f t key other found next leads h Full x =
     (f x.0, x.1, full_way_to t.inner.index.last t.store.pages key other t.inner.index.levels (top t.inner.index.root) None found next leads h x.2)
-room_to F G f t key other found next leads h HasFailed x = tt
-room_to F G f t key other found next leads h Memory x = tt
-room_to F G f t key other found next leads h (Page page fault) x = tt
-room_to F G f t key other found next leads h (Store store.Device) x = tt
-room_to F G f t key other found next leads h (Store store.NoPage) x = tt
-room_to F G f t key other found next leads h (Store store.Memory) x = tt
 room_to F G f t key other found next leads h (Store store.BadSize) x = (
   f x.0,
   (elim x.1 [
@@ -355,17 +313,7 @@ room_to F G f t key other found next leads h (Store store.BadSize) x = (
         inr (needs.0, (needs.1.0, ends, needs.1.2), needs.2)
   ]),
 )
-
--- it is needed where it is for another reason
-room_for : (F G : Type 0) → (F → G) → (t : TreeView) (key : Key) (e : TreeFault) → IsRoomFault F t key e → IsRoomFault G t key e
-room_for F G f t key Full x = (f x.0, x.1, x.2)
-room_for F G f t key HasFailed x = tt
-room_for F G f t key Memory x = tt
-room_for F G f t key (Page page fault) x = tt
-room_for F G f t key (Store store.Device) x = tt
-room_for F G f t key (Store store.NoPage) x = tt
-room_for F G f t key (Store store.Memory) x = tt
-room_for F G f t key (Store store.BadSize) x = (f x.0, x.1)
+room_to F G f t key other found next leads h e x = tt
 
 err_so : {A : Type 0} (P Q : TreeFault → Type 0) → ((e : TreeFault) → P e → Q e) → (r : Result A TreeFault) → IfErr r P → IfErr r Q
 err_so P Q f (Ok x) h = tt
@@ -410,17 +358,6 @@ added_answers {A} a b key span page r same read none answers honest number regio
           (room_to (length page.region.rows ≡ a.schema.page_rows) (length region.rows ≡ a.schema.page_rows) (λ full. sym long ∙ full) a span.first key (entry_at span) span.next
           (holds.2 span.first holds.1) read.falls.holds) r (h.3 honest sure),
     )
-
--- the region of a span whose page had room was put on it
-pub put_at : {T : Type 0} (r : Result T TreeFault) (old new : TreeView) (span : Region) (count : ℕ) → count ≢ old.schema.page_rows → OnOk r (IsPut old new) → OnOk r (KeepsTold old new) → Writes span old new r
-    → OnOk r (StoresAt span count old new)
-put_at (Err e) old new span count room put told writes = tt
-put_at (Ok x) old new span count room put told writes = record {
-  same = put ∙ ap (λ (v : TreeView). record old { placed = new.placed; store = new.store; is_changed = true; inner = v.inner }) (sym put);
-  others = inl (writes.kept, (told, writes.count));
-  full = λ full. absurd (room full);
-  spare = λ less. (told, writes.count);
-}
 
 -- halves of the same rows
 pub same_split : {d e p q : ℕ} {rs ss : List Row} → d ≡ e → p ≡ q → rs ≡ ss → split d p rs ≡ split e q ss

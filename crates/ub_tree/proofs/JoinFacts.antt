@@ -279,7 +279,5 @@ drop_removal t key (Err f) e is h = rw is (by_fault e h)
     by_fault : (e : IndexFault) → IsDropFault t.inner.index t.store key e → IsRemovalFault t (index_fault e)
     by_fault (index.Page n fault) h = inr (inl (key, h))
     by_fault index.Full h = absurd h.0
-    by_fault (index.Store store.Memory) h = tt
-    by_fault (index.Store store.Device) h = tt
-    by_fault (index.Store store.NoPage) h = tt
     by_fault (index.Store store.BadSize) h = absurd h.0
+    by_fault e h = tt

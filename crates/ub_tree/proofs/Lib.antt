@@ -21,7 +21,6 @@ pub mod PutFacts
 pub mod WriteFacts
 pub mod ShrinkFacts
 pub mod EffectFacts
-pub mod RefusedFacts
 pub mod FilledFacts
 pub mod PartFacts
 pub mod DropFacts

@@ -4,7 +4,7 @@ use Rattle.std.proofs.Common.{rules}
 use Rattle.std.proofs.Common.{◌≡◌, ◌<◌, ◌≤◌, inl, inr, ℕ, zero, suc, List, [], ◌∷◌, ◌++◌, Option, Some, None, IfSome, Contains, length, map, take, ◌∙◌, sym, ap, refl, arith, subst, slice_get, append_assoc}
 use Rattle.std.proofs.lemmas.Bool.{cases_lt, cases_eq}
 use Rattle.std.proofs.lemmas.Option.{slice_get_read, slice_get_within, get_or_from_slice_get, slice_get_cases}
-use Rattle.std.proofs.Math.Seq.{take-suc}
+use Rattle.ub_check.proofs.CheckingFacts.{take_at}
 use Rattle.ub_bigmin.specs.Box.{Corners}
 use Rattle.ub_region.specs.Those.{AreThose}
 use Rattle.ub_table.proofs.Laws.{not_both_before, not_before_self}
@@ -38,9 +38,6 @@ module _ {X : Type 0} where
   some_at P None x e h = cc
   some_at P (Some y) x e h = let same : y ≡ x = cc in subst P same h
 
-  pub take_next : (xs : List X) (k : ℕ) (x : X) → slice_get xs k ≡ Some x → take (suc k) xs ≡ take k xs ++ x ∷ []
-  take_next xs k x at = take-suc xs k x (slice_get_within xs k x at) ∙ ap (λ (y : X). take k xs ++ y ∷ []) (get_or_from_slice_get xs k x x at)
-
   pub take_all : (n : ℕ) (xs : List X) → length xs ≤ n → take n xs ≡ xs
   take_all n xs h = grind (arith, common_steps)
 
@@ -66,7 +63,7 @@ module _ {X : Type 0} where
           let there = there_is xs i (omega arith) in
           let x = there.0 in
           let more = those_up_to xs those i place (omega arith) (omega arith) (λ m y from below. none m y from (omega arith)) are in
-          subst (λ (ys : List X). AreThose P ys those) (sym (take_next xs i x there.1)) (those_without (take i xs) those x (none i x (omega arith) (omega arith) there.1) more)
+          subst (λ (ys : List X). AreThose P ys those) (sym (take_at xs i x there.1)) (those_without (take i xs) those x (none i x (omega arith) (omega arith) there.1) more)
     ]
 
     -- the next one that has the property
@@ -74,7 +71,7 @@ module _ {X : Type 0} where
         → AreThose P (take place xs) those → AreThose P (take (suc i) xs) (those ++ x ∷ [])
     those_next xs those i place x from at p none are =
         let within = slice_get_within xs i x at in
-        subst (λ (ys : List X). AreThose P ys (those ++ x ∷ [])) (sym (take_next xs i x at))
+        subst (λ (ys : List X). AreThose P ys (those ++ x ∷ [])) (sym (take_at xs i x at))
         (those_with (take i xs) those x p (those_up_to xs those i place from (omega arith) none are))
 
 -- ---- spans whose first keys ascend

@@ -1,9 +1,10 @@
 -- A table's pages tell of one header alone, and opening finds it and the index of which it tells.
 use Rattle.std.proofs.Common.{rules}
-use Rattle.std.proofs.Common.{◌≡◌, ℕ, false, List, [], ◌∷◌, Option, Some, map, ◌∙◌, sym, ap, subst, refl, arith, slice_get}
+use Rattle.std.proofs.Common.{◌≡◌, ℕ, false, List, [], ◌∷◌, Some, map, ◌∙◌, sym, ap, subst, refl, arith, slice_get}
 use Rattle.std.proofs.lemmas.List.Elements.{recursion_from_All}
 use Rattle.std.proofs.lemmas.Option.{slice_get_within}
 use Rattle.std.specs.List.{AllByRecursion}
+use Rattle.ub_check.proofs.PlacedFacts.{some_one}
 use Rattle.ub_index.specs.View.{IndexView, entries_under}
 use Rattle.ub_page.proofs.PageLaws.{HasParts, header_parts, region_parts, same_header, unclean_refused}
 use Rattle.ub_bytes.specs.Bytes.{number_at}
@@ -46,14 +47,11 @@ opened first header pager now made rooted stores traces =
       trace_is = traces ∙ ap (λ (p : PagerView). p.trace) made;
     }
 
-some_same : {X : Type 0} (o : Option X) (x y : X) → o ≡ Some x → o ≡ Some y → x ≡ y
-some_same o x y a b = cc
-
 headers_same : (pages : List (List ℕ)) (a b : Header) → slice_get pages 0 ≡ Some (header_page a) → IsHeader a → a.unclean ≡ false → slice_get pages 0 ≡ Some (header_page b) → IsHeader b → b.unclean ≡ false
     → AreSame a b
 headers_same pages a b at_a is_a clean_a at_b is_b clean_b =
     let on_a = header_parts a (header_page a) is_a refl in
-    let on_b = header_parts b (header_page a) is_b (some_same (slice_get pages 0) (header_page a) (header_page b) at_a at_b) in
+    let on_b = header_parts b (header_page a) is_b (some_one (slice_get pages 0) (header_page a) (header_page b) at_a at_b) in
     same_header a b (sym on_a.numbers ∙ on_b.numbers) (sym on_a.name ∙ on_b.name) (sym on_a.columns ∙ on_b.columns) (clean_a ∙ sym clean_b)
 
 -- the header that was read is the one of which the pages tell, and so is the index
@@ -87,7 +85,7 @@ module _ (old : StoreFacts) (honest : IsHonest old) (schema : Schema) (mark : Ha
 
   pub never_clean : (h : Header) → slice_get old.pages 0 ≡ Some (header_page h) → IsHeader h → h.unclean ≡ false → ⊥
   never_clean h at is clean =
-      let page = some_same (slice_get old.pages 0) mark.0 (header_page h) mark.2 at in
+      let page = some_one (slice_get old.pages 0) mark.0 (header_page h) mark.2 at in
       let state : number_at 1 5 mark.0 ≡ 0 = ap (λ n. n.state) (header_parts h mark.0 is page).numbers ∙ rw clean refl in
       let on = mark_state in
       absurd (omega arith)
@@ -96,7 +94,7 @@ module _ (old : StoreFacts) (honest : IsHonest old) (schema : Schema) (mark : Ha
   mark_fault fault h = unclean_refused mark.1.0 mark.0 mark.1.1.in_range mark.1.1.unclean mark.1.2 fault h
 
   pub mark_refused : (fault : TreeFault) → IsOpenFault old fault → IsMarkFault fault
-  mark_refused fault k = search (rules, mark_fault, never_clean, slice_get_within, some_same)
+  mark_refused fault k = search (rules, mark_fault, never_clean, slice_get_within, some_one)
 
 -- the pages of a closed table tell of its regions
 module _ (pages : List (List ℕ)) (schema : Schema) (placed : List Placed) (next : ℕ) (s : AreSoundPages pages schema placed next) where

@@ -23,11 +23,10 @@ use Rattle.ub_tree.specs.inner.Opening.{Opens}
 -- a fault of the root of which a header tells is one of opening
 root_fault : (old : StoreFacts) (header : Header) → HasHeader old header → (e : IndexFault) → IsRootFault (index_of header) old e → IsOpenFault old (index_fault e)
 root_fault old header has (index.Page n fault) h = (h.1, h.2, inr (header, has, h.0, h.3))
-root_fault old header has index.Full h = absurd h
 root_fault old header has (index.Store store.Memory) h = tt
 root_fault old header has (index.Store store.Device) h = h
-root_fault old header has (index.Store store.BadSize) h = absurd h
 root_fault old header has (index.Store store.NoPage) h = (header.root, inr (header, has, refl), h)
+root_fault old header has e h = absurd h
 
 passing : (e : IndexFault) → IsPassingIndex e → IsPassing (index_fault e)
 passing e h = search rules

@@ -31,7 +31,7 @@ use Rattle.ub_tree.proofs.EffectFacts.{left_by, writes_both, writes_told, writes
 use Rattle.ub_tree.proofs.JoinFacts.{first_falls}
 use Rattle.ub_tree.proofs.PutFacts.{own_page}
 use Rattle.ub_tree.proofs.WayFacts.{region_no_index}
-use Rattle.ub_tree.specs.Effects.{Changes, HasEnded, IsFull, IsLeft, IsMarkedFirst, KeepsMark, written_store}
+use Rattle.ub_tree.specs.Effects.{Changes, HasEnded, IsLeft, IsMarkedFirst, KeepsMark, written_store}
 use Rattle.ub_tree.specs.Holding.{AnswersAt, HasNoRoom, IsRoomFault}
 use Rattle.ub_tree.specs.Indexed.{Inner}
 use Rattle.ub_tree.specs.Others.{AddsEntry, IsHalfOf, KeepsAllBut, KeepsOthers, SplitsKeys, WritesIndex}
@@ -39,8 +39,8 @@ use Rattle.ub_tree.specs.Pages.{Spells}
 use Rattle.ub_tree.specs.Told.{FallsTo, IsRegionOf}
 use Rattle.ub_tree.specs.View.{TreeView, region_count}
 use Rattle.ub_tree.specs.declared.fault.TreeFault.{TreeFault}
-use Rattle.ub_tree.specs.declared.fault.TreeFault.TheVariants.{Full, Page, Store, Failed as HasFailed, Memory}
-use Rattle.ub_tree.specs.inner.Change.{GrowsTo, HasStopped, IsAddReady, IsGrowthLeft, IsIndexFault, IsPut, IsRegionThere, IsSpelledAt, IsWriteFault, StoresAt, WritesBoth}
+use Rattle.ub_tree.specs.declared.fault.TreeFault.TheVariants.{Store}
+use Rattle.ub_tree.specs.inner.Change.{GrowsTo, HasStopped, IsAddReady, IsIndexFault, IsPut, IsRegionThere, IsSpelledAt, IsWriteFault, StoresAt, WritesBoth}
 use Rattle.ub_writing.specs.Marks.{HasMark, IsMarkOf, Marks, PutsMark, first_page, is_written}
 use Rattle.ub_writing.specs.declared.mark.Mark.{Mark}
 use Rattle.ub_writing.specs.declared.mark.Mark.TheVariants.{Due, Written}
@@ -58,24 +58,6 @@ marks_then schema was now numbers old new mark marks own honest had now_is = by_
 pub unready_answers : {A : Type 0} (t : TreeView) (span : Region) (r : Result A TreeFault) (e : TreeFault) → IsErrAnd r (λ x. x ≡ e) → region_count t ≢ 4294967295
     → (IsHonest t.store → FallsTo t span.first span → HasNoRoom e) → (IsHonest t.store → IsRoomFault (Unit {0}) t span.first e) → AnswersAt (Unit {0}) t span r
 unready_answers t span r e k j l m = search rules
-
--- the store wasn't given the pages
-module _ (a g : TreeView) (span : Region) (first : Key) (change : ChangeView) (there : span.page < page_count a.store) (ready : IsAddReady a span first change) (high : a.inner.index.levels ≤ MAX_LEVEL) where
-  short_then : 4294967295 < page_count a.store + (change.next - change.start) → IsHonest a.store
-      → (n : ℕ) × NeedsPages a.inner.index a.store span.first n × (4294967295 < page_count a.store + 1 + n)
-  short_then k j = search rules
-
-  full_then : 4294967295 < page_count a.store + (change.next - change.start) → IsFull a
-  full_then k = search rules
-
-  pub growth_short : (e : TreeFault) → IsGrowthLeft (page_count a.store + (change.next - change.start)) a g e → IsHonest a.store → IsRoomFault (Unit {0}) a span.first e
-  growth_short e k j = search rules
-
-  growth_left : (e : TreeFault) → IsGrowthLeft (page_count a.store + (change.next - change.start)) a g e → IsLeft a g e
-  growth_left e k = search rules
-
-  pub growth_refused : {T U : Type 0} (r : Result T TreeFault) (e : TreeFault) → IsErrAnd r (λ x. x ≡ e) → GrowsTo {A = U} (page_count a.store + (change.next - change.start)) a g (Err e) → Changes a g r
-  growth_refused r e k j = search rules
 
 module _ (a g h : TreeView) (span : Region) (of : IsRegionOf a span) (first : Key) (change : ChangeView) (number : ℕ) (there : span.page < page_count a.store)
     (ready : IsAddReady a span first change) (number_is : number ≡ change.start)
@@ -121,10 +103,6 @@ module _ (a g h : TreeView) (span : Region) (of : IsRegionOf a span) (first : Ke
 
   -- the pages of the halves weren't put
   halves_left : (e : TreeFault) → WritesBoth {A = TreeFault} number span g h (Err e) → IsWriteFault g h e → IsLeft a h e
-  halves_left Full wrote x = absurd x
-  halves_left HasFailed wrote x = absurd x
-  halves_left Memory wrote x = absurd x
-  halves_left (Page page fault) wrote x = absurd x
   halves_left (Store store.Device) wrote x = (
     sym (ap (λ (v : TreeView). v.store.can_fail) grown_is) ∙ x.0,
     inr (record {
@@ -133,9 +111,7 @@ module _ (a g h : TreeView) (span : Region) (of : IsRegionOf a span) (first : Ke
       others = writes_told a h span of (writes_wider chain span.page a.store h.store (halves_kept {A = TreeFault} (Err (Store store.Device)) wrote));
     }),
   )
-  halves_left (Store store.NoPage) wrote x = absurd x
-  halves_left (Store store.BadSize) wrote x = absurd x
-  halves_left (Store store.Memory) wrote x = absurd x
+  halves_left e wrote x = absurd x
 
   pub halves_refused : {T U : Type 0} (r : Result T TreeFault) (e : TreeFault) → IsErrAnd r (λ x. x ≡ e) → WritesBoth {A = U} number span g h (Err e) → Changes a h r
   halves_refused {T} {U} r e is w =

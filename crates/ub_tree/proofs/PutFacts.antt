@@ -7,13 +7,12 @@ use Rattle.std.proofs.lemmas.List.Elements.{recursion_from_All}
 use Rattle.std.proofs.lemmas.Option.{slice_get_within}
 use Rattle.std.specs.List.{AllByRecursion, IsDistinct}
 use Rattle.ub_check.proofs.PlacedFacts.{placed_at}
-use Rattle.ub_index.proofs.FirstFacts.{below_some, ways_miss}
-use Rattle.ub_index.proofs.KeptFacts.{kept_named, kept_index, kept_under, same_entries as under_same}
+use Rattle.ub_index.proofs.FirstFacts.{leads_kept, ways_miss}
+use Rattle.ub_index.proofs.KeptFacts.{kept_index, kept_under}
 use Rattle.ub_index.proofs.HeldFacts.{ends_of}
 use Rattle.ub_index.proofs.Numbers.{distinct_apart, distinct_first, kept_pages}
 use Rattle.ub_index.specs.Standing.{PagesStay, IsOutside, region_pages}
-use Rattle.ub_index.specs.Fitting.{FallsTo}
-use Rattle.ub_index.specs.Index.{NamesFitting, page_in, pages_under, top}
+use Rattle.ub_index.specs.Index.{page_in, pages_under, top}
 use Rattle.ub_index.specs.View.{IndexView, IsRegionAt, entries_under, entry_at}
 use Rattle.ub_index.specs.Way.{LeadsTo}
 use Rattle.ub_page.specs.Index.{IsIndexKind}
@@ -184,20 +183,11 @@ KeepsKinds old new = (n : ℕ) (page : List ℕ) → 1 ≤ n → slice_get old n
 
 -- then each way leads where it led: none goes over the first page
 module _ (last : ℕ) (small : last < 256 ^ 16) (old new : List (List ℕ)) (keeps : KeepsKinds old new) (key : Key) where
-  kind_of : (level : ℕ) (entry : Entry) (end : Option Key) → NamesFitting last old level entry end → IsIndexKind (page_in old entry.page)
-  kind_of level entry end named = (ends_of last (page_in old entry.page) level entry end small named.fits).kind
-
   pub still_taken : (level : ℕ) (entry : Entry) (end : Option Key) (found : Entry) (next : Option Key) → 1 ≤ entry.page → LeadsTo last old key level entry end found next
       → LeadsTo last new key level entry end found next
-  still_taken zero entry end found next some leads = leads
-  still_taken (suc level) entry end found next some (named, below, beyond, falls, leads) =
-      let same = keeps entry.page (page_in old entry.page) some named.there (kind_of (suc level) entry end named) in (
-        kept_named last old new (suc level) entry end same named,
-        below,
-        beyond,
-        subst (λ (xs : List Entry). FallsTo key xs end below beyond) (sym (under_same old new entry.page same)) falls,
-        still_taken level below beyond found next (below_some last old key (suc level) entry end below beyond named falls) leads,
-      )
+  still_taken level entry end found next some leads =
+      leads_kept last old new key (λ l x e some named. keeps x.page (page_in old x.page) some named.there (ends_of last (page_in old x.page) l x e small named.fits).kind)
+      level entry end found next some leads
 
 -- where those pages stay, the tree tells of the same regions
 module _ (schema : Schema) (index : IndexView) (count next rows : ℕ) (was now failed now_failed : Bool) (old new : PagerView) (some : 1 ≤ index.root) (small : index.last < 2 ^ 128) where

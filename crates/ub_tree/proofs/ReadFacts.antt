@@ -85,14 +85,12 @@ given_before a b (read.Tree fault) h is = (read_fault_before a b fault h is.0, i
 
 -- a search to some keys is refused as a search is
 pub searched_fault : (Sought : Key → Type 0) (t : TreeView) (e : TreeFault) → IsSearchFault Sought t e → IsReadFault t e
-searched_fault Sought t tree.Full h = absurd h
 searched_fault Sought t tree.Failed h = h
 searched_fault Sought t tree.Memory h = tt
 searched_fault Sought t (tree.Page n fault) h = (h.0, inl (λ honest. let way = h.1 honest in (way.0, way.2)))
 searched_fault Sought t (tree.Store store.Device) h = h
 searched_fault Sought t (tree.Store store.NoPage) h = (h.0, inl (h.1.0, h.1.1, λ honest. let way = h.1.2 honest in (way.0, way.2)))
-searched_fault Sought t (tree.Store store.BadSize) h = absurd h
-searched_fault Sought t (tree.Store store.Memory) h = absurd h
+searched_fault Sought t e h = absurd h
 
 -- ---- calls that read, one after the other
 

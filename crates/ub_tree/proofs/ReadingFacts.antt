@@ -58,12 +58,10 @@ sound_span t span sound told = sound_on t (index_holding told.key (first_keys (m
 
 -- why a region isn't read, as the tree tells it: also where it isn't the tree's
 pub span_fault : (t : TreeView) (span : Region) (e : IndexFault) → check.IsSpanFault t.schema t.store span e → IsSpanFault span t (index_fault e)
-span_fault t span (index.Page n fault) h = h
 span_fault t span (index.Store store.Memory) h = tt
-span_fault t span (index.Store store.Device) h = h
-span_fault t span (index.Store store.NoPage) h = h
 span_fault t span (index.Store store.BadSize) h = absurd h
 span_fault t span index.Full h = absurd h
+span_fault t span e h = h
 
 -- and where it is the tree's: what stands there is taken in, of a sound tree
 pub region_fault : (t : TreeView) (span : Region) (e : IndexFault) → IsRegionOf t span → ((r : RegionRows) → IsHonest t.store → IsTakenIn t span r → passing.IsPassing e)
@@ -73,16 +71,12 @@ region_fault t span (index.Page n fault) told exact (at, page, is, refused) =
 region_fault t span (index.Store store.Memory) told exact h = tt
 region_fault t span (index.Store store.Device) told exact h = h
 region_fault t span (index.Store store.NoPage) told exact h = ((λ sound. let on = sound_span t span sound told in exact on.0 sound.honest on.1), inr (span, told, h))
-region_fault t span (index.Store store.BadSize) told exact h = absurd h
-region_fault t span index.Full told exact h = absurd h
+region_fault t span e told exact h = absurd h
 
 pub passing_there : (e : IndexFault) → passing.IsPassing e → IsPassing (index_fault e)
-passing_there (index.Page n fault) h = absurd h
 passing_there (index.Store store.Memory) h = inl refl
 passing_there (index.Store store.Device) h = inr refl
-passing_there (index.Store store.NoPage) h = absurd h
-passing_there (index.Store store.BadSize) h = absurd h
-passing_there index.Full h = absurd h
+passing_there e h = absurd h
 
 -- no fault of the index says that the tree has failed
 index_failed : (e : IndexFault) → index_fault e ≡ Failed → ⊥

@@ -5,6 +5,7 @@ use Rattle.std.proofs.lemmas.List.{append-nil, length-map}
 use Rattle.std.specs.List.{AllByRecursion, flat_map}
 use Rattle.std.specs.Result.{IsErrAnd}
 use Rattle.ub_index_change.proofs.DropFacts.{narrow}
+use Rattle.ub_index_change.proofs.SpelledFacts.{no_parts}
 use Rattle.ub_index_change.specs.Changing.{IsAtMostOne, Mends, Spelled, Turns, so_far}
 use Rattle.ub_index.specs.Index.{entries_of, pages_under, top, under}
 use Rattle.ub_index_change.specs.Lowering.{IsDropFault, IsDropped, IsLowerFault, IsRootRefused}
@@ -106,22 +107,17 @@ gone_alone last old key zero entry end from to h = refl
 gone_alone last old key (suc level) entry end from to (named, below, next, falls, middle, news, turns, mends) =
     by_news (λ h. gone_alone last old key level below next from middle h) news turns mends
   where
-    nothing : (xs : List Entry) (y : Entry) (ys : List Entry) → xs ++ (y ∷ ys) ≡ [] → ⊥
-    nothing [] y ys e = cc
-    nothing (x ∷ xs) y ys e = cc
-
     by_parts : (xs ys : List Entry) → xs ++ ys ≡ [] → entries_of old entry.page ≡ xs ++ (below ∷ ys) → length (under old level below) ≡ 1 → length (under old (suc level) entry) ≡ 1
     by_parts [] [] e parts one =
         ap (λ (es : List Entry). length (flat_map (under old level) es)) parts ∙ (ap length (append-nil (under old level below)) ∙ one)
-    by_parts [] (y ∷ ys) e parts one = cc
-    by_parts (x ∷ xs) ys e parts one = cc
+    by_parts xs ys e parts one = cc
 
     by_news : (Turns last old key None level below next from middle Gone → length (under old level below) ≡ 1) → (t : Told) → Turns last old key None level below next from middle t
         → Mends (suc level) entry falls.before below falls.after t middle to Gone → length (under old (suc level) entry) ≡ 1
     by_news lower Same h m = let bad = m.0 in cc
     by_news lower Gone h m = by_parts falls.before falls.after m.0 falls.parts (lower h)
-    by_news lower (One other) h m = absurd (nothing falls.before other falls.after m.0)
-    by_news lower (Two left right) h m = absurd (nothing falls.before left (right ∷ falls.after) m.0)
+    by_news lower (One other) h m = absurd (no_parts falls.before other falls.after m.0)
+    by_news lower (Two left right) h m = absurd (no_parts falls.before left (right ∷ falls.after) m.0)
 
 -- what is made ready for a region that goes
 pub drop_spelled : (t : TreeView) (key : Key) (change : ChangeView) → 1 ≤ t.inner.index.root → IsDropped t.inner.index t.store key change → AllByRecursion (IsSpelledAt t (page_count t.store) change) change.sheets

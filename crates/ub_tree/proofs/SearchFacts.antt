@@ -19,7 +19,7 @@ use Rattle.ub_region.specs.declared.region.Region.{Region}
 use Rattle.ub_store.specs.Facts.{StoreFacts, IsHonest}
 use Rattle.ub_store.specs.View.{PagerView}
 use Rattle.ub_store.specs.declared.fault.StoreFault.TheVariants as store
-use Rattle.ub_table.proofs.Laws.{before_of, before_trans, not_before_self, not_both_before, precedes_of}
+use Rattle.ub_table.proofs.Laws.{before_of, not_before_self, not_both_before, precedes_of}
 use Rattle.ub_table.specs.Keys.{IsBefore, precedes}
 use Rattle.ub_table.specs.declared.fault.PageFault.{PageFault}
 use Rattle.ub_table.specs.declared.row.Key.{Key}
@@ -63,10 +63,6 @@ later_within : (a b : Key) (end : Option Key) → IfSome end (IsBefore a) → If
 later_within a b None h k = tt
 later_within a b (Some end) h k = later_before a b end h k
 
-before_all : (a b : Key) (end : Option Key) → IsBefore a b → IfSome end (IsBefore b) → IfSome end (IsBefore a)
-before_all a b None h k = tt
-before_all a b (Some end) h k = before_trans a b end h k
-
 -- over an honest store two regions to which keys fall are one, where each begins before the other ends
 pub overlaps : (t : TreeView) (one_key other_key : Key) (one other : Region) → FallsTo t one_key one → FallsTo t other_key other → ¬ (one ≡ other)
     → IfSome one.next (IsBefore one.first) → IfSome one.next (IsBefore other.first) → IfSome other.next (IsBefore one.first) → IfSome other.next (IsBefore other.first)
@@ -93,8 +89,7 @@ sought_fault t Sought small (index.Page n fault) h = ((λ sound. let way = h sou
 sought_fault t Sought small (index.Store store.Memory) h = tt
 sought_fault t Sought small (index.Store store.Device) h = h
 sought_fault t Sought small (index.Store store.NoPage) h = ((λ sound. let way = h.2 sound.honest in no_stop t way.0 h.0 None small sound way.2), h)
-sought_fault t Sought small (index.Store store.BadSize) h = absurd h
-sought_fault t Sought small index.Full h = absurd h
+sought_fault t Sought small e h = absurd h
 
 -- a search, as one of the tree
 module _ (schema : Schema) (i : IndexView) (count next rows : ℕ) (changed failed : Bool) (old new : PagerView) (Sought : Key → Type 0) where

@@ -59,23 +59,20 @@ small_put c index rows rs h = grind (arith, common_steps)
 
 fits_put : (c index : ℕ) (rows : List Row) (b : RegionRows) (rs : List RegionRows) → slice_get rs (suc index) ≡ Some b
     → fits_next c (drop index (put_rows index false rows rs)) ≡ nat_le (length rows + length b.rows) c
-fits_put c index rows b [] at = cc
-fits_put c zero rows b (a ∷ []) at = cc
 fits_put c zero rows b (a ∷ x ∷ rs) at = let same : x ≡ b = cc in ap (λ (y : RegionRows). nat_le (length rows + length y.rows) c) same
 fits_put c (suc index) rows b (a ∷ rs) at = fits_put c index rows b rs at
+fits_put c index rows b rs at = cc
 
 fits_none : (c index : ℕ) (rows : List Row) (rs : List RegionRows) → length rs ≡ suc index → fits_next c (drop index (put_rows index false rows rs)) ≡ false
-fits_none c index rows [] long = absurd (omega arith)
 fits_none c zero rows (a ∷ []) long = refl
-fits_none c zero rows (a ∷ x ∷ rs) long = absurd (omega arith)
 fits_none c (suc index) rows (a ∷ rs) long = fits_none c index rows rs (omega arith)
+fits_none c index rows rs long = absurd (omega arith)
 
 joins_put : (index : ℕ) (rows : List Row) (b : RegionRows) (rs : List RegionRows) → slice_get rs (suc index) ≡ Some b
     → put_rows index true (rows ++ b.rows) rs ≡ change_from index join_first (put_rows index false rows rs)
-joins_put index rows b [] at = cc
-joins_put zero rows b (a ∷ []) at = cc
 joins_put zero rows b (a ∷ x ∷ rs) at = let same : x ≡ b = cc in ap (λ (y : RegionRows). record { first = a.first; rows = rows ++ y.rows } ∷ rs) (sym same)
 joins_put (suc index) rows b (a ∷ rs) at = ap (λ (xs : List RegionRows). a ∷ xs) (joins_put index rows b rs at)
+joins_put index rows b rs at = cc
 
 -- the region at an index and the one before
 fits_before : (c index : ℕ) (rows : List Row) (a : RegionRows) (rs : List RegionRows) → slice_get rs index ≡ Some a → suc index < length rs

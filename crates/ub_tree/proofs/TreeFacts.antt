@@ -17,6 +17,7 @@ use Rattle.ub_table.specs.Region.{RegionRows, IsRegion, keys_of}
 use Rattle.ub_table.specs.declared.row.Key.{Key}
 use Rattle.ub_table.specs.declared.row.Row.{Row}
 use Rattle.ub_table.specs.declared.schema.Schema.{Schema}
+use Rattle.ub_tree.proofs.MeetFacts.{contains_at}
 use Rattle.ub_tree.specs.Spans.{first_keys, regions_of, Region}
 use Rattle.ub_tree.specs.Placed.{Placed, ArePlaced, placed_of, regions_in, entry_of}
 use Rattle.ub_tree.specs.View.{spans_in}
@@ -50,17 +51,13 @@ module _ {X : Type 0} (P : X → Type 0) where
   pub all_get : (xs : List X) (i : ℕ) (x : X) → All P xs → slice_get xs i ≡ Some x → P x
   all_get xs i x all at = subst P (get_or_from_slice_get xs i x x at) (all i x (slice_get_within xs i x at))
 
-  pub contained_at : (xs : List X) (i : ℕ) (x : X) → slice_get xs i ≡ Some x → Contains xs x
-  contained_at xs i x at = (i, slice_get_within xs i x at, get_or_from_slice_get xs i x x at)
-
 -- each row's key is before the first key of the next region
 pub apart_next : (dims : ℕ) (regions : List RegionRows) (i : ℕ) (r : RegionRows) → AreApart dims regions → slice_get regions i ≡ Some r
     → IfSome (slice_get (firsts_of regions) (suc i)) (λ next. AllByRecursion (λ key. IsBefore key next) (keys_of dims r.rows))
 apart_next dims [] i r apart at = cc
-apart_next dims (a ∷ []) zero r apart at = tt
-apart_next dims (a ∷ []) (suc i) r apart at = tt
 apart_next dims (a ∷ b ∷ regions) zero r apart at = let same : a ≡ r = cc in rw (← same) apart.0
 apart_next dims (a ∷ b ∷ regions) (suc i) r apart at = apart_next dims (b ∷ regions) i r apart.1 at
+apart_next dims regions i r apart at = tt
 
 -- what is known of the region of a span, on a sound tree
 pub record IsKnown (schema : Schema) (entries : List Entry) (pages : List (List ℕ)) (span : Region) (p : Placed) : Type 0 where
@@ -94,7 +91,7 @@ span_known schema entries pages next last reserved span regions placed found =
     let apart = apart_next schema.dims (regions_in (placed_of schema pages entries)) found.0 (placed_at schema pages e).region regions.apart region in (
       placed_at schema pages e,
       record {
-        there = contained_at (λ (_ : Placed). Unit {0}) (placed_of schema pages entries) found.0 (placed_at schema pages e) there;
+        there = contains_at (placed_of schema pages entries) found.0 (placed_at schema pages e) there;
         page = entry.3;
         first = entry.2;
         spelled = ap (slice_get pages) (sym entry.3) ∙ spelled;

@@ -1,6 +1,6 @@
 -- The pages of an old table, brought over: what stands on them, and why they aren't.
 use Rattle.std.proofs.Common.{rules}
-use Rattle.std.proofs.Common.{◌≡◌, ◌≢◌, ◌≤◌, ◌<◌, ◌+◌, ◌++◌, ◌∙◌, inl, inr, ℕ, zero, suc, true, false, List, [], ◌∷◌, Some, Result, Ok, Err, OnErr, length, map, slice_get, ap, sym, subst, refl, arith}
+use Rattle.std.proofs.Common.{◌≡◌, ◌≢◌, ◌≤◌, ◌<◌, ◌+◌, ◌++◌, ◌∙◌, inl, inr, ℕ, zero, suc, true, false, List, [], ◌∷◌, Some, length, map, slice_get, ap, sym, subst, refl, arith}
 use Rattle.std.proofs.lemmas.List.Elements.{All-from_recursion, recursion_from_All}
 use Rattle.std.proofs.lemmas.Option.{slice_get_within}
 use Rattle.std.specs.List.{All, AllByRecursion}
@@ -109,9 +109,6 @@ module _ (version next : ℕ) (schema : Schema) (placed : List Placed) (from : S
 
     -- in version 1 the index stands behind the pages that there were
     module _ (first : version ≡ 1) where
-      index_numbers : List ℕ
-      index_numbers = pages_under new root.level (top root.page)
-
       behind : AllByRecursion (λ n. (page_count from ≤ n) × (n < length new)) (pages_under new root.level (top root.page))
       behind = (built first).within
 
@@ -181,15 +178,8 @@ over head i pager = tree_view head.header.schema i head.header.regions head.head
 
 module _ (from : StoreFacts) (head : OldHeader) (i : IndexView) (pager : PagerView) (honest : IsHonest pager.store) (last_is : i.last ≡ last_address head.header.schema.dims) (level : 1 ≤ i.levels)
     (size : head.version ≡ 1 → page_count pager.store ≡ page_count from + index_pages head.header.regions) (brought : IsBrought head from pager.store.pages (root_in i)) where
-  index_is : head.version ≡ 2 → i ≡ index_of head.header
-  index_is h = search rules
-
   pub stands_over : StandsOver from head (over head i pager)
   stands_over = search rules
-
-pub on_err_by : {T E : Type 0} (r : Result T E) (P : Type 0) → P → OnErr r P
-on_err_by (Ok x) P p = tt
-on_err_by (Err e) P p = p
 
 -- the header of the pages of an old table
 pub head_is : (version next : ℕ) (schema : Schema) (placed : List Placed) (from : StoreFacts) (s : AreOldPages version from.pages schema placed next) → HasOldHeader from (head_of version s.header)

@@ -33,7 +33,7 @@ use Rattle.ub_tree.specs.Tree.{placed_in}
 use Rattle.ub_tree.specs.Upgrade.{HasTable, IsUnopened, IsUpgraded, IsUpgradeFault, IsUpgradePassing, StandsOver}
 use Rattle.ub_tree.specs.View.{TreeView, IsSound}
 use Rattle.ub_tree.specs.declared.fault.TreeFault.{TreeFault}
-use Rattle.ub_tree.specs.declared.fault.TreeFault.TheVariants.{Full, Page, Store, Failed as HasFailed, Memory}
+use Rattle.ub_tree.specs.declared.fault.TreeFault.TheVariants.{Page, Store, Failed as HasFailed, Memory}
 use Rattle.ub_tree.specs.inner.Upgrading.{IsCarried}
 use Rattle.ub_upgrade.specs.Bringing.{HasIndexOf, HasOldHeader}
 use Rattle.ub_upgrade.specs.Table.{IsMade, IsMadeOf, root_in}
@@ -150,7 +150,6 @@ module _ (from new : StoreFacts) (head : OldHeader) (i : IndexView) (pager : Pag
     missing_page n h = search (rules, stops_there)
 
   pub check_fault : (f : TreeFault) → IsCheckFault t f → IsUpgradeFault from new f
-  check_fault Full h = absurd h
   check_fault HasFailed h = absurd (let working : false ≡ true = h in cc)
   check_fault Memory h = tt
   check_fault (Page n fault) h = λ honest new_honest.
@@ -161,8 +160,7 @@ module _ (from new : StoreFacts) (head : OldHeader) (i : IndexView) (pager : Pag
   check_fault (Store store.NoPage) h = λ honest new_honest.
       let (n, stops) = h (still new_honest) in
       (n, missing_page honest new_honest n stops, inr (head, has, inr (t, stands honest new_honest, stops)))
-  check_fault (Store store.Memory) h = absurd h
-  check_fault (Store store.BadSize) h = absurd h
+  check_fault f h = absurd h
 
 -- ---- the answers of the last step, as those of the upgrade
 

@@ -1,63 +1,34 @@
 -- Ways down the index of a tree, over any pages: to which they lead, what becomes of them where a region's page is put anew, and
 -- which pages a change of the index spells.
 use Rattle.std.proofs.Common.{rules}
-use Rattle.std.proofs.Common.{◌≡◌, ◌≢◌, ◌≤◌, ◌<◌, ◌+◌, ◌^◌, ◌∙◌, ◌⊎◌, inl, inr, ℕ, zero, suc, List, [], ◌∷◌, ◌++◌, Option, Some, None, IfSome, length, take, drop, ap, sym, subst, refl, arith, slice_get, append_assoc}
-use Rattle.std.proofs.lemmas.List.{length-append, append-nil}
+use Rattle.std.proofs.Common.{◌≡◌, ◌≢◌, ◌≤◌, ◌<◌, ◌+◌, ◌^◌, ◌∙◌, ◌⊎◌, inl, inr, ℕ, zero, suc, List, [], ◌∷◌, ◌++◌, Option, Some, length, take, drop, ap, sym, subst, refl, arith, slice_get, append_assoc}
+use Rattle.std.proofs.lemmas.List.{append-nil}
 use Rattle.std.proofs.lemmas.Option.{slice_get_within}
 use Rattle.std.specs.List.{AllByRecursion, flat_map}
-use Rattle.ub_index.proofs.KeptFacts.{kept_named, same_entries}
+use Rattle.ub_check.proofs.PlacedFacts.{some_one}
 use Rattle.ub_index.proofs.FirstFacts.{below_some}
-use Rattle.ub_index.proofs.KeyFacts.{before_le}
-use Rattle.ub_index.proofs.Lists.{ascend_right}
+use Rattle.ub_index.proofs.LeadFacts.{falls_once}
+use Rattle.ub_index_change.proofs.SpelledFacts.{no_parts}
 use Rattle.ub_index.proofs.WayFacts.{named_not_refused}
-use Rattle.ub_index.proofs.WaysFacts.{compare, first_up_to}
 use Rattle.ub_page.proofs.IndexLaws.{node_not_refused}
 use Rattle.ub_index.specs.Standing.{IsOutside}
 use Rattle.ub_index_change.specs.Changing.{Mends, Spelled, Spreads, Turns, sheet_of, so_far}
 use Rattle.ub_index.specs.Fitting.{FallsTo}
-use Rattle.ub_index.specs.Index.{AscendTo, IsIndexPage, NamesFitting, entries_of, first_or, page_in, pages_under}
+use Rattle.ub_index.specs.Index.{IsIndexPage, NamesFitting, entries_of, page_in, pages_under}
 use Rattle.ub_index.specs.Way.{LeadsTo, StopsAt}
 use Rattle.ub_index_change.specs.declared.sheet.Sheet.{Sheet}
 use Rattle.ub_index_change.specs.declared.told.Told.{Told}
 use Rattle.ub_index_change.specs.declared.told.Told.TheVariants.{Same, Gone, One, Two}
 use Rattle.ub_page.proofs.PageLaws.{region_parts}
+use Rattle.ub_region.proofs.Laws.{all_append, all_left, all_more, all_right}
 use Rattle.ub_region.specs.RegionPage.{region_page}
 use Rattle.ub_region.specs.declared.entry.Entry.{Entry}
-use Rattle.ub_table.specs.Keys.{IsBefore}
 use Rattle.ub_page.specs.Index.{node_on}
 use Rattle.ub_table.specs.Region.{RegionRows, IsRegion}
 use Rattle.ub_table.specs.declared.fault.PageFault.TheVariants.{WrongKind}
 use Rattle.ub_table.specs.declared.fault.PageFault.{PageFault}
 use Rattle.ub_table.specs.declared.row.Key.{Key}
 use Rattle.ub_table.specs.declared.schema.Schema.{Schema}
-
--- what is before the first of entries in order is before each
-later_than : (key : Key) (m : List Entry) (x : Entry) (a : List Entry) (end : Option Key) → AscendTo (m ++ (x ∷ a)) end → IfSome (first_or (m ++ (x ∷ a)) None) (IsBefore key)
-    → IsBefore key x.first
-later_than key [] x a end up h = h
-later_than key (y ∷ m) x a end up h = before_le key y.first x.first h (first_up_to (y ∷ m) x a end up y.first refl)
-
--- the first of entries doesn't stand behind one of them
-not_behind : (b : List Entry) (x : Entry) (m : List Entry) (y : Entry) (a : List Entry) → b ++ (x ∷ (m ++ (y ∷ a))) ≡ y ∷ a → ⊥
-not_behind b x m y a e =
-    let long = ap length e in
-    omega (arith, length-append b (x ∷ (m ++ (y ∷ a))), length-append m (y ∷ a))
-
--- a key falls to one of entries in order
-module _ (key : Key) (entries : List Entry) (end : Option Key) (ascends : AscendTo entries end) where
-  apart : (a : Entry) (o : Option Key) (falls : FallsTo key entries end a o) (b : Entry) (p : Option Key) (other : FallsTo key entries end b p)
-      → (m : List Entry) → falls.after ≡ m ++ (b ∷ other.after) → ⊥
-  apart a o falls b p other m h = search (rules, ascend_right, later_than, not_behind)
-
-  pub falls_once : (a : Entry) (o : Option Key) (falls : FallsTo key entries end a o) (b : Entry) (p : Option Key) (other : FallsTo key entries end b p) → (a ≡ b) × (o ≡ p)
-  falls_once a o falls b p other =
-      elim (compare falls.before a falls.after other.before b other.after (sym falls.parts ∙ other.parts)) [
-        | inl same ↦ (same.0, falls.next_is ∙ (ap (λ (xs : List Entry). first_or xs end) same.1 ∙ sym other.next_is))
-        | inr apart_so ↦ elim apart_so [
-          | inl behind ↦ absurd (apart a o falls b p other behind.0 behind.1)
-          | inr ahead ↦ absurd (apart b p other a o falls ahead.0 ahead.1)
-        ]
-      ]
 
 -- a way that leads to an entry doesn't stop
 module _ (last : ℕ) (pages : List (List ℕ)) (key : Key) where
@@ -71,31 +42,6 @@ module _ (last : ℕ) (pages : List (List ℕ)) (key : Key) where
       let there : StopsAt last pages key level below beyond n fault =
       subst (λ (o : Option Key). StopsAt last pages key level below o n fault) same.1 (subst (λ (e : Entry). StopsAt last pages key level e beyond2 n fault) same.0 stops) in
       led_not_stopped small level below beyond found next n fault leads there
-
--- no page of an index has this number
-abbrev pub IsNoIndexPage : ℕ → List (List ℕ) → ℕ → Type 0
-IsNoIndexPage last pages n = (page : List ℕ) → slice_get pages n ≡ Some page → ¬ (IsIndexPage last page)
-
--- each page but the first is as it was, or was none of an index
-abbrev pub KeepsIndexPages : ℕ → List (List ℕ) → List (List ℕ) → Type 0
-KeepsIndexPages last old new = (n : ℕ) → 1 ≤ n → (slice_get new n ≡ slice_get old n) ⊎ IsNoIndexPage last old n
-
--- a way on which each page fits leads where it led, where the pages of the index stay
-module _ (last : ℕ) (old new : List (List ℕ)) (keeps : KeepsIndexPages last old new) (key : Key) where
-  stays : (level : ℕ) (entry : Entry) (end : Option Key) → 1 ≤ entry.page → NamesFitting last old level entry end → slice_get new entry.page ≡ slice_get old entry.page
-  stays level entry end h k = search rules
-
-  pub still_leads : (level : ℕ) (entry : Entry) (end : Option Key) (found : Entry) (next : Option Key) → 1 ≤ entry.page → LeadsTo last old key level entry end found next
-      → LeadsTo last new key level entry end found next
-  still_leads zero entry end found next some leads = leads
-  still_leads (suc level) entry end found next some (named, below, beyond, falls, leads) =
-      let same = stays (suc level) entry end some named in (
-        kept_named last old new (suc level) entry end same named,
-        below,
-        beyond,
-        subst (λ (xs : List Entry). FallsTo key xs end below beyond) (sym (same_entries old new entry.page same)) falls,
-        still_leads level below beyond found next (below_some last old key (suc level) entry end below beyond named falls) leads,
-      )
 
 -- the page of a region is none of an index
 pub region_no_index : (last : ℕ) → last < 2 ^ 128 → (schema : Schema) (region : RegionRows) → IsRegion schema region → ¬ (IsIndexPage last (region_page schema region))
@@ -111,16 +57,12 @@ never_gone last pages key added zero entry end old new h = let bad = h.0 in cc
 never_gone last pages key added (suc level) entry end old new (named, below, next, falls, middle, news, turns, mends) =
     by_news (never_gone last pages key added level below next old middle) news turns mends
   where
-    some_middle : (xs : List Entry) (y : Entry) (ys : List Entry) → xs ++ (y ∷ ys) ≡ [] → ⊥
-    some_middle [] y ys e = cc
-    some_middle (x ∷ xs) y ys e = cc
-
     by_news : (¬ (Turns last pages key (Some added) level below next old middle Gone)) → (news : Told) → Turns last pages key (Some added) level below next old middle news
         → Mends (suc level) entry falls.before below falls.after news middle new Gone → ⊥
     by_news lower Same turns m = let bad = m.0 in cc
     by_news lower Gone turns m = lower turns
-    by_news lower (One other) turns m = some_middle falls.before other falls.after m.0
-    by_news lower (Two left right) turns m = some_middle falls.before left (right ∷ falls.after) m.0
+    by_news lower (One other) turns m = no_parts falls.before other falls.after m.0
+    by_news lower (Two left right) turns m = no_parts falls.before left (right ∷ falls.after) m.0
 
 -- which numbers a change spells: pages of the index that the store has, each of them a page of an index, and new ones
 pub record IsSpelledOf (last : ℕ) (pages : List (List ℕ)) (numbers : List ℕ) (from to : ℕ) (sheet : Sheet) : Type 0 where
@@ -135,29 +77,10 @@ pub record Spells (last : ℕ) (pages : List (List ℕ)) (numbers : List ℕ) (o
   pub grown : old.next ≤ new.next
   pub each : AllByRecursion (IsSpelledOf last pages numbers old.next new.next) sheets
 
-some_page : {o : Option (List ℕ)} {a b : List ℕ} → o ≡ Some a → o ≡ Some b → a ≡ b
-some_page e f = cc
-
-each_as : (P Q : Sheet → Type 0) → ((s : Sheet) → P s → Q s) → (sheets : List Sheet) → AllByRecursion P sheets → AllByRecursion Q sheets
-each_as P Q f [] h = tt
-each_as P Q f (s ∷ sheets) h = (f s h.0, each_as P Q f sheets h.1)
-
-each_join : (P : Sheet → Type 0) (xs ys : List Sheet) → AllByRecursion P xs → AllByRecursion P ys → AllByRecursion P (xs ++ ys)
-each_join P [] ys h k = k
-each_join P (x ∷ xs) ys h k = (h.0, each_join P xs ys h.1 k)
-
-outside_left : (n : ℕ) (xs ys : List ℕ) → IsOutside n (xs ++ ys) → IsOutside n xs
-outside_left n [] ys h = tt
-outside_left n (x ∷ xs) ys h = (h.0, outside_left n xs ys h.1)
-
-outside_right : (n : ℕ) (xs ys : List ℕ) → IsOutside n (xs ++ ys) → IsOutside n ys
-outside_right n [] ys h = h
-outside_right n (x ∷ xs) ys h = outside_right n xs ys h.1
-
 -- the pages below one of some entries are among those below all of them
 outside_one : (f : Entry → List ℕ) (n : ℕ) (before : List Entry) (x : Entry) (after : List Entry) → IsOutside n (flat_map f (before ++ (x ∷ after))) → IsOutside n (f x)
-outside_one f n [] x after h = outside_left n (f x) (flat_map f after) h
-outside_one f n (y ∷ before) x after h = outside_one f n before x after (outside_right n (f y) (flat_map f (before ++ (x ∷ after))) h)
+outside_one f n [] x after h = all_left (λ m. n ≢ m) (f x) (flat_map f after) h
+outside_one f n (y ∷ before) x after h = outside_one f n before x after (all_right (λ m. n ≢ m) (f y) (flat_map f (before ++ (x ∷ after))) h)
 
 -- one step up: what is spelled below, and what the page of an entry becomes
 module _ (last : ℕ) (pages : List (List ℕ)) (key : Key) (level : ℕ) (entry : Entry) (end : Option Key) (old new middle : Spelled) (below : Entry) (next : Option Key)
@@ -185,10 +108,10 @@ module _ (last : ℕ) (pages : List (List ℕ)) (key : Key) (level : ℕ) (entry
 
   all_wider : (to : ℕ) → middle.next ≤ to → AllByRecursion (IsSpelledOf last pages numbers old.next to) lower.sheets
   all_wider to up =
-      each_as (IsSpelledOf last pages (pages_under pages level below) old.next middle.next) (IsSpelledOf last pages numbers old.next to) (wider to up) lower.sheets lower.each
+      all_more (IsSpelledOf last pages (pages_under pages level below) old.next middle.next) (IsSpelledOf last pages numbers old.next to) (wider to up) lower.sheets lower.each
 
   here : (to : ℕ) (page : List ℕ) → IsSpelledOf last pages numbers old.next to (record { number = entry.page; page = page })
-  here to page = search (rules, near, some_page)
+  here to page = search (rules, near, some_one)
 
   fresh : (to : ℕ) (page : List ℕ) → middle.next < to → IsSpelledOf last pages numbers old.next to (record { number = middle.next; page = page })
   fresh to page h = search (rules, near, slice_get_within)
@@ -202,7 +125,7 @@ module _ (last : ℕ) (pages : List (List ℕ)) (key : Key) (level : ℕ) (entry
         sheets = lower.sheets ++ more;
         sheets_are = are ∙ ap (λ (xs : List Sheet). xs ++ more) lower.sheets_are ∙ append_assoc old.sheets lower.sheets more;
         grown = omega arith;
-        each = each_join (IsSpelledOf last pages numbers old.next new.next) lower.sheets more (all_wider new.next up) each;
+        each = all_append (IsSpelledOf last pages numbers old.next new.next) lower.sheets more (all_wider new.next up) each;
       }
 
   unchanged : new ≡ middle → Spells last pages numbers old new

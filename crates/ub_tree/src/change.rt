@@ -11,11 +11,10 @@ ghost use Rattle.ub_table.specs.Region.{RegionRows, IsRegion, IsRow, measures_of
 ghost use Rattle.ub_tree.specs.Change as spec;
 ghost use Rattle.ub_tree.specs.Change.{Suits, numbered};
 ghost use Rattle.ub_tree.specs.Inserted.{Inserts, InsertsAs};
-ghost use Rattle.ub_tree.specs.inner.Change.{CanStand, GrowsTo, HasReadAt, IsPut, IsReadAt, PutsIndex, ReadsAt, Rewrites, Stores, IsRegionIn, IsRegionThere, IsSplitAt, IsStored, KeepsGrown, StoresAt, WritesBoth};
-ghost use Rattle.ub_tree.specs.Effects.{Searches, Changes};
-ghost use Rattle.ub_tree.specs.Holding.{AnswersAt, FallsInto};
+ghost use Rattle.ub_tree.specs.inner.Change.{CanStand, GrowsTo, HasReadAt, IsPut, IsReadAt, PutsIndex, ReadsAt, Rewrites, Splits, Stores, IsRegionThere, WritesBoth};
+ghost use Rattle.ub_tree.specs.Effects.{Searches};
+ghost use Rattle.ub_tree.specs.Holding.{FallsInto};
 ghost use Rattle.ub_tree.specs.Opened.{IsPassing};
-ghost use Rattle.ub_tree.specs.Pages.{SpellsHalves};
 ghost use Rattle.ub_tree.specs.Told.{IsRegionOf};
 ghost use Rattle.ub_tree.specs.View.{IsSound, region_count};
 ghost use Rattle.ub_writing.specs.Puts.{PutsTwo};
@@ -195,22 +194,11 @@ impl<S: PageStore> Tree<S> {
         requires left { IsRegion self.old.schema
             (record { first = region.now.first; rows = left.now.region.rows }) }
         requires right { IsRegion self.old.schema right.now.region }
-        ensures same { OnOk result (StoresAt region.now self.old.schema.page_rows
-            self.old self.new) }
-        ensures written { (i : ℕ) → IsStored self.old → IsRegionIn self.old i region.now
-            → OnOk result (IsStored self.new × IsSplitAt i region.now (record {
-              left = left.now.region.rows;
-              first = right.now.region.first;
-              right = right.now.region.rows;
-            }) self.old self.new × KeepsGrown self.old self.new) }
-        ensures halves { OnOk result (facts.IsHonest self.old.store → SpellsHalves self.new
-            region.now.page (page_count self.old.store) region.now.first (record {
-              left = left.now.region.rows;
-              first = right.now.region.first;
-              right = right.now.region.rows;
-            })) }
-        ensures counted { AnswersAt (Unit {0}) self.old region.now result }
-        ensures effect { Changes self.old self.new result }
+        ensures { Splits region.now (record {
+          left = left.now.region.rows;
+          first = right.now.region.first;
+          right = right.now.region.rows;
+        }) self.old self.new result }
     {
         // Its contract tells the proof how many levels there can be.
         let _root = self.index.root();

@@ -6,15 +6,15 @@ use Rattle.std.specs.List.{AllByRecursion, IsDistinct, flat_map}
 use Rattle.ub_index.specs.Spans.{ArePlaces, first_keys}
 use Rattle.ub_index.proofs.FitFacts.{page_is}
 use Rattle.ub_index.proofs.KeptFacts.{kept_index, kept_list, same_page, told_index}
-use Rattle.ub_index.proofs.Lists.{ascend_first, ascend_left, ascend_right, each_left, each_right, each_same}
-use Rattle.ub_index.proofs.Numbers.{StandApart, distinct_apart, distinct_cons, distinct_join, distinct_left, distinct_right, kept_pages_list}
+use Rattle.ub_index.proofs.Lists.{ascend_first, ascend_left, ascend_right, ascending_of, each_left, each_right, each_same}
+use Rattle.ub_index.proofs.Numbers.{StandApart, distinct_apart, distinct_cons, distinct_join, distinct_left, distinct_right, kept_pages_list, no_pages}
 use Rattle.ub_index.proofs.StandFacts.{told_there}
 use Rattle.ub_index.specs.Index.{IsTold, AscendTo, EachTo, IsUnder, entries_of, first_or, page_in, pages_under, under}
 use Rattle.ub_index.specs.Standing.{PagesStay, IsOutside}
 use Rattle.ub_page.proofs.IndexLaws.{length-node_on, node_get, node_parts}
 use Rattle.ub_page.specs.Index.{IsNode, Node, index_page, node_on}
 use Rattle.ub_bytes.specs.Bytes.{number_at}
-use Rattle.ub_page.specs.Entries.{AreAscending, IsEntry, entry_on}
+use Rattle.ub_page.specs.Entries.{IsEntry, entry_on}
 use Rattle.ub_region.specs.declared.entry.Entry.{Entry}
 use Rattle.ub_region.proofs.Laws.{all_append, all_both, all_left, all_more, all_right}
 use Rattle.ub_table.proofs.Laws.{before_of}
@@ -61,10 +61,6 @@ cut_more pages level n (suc count) m entries part is (first, rest, parts, some_f
 )
 
 -- ---- one page
-
-pub ascending_of : (entries : List Entry) (end : Option Key) → AscendTo entries end → AreAscending entries
-ascending_of (x ∷ y ∷ entries) end h = (h.0, ascending_of (y ∷ entries) end h.1)
-ascending_of entries end h = tt
 
 first_is : (entries : List Entry) (entry : Entry) → slice_get entries 0 ≡ Some entry → first_or entries None ≡ Some entry.first
 first_is entries entry h = search rules
@@ -249,10 +245,6 @@ each_none last pages (x ∷ entries) = (tt, each_none last pages entries)
 single : (pages : List (List ℕ)) (entries : List Entry) → flat_map (under pages zero) entries ≡ entries
 single pages [] = refl
 single pages (x ∷ entries) = ap (λ (rest : List Entry). x ∷ rest) (single pages entries)
-
-no_pages : (pages : List (List ℕ)) (entries : List Entry) → flat_map (pages_under pages zero) entries ≡ []
-no_pages pages [] = refl
-no_pages pages (x ∷ entries) = no_pages pages entries
 
 pub regions_level : (last : ℕ) (pages : List (List ℕ)) (from to : ℕ) (entries : List Entry) → ArePlaces last entries → AllByRecursion (IsEntry last) entries
     → IsLevel last pages from to 0 entries entries

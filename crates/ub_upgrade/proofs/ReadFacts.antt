@@ -63,9 +63,8 @@ some_last x (y ∷ xs) e = some_last y xs e
 
 pub begun_first : (before entries : List Entry) (d : Entry) (b : Bool) → last_first before ≡ None → AreAscending entries → 1 ≤ length entries
     → b ≡ is_same (get_or entries 0 d).first origin → (b ≡ true) ↔ AreBegun (before ++ entries)
-begun_first (x ∷ before) entries d b none up some tells = grind (arith, common_steps, ascends, same_key, some_last)
 begun_first [] [] d b none up some tells = grind (arith, common_steps, ascends, same_key, some_last)
-begun_first [] (y ∷ entries) d b none up some tells = grind (arith, common_steps, ascends, same_key, some_last)
+begun_first before entries d b none up some tells = grind (arith, common_steps, ascends, same_key, some_last)
 
 -- the last of entries after others
 pub last_behind : (xs ys : List Entry) (d : Entry) → 1 ≤ length ys → last_first (xs ++ ys) ≡ Some (get_or ys (length ys - 1) d).first

@@ -1,5 +1,5 @@
 -- A table of an older format, over a new store: its mark stays, the root of its index stands where it stood, and why that isn't taken.
-use Rattle.std.proofs.Common.{rules, ◌≡◌, ◌≤◌, ◌∙◌, ◌⊎◌, inl, inr, ℕ, List, [], None, Some, Result, IfErr, OnErr, MatchResult, length, ap, slice_get, sym, subst, arith}
+use Rattle.std.proofs.Common.{rules, ◌≡◌, ◌≤◌, ◌∙◌, ◌⊎◌, inl, inr, ℕ, List, [], None, Some, Result, IfErr, MatchResult, length, ap, slice_get, sym, subst, arith}
 use Rattle.std.proofs.lemmas.Option.{get_or_from_slice_get}
 use Rattle.std.specs.Result.{IsErrAnd}
 use Rattle.ub_index.specs.Fitting.{IsNotTaken, IsUnfit}
@@ -28,9 +28,6 @@ err_passes r Q e h k = search rules
 
 pub err_refused : {T : Type 0} (r : Result T UpgradeFault) (Q : UpgradeFault → Type 0) (e : UpgradeFault) → IsErrAnd r (λ x. x ≡ e) → Q e → IfErr r Q
 err_refused r Q e h k = search rules
-
-pub on_err_by : {T E : Type 0} (r : Result T E) (P : Type 0) → P → OnErr r P
-on_err_by r P h = search rules
 
 -- the mark on the only page there was stays where pages come after it
 pub mark_before : (schema : Schema) (old new : StoreFacts) → Grows old new → page_count old ≡ 1 → IsHonest old → HasMark schema old.pages → HasMark schema new.pages

@@ -18,7 +18,8 @@ use Rattle.ub_table.proofs.Laws.{before_of}
 use Rattle.ub_table.specs.Keys.{are_ascending}
 use Rattle.ub_table.specs.declared.fault.PageFault.{PageFault}
 use Rattle.ub_upgrade.proofs.BringFacts.{some_same}
-use Rattle.ub_upgrade.proofs.LevelFacts.{ascend_of, ascending_of}
+use Rattle.ub_index.proofs.Lists.{ascending_of}
+use Rattle.ub_upgrade.proofs.LevelFacts.{ascend_of}
 use Rattle.ub_upgrade.specs.Chain.{IsChain}
 use Rattle.ub_upgrade.specs.Reading.{HeadingView, IsDirectory, Spells, AreBelow, AreFull, AreBegun, HasPart, IsMisfit, IsPartFault, IsReadUpTo}
 use Rattle.ub_upgrade.specs.Building.{HasBuilt, IsBuildFault, IsBuilt, IsPassing}
@@ -30,10 +31,8 @@ use Rattle.ub_store.specs.declared.fault.StoreFault.TheVariants as store
 
 ascending_take : (n : ℕ) (entries : List Entry) → AreAscending entries → AreAscending (take n entries)
 ascending_take (suc (suc n)) (x ∷ y ∷ entries) up = (up.0, ascending_take (suc n) (y ∷ entries) up.1)
-ascending_take zero entries up = tt
-ascending_take (suc n) [] up = tt
 ascending_take (suc zero) (x ∷ entries) up = tt
-ascending_take (suc (suc n)) (x ∷ []) up = tt
+ascending_take n entries up = tt
 
 ascending_drop : (n : ℕ) (entries : List Entry) → AreAscending entries → AreAscending (drop n entries)
 ascending_drop zero (x ∷ entries) up = up
@@ -55,10 +54,8 @@ begun_take (suc n) (e ∷ entries) h = (h.0, keys_up (suc n) (e ∷ entries) h.1
     keys_up (suc (suc n)) (x ∷ y ∷ entries) up =
         let parts = and_parts _ _ up in
         and_from _ _ parts.0 (keys_up (suc n) (y ∷ entries) parts.1)
-    keys_up zero entries up = refl
-    keys_up (suc n) [] up = refl
     keys_up (suc zero) (x ∷ entries) up = refl
-    keys_up (suc (suc n)) (x ∷ []) up = refl
+    keys_up n entries up = refl
 begun_take n entries h = tt
 
 module _ (dims : ℕ) (few : dims ≤ 4) (pages : List (List ℕ)) where

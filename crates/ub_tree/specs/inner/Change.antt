@@ -262,6 +262,14 @@ StoresRows span rows old new result =
     (i : ℕ) → IsStored old → IsRegionIn old i span → AllByRecursion (IsRegion old.schema) (split_of old.schema span.first rows)
     → OnOk result (IsStored new × (regions new ≡ regions_with i (split_of old.schema span.first rows) (regions old)) × KeepsGrown old new)
 
+-- a call within that puts these halves in place of a region's rows, the second on a page of its own
+pub record Splits {A : Type 0} (span : Region) (parts : Halves) (old new : TreeView) (result : Result A TreeFault) : Type 0 where
+  pub same : OnOk result (StoresAt span old.schema.page_rows old new)
+  pub written : (i : ℕ) → IsStored old → IsRegionIn old i span → OnOk result (IsStored new × IsSplitAt i span parts old new × KeepsGrown old new)
+  pub halves : OnOk result (IsHonest old.store → SpellsHalves new span.page (page_count old.store) span.first parts)
+  pub counted : AnswersAt (Unit {0}) old span result
+  pub effect : Changes old new result
+
 -- a call within that puts these rows in place of those of a region, which had so many
 pub record Stores {A : Type 0} (span : Region) (count : ℕ) (rows : List Row) (old new : TreeView) (result : Result A TreeFault) : Type 0 where
   pub same : OnOk result (StoresAt span count old new)

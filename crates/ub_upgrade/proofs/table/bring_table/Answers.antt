@@ -3,7 +3,8 @@ use Rattle.ub_index.specs.View.{IndexView}
 use Rattle.ub_page.specs.declared.header.OldHeader.{OldHeader}
 use Rattle.ub_store.specs.Facts.{StoreFacts, IsHonest, page_count}
 use Rattle.ub_store.specs.View.{PagerView}
-use Rattle.ub_upgrade.proofs.TableFacts.{bring_moved, err_passes, err_refused, mark_before, on_err_by, root_fault, rooted}
+use Rattle.ub_writing.proofs.MarkFacts.{on_err}
+use Rattle.ub_upgrade.proofs.TableFacts.{bring_moved, err_passes, err_refused, mark_before, root_fault, rooted}
 use Rattle.ub_upgrade.specs.Bringing.{IsBringFault, IsBrought}
 use Rattle.ub_upgrade.specs.Table.{CanBring, IsTableFault, root_in}
 use Rattle.ub_writing.specs.Marks.{HasMark}
@@ -15,7 +16,7 @@ returns-in_err-root-clause-unopened g c = λ honest.
     let marked : IsHonest c.args.pager.now.store → HasMark schema c.write_mark.new.pager.store.pages = search rules in
     let one : page_count c.write_mark.new.pager.store ≡ 1 = search rules in
     let still : IsHonest c.write_mark.new.pager.store = search rules in
-    on_err_by c.from_residual-in_err-root.result _
+    on_err c.from_residual-in_err-root.result _
     (inr (schema, mark_before schema c.write_mark.new.pager.store c.bring_pages.new.pager.store c.in_err-root.ensures.effect.grows one still (marked honest)))
 
 pub returns-in_err-root-clause-refused : goal.returns-in_err-root-clause-refused
@@ -48,7 +49,7 @@ returns-in_err-index-clause-unopened g c = λ honest.
     let marked : IsHonest c.args.pager.now.store → HasMark schema c.write_mark.new.pager.store.pages = search rules in
     let one : page_count c.write_mark.new.pager.store ≡ 1 = search rules in
     let still : IsHonest c.write_mark.new.pager.store = search rules in
-    on_err_by c.from_residual-in_err-index.result _
+    on_err c.from_residual-in_err-index.result _
     (inr (
       schema,
       subst (HasMark schema) (sym c.in_err-index.ensures.pages)
