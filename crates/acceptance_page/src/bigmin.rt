@@ -2,13 +2,14 @@
 // and one way of a jump beside the other.
 ghost use Rattle.std.specs.Prelude.{◌≡◌, ◌<◌, length, All, IfOk, IfSome};
 
+use crate::samples::all_right;
 use ub_bigmin::laws::{next_by_bits, next_by_words, prev_by_bits, prev_by_words};
 use ub_bigmin::{ZBox, greatest_value, least_value, next_in_any};
 use ub_zaddr::{Point, Shape, ZFault, interleave};
 
 // Addresses, whether the box from (2,2) to (6,3) holds them, and the nearest ones of it at or above
 // and at or below them.
-const NEIGHBOURS: &[(u128, bool, Option<u128>, Option<u128>)] = &[
+static NEIGHBOURS: &[(u128, bool, Option<u128>, Option<u128>)] = &[
     (19, false, Some(36), Some(15)),
     (0, false, Some(12), None),
     (46, false, None, Some(45)),
@@ -19,7 +20,7 @@ const NEIGHBOURS: &[(u128, bool, Option<u128>, Option<u128>)] = &[
 ];
 
 // Spans, and the least and the greatest first coordinate that this box has there.
-const SPANS: &[(u128, u128, Option<u32>, Option<u32>)] = &[
+static SPANS: &[(u128, u128, Option<u32>, Option<u32>)] = &[
     (13, 35, Some(2), Some(3)),
     (16, 35, None, None),
     (16, 36, Some(4), Some(4)),
@@ -69,10 +70,17 @@ fn have_values(boxes: &[ZBox], spans: &[(u128, u128, Option<u32>, Option<u32>)])
     true
 }
 
+// Whether the box from (2,2) to (6,3) is as told.
+fn is_one_box() -> bool {
+    match box_between(2, &[2, 2], &[6, 3]) {
+        Some(zbox) => is_as_told(&zbox) & have_values(&[zbox], SPANS),
+        None => false,
+    }
+}
+
 #[test]
 fn one_box(rt: HostRuntime) {
-    let zbox = box_between(2, &[2, 2], &[6, 3]).expect(&rt, "a box");
-    assert!(rt; is_as_told(&zbox) && have_values(&[zbox], SPANS));
+    assert!(rt; is_one_box());
 }
 
 // Addresses, and the nearest ones at or above them of the boxes from (6,3) to (6,3) and from (2,2)
@@ -82,27 +90,49 @@ static NEXT: &[(u128, Option<u128>)] = &[(13, Some(13)), (16, Some(45)), (46, No
 // A span, and the least and the greatest first coordinate of these boxes there.
 static SPAN: &[(u128, u128, Option<u32>, Option<u32>)] = &[(15, 45, Some(3), Some(6))];
 
+// Whether these addresses lead to the nearest ones of boxes.
+fn lead_on(boxes: &[ZBox]) -> bool {
+    for (z, next) in NEXT {
+        if next_in_any(boxes, *z) != *next {
+            return false;
+        }
+    }
+    true
+}
+
+// Whether those two boxes are as told.
+fn are_two_boxes() -> bool {
+    let Some(high) = box_between(2, &[6, 3], &[6, 3]) else {
+        return false;
+    };
+    let Some(low) = box_between(2, &[2, 2], &[3, 3]) else {
+        return false;
+    };
+    let boxes = [high, low];
+    have_values(&boxes, SPAN) & lead_on(&boxes)
+}
+
 #[test]
 fn several_boxes(rt: HostRuntime) {
-    let high = box_between(2, &[6, 3], &[6, 3]).expect(&rt, "a box");
-    let low = box_between(2, &[2, 2], &[3, 3]).expect(&rt, "a box");
-    let boxes = [high, low];
-    assert!(rt; have_values(&boxes, SPAN));
-    for (z, next) in NEXT {
-        assert!(rt; next_in_any(&boxes, *z) == *next, "{z}");
+    assert!(rt; are_two_boxes());
+}
+
+// Whether the last address is its own neighbour in the box of all points.
+fn is_whole() -> bool {
+    let last = Some(u128::MAX);
+    match box_between(4, &[0; 4], &[4294967295; 4]) {
+        Some(whole) => {
+            (whole.next_in_box(u128::MAX) == last) & (whole.prev_in_box(u128::MAX) == last)
+        }
+        None => false,
     }
 }
 
-// The last address is its own neighbour, and there is no box from the last point to the first.
+// There is no box from the last point to the first.
 #[test]
 fn the_whole_space(rt: HostRuntime) {
-    let whole = box_between(4, &[0; 4], &[4294967295; 4]).expect(&rt, "a space");
-    let last = Some(u128::MAX);
-    assert!(rt;
-        (whole.next_in_box(u128::MAX) == last)
-            & (whole.prev_in_box(u128::MAX) == last)
-            & box_between(4, &[4294967295; 4], &[0; 4]).is_none()
-    );
+    let turned = box_between(4, &[4294967295; 4], &[0; 4]);
+    assert!(rt; is_whole() & turned.is_none());
 }
 
 // The coordinates of the boxes that both ways of a jump are compared on: each up to 7, and those at
@@ -118,8 +148,8 @@ fn point_among(shape: Shape, values: &[u32], n: usize) -> Result<Point, ZFault>
 {
     let mut rest = n;
     let mut places = [0u32; 4];
-    for place in &mut places {
-        *place = values[rest % values.len()];
+    for dim in 0..4usize {
+        places[dim] = values[rest % values.len()];
         rest /= values.len();
     }
     Point::new(shape, &places[..shape.dims() as usize])
@@ -149,27 +179,38 @@ fn agreements_in(zbox: &ZBox, values: &[u32], points: usize) -> u64
     count
 }
 
-// In how many boxes with these coordinates, the lower corner one of those from one number to
-// another, and from how many addresses there both ways agree.
+// The box between two of the points with these coordinates.
+fn box_among(shape: Shape, values: &[u32], low: usize, high: usize) -> Option<ZBox>
+    requires { 0 < length values.now }
+{
+    let lo = point_among(shape, values, low).ok()?;
+    let hi = point_among(shape, values, high).ok()?;
+    ZBox::new(shape, &lo, &hi)
+}
+
+// In how many boxes with these coordinates from one lower corner, and from how many addresses there
+// both ways agree.
+fn agreements_from(shape: Shape, values: &[u32], points: usize, low: usize) -> u64
+    requires { 0 < length values.now }
+{
+    let mut count = 0u64;
+    for high in 0..points {
+        if let Some(zbox) = box_among(shape, values, low, high) {
+            count = count.wrapping_add(agreements_in(&zbox, values, points));
+        }
+    }
+    count
+}
+
+// The same from each of the lower corners from one number to another.
 fn agreements(dims: u32, values: &[u32], points: usize, from: usize, to: usize) -> u64 {
     let Ok(shape) = Shape::new(dims) else {
         return 0;
     };
-    if values.is_empty() {
-        return 0;
-    }
     let mut count = 0u64;
-    for low in from..to {
-        for high in 0..points {
-            let (Ok(lo), Ok(hi)) = (
-                point_among(shape, values, low),
-                point_among(shape, values, high),
-            ) else {
-                return 0;
-            };
-            if let Some(zbox) = ZBox::new(shape, &lo, &hi) {
-                count = count.wrapping_add(agreements_in(&zbox, values, points));
-            }
+    if !values.is_empty() {
+        for low in from..to {
+            count = count.wrapping_add(agreements_from(shape, values, points, low));
         }
     }
     count
@@ -180,19 +221,26 @@ fn agreements(dims: u32, values: &[u32], points: usize, from: usize, to: usize) 
 // dimensions, and the 65 addresses up to 64; 10 pairs at the ends in each of three, 4 coordinates
 // there, and the address 64; and in four dimensions, where the lower corner has the least of the 4
 // coordinates in the last one, 4 pairs there, and 10 in the others; then 3, 2 and 1 pairs.
-const AGREEMENTS: &[(u32, &[u32], usize, usize, usize, u64)] = &[
+static AGREEMENTS: &[(u32, &[u32], usize, usize, usize, u64)] = &[
     (2, &SMALL, 64, 0, 64, 84240),
     (3, &ENDS, 64, 0, 64, 65000),
     (4, &ENDS, 256, 0, 64, 1028000),
     (4, &ENDS, 256, 64, 256, 1542000),
 ];
 
+// How many of these counts are right, up to the first that isn't.
+fn counts_right() -> usize {
+    let mut right = 0usize;
+    for (dims, values, points, from, to, count) in AGREEMENTS {
+        if agreements(*dims, values, *points, *from, *to) != *count {
+            return right;
+        }
+        right = right.wrapping_add(1);
+    }
+    right
+}
+
 #[test]
 fn words_and_bits_agree(rt: HostRuntime) {
-    for (dims, values, points, from, to, count) in AGREEMENTS {
-        assert!(rt;
-            agreements(*dims, values, *points, *from, *to) == *count,
-            "{dims} {from}"
-        );
-    }
+    all_right(&rt, counts_right(), AGREEMENTS.len());
 }

@@ -4,11 +4,12 @@ ghost use Rattle.std.specs.Prelude.{◌≡◌, ◌<◌, IfOk};
 ghost use Rattle.ub_store.specs.Facts.{IsHonest};
 
 use crate::calls::{Answer, Call, Made, answers, byte_of, made_answers};
+use crate::samples::{all_right, none_wrong};
 use std::alloc::{Alloc, Global};
 use std::os::unix::fs::FileExt;
 use std::rt::Files;
 use std::{fs, io, process};
-use ub_file::host::{create_store, open_store};
+use ub_file::host::{Refusal, create_store, open_store};
 use ub_file::{FileStore, HostFile, Medium, MemMedium, Opened, RawFile};
 use ub_store::{Page, PageStore, StoreFault};
 
@@ -62,7 +63,7 @@ impl RawFile for Refusing {
 }
 
 // Lengths in bytes, and whether a medium of each is a store.
-const LENGTHS: &[(u64, bool)] = &[
+static LENGTHS: &[(u64, bool)] = &[
     (0, true),
     (4096, true),
     (8192, true),
@@ -81,11 +82,21 @@ fn is_store(bytes: u64) -> bool {
     FileStore::open(HostFile::new(Refusing, bytes, Opened::Found)).is_ok()
 }
 
+// How many of the lengths are right, up to the first that isn't.
+fn lengths_right() -> usize {
+    let mut right = 0usize;
+    for (bytes, is_right) in LENGTHS {
+        if is_store(*bytes) != *is_right {
+            return right;
+        }
+        right = right.wrapping_add(1);
+    }
+    right
+}
+
 #[test]
 fn takes_whole_pages_alone(rt: HostRuntime) {
-    for (bytes, is_right) in LENGTHS {
-        assert!(rt; is_store(*bytes) == *is_right, "{bytes}");
-    }
+    all_right(&rt, lengths_right(), LENGTHS.len());
 }
 
 // What a store begins with.
@@ -323,14 +334,19 @@ fn is_answered(alloc: Global, start: Start, k: u64, calls: Made, left: Made) -> 
     }
 }
 
+// What the first script shows that goes otherwise; no text where all go so.
+fn first_wrong(alloc: Global) -> &'static str {
+    for (shown, start, k, calls, left) in SCRIPTS {
+        if !is_answered(alloc, *start, *k, *calls, *left) {
+            return shown;
+        }
+    }
+    ""
+}
+
 #[test]
 fn answers_calls(rt: HostRuntime) {
-    for (shown, start, k, calls, left) in SCRIPTS {
-        assert!(rt;
-            is_answered(rt.alloc(), *start, *k, *calls, *left),
-            "{shown}"
-        );
-    }
+    none_wrong(&rt, first_wrong(rt.alloc()));
 }
 
 // What is written is what is read, over any honest medium.
@@ -459,6 +475,14 @@ fn is_filled(rt: &impl Files, path: &str, count: usize) -> bool {
     fs::write(rt, path, &BYTES[..count.min(8192)]).is_ok()
 }
 
+// Whether a store that comes to the file is one, or refused, as is wanted.
+fn are_made<S: PageStore>(made: Result<S, Refusal>, wanted: Made) -> bool {
+    match made {
+        Ok(store) => made_answers(Ok(store), wanted),
+        Err(refusal) => wanted.err() == Some(refusal.fault),
+    }
+}
+
 // Whether a store that comes to the file so becomes this.
 fn is_opened<R: Files>(rt: &R, path: &str, opening: Opening, wanted: Made) -> bool
 where
@@ -472,7 +496,7 @@ where
         Opening::Cut(count) => is_filled(rt, path, count),
         _ => true,
     };
-    is_cut & made_answers(store.map_err(|refusal| refusal.fault), wanted)
+    is_cut & are_made(store, wanted)
 }
 
 // Whether a file holds a page of zeros and one of the byte 65.
@@ -522,6 +546,5 @@ where
 fn stores_in_files(rt: HostRuntime) {
     let id = process::id(rt.process());
     let path = format!(in rt.alloc(); "/tmp/hablozen-{id}.ub").expect(&rt, "memory");
-    let right = deeds_right(&rt, path.as_str());
-    assert!(rt; right == DEEDS.len(), "{right} deeds were right");
+    all_right(&rt, deeds_right(&rt, path.as_str()), DEEDS.len());
 }

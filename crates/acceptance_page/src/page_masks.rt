@@ -1,7 +1,7 @@
 // Masks of regions of every length and every number of dimensions, row by row beside membership.
-ghost use Rattle.std.specs.Prelude.{◌≡◌, ◌≤◌};
+ghost use Rattle.std.specs.Prelude.{◌≡◌, ◌≤◌, length, IfSome};
 
-use crate::samples::{region_page, row, table};
+use crate::samples::{all_right, region_page, row, table};
 use ub_bigmin::ZBox;
 use ub_page::RegionPage;
 use ub_table::{Key, Row, Schema};
@@ -64,18 +64,21 @@ fn corners(number: usize) -> ([u32; 4], [u32; 4]) {
     (lo, hi)
 }
 
-// The mask for these corners of the region whose page has these rows, if as many are read.
-fn mask(schema: &Schema, rows: &[Row], lo: &[u32; 4], hi: &[u32; 4]) -> Option<u64> {
+// The box between these corners in the space of a table.
+fn box_in(schema: &Schema, lo: &[u32; 4], hi: &[u32; 4]) -> Option<ZBox>
+    ensures { IfSome result (λ b. length b.lo ≡ schema.now.dims) }
+{
     let shape = schema.shape();
     let dims = schema.dims() as usize;
-    let (Ok(lo), Ok(hi)) = (
-        Point::new(shape, &lo[..dims]),
-        Point::new(shape, &hi[..dims]),
-    ) else {
-        return None;
-    };
-    let zbox = ZBox::new(shape, &lo, &hi)?;
-    let measures = schema.measures() as usize;
+    let lo = Point::new(shape, &lo[..dims]).ok()?;
+    let hi = Point::new(shape, &hi[..dims]).ok()?;
+    ZBox::new(shape, &lo, &hi)
+}
+
+// The mask for these corners of the region whose page has these rows, if as many are read.
+fn mask(schema: &Schema, rows: &[Row], lo: &[u32; 4], hi: &[u32; 4]) -> Option<u64> {
+    let zbox = box_in(schema, lo, hi)?;
+    let (dims, measures) = (schema.dims() as usize, schema.measures() as usize);
     let page = region_page(dims, measures, Key { z: 0, number: 0 }, rows);
     match RegionPage::read(schema, &page) {
         Ok(region) if region.len() == rows.len() => Some(region.mask(&zbox)),
@@ -113,15 +116,31 @@ fn are_as_told(schema: &Schema, rows: &[Row]) -> bool {
     true
 }
 
+// With how many of the first rows the masks are as told, from none on, up to the first that aren't.
+fn lengths_right(schema: &Schema, rows: &[Row; 64]) -> usize {
+    for len in 0..=64usize {
+        if !are_as_told(schema, &rows[..len]) {
+            return len;
+        }
+    }
+    65
+}
+
+// The same in a table of so many dimensions.
+fn lengths_right_in(dims: u32) -> usize
+    requires { dims ≤ 4 }
+{
+    match table(&b"xyzw"[..dims as usize], dims, 64) {
+        Ok(schema) => lengths_right(&schema, &rows_of(dims)),
+        Err(_) => 0,
+    }
+}
+
 // The first rows, as many as there can be, and as few.
 #[test]
 fn masks_are_membership(rt: HostRuntime) {
     for dims in 1..=4u32 {
-        let schema = table(&b"xyzw"[..dims as usize], dims, 64).expect(&rt, "a table");
-        let rows = rows_of(dims);
-        for len in 0..=64usize {
-            assert!(rt; are_as_told(&schema, &rows[..len]), "{dims} {len}");
-        }
+        all_right(&rt, lengths_right_in(dims), 65);
     }
 }
 

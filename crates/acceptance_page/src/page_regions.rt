@@ -1,5 +1,5 @@
 // Regions that are written and read, and pages that are refused.
-use crate::samples::{page_of, plane, region_page, row, table};
+use crate::samples::{all_right, page_of, plane, region_page, row, table};
 use ub_page::{Draft, Page, RegionPage};
 use ub_table::{Key, PageFault, Row, Schema};
 
@@ -36,7 +36,7 @@ const HIGH: &[(usize, u8)] = &[
 ];
 
 // Bytes of the first page that are changed, and the fault that is told then.
-const FAULTS: &[(&[(usize, u8)], PageFault)] = &[
+static FAULTS: &[(&[(usize, u8)], PageFault)] = &[
     (&[(0, 0)], PageFault::WrongKind),
     (&[(3, 3)], PageFault::BadCount),
     (&[(27, 0), (31, 0)], PageFault::BadRow),
@@ -117,72 +117,79 @@ fn is_kept(
         && is_region(region, first, rows)
 }
 
-// One region takes in a page, then another one, and has no rows once a page is refused.
+// Whether a region of no rows takes in a page, then another one, and has no rows once a page is refused.
+fn takes_in(region: &mut RegionPage, schema: &Schema) -> bool {
+    let is_empty = region.len() == 0;
+    let low = [row(1, 1, 1, 10), row(4, 0, 2, 7)];
+    let is_low = is_kept(region, schema, LOW, 0, &low);
+    let high = [row(2, 2, 3, 20), row(5, 2, 3, 1)];
+    let is_high = is_kept(region, schema, HIGH, 13, &high);
+    let refused = region.fill(schema, &page_of(LOW, &[(19, 4)])) == Err(PageFault::OutOfRegion);
+    is_empty & is_low & is_high & refused & is_region(region, Key { z: 0, number: 0 }, &[])
+}
+
+// One region takes in one page after the other.
 #[test]
 fn takes_in_one_page_after_the_other(rt: HostRuntime) {
     let schema = plane().expect(&rt, "a table");
     let mut region = RegionPage::empty(schema.shape());
-    let refused = page_of(LOW, &[(19, 4)]);
-    let is_right = region.len() == 0
-        && is_kept(
-            &mut region,
-            &schema,
-            LOW,
-            0,
-            &[row(1, 1, 1, 10), row(4, 0, 2, 7)],
-        )
-        && is_kept(
-            &mut region,
-            &schema,
-            HIGH,
-            13,
-            &[row(2, 2, 3, 20), row(5, 2, 3, 1)],
-        )
-        && region.fill(&schema, &refused) == Err(PageFault::OutOfRegion)
-        && is_region(&region, Key { z: 0, number: 0 }, &[]);
-    assert!(rt; is_right);
+    assert!(rt; takes_in(&mut region, &schema));
 }
 
 // Whether the region of the first page tells its keys, and its second row.
-fn tells_keys(schema: &Schema) -> bool {
+fn tells_keys(region: &RegionPage) -> bool {
+    if region.len() != 2 {
+        return false;
+    }
     let keys = [Key { z: 3, number: 1 }, Key { z: 4, number: 4 }];
+    (region.numbers() == [1, 4].as_slice())
+        & (region.key(0) == keys[0])
+        & (region.row(1) == row(4, 0, 2, 7))
+        & (region.key(1) == keys[1])
+}
+
+// Whether the region of the first page tells its keys, and where rows go in, by address and number, and of which it has the key.
+fn tells_all(schema: &Schema) -> bool {
     match RegionPage::read(schema, &page_of(LOW, &[])) {
         Ok(region) => {
-            region.numbers() == [1, 4].as_slice()
-                && region.len() == 2
-                && region.key(0) == keys[0]
-                && region.row(1) == row(4, 0, 2, 7)
-                && region.key(1) == keys[1]
+            tells_keys(&region)
+                & (region.place_of(&row(9, 1, 0, 0)) == Some(0))
+                & (region.place_of(&row(0, 1, 1, 0)) == Some(0))
+                & region.place_of(&row(1, 1, 1, 0)).is_none()
+                & (region.place_of(&row(2, 1, 1, 0)) == Some(1))
+                & (region.place_of(&row(3, 0, 2, 0)) == Some(1))
+                & region.place_of(&row(4, 0, 2, 0)).is_none()
+                & (region.place_of(&row(1, 2, 0, 0)) == Some(2))
         }
         Err(_) => false,
     }
 }
 
-// Whether the region of the first page tells where rows go in, by address and number, and of which it has the key.
-fn tells_places(schema: &Schema) -> bool {
-    match RegionPage::read(schema, &page_of(LOW, &[])) {
-        Ok(region) => {
-            region.place_of(&row(9, 1, 0, 0)) == Some(0)
-                && region.place_of(&row(0, 1, 1, 0)) == Some(0)
-                && region.place_of(&row(1, 1, 1, 0)).is_none()
-                && region.place_of(&row(2, 1, 1, 0)) == Some(1)
-                && region.place_of(&row(3, 0, 2, 0)) == Some(1)
-                && region.place_of(&row(4, 0, 2, 0)).is_none()
-                && region.place_of(&row(1, 2, 0, 0)) == Some(2)
-        }
-        Err(_) => false,
+// Whether a page is refused so.
+fn is_refused(schema: &Schema, page: &Page, fault: PageFault) -> bool {
+    match RegionPage::read(schema, page) {
+        Ok(_) => false,
+        Err(told) => told == fault,
     }
+}
+
+// How many of the changed pages are refused so, up to the first that isn't.
+fn faults_right(schema: &Schema) -> usize {
+    let mut right = 0usize;
+    for (changes, fault) in FAULTS {
+        if !is_refused(schema, &page_of(LOW, changes), *fault) {
+            return right;
+        }
+        right = right.wrapping_add(1);
+    }
+    right
 }
 
 #[test]
 fn gives_rows_and_keys_or_the_first_fault(rt: HostRuntime) {
     let schema = plane().expect(&rt, "a table");
-    assert!(rt; tells_keys(&schema));
-    assert!(rt; tells_places(&schema));
-    for (changes, fault) in FAULTS {
-        let read = RegionPage::read(&schema, &page_of(LOW, changes)).err();
-        assert!(rt; read == Some(*fault), "{fault}");
-    }
+    assert!(rt; tells_all(&schema));
+    all_right(&rt, faults_right(&schema), FAULTS.len());
 }
 
 // 64 rows of a table of four dimensions and four measures, in the order of their keys.

@@ -1,7 +1,7 @@
 // The rows of a region in memory, which are put in, taken out, split and joined.
 ghost use Rattle.std.specs.Prelude.{◌≤◌};
 
-use crate::samples::row;
+use crate::samples::{all_right, row};
 use ub_region::RegionPage;
 use ub_table::{Key, Row};
 use ub_zaddr::Shape;
@@ -24,7 +24,7 @@ const SAMPLES: [(u32, [u32; 4], u128); 7] = [
 
 // The places in SAMPLES of a page's rows and of one more, how many of them stay in the left half,
 // and the first key of the right one: two, three and four rows on a page.
-const HALVES: &[(&[usize], usize, (u128, u32))] = &[
+static HALVES: &[(&[usize], usize, (u128, u32))] = &[
     (&[0, 1, 2], 2, (362, 0)),
     (&[1, 2, 3], 2, (362, 5)),
     (&[2, 3, 4], 2, (362, 6)),
@@ -131,16 +131,24 @@ fn are_halves(
     true
 }
 
+// How many of the halves are right, up to the first that aren't.
+fn halves_right(shape: Shape, right: &mut RegionPage) -> usize {
+    let mut count = 0usize;
+    for (places, left, first) in HALVES {
+        if !are_halves(shape, right, places, *left, key(first.0, first.1)) {
+            return count;
+        }
+        count = count.wrapping_add(1);
+    }
+    count
+}
+
 #[test]
 fn halves_of_a_page_and_a_row(rt: HostRuntime) {
     let shape = Shape::new(4).expect(&rt, "four dimensions");
     let line = Shape::new(1).expect(&rt, "a line");
     let mut right = region_of(line, &FOUR);
-    for (places, count, first) in HALVES {
-        let first = key(first.0, first.1);
-        let is_right = are_halves(shape, &mut right, places, *count, first);
-        assert!(rt; is_right, "{first:?}");
-    }
+    all_right(&rt, halves_right(shape, &mut right), HALVES.len());
 }
 
 // Whether a right half that is split again begins where it did, and also once rows are taken out of

@@ -1,6 +1,17 @@
 // What several of these tests start from.
+use std::process::Abort;
 use ub_page::Page;
 use ub_table::{Key, Name, PageFault, Row, Schema};
+
+// Asserts that all of so many are right; if not, the one behind the last right one isn't.
+pub(crate) fn all_right(rt: &impl Abort, right: usize, all: usize) {
+    assert!(rt; right == all, "{right} of {all} were right");
+}
+
+// Asserts that none is wrong, by what the first one that is wrong shows.
+pub(crate) fn none_wrong(rt: &impl Abort, shown: &str) {
+    assert!(rt; shown.is_empty(), "{shown}");
+}
 
 // A table t whose columns have these letters for names, and the first of them are its dimensions.
 pub(crate) fn table(letters: &[u8], dims: u32, page_rows: u32) -> Result<Schema, PageFault> {
@@ -40,9 +51,6 @@ pub(crate) fn row(number: u32, x: u32, y: u32, m: i64) -> Row {
 // Whether this is the table t of two dimensions x and y and a measure m, none of them signed, with
 // two rows on a page.
 pub(crate) fn is_plane(schema: &Schema) -> bool {
-    let [x, y, m] = schema.columns() else {
-        return false;
-    };
     let numbers = [
         schema.dims(),
         schema.measures(),
@@ -51,9 +59,16 @@ pub(crate) fn is_plane(schema: &Schema) -> bool {
     ];
     (numbers == [2, 1, 2, 0])
         & (schema.name().bytes() == b"t".as_slice())
-        & (x.bytes() == b"x".as_slice())
-        & (y.bytes() == b"y".as_slice())
-        & (m.bytes() == b"m".as_slice())
+        & are_named(schema.columns(), b"xym")
+}
+
+// Whether columns have these letters for names.
+fn are_named(columns: &[Name], letters: &[u8]) -> bool {
+    let mut is_so = columns.len() == letters.len();
+    for (i, column) in columns.iter().enumerate() {
+        is_so &= i < letters.len() && column.bytes() == &letters[i..=i];
+    }
+    is_so
 }
 
 // Puts these bytes into a page, one after the other.

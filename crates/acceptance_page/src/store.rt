@@ -7,6 +7,7 @@ ghost use Rattle.ub_store.specs.Faulty.{faulty_facts, faulty_view};
 ghost use Rattle.ub_store.specs.View.{IsCached};
 
 use crate::calls::{Answer, Call, answers, byte_of};
+use crate::samples::all_right;
 use std::alloc::Global;
 use std::num::NonZeroUsize;
 use std::test::Fail;
@@ -78,7 +79,7 @@ fn fail_once(store: &mut FaultyStore<MemStore>)
 
 // Calls and their answers, where the k-th call fails: of a store in memory, and of one over such a
 // one (marked true), which passes each call on once.
-const CALLS: &[(bool, u64, &[(Call, Answer)])] = &[
+static CALLS: &[(bool, u64, &[(Call, Answer)])] = &[
     (
         false,
         2,
@@ -150,11 +151,21 @@ fn are_answered(alloc: Global, is_over: bool, k: u64, calls: &[(Call, Answer)]) 
     }
 }
 
+// How many of these stores answer so, up to the first that doesn't.
+fn stores_right(alloc: Global) -> usize {
+    let mut right = 0usize;
+    for (is_over, k, calls) in CALLS {
+        if !are_answered(alloc, *is_over, *k, calls) {
+            return right;
+        }
+        right = right.wrapping_add(1);
+    }
+    right
+}
+
 #[test]
 fn fails_at_one_call_alone(rt: HostRuntime) {
-    for (is_over, k, calls) in CALLS {
-        assert!(rt; are_answered(rt.alloc(), *is_over, *k, calls), "{k}");
-    }
+    all_right(&rt, stores_right(rt.alloc()), CALLS.len());
     fail_once(&mut store_failing_at(rt.alloc(), 1));
 }
 
@@ -233,14 +244,8 @@ fn done<S: PageStore>(pager: &mut Pager<S>, deed: Deed) -> Answer {
             pager.bring_region(n)?;
             Ok(byte_of(pager.cached(n)))
         }
-        Deed::Put(n, byte) => {
-            pager.put(n, &[byte; 4096])?;
-            Ok(0)
-        }
-        Deed::Sync => {
-            pager.sync()?;
-            Ok(0)
-        }
+        Deed::Put(n, byte) => pager.put(n, &[byte; 4096]).and(Ok(0)),
+        Deed::Sync => pager.sync().and(Ok(0)),
         Deed::Begin => {
             pager.begin();
             Ok(0)
@@ -266,7 +271,7 @@ fn does<S: PageStore>(pager: &mut Pager<S>, deeds: &[(Deed, Answer)]) -> bool {
 // In the first the page that was last put is lent. In the second a page that is brought twice is
 // read once, so that the seventh call is the sync; and the pages of regions that are brought since
 // the trace began are noted, and no others.
-const DEEDS: &[(u64, u8, &[(Deed, Answer)])] = &[
+static DEEDS: &[(u64, u8, &[(Deed, Answer)])] = &[
     (
         0,
         7,
@@ -313,11 +318,21 @@ fn are_done(alloc: Global, k: u64, left: u8, deeds: &[(Deed, Answer)]) -> bool {
     answers(&mut pager.into_store(), &calls) && is_right
 }
 
+// How many new pagers do this, up to the first that doesn't.
+fn pagers_right(alloc: Global) -> usize {
+    let mut right = 0usize;
+    for (k, left, deeds) in DEEDS {
+        if !are_done(alloc, *k, *left, deeds) {
+            return right;
+        }
+        right = right.wrapping_add(1);
+    }
+    right
+}
+
 #[test]
 fn lends_pages_and_notes_those_of_regions(rt: HostRuntime) {
-    for (k, left, deeds) in DEEDS {
-        assert!(rt; are_done(rt.alloc(), *k, *left, deeds), "{k}");
-    }
+    all_right(&rt, pagers_right(rt.alloc()), DEEDS.len());
 }
 
 // What follows where memory was refused for the page 1: it was noted, and is brought in the next

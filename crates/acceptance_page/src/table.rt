@@ -1,10 +1,10 @@
 // Names, columns, schemas, rows and keys.
-use crate::samples::{is_plane, plane, signed_table, table};
+use crate::samples::{all_right, is_plane, plane, signed_table, table};
 use ub_table::columns::MAX_COLUMNS;
 use ub_table::{Columns, Key, Name, PageFault, Row, Schema, is_keyword};
 
 // Texts, and whether each is a name, and a keyword.
-const TEXTS: &[(&str, bool, bool)] = &[
+static TEXTS: &[(&str, bool, bool)] = &[
     ("t", true, false),
     ("_a9", true, false),
     ("selects", true, false),
@@ -27,15 +27,22 @@ fn keeps(text: &[u8]) -> bool {
     }
 }
 
-#[test]
-fn takes_names(rt: HostRuntime) {
+// How many of the texts are right, up to the first that isn't.
+fn texts_right() -> usize {
+    let mut right = 0usize;
     for (text, is_name, is_key) in TEXTS {
         let bytes = text.as_bytes();
-        assert!(rt;
-            keeps(bytes) == *is_name && is_keyword(bytes) == *is_key,
-            "{text}"
-        );
+        if (keeps(bytes) != *is_name) | (is_keyword(bytes) != *is_key) {
+            return right;
+        }
+        right = right.wrapping_add(1);
     }
+    right
+}
+
+#[test]
+fn takes_names(rt: HostRuntime) {
+    all_right(&rt, texts_right(), TEXTS.len());
 }
 
 // Whether columns of these two names are held in their order.
@@ -71,18 +78,24 @@ fn holds_columns(schema: &Schema) -> bool {
     }
 }
 
+// How many of these are refused so, up to the first that isn't.
+fn refusals_right(name: Name) -> usize {
+    let mut right = 0usize;
+    for (page_rows, signed, fault) in REFUSED {
+        if !is_refused(name, *page_rows, *signed, *fault) {
+            return right;
+        }
+        right = right.wrapping_add(1);
+    }
+    right
+}
+
 // The table of the plane; one of two columns of a name is refused for its count of rows, or its mask, before its names.
 #[test]
 fn takes_columns_and_schemas(rt: HostRuntime) {
     let schema = plane().expect(&rt, "a table");
-    let name = *schema.name();
     assert!(rt; is_plane(&schema) & holds_columns(&schema));
-    for (page_rows, signed, fault) in REFUSED {
-        assert!(rt;
-            is_refused(name, *page_rows, *signed, *fault),
-            "{page_rows} {signed}"
-        );
-    }
+    all_right(&rt, refusals_right(*schema.name()), REFUSED.len());
 }
 
 #[test]
@@ -125,7 +138,7 @@ fn are_read(schema: &Schema, values: &[i64]) -> bool {
 
 // Numbers, and whether the first column of such a table, a dimension, and its last, a measure, can
 // hold them.
-const NUMBERS: &[(i128, bool, bool)] = &[
+static NUMBERS: &[(i128, bool, bool)] = &[
     (-1, false, true),
     (0, true, true),
     (4_294_967_295, true, true),
@@ -161,7 +174,7 @@ fn reads_columns_and_tells_which_numbers_fit(rt: HostRuntime) {
 }
 
 // A mask has bits for the dimensions alone.
-const MASKS: &[(u32, u32, bool)] = &[
+static MASKS: &[(u32, u32, bool)] = &[
     (1, 0, true),
     (1, 1, true),
     (1, 2, false),
@@ -183,11 +196,21 @@ fn is_mask(dims: u32, signed: u32, is_taken: bool) -> bool {
     }
 }
 
+// How many of the masks are right, up to the first that isn't.
+fn masks_right() -> usize {
+    let mut right = 0usize;
+    for (dims, signed, is_taken) in MASKS {
+        if !is_mask(*dims, *signed, *is_taken) {
+            return right;
+        }
+        right = right.wrapping_add(1);
+    }
+    right
+}
+
 #[test]
 fn takes_masks_of_its_dimensions(rt: HostRuntime) {
-    for (dims, signed, is_taken) in MASKS {
-        assert!(rt; is_mask(*dims, *signed, *is_taken), "{dims} {signed}");
-    }
+    all_right(&rt, masks_right(), MASKS.len());
 }
 
 // Values of a signed dimension, and the coordinates that stand for them; and numbers that it doesn't have: those next to its
@@ -221,12 +244,22 @@ fn is_signed(schema: &Schema, dim: usize, number: i128, coordinate: Option<u32>)
         & (fits(schema, dim, number) == coordinate.is_some())
 }
 
+// How many of the signed numbers are right, up to the first that isn't.
+fn signed_right(schema: &Schema) -> usize {
+    let mut right = 0usize;
+    for (number, coordinate) in SIGNED {
+        if !is_signed(schema, 1, *number, *coordinate) {
+            return right;
+        }
+        right = right.wrapping_add(1);
+    }
+    right
+}
+
 // A table of two dimensions of which the second is signed, and of two measures.
 #[test]
 fn reads_columns_by_which_are_signed(rt: HostRuntime) {
     let schema = signed_table(b"xymn", 2, 2, 2).expect(&rt, "a table");
     assert!(rt; are_fitted(&schema) & are_read(&schema, &SIGNED_VALUES));
-    for (number, coordinate) in SIGNED {
-        assert!(rt; is_signed(&schema, 1, *number, *coordinate), "{number}");
-    }
+    all_right(&rt, signed_right(&schema), SIGNED.len());
 }
