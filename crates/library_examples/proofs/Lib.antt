@@ -1,0 +1,2 @@
+mod AskFacts
+mod SortedFacts
