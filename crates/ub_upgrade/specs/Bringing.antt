@@ -1,14 +1,17 @@
 -- What is read of the first page of an old store, and what of the others is brought over.
-use Rattle.std.specs.Prelude.{◌≡◌, ◌≤◌, ◌<◌, ◌+◌, ◌⊎◌, ℕ, false, IsTrue, List, length, slice_get}
+use Rattle.std.specs.Prelude.{◌≡◌, ◌≤◌, ◌<◌, ◌+◌, ◌⊎◌, ℕ, false, IsTrue, List, Result, IfErr, IfOk, MatchResult, OnOk, length, slice_get}
+use Rattle.ub_page.specs.declared.header.TheConstants.{MAX_LEVEL}
 use Rattle.ub_page.specs.Header.{IsOldHeader, IsOldHeaderFault, header_page_of}
 use Rattle.ub_region.specs.declared.entry.Entry.{Entry}
 use Rattle.ub_page.specs.declared.header.Header.{Header}
 use Rattle.ub_page.specs.declared.header.OldHeader.{OldHeader}
-use Rattle.ub_store.specs.Facts.{StoreFacts, IsPage, page_count}
+use Rattle.ub_store.specs.Facts.{StoreFacts, IsHonest, IsPage, page_count}
+use Rattle.ub_store.specs.View.{PagerView}
 use Rattle.ub_store.specs.declared.fault.StoreFault.TheVariants as store
 use Rattle.ub_store.specs.declared.store.TheConstants.{MAX_PAGES}
 use Rattle.ub_zaddr.specs.Address.{last_address}
-use Rattle.ub_upgrade.specs.Building.{AreCopied}
+use Rattle.ub_upgrade.specs.Building.{AreCopied, IsPassing}
+use Rattle.ub_upgrade.specs.Effects.{BringsOver}
 use Rattle.ub_upgrade.specs.Levels.{IsIndexOf, index_pages}
 use Rattle.ub_upgrade.specs.Reading.{HeadingView, AreBelow, IsAskedFor, IsDirectory, IsNamed, IsRefused, heading_of}
 use Rattle.ub_upgrade.specs.declared.building.Root.{Root}
@@ -60,3 +63,16 @@ IsBringFault head from new (New store.NoPage) = ⊥
 IsBringFault head from new (New store.BadSize) = (head.version ≡ 1) × (MAX_PAGES < page_count from + index_pages head.header.regions)
 IsBringFault head from new (Page n fault) =
     (head.version ≡ 1) × (page : List ℕ) × IsPage from n page × IsRefused (directory_of head.header) from n page fault
+
+-- pages are brought over so, with this result, and a root
+pub record BringsPages (head : OldHeader) (from from_then : StoreFacts) (old new : PagerView) (result : Result Root UpgradeFault) : Type 0 where
+  pub brought : IsHonest from → IsHonest old.store → IfOk result (IsBrought head from new.store.pages)
+  pub exact : (chain : List ℕ) (entries : List Entry) → IsHonest from → IsHonest old.store → head.version ≡ 1
+      → IsDirectory from.pages (directory_of head.header) chain entries → AreBelow (page_count from) entries
+      → MatchResult result (λ root. HasIndexOf head from new.store.pages root entries) IsPassing
+  pub plain : head.version ≡ 2 → IfErr result IsPassing
+  pub root : IfOk result (λ root. (1 ≤ root.page) × (1 ≤ root.level) × (root.level ≤ MAX_LEVEL))
+  pub count : OnOk result (page_count from ≤ page_count new.store)
+  pub size : head.version ≡ 1 → OnOk result (page_count new.store ≡ page_count from + index_pages head.header.regions)
+  pub refused : IfErr result (IsBringFault head from old.store)
+  pub effect : BringsOver from from_then old new result

@@ -1,11 +1,13 @@
 -- What the two calls do: pages are copied, and an index is built of an old directory.
-use Rattle.std.specs.Prelude.{◌≡◌, ◌≤◌, ◌<◌, ◌+◌, ◌⊎◌, ℕ, IsTrue, List, slice_get}
+use Rattle.std.specs.Prelude.{◌≡◌, ◌≤◌, ◌<◌, ◌+◌, ◌⊎◌, ℕ, IsTrue, List, Result, IfErr, IfOk, OnOk, slice_get}
 use Rattle.ub_page.specs.declared.header.TheConstants.{MAX_LEVEL}
 use Rattle.ub_region.specs.declared.entry.Entry.{Entry}
 use Rattle.ub_store.specs.Facts.{StoreFacts, IsPage, page_count}
+use Rattle.ub_store.specs.View.{PagerView}
 use Rattle.ub_store.specs.declared.fault.StoreFault.TheVariants as store
 use Rattle.ub_store.specs.declared.store.TheConstants.{MAX_PAGES}
 use Rattle.ub_zaddr.specs.Address.{last_address}
+use Rattle.ub_upgrade.specs.Effects.{BringsOver}
 use Rattle.ub_upgrade.specs.Levels.{Cut, IsIndexOf, index_pages}
 use Rattle.ub_upgrade.specs.Reading.{HeadingView, AreBelow, IsAskedFor, IsDirectory, IsNamed, IsRefused}
 use Rattle.ub_upgrade.specs.declared.building.Root.{Root}
@@ -59,6 +61,11 @@ pub record IsRoot (count : ℕ) (root : Root) : Type 0 where
   pub low : 1 ≤ root.level
   pub high : root.level ≤ MAX_LEVEL
 
+-- the root of an index is put behind so many pages more, with this result
+pub record PutsRoot {E : Type 0} (by : ℕ) (old new : StoreFacts) (result : Result Root E) : Type 0 where
+  pub root : IfOk result (IsRoot (page_count new))
+  pub count : OnOk result (page_count new ≡ page_count old + by)
+
 -- the new store has the index of these entries behind the pages that it had
 abbrev pub HasBuilt : HeadingView → StoreFacts → StoreFacts → Root → List Entry → Type 0
 HasBuilt heading old new root entries = IsIndexOf (last_address heading.dims) new.pages (page_count old) (page_count new) root entries
@@ -74,3 +81,9 @@ abbrev pub AreLeaves : HeadingView → StoreFacts → List (List ℕ) → Level 
 AreLeaves heading from pages low =
     (chain : List ℕ) × (entries : List Entry) × IsDirectory from.pages heading chain entries × AreBelow (page_count from) entries
     × Cut pages 1 low.first low.count entries
+
+-- a call with this result that builds of a directory: why it is refused, of which pages that is told, and what it leaves
+pub record BuildsOver {A : Type 0} (heading : HeadingView) (from from_then : StoreFacts) (old new : PagerView) (result : Result A UpgradeFault) : Type 0 where
+  pub refused : IfErr result (IsBuildFault heading from old.store)
+  pub there : IfErr result (IsThere (page_count from))
+  pub effect : BringsOver from from_then old new result

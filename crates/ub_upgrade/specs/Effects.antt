@@ -1,5 +1,6 @@
 -- What is left of the two stores where pages are brought over from the old one to the new one.
-use Rattle.std.specs.Prelude.{◌≡◌, ◌⊎◌, ℕ, None, Result, Err}
+use Rattle.std.specs.Prelude.{◌≡◌, ◌⊎◌, ℕ, None, Result, Err, IfErr}
+use Rattle.ub_index.specs.Standing.{IsGrowFault}
 use Rattle.ub_store.specs.Writing.{Grows}
 use Rattle.ub_store.specs.Cache.{page_at}
 use Rattle.ub_store.specs.Facts.{StoreFacts, raised}
@@ -37,6 +38,12 @@ pub record AddsPages (old new : PagerView) : Type 0 where
   pub same : new ≡ record old { store = written old.store new.store; cached = new.cached }
   pub grows : Grows old.store new.store
   pub held : HoldsNoMore old new
+
+-- a call with this result that adds pages, so many at most: why it is refused, and what it leaves
+pub record Adds {A : Type 0} (most : ℕ) (old new : PagerView) (result : Result A StoreFault) : Type 0 where
+  pub adds : AddsPages old new
+  pub counts : Counts result old.store new.store
+  pub refused : IfErr result (IsGrowFault most old.store)
 
 -- the count of failed reads of the old store after a call with this result: its device's fault raises it by one
 abbrev pub counted_old : {A : Type 0} → Result A UpgradeFault → ℕ → ℕ

@@ -1,5 +1,5 @@
 -- The pages of a level of an index that is built from below: they have numbers that follow each other.
-use Rattle.std.specs.Prelude.{◌≡◌, ◌≤◌, ◌<◌, ◌+◌, ◌-◌, ◌^◌, ◌/◌, ◌++◌, ℕ, zero, suc, List, [], ◌∷◌, Some, None, length, slice_get, if◌then◌else◌, nat_eq, nat_le}
+use Rattle.std.specs.Prelude.{◌≡◌, ◌≤◌, ◌<◌, ◌+◌, ◌-◌, ◌^◌, ◌/◌, ◌++◌, ℕ, zero, suc, List, [], ◌∷◌, Some, None, Result, IfOk, OnOk, length, slice_get, if◌then◌else◌, nat_eq, nat_le}
 use Rattle.std.specs.List.{AllByRecursion, IsDistinct, flat_map}
 use Rattle.ub_index.specs.Index.{AscendTo, EachTo, IsUnder, first_or, page_in, pages_under, top, under}
 use Rattle.ub_page.specs.Index.{index_page}
@@ -54,6 +54,13 @@ most_pages _ = 1
 -- the pages of the level are the last of the store
 abbrev pub IsLast : StoreFacts → Level → Type 0
 IsLast store level = level.first + level.count ≡ page_count store
+
+-- a level of so many pages is put behind those that there were, with this result
+pub record PutsLevel {E : Type 0} (many : ℕ) (old new : StoreFacts) (result : Result Level E) : Type 0 where
+  pub last : IfOk result (IsLast new)
+  pub small : OnOk result (page_count new < 4294967296)
+  pub first : IfOk result (λ low. low.first ≡ page_count old)
+  pub count : IfOk result (λ low. low.count ≡ many)
 
 -- these nodes of a level, which lead to these entries, are in order from the least key on, and an index stands under each; all its
 -- pages differ from each other, and have numbers from `from` on and below `to`

@@ -1,12 +1,12 @@
 -- Reading a directory of format 1: which pages are one, what is read of them, and why they are refused.
-use Rattle.std.specs.Prelude.{◌≡◌, ◌≤◌, ◌<◌, ◌-◌, ◌^◌, ◌↔◌, ◌⊎◌, ◌++◌, ℕ, min, IsTrue, List, [], ◌∷◌, Some, length, take, drop, slice_get, slice_index_or, Option, None}
+use Rattle.std.specs.Prelude.{◌≡◌, ◌≤◌, ◌<◌, ◌-◌, ◌^◌, ◌↔◌, ◌⊎◌, ◌++◌, ℕ, min, IsTrue, List, [], ◌∷◌, Some, length, take, drop, slice_get, slice_index_or, Option, None, Result, IfOk}
 use Rattle.std.specs.List.{AllByRecursion}
 use Rattle.ub_page.specs.declared.entries.TheConstants.{MAX_ENTRIES}
 use Rattle.ub_zaddr.specs.Address.{last_address}
 use Rattle.ub_page.specs.Directory.{Listing, IsListing, directory_page, IsDirectoryFault}
 use Rattle.ub_page.specs.Entries.{IsEntry}
 use Rattle.ub_region.specs.declared.entry.Entry.{Entry}
-use Rattle.ub_store.specs.Facts.{StoreFacts, IsHonest, IsPage}
+use Rattle.ub_store.specs.Facts.{StoreFacts, IsHonest, IsPage, page_count}
 use Rattle.ub_table.specs.Keys.{origin, are_ascending}
 use Rattle.ub_table.specs.declared.fault.PageFault.TheVariants.{BadCount, BadOrder}
 use Rattle.ub_table.specs.declared.fault.PageFault.{PageFault}
@@ -115,3 +115,10 @@ AreBelow count entries = AllByRecursion (λ entry. entry.page < count) entries
 -- this page is refused where the directory begins or goes on
 abbrev pub IsRefused : HeadingView → StoreFacts → ℕ → List ℕ → PageFault → Type 0
 IsRefused heading store n page fault = (chain : List ℕ) × (entries : List Entry) × IsReadUpTo store heading chain entries n × IsPartFault heading entries page fault
+
+-- the page at a place is read so, with this result, where so many regions are left: it fits there, and the store has each region's page
+pub record TellsPart {E : Type 0} (dims : ℕ) (from : StoreFacts) (left next : ℕ) (result : Result Listing E) : Type 0 where
+  pub listing : IfOk result (IsListing dims)
+  pub page : IfOk result (λ part. IsPage from next (directory_page part))
+  pub part : IfOk result (HasPart left)
+  pub below : IfOk result (λ part. AreBelow (page_count from) part.entries)

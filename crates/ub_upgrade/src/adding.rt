@@ -1,11 +1,10 @@
 // Pages that are added to the new store, and the first keys of those that were.
-ghost use Rattle.std.specs.Prelude.{◌≡◌, ◌<◌, ◌≤◌, ◌+◌, length, take, IfErr, IfOk, OnOk};
-ghost use Rattle.ub_index.specs.Standing.{IsGrowFault};
+ghost use Rattle.std.specs.Prelude.{◌≡◌, ◌<◌, ◌≤◌, ◌+◌, length, take, IfOk, OnOk};
 ghost use Rattle.ub_page.specs.Index.{index_page};
 ghost use Rattle.ub_page.specs.declared.header.TheConstants.{MAX_LEVEL};
 ghost use Rattle.ub_page.specs.declared.entries.TheConstants.{MAX_ENTRIES};
 ghost use Rattle.ub_store.specs.Facts.{Appends, IsHonest, page_count};
-ghost use Rattle.ub_upgrade.specs.Effects.{AddsPages, Counts};
+ghost use Rattle.ub_upgrade.specs.Effects.{Adds};
 ghost use Rattle.ub_upgrade.specs.Levels.{name_of, names_of};
 
 use ub_page::entries::read_key;
@@ -16,9 +15,7 @@ use ub_store::{PageStore, Pager, StoreFault};
 // Adds a page.
 pub fn add_page<S: PageStore>(pager: &mut Pager<S>, page: &Page) -> Result<(), StoreFault>
     ensures added { OnOk result (Appends page.now pager.old.store pager.new.store) }
-    ensures adds { AddsPages pager.old pager.new }
-    ensures counts { Counts result pager.old.store pager.new.store }
-    ensures refused { IfErr result (IsGrowFault 1 pager.old.store) }
+    ensures effect { Adds 1 pager.old pager.new result }
 {
     let n = pager.extend()?;
     pager.put(n, page)
@@ -35,9 +32,7 @@ pub fn add_index_page<S: PageStore>(
     ensures added { OnOk result (Appends
         (index_page (record { level = level; entries = entries.now }))
         pager.old.store pager.new.store) }
-    ensures adds { AddsPages pager.old pager.new }
-    ensures counts { Counts result pager.old.store pager.new.store }
-    ensures refused { IfErr result (IsGrowFault 1 pager.old.store) }
+    ensures effect { Adds 1 pager.old pager.new result }
 {
     let mut draft = Draft::new();
     write_index(entries, level, &mut draft);
@@ -51,9 +46,7 @@ fn read_name<S: PageStore>(pager: &mut Pager<S>, n: u32) -> Result<Entry, StoreF
     ensures name { IsHonest pager.old.store
         → IfOk result (λ entry. entry ≡ name_of pager.old.store.pages n) }
     ensures same { pager.new.store.pages ≡ pager.old.store.pages }
-    ensures adds { AddsPages pager.old pager.new }
-    ensures counts { Counts result pager.old.store pager.new.store }
-    ensures refused { IfErr result (IsGrowFault 0 pager.old.store) }
+    ensures effect { Adds 0 pager.old pager.new result }
 {
     pager.bring(n)?;
     let first = read_key(pager.cached(n), 16);
@@ -74,9 +67,7 @@ fn read_names<S: PageStore>(
     ensures names { IsHonest pager.old.store
         → OnOk result (take count entries.new ≡ names_of pager.old.store.pages from count) }
     ensures same { pager.new.store.pages ≡ pager.old.store.pages }
-    ensures adds { AddsPages pager.old pager.new }
-    ensures counts { Counts result pager.old.store pager.new.store }
-    ensures refused { IfErr result (IsGrowFault 0 pager.old.store) }
+    ensures effect { Adds 0 pager.old pager.new result }
 {
     for i in 0..count {
         entries[i] = read_name(pager, from + i as u32)?;
@@ -100,9 +91,7 @@ pub fn add_names<S: PageStore>(
     ensures added { IsHonest pager.old.store → OnOk result (Appends
         (index_page (record { level = level; entries = names_of pager.old.store.pages from count }))
         pager.old.store pager.new.store) }
-    ensures adds { AddsPages pager.old pager.new }
-    ensures counts { Counts result pager.old.store pager.new.store }
-    ensures refused { IfErr result (IsGrowFault 1 pager.old.store) }
+    ensures effect { Adds 1 pager.old pager.new result }
 {
     let none = Entry {
         first: ORIGIN,

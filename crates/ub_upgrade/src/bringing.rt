@@ -1,15 +1,11 @@
 // The header of an old table, and all its pages but the first.
-ghost use Rattle.std.specs.Prelude.{◌≡◌, ◌≤◌, ◌+◌, ℕ, List, IfErr, IfOk, MatchResult, OnOk};
-ghost use Rattle.ub_page.specs.declared.header.TheConstants.{MAX_LEVEL};
+ghost use Rattle.std.specs.Prelude.{◌≡◌, ◌≤◌, IfErr, IfOk, MatchResult, OnOk};
 ghost use Rattle.ub_page.specs.Header.{IsOldHeader};
-ghost use Rattle.ub_region.specs.declared.entry.Entry as entry;
 ghost use Rattle.ub_page.specs.declared.header.OldHeader as spec;
 ghost use Rattle.ub_store.specs.Facts.{IsHonest, page_count};
-ghost use Rattle.ub_upgrade.specs.Bringing.{HasIndexOf, HasOldHeader, IsBringFault, IsBrought, IsHeadFault, directory_of};
+ghost use Rattle.ub_upgrade.specs.Bringing.{BringsPages, HasOldHeader, IsHeadFault};
 ghost use Rattle.ub_upgrade.specs.Building.{IsPassing};
-ghost use Rattle.ub_upgrade.specs.Effects.{BringsOver, counted_old};
-ghost use Rattle.ub_upgrade.specs.Levels.{index_pages};
-ghost use Rattle.ub_upgrade.specs.Reading.{AreBelow, IsDirectory};
+ghost use Rattle.ub_upgrade.specs.Effects.{counted_old};
 
 use crate::building::{Root, build_index};
 use crate::copying::copy_pages;
@@ -53,22 +49,8 @@ pub fn bring_pages<O: PageStore, S: PageStore>(
     requires head { IsOldHeader head.now }
     requires some { 1 ≤ page_count (O.facts old.old) }
     requires one { page_count pager.old.store ≡ 1 }
-    ensures brought { IsHonest (O.facts old.old) → IsHonest pager.old.store
-        → IfOk result (IsBrought head.now (O.facts old.old) pager.new.store.pages) }
-    ensures exact { (chain : List ℕ) (entries : List entry.Entry) → IsHonest (O.facts old.old)
-        → IsHonest pager.old.store → head.now.version ≡ 1
-        → IsDirectory (O.facts old.old).pages (directory_of head.now.header) chain entries
-        → AreBelow (page_count (O.facts old.old)) entries
-        → MatchResult result (λ root. HasIndexOf head.now (O.facts old.old) pager.new.store.pages
-        root entries) IsPassing }
-    ensures plain { head.now.version ≡ 2 → IfErr result IsPassing }
-    ensures root { IfOk result (λ root. (1 ≤ root.page) × (1 ≤ root.level)
-        × (root.level ≤ MAX_LEVEL)) }
-    ensures count { OnOk result (page_count (O.facts old.old) ≤ page_count pager.new.store) }
-    ensures size { head.now.version ≡ 1 → OnOk result (page_count pager.new.store
-        ≡ page_count (O.facts old.old) + index_pages head.now.header.regions) }
-    ensures refused { IfErr result (IsBringFault head.now (O.facts old.old) pager.old.store) }
-    ensures effect { BringsOver (O.facts old.old) (O.facts old.new) pager.old pager.new result }
+    ensures { BringsPages head.now (O.facts old.old) (O.facts old.new) pager.old pager.new
+        result }
 {
     copy_pages(old, pager, page)?;
     let header = &head.header;

@@ -1,10 +1,9 @@
 // An index that is built of an old directory, behind all pages of the new store, level by level.
-ghost use Rattle.std.specs.Prelude.{◌≡◌, ◌≤◌, ◌<◌, ◌+◌, ℕ, List, MatchResult, IfErr, IfOk, OnOk};
+ghost use Rattle.std.specs.Prelude.{◌≤◌, ◌<◌, ℕ, List, MatchResult, IfOk};
 ghost use Rattle.ub_region.specs.declared.entry.Entry as spec;
 ghost use Rattle.ub_store.specs.Facts.{IsHonest, page_count};
-ghost use Rattle.ub_upgrade.specs.Building.{AreLeaves, HasBuilt, IsBuildFault, IsBuilt, IsPassing, IsRoot, IsThere};
-ghost use Rattle.ub_upgrade.specs.Effects.{BringsOver};
-ghost use Rattle.ub_upgrade.specs.Levels.{IsLast, index_pages, pages_for};
+ghost use Rattle.ub_upgrade.specs.Building.{AreLeaves, BuildsOver, HasBuilt, IsBuilt, IsPassing, PutsRoot};
+ghost use Rattle.ub_upgrade.specs.Levels.{PutsLevel, index_pages, pages_for};
 ghost use Rattle.ub_upgrade.specs.Reading.{AreBelow, IsDirectory, heading_of};
 
 use crate::adding::add_index_page;
@@ -57,13 +56,9 @@ pub fn build_index<O: PageStore, S: PageStore>(
         → AreBelow (page_count (O.facts old.old)) entries
         → MatchResult result (λ made. HasBuilt (heading_of schema.now.dims root regions)
         pager.old.store pager.new.store made entries) IsPassing }
-    ensures root { IfOk result (IsRoot (page_count pager.new.store)) }
-    ensures count { OnOk result (page_count pager.new.store
-        ≡ page_count pager.old.store + index_pages regions) }
-    ensures refused { IfErr result (IsBuildFault (heading_of schema.now.dims root regions)
-        (O.facts old.old) pager.old.store) }
-    ensures there { IfErr result (IsThere (page_count (O.facts old.old))) }
-    ensures effect { BringsOver (O.facts old.old) (O.facts old.new) pager.old pager.new result }
+    ensures rooted { PutsRoot (index_pages regions) pager.old.store pager.new.store result }
+    ensures over { BuildsOver (heading_of schema.now.dims root regions) (O.facts old.old)
+        (O.facts old.new) pager.old pager.new result }
 {
     // Its contract tells the proof how many pages there can be.
     let _pages = old.pages();
@@ -90,15 +85,12 @@ fn write_leaves<O: PageStore, S: PageStore>(
     requires small { heading.now.root < 4294967296 }
     requires regions { 1 ≤ heading.now.regions }
     requires few { heading.now.regions < 4294967296 }
-    ensures last { IfOk result (IsLast pager.new.store) }
-    ensures small { OnOk result (page_count pager.new.store < 4294967296) }
-    ensures first { IfOk result (λ low. low.first ≡ page_count pager.old.store) }
-    ensures count { IfOk result (λ low. low.count ≡ pages_for heading.now.regions) }
+    ensures level { PutsLevel (pages_for heading.now.regions) pager.old.store pager.new.store
+        result }
     ensures leaves { IsHonest (O.facts old.old) → IsHonest pager.old.store
         → IfOk result (λ low. AreLeaves heading.now (O.facts old.old) pager.new.store.pages low) }
-    ensures refused { IfErr result (IsBuildFault heading.now (O.facts old.old) pager.old.store) }
-    ensures there { IfErr result (IsThere (page_count (O.facts old.old))) }
-    ensures effect { BringsOver (O.facts old.old) (O.facts old.new) pager.old pager.new result }
+    ensures over { BuildsOver heading.now (O.facts old.old) (O.facts old.new) pager.old pager.new
+        result }
 {
     let first = pager.pages();
     let mut place = Place {

@@ -4,10 +4,10 @@ ghost use Rattle.std.specs.Prelude.{◌≡◌, ◌≤◌, ◌<◌, ◌+◌, ◌-
 ghost use Rattle.ub_page.specs.Directory.{IsListing, directory_page};
 ghost use Rattle.ub_page.specs.Entries.{AreAscending};
 ghost use Rattle.ub_region.specs.declared.entry.Entry as spec;
-ghost use Rattle.ub_store.specs.Facts.{IsPage, StoreFacts, page_count};
+ghost use Rattle.ub_store.specs.Facts.{StoreFacts, page_count};
 ghost use Rattle.ub_upgrade.specs.Building.{IsBuildFault, IsThere};
 ghost use Rattle.ub_upgrade.specs.Effects.{counted_old};
-ghost use Rattle.ub_upgrade.specs.Reading.{AreBegun, AreBelow, HasPart, IsMet, IsPartFault, IsReadUpTo, last_first};
+ghost use Rattle.ub_upgrade.specs.Reading.{AreBegun, AreBelow, HasPart, IsMet, IsPartFault, IsReadUpTo, TellsPart, last_first};
 
 use crate::fault::UpgradeFault;
 use std::marker::Model;
@@ -53,13 +53,10 @@ pub fn read_part<O: PageStore>(
     page: &mut Page,
 ) -> Result<Directory, UpgradeFault>
     requires { place.now.met < heading.now.regions }
-    ensures listing { IfOk result (IsListing heading.now.dims) }
-    ensures page { IfOk result
-        (λ part. IsPage (O.facts old.old) place.now.next (directory_page part)) }
-    ensures part { IfOk result (HasPart (heading.now.regions - place.now.met)) }
+    ensures tells { TellsPart heading.now.dims (O.facts old.old)
+        (heading.now.regions - place.now.met) place.now.next result }
     ensures begun { (before : List spec.Entry) → AreBegun before → IsMet before place.now
         → IfOk result (λ part. AreBegun (before ++ part.entries)) }
-    ensures below { IfOk result (λ part. AreBelow (page_count (O.facts old.old)) part.entries) }
     ensures refused { (chain : List ℕ) (before : List spec.Entry) (new : StoreFacts)
         → IsReadUpTo (O.facts old.old) heading.now chain before place.now.next
         → IsMet before place.now

@@ -1,11 +1,10 @@
 // The levels of an index above its lowest one.
-ghost use Rattle.std.specs.Prelude.{◌≡◌, ◌<◌, ◌≤◌, ◌+◌, IfErr, IfOk, OnOk};
-ghost use Rattle.ub_index.specs.Standing.{IsGrowFault};
+ghost use Rattle.std.specs.Prelude.{◌≤◌, IfOk};
 ghost use Rattle.ub_page.specs.declared.header.TheConstants.{MAX_LEVEL};
-ghost use Rattle.ub_store.specs.Facts.{IsHonest, page_count};
-ghost use Rattle.ub_upgrade.specs.Building.{IsRoot};
-ghost use Rattle.ub_upgrade.specs.Effects.{AddsPages, Counts};
-ghost use Rattle.ub_upgrade.specs.Levels.{Cut, IsLast, IsRaised, names_of, pages_above, pages_for, most_pages};
+ghost use Rattle.ub_store.specs.Facts.{IsHonest};
+ghost use Rattle.ub_upgrade.specs.Building.{PutsRoot};
+ghost use Rattle.ub_upgrade.specs.Effects.{Adds};
+ghost use Rattle.ub_upgrade.specs.Levels.{Cut, IsLast, IsRaised, PutsLevel, names_of, pages_above, pages_for, most_pages};
 
 use crate::adding::add_names;
 use crate::building::Root;
@@ -28,16 +27,11 @@ fn write_level<S: PageStore>(
 ) -> Result<Level, StoreFault>
     requires high { level ≤ MAX_LEVEL }
     requires last { IsLast pager.old.store low }
-    ensures last { IfOk result (IsLast pager.new.store) }
-    ensures small { OnOk result (page_count pager.new.store < 4294967296) }
-    ensures first { IfOk result (λ up. up.first ≡ page_count pager.old.store) }
-    ensures count { IfOk result (λ up. up.count ≡ pages_for low.count) }
+    ensures level { PutsLevel (pages_for low.count) pager.old.store pager.new.store result }
     ensures cut { IsHonest pager.old.store
         → IfOk result (λ up. Cut pager.new.store.pages level up.first up.count
         (names_of pager.old.store.pages low.first low.count)) }
-    ensures adds { AddsPages pager.old pager.new }
-    ensures counts { Counts result pager.old.store pager.new.store }
-    ensures refused { IfErr result (IsGrowFault (pages_for low.count) pager.old.store) }
+    ensures effect { Adds (pages_for low.count) pager.old pager.new result }
 {
     let first = pager.pages();
     let mut named = 0;
@@ -58,14 +52,11 @@ pub fn write_levels<S: PageStore>(pager: &mut Pager<S>, leaves: Level) -> Result
     requires some { 1 ≤ leaves.count }
     requires few { leaves.count ≤ most_pages 1 }
     requires first { 1 ≤ leaves.first }
-    ensures root { IfOk result (IsRoot (page_count pager.new.store)) }
-    ensures count { IfOk result (λ _. page_count pager.new.store
-        ≡ page_count pager.old.store + pages_above 4 leaves.count) }
+    ensures rooted { PutsRoot (pages_above 4 leaves.count) pager.old.store pager.new.store
+        result }
     ensures raised { IsHonest pager.old.store
         → IfOk result (IsRaised pager.old.store.pages pager.new.store.pages leaves) }
-    ensures adds { AddsPages pager.old pager.new }
-    ensures counts { Counts result pager.old.store pager.new.store }
-    ensures refused { IfErr result (IsGrowFault (pages_above 4 leaves.count) pager.old.store) }
+    ensures effect { Adds (pages_above 4 leaves.count) pager.old pager.new result }
 {
     let mut low = leaves;
     let mut level = 1;

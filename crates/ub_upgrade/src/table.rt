@@ -1,9 +1,6 @@
 // A table of an older format, over a new store. First the header of the old one is read, and the new store is marked as changed; then
 // all other pages are brought over, and the index that stands there then is opened.
-ghost use Rattle.std.specs.Prelude.{◌≡◌, ◌≤◌, ◌⊎◌, List, None, IfErr, IfOk, MatchResult, OnErr};
-ghost use Rattle.ub_index.specs.Held.{KeepsChecked};
-ghost use Rattle.ub_index.specs.Index.{NamesFitting, top};
-ghost use Rattle.ub_index.specs.View.{index_view};
+ghost use Rattle.std.specs.Prelude.{◌≡◌, ◌≤◌, ◌⊎◌, List, IfErr, IfOk, MatchResult, OnErr};
 ghost use Rattle.ub_page.specs.declared.header.OldHeader as head_spec;
 ghost use Rattle.ub_page.specs.declared.header.TheConstants.{MAX_LEVEL};
 ghost use Rattle.ub_region.specs.declared.entry.Entry as spec;
@@ -11,9 +8,8 @@ ghost use Rattle.ub_store.specs.Facts.{IsHonest, page_count};
 ghost use Rattle.ub_table.specs.declared.schema.Schema as schema_spec;
 ghost use Rattle.ub_upgrade.specs.Bringing.{HasOldHeader};
 ghost use Rattle.ub_upgrade.specs.Building.{IsPassing};
-ghost use Rattle.ub_upgrade.specs.Effects.{CountsNew, written};
 ghost use Rattle.ub_upgrade.specs.Table.{BringsTable, CanBring, IsMade, IsMadeOf, IsTableFault};
-ghost use Rattle.ub_upgrade.specs.inner.Table.{IsRootFault};
+ghost use Rattle.ub_upgrade.specs.inner.Table.{OpensRoot};
 ghost use Rattle.ub_writing.specs.Marks.{HasMark};
 ghost use Rattle.ub_zaddr.specs.Address.{last_address};
 
@@ -73,20 +69,7 @@ fn open_root<S: PageStore>(
     requires some { 1 ≤ root.now.page }
     requires low { 1 ≤ root.now.level }
     requires high { root.now.level ≤ MAX_LEVEL }
-    ensures index { IfOk result (λ index. index
-        ≡ index_view root.now.page root.now.level (last_address schema.now.dims)) }
-    ensures exact { IsHonest pager.old.store
-        → NamesFitting (last_address schema.now.dims) pager.old.store.pages root.now.level
-        (top root.now.page) None → IfErr result IsPassing }
-    ensures checked { KeepsChecked (last_address schema.now.dims) pager.old pager.new }
-    ensures pages { pager.new.store.pages ≡ pager.old.store.pages }
-    ensures same { pager.new ≡ record pager.old {
-      store = written pager.old.store pager.new.store;
-      cached = pager.new.cached;
-    } }
-    ensures counts { CountsNew result pager.old.store pager.new.store }
-    ensures refused { IfErr result
-        (IsRootFault (last_address schema.now.dims) root.now pager.old.store) }
+    ensures { OpensRoot (last_address schema.now.dims) root.now pager.old pager.new result }
 {
     match Index::open(pager, root.page, root.level, last(schema.shape())) {
         Ok(index) => Ok(index),

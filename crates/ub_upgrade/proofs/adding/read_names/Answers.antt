@@ -12,8 +12,8 @@ loop-i-preserved g c =
     let now = c.loop-i.pager in
     record {
       long = length-set_entry c.loop-i.entries c.loop-i.i c.in_ok-entries.field-0 ∙ inv.long;
-      adds = adds_trans start now c.read_name.new.pager inv.adds read.adds;
-      counts = not_after start.store now.store c.read_name.new.pager.store inv.counts read.counts;
+      adds = adds_trans start now c.read_name.new.pager inv.adds read.effect.adds;
+      counts = not_after start.store now.store c.read_name.new.pager.store inv.counts read.effect.counts;
       same = read.same ∙ inv.same;
       names = λ honest.
           take_more_names start.store.pages c.args.from c.loop-i.i c.loop-i.entries c.in_ok-entries.field-0 (omega arith) (inv.names honest)

@@ -1,4 +1,4 @@
-use Rattle.std.proofs.Common.{◌-◌, ◌∙◌, ◌++◌, [], ◌∷◌, ap, arith, refl, subst, sym, List}
+use Rattle.std.proofs.Common.{◌-◌, ◌∙◌, ◌++◌, [], ◌∷◌, ap, arith, refl, subst, sym, List, rules}
 use Rattle.std.proofs.lemmas.List.{length-append}
 use Rattle.ub_region.specs.declared.entry.Entry.{Entry}
 use Rattle.ub_page.specs.Index.{index_page}
@@ -29,26 +29,27 @@ loop-place-init g c =
           (sym (ap (λ (h : HeadingView). h.root) c.heading.view_is)) c.requires.root c.requires.small c.requires.regions (omega arith);
     }
 
-pub returns-in_err-part-clause-refused : goal.returns-in_err-part-clause-refused
-returns-in_err-part-clause-refused g c =
-    let inv = c.loop-place.invariant in
-    let way = inv.way in
-    let regions = ap (λ (h : HeadingView). h.regions) c.heading.view_is in
-    let going = c.loop-place-test.true in
-    let up = subst (λ (s : StoreFacts). IsReadUpTo s c.args.heading.now way.chain way.entries c.loop-place.place.next) (sym inv.old) (way.going (omega arith)) in
-    refused_by (g.O.PageStore.facts c.args.old.now) (g.O.PageStore.facts c.loop-place.old) c.args.pager.now.store c.args.heading.now c.from_residual.result c.in_err-part.field-0.0
-    c.from_residual.ensures.1 inv.old (c.in_err-part.ensures.refused way.chain way.entries c.args.pager.now.store up way.met)
-
-pub returns-in_err-part-clause-effect : goal.returns-in_err-part-clause-effect
-returns-in_err-part-clause-effect g c =
-    let inv = c.loop-place.invariant in
-    let way = inv.way in
-    let regions = ap (λ (h : HeadingView). h.regions) c.heading.view_is in
-    let going = c.loop-place-test.true in
-    let up = subst (λ (s : StoreFacts). IsReadUpTo s c.args.heading.now way.chain way.entries c.loop-place.place.next) (sym inv.old) (way.going (omega arith)) in
-    read_ended Level (g.O.PageStore.facts c.args.old.now) (g.O.PageStore.facts c.loop-place.old) (g.O.PageStore.facts c.read_part.new.old) c.args.heading.now c.args.pager.now c.loop-place.pager
-    c.from_residual.result c.in_err-part.field-0.0 c.from_residual.ensures.1 inv.old c.in_err-part.ensures.effect inv.adds inv.counts
-    (λ new. c.in_err-part.ensures.refused way.chain way.entries new up way.met)
+pub returns-in_err-part-clause-over : goal.returns-in_err-part-clause-over
+returns-in_err-part-clause-over g c = record {
+  refused =
+      let inv = c.loop-place.invariant in
+      let way = inv.way in
+      let regions = ap (λ (h : HeadingView). h.regions) c.heading.view_is in
+      let going = c.loop-place-test.true in
+      let up = subst (λ (s : StoreFacts). IsReadUpTo s c.args.heading.now way.chain way.entries c.loop-place.place.next) (sym inv.old) (way.going (omega arith)) in
+      refused_by (g.O.PageStore.facts c.args.old.now) (g.O.PageStore.facts c.loop-place.old) c.args.pager.now.store c.args.heading.now c.from_residual.result c.in_err-part.field-0.0
+      c.from_residual.ensures.1 inv.old (c.in_err-part.ensures.refused way.chain way.entries c.args.pager.now.store up way.met);
+  there = search rules;
+  effect =
+      let inv = c.loop-place.invariant in
+      let way = inv.way in
+      let regions = ap (λ (h : HeadingView). h.regions) c.heading.view_is in
+      let going = c.loop-place-test.true in
+      let up = subst (λ (s : StoreFacts). IsReadUpTo s c.args.heading.now way.chain way.entries c.loop-place.place.next) (sym inv.old) (way.going (omega arith)) in
+      read_ended Level (g.O.PageStore.facts c.args.old.now) (g.O.PageStore.facts c.loop-place.old) (g.O.PageStore.facts c.read_part.new.old) c.args.heading.now c.args.pager.now c.loop-place.pager
+      c.from_residual.result c.in_err-part.field-0.0 c.from_residual.ensures.1 inv.old c.in_err-part.ensures.effect inv.adds inv.counts
+      (λ new. c.in_err-part.ensures.refused way.chain way.entries new up way.met);
+}
 
 pub loop-place-preserved : goal.loop-place-preserved
 loop-place-preserved g c =
@@ -59,9 +60,9 @@ loop-place-preserved g c =
     let then = c.add_index_page.new.pager in
     let part = c.in_ok-part.part in
     let told = c.in_ok-part.ensures in
-    let listing = told.listing in
+    let listing = told.tells.listing in
     let some = listing.some in
-    let fits = told.part.0 in
+    let fits = told.tells.part.0 in
     let place = c.loop-place.place in
     let met = (c.place_behind-place.ensures.met way.entries way.met).met in
     let was = way.met.met in
@@ -82,11 +83,11 @@ loop-place-preserved g c =
       some = omega arith;
       full = λ left. omega arith;
       old = same;
-      adds = adds_trans start now then inv.adds c.in_default.ensures.adds;
-      counts = not_after start.store now.store then.store inv.counts c.in_default.ensures.counts;
+      adds = adds_trans start now then inv.adds c.in_default.ensures.effect.adds;
+      counts = not_after start.store now.store then.store inv.counts c.in_default.ensures.effect.counts;
       way = more_way (g.O.PageStore.facts c.args.old.now) start.store c.args.heading.now now.store.pages then.store.pages c.pages-first.result place c.place_behind-place.result part way
-          (omega arith) more listing (subst (λ (s : StoreFacts). IsPage s place.next (directory_page part)) inv.old told.page) told.part told.begun
-          (subst (λ (s : StoreFacts). AreBelow (page_count s) part.entries) inv.old told.below)
+          (omega arith) more listing (subst (λ (s : StoreFacts). IsPage s place.next (directory_page part)) inv.old told.tells.page) told.tells.part told.begun
+          (subst (λ (s : StoreFacts). AreBelow (page_count s) part.entries) inv.old told.tells.below)
           (λ honest. let still = honest_after start now inv.adds honest in
           c.in_default.ensures.added.1 still ∙ ap (λ (es : List Entry). now.store.pages ++ index_page (record { level = 1; entries = es }) ∷ []) entries)
           c.place_behind-place.ensures.met c.place_behind-place.ensures.next;

@@ -20,8 +20,8 @@ loop-named-preserved g c =
       few = (let less = inv.more in omega arith);
       some = (let less = inv.more in omega arith);
       full = λ left. let less = inv.more in omega arith;
-      adds = adds_trans start now then inv.adds c.in_ok-add_names.ensures.adds;
-      counts = not_after start.store now.store then.store inv.counts c.in_ok-add_names.ensures.counts;
+      adds = adds_trans start now then inv.adds c.in_ok-add_names.ensures.effect.adds;
+      counts = not_after start.store now.store then.store inv.counts c.in_ok-add_names.ensures.effect.counts;
       cut = λ honest.
           let still = honest_after start now inv.adds honest in
           level_more start.store.pages now.store.pages then.store.pages c.args.level c.args.low.first c.pages-first.result c.loop-named.named c.min-count.result c.args.low.count
