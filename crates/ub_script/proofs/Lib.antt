@@ -1,6 +1,7 @@
 pub mod HeldFacts
 pub mod LineFacts
 pub mod QueryFacts
+pub mod CallFacts
 pub mod KeptFacts
 pub mod EndFacts
 pub mod LoadedFacts

@@ -9,6 +9,7 @@ pub mod Changes
 pub mod Basis
 pub mod Appending
 pub mod Run
+pub mod Calls
 pub mod Loop
 pub mod Laws
 pub mod inner

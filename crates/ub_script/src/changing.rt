@@ -1,13 +1,10 @@
 // INSERT and DELETE: what they do to the tree, and the line that tells it.
 
-ghost use Rattle.std.specs.Prelude.{◌≡◌, false, length, IfErr, IfOk, IsErrOf};
+ghost use Rattle.std.specs.Prelude.{◌≡◌, length};
 ghost use Rattle.ub_parser.specs.Outcome.{puts, takes, IsGiven};
 ghost use Rattle.ub_query.specs.Shape.{asked};
-ghost use Rattle.ub_script.specs.Basis.{IsCommandEnd, IsDeleteReply, IsInsertReply};
 ghost use Rattle.ub_script.specs.Changes.{coordinates_of};
-ghost use Rattle.ub_script.specs.Faults.{Runs};
-ghost use Rattle.ub_script.specs.Loop.{OnEach, Replies, Stops};
-ghost use Rattle.ub_script.specs.declared.fault.RunFault.{RunFault};
+ghost use Rattle.ub_script.specs.inner.Calls.{AnswersCommand};
 
 use crate::fault::RunFault;
 use crate::script::Answer;
@@ -31,12 +28,7 @@ pub(crate) fn insert_row<S: PageStore>(
     values: &[i64],
 ) -> Result<Answer, RunFault>
     requires { IsGiven tree.old.schema (puts values.now) }
-    ensures answer { OnEach tree.old (λ basis. IfOk result (λ a.
-        Replies (IsInsertReply basis values.now) a.text.items a.is_refused tree.old tree.new)) }
-    ensures stopped { OnEach tree.old (λ basis. IfErr result (λ fault.
-        Stops (IsCommandEnd basis (puts values.now) fault) tree.old tree.new)) }
-    ensures no_write { ¬ (IsErrOf result RunFault.Write) }
-    ensures effect { Runs tree.old tree.new result }
+    ensures { AnswersCommand (puts values.now) tree.old tree.new result }
 {
     let dims = coordinates(tree.schema(), values);
     let text = inserted_text(alloc, tree.next())?;
@@ -71,13 +63,7 @@ pub(crate) fn delete_rows<S: PageStore>(
     query: &Query,
 ) -> Result<Answer, RunFault>
     requires { IsGiven tree.old.schema (takes (asked query.now)) }
-    ensures answer { OnEach tree.old (λ basis. IfOk result (λ a.
-        Replies (IsDeleteReply basis (asked query.now)) a.text.items a.is_refused
-        tree.old tree.new)) }
-    ensures stopped { OnEach tree.old (λ basis. IfErr result (λ fault.
-        Stops (IsCommandEnd basis (takes (asked query.now)) fault) tree.old tree.new)) }
-    ensures no_write { ¬ (IsErrOf result RunFault.Write) }
-    ensures effect { Runs tree.old tree.new result }
+    ensures { AnswersCommand (takes (asked query.now)) tree.old tree.new result }
 {
     let plan = plan(alloc, query, tree.schema())?;
     let count = delete(alloc, tree, &plan)?;

@@ -1,23 +1,18 @@
-ghost use Rattle.std.specs.Prelude.{◌≡◌, ◌≢◌, ◌<◌, ◌⊎◌, true, false, Some, length, Ok, Err, All, IfOk, IfErr, IsErrOf, OnErr, slice_range};
+ghost use Rattle.std.specs.Prelude.{◌≡◌, ◌≢◌, ◌<◌, true, false, length, All, IfOk, IfErr, slice_range};
 ghost use Rattle.ub_lexer.specs.Tokens.{AreSpelled};
-ghost use Rattle.ub_load.specs.LoadedTable.{axes_with, records_of};
-ghost use Rattle.ub_load.specs.Refusals.{first_refusal};
-ghost use Rattle.ub_load.specs.declared.fault.LoadFault.{LoadFault};
+ghost use Rattle.ub_load.specs.LoadedTable.{axes_with};
 ghost use Rattle.ub_parser.specs.Outcome.{IsGiven, command};
 ghost use Rattle.ub_planning.specs.Plan.{plan_of};
 ghost use Rattle.ub_query.specs.Posed.{IsPosed};
 ghost use Rattle.ub_query.specs.Shape.{asked};
 ghost use Rattle.ub_table.specs.Schema.{AreTableNumbers, IsMask};
-ghost use Rattle.ub_store.specs.declared.fault.StoreFault.{StoreFault};
-ghost use Rattle.ub_tree.specs.declared.fault.TreeFault.{TreeFault};
-ghost use Rattle.ub_script.specs.Basis.{IsAskedReply, AreSomeOf, IsBasisOf, IsCommandEnd, IsReply, IsRestOf};
-ghost use Rattle.ub_script.specs.Output.{Takes};
-ghost use Rattle.ub_script.specs.Run.{IsAnswer, IsEnded, IsRange, FirstAt, EndedAt, IsWhole, IsStopped, IsCutOff, Ran, IsRun, IsDone, IsBegun, IsBroken};
-ghost use Rattle.ub_script.specs.Faults.{Runs, RunsReading, failures_after};
-ghost use Rattle.ub_script.specs.Loop.{OnEach, Makes, Fetches, IsAnswerAt, IsCutAt, Replies, Stops};
-ghost use Rattle.ub_script.specs.Script.{AreAsking, IsAsking, IsChange};
+ghost use Rattle.ub_script.specs.Basis.{IsRestOf};
+ghost use Rattle.ub_script.specs.Calls.{Tries};
+ghost use Rattle.ub_script.specs.Run.{IsEnded, IsRange, FirstAt, EndedAt, IsWhole, IsStopped, IsCutOff, Ran, IsRun};
+ghost use Rattle.ub_script.specs.Loop.{OnEach, IsAnswerAt, IsCutAt, Stops};
+ghost use Rattle.ub_script.specs.Script.{AreAsking, IsAsking};
 ghost use Rattle.ub_script.specs.Text.{refused_text};
-ghost use Rattle.ub_script.specs.declared.script.Summary.{Summary};
+ghost use Rattle.ub_script.specs.inner.Calls.{AnswersAsked, AnswersCommand, AnswersTokens, RunsStatements};
 
 use crate::asking::Script;
 use crate::changing::{delete_rows, insert_row};
@@ -27,11 +22,11 @@ use crate::text::{answer_text, refused_text};
 use std::alloc::Global;
 use ub_exec::execute;
 use ub_lexer::Token;
-use ub_load::{LoadFault, load};
+use ub_load::load;
 use ub_parser::{Query, SqlFault, Statement, parse};
 use ub_plan::{Plan, explain, plan};
 use ub_store::{MemStore, PageStore};
-use ub_tree::{Tree, TreeFault};
+use ub_tree::Tree;
 
 /// How many statements a script has, and how many of them were refused.
 #[derive(Clone, Copy, PartialEq, Eq, Debug)]
@@ -59,32 +54,8 @@ pub fn try_text<W: Out>(
 ) -> Result<Summary, RunFault>
     requires numbers { AreTableNumbers dims page_rows }
     requires mask { IsMask dims signed }
-    ensures done { IfOk result (λ summary.
-        Takes (IsDone text.now (axes_with dims signed) page_rows name.now script.now summary) false
-        (W.facts out.old) (W.facts out.new)) }
-
-    // Nothing is written, and the fault is the first thing that is wrong with the text, unless `csv` refused a record.
-    ensures load { (fault : LoadFault) → result ≡ Err (RunFault.Load fault)
-        → (W.facts out.new ≡ W.facts out.old) × (fault ≢ LoadFault.Csv
-        → first_refusal (axes_with dims signed) name.now (records_of text.now) ≡ Some fault) }
-
-    // A front of the texts of the first statements is written, and nothing after the write that failed.
-    ensures write { IsErrOf result RunFault.Write
-        → Takes (IsBroken text.now (axes_with dims signed) page_rows name.now script.now) true
-        (W.facts out.old) (W.facts out.new) }
-
-    // Nothing is written, or the texts of the first statements and no more.
-    ensures memory { IsErrOf result RunFault.Memory → (W.facts out.new ≡ W.facts out.old)
-        ⊎ Takes (IsBegun text.now (axes_with dims signed) page_rows name.now script.now
-        RunFault.Memory) false (W.facts out.old) (W.facts out.new) }
-    ensures of_tree { (fault : TreeFault) → result ≡ Err (RunFault.Load (LoadFault.Tree fault))
-        → fault ≡ TreeFault.Full }
-
-    // The texts of the first statements are written, and no more.
-    ensures tree { (fault : TreeFault) → result ≡ Err (RunFault.Tree fault)
-        → ((fault ≡ TreeFault.Full) ⊎ (fault ≡ TreeFault.Store StoreFault.BadSize))
-        × Takes (IsBegun text.now (axes_with dims signed) page_rows name.now script.now
-        (RunFault.Tree fault)) false (W.facts out.old) (W.facts out.new) }
+    ensures { Tries text.now (axes_with dims signed) page_rows name.now script.now
+        result (W.facts out.old) (W.facts out.new) }
 {
     let store = MemStore::new(alloc);
     let mut tree = load(alloc, text, dims, page_rows, name, signed, store)?;
@@ -127,20 +98,14 @@ pub(crate) fn run_statements<S: PageStore, W: Out>(
 ) -> Result<Summary, RunFault>
     requires spelled { AreSpelled source.now tokens.now }
     requires ranges { All (λ range. IsRange tokens.now range) ranges.now }
-    ensures done { OnEach tree.old (λ basis. IfOk result (λ summary.
-        Ran (IsWhole (FirstAt basis source.now tokens.now ranges.now) summary) (IsBasisOf tree.new)
-        false (W.facts out.old) (W.facts out.new) tree.old.trace.fetches tree.new.trace.fetches)) }
-    ensures write { OnEach tree.old (λ basis. IsErrOf result RunFault.Write
-        → Ran (IsCutOff (FirstAt basis source.now tokens.now ranges.now)) (IsBasisOf tree.new)
-        true (W.facts out.old) (W.facts out.new) tree.old.trace.fetches tree.new.trace.fetches) }
+    ensures runs { RunsStatements
+        (λ basis summary. IsWhole (FirstAt basis source.now tokens.now ranges.now) summary)
+        (λ basis. IsCutOff (FirstAt basis source.now tokens.now ranges.now))
+        (AreAsking tree.old.schema source.now tokens.now ranges.now)
+        tree.old tree.new result (W.facts out.old) (W.facts out.new) }
     ensures begun { OnEach tree.old (λ basis. IfErr result (λ fault. fault ≢ RunFault.Write
         → Ran (IsStopped (EndedAt basis source.now tokens.now ranges.now fault)) (IsRestOf tree.new)
         false (W.facts out.old) (W.facts out.new) tree.old.trace.fetches tree.new.trace.fetches)) }
-    ensures failures { (W.facts out.new).failures
-        ≡ failures_after result (W.facts out.old).failures }
-    ensures effect { Runs tree.old tree.new result }
-    ensures asked { AreAsking tree.old.schema source.now tokens.now ranges.now
-        → RunsReading tree.old tree.new result }
 {
     let mut refused = 0u64;
     for range in ranges {
@@ -165,22 +130,16 @@ fn run_statement<S: PageStore, W: Out>(
 ) -> Result<bool, RunFault>
     requires spelled { AreSpelled source.now tokens.now }
     requires range { IsRange tokens.now range }
-    ensures done { OnEach tree.old (λ basis. IfOk result (λ is_refused.
-        Ran (IsAnswerAt basis source.now tokens.now range is_refused) (IsBasisOf tree.new) false
-        (W.facts out.old) (W.facts out.new) tree.old.trace.fetches tree.new.trace.fetches)) }
-    ensures write { OnEach tree.old (λ basis. IsErrOf result RunFault.Write
-        → Ran (IsCutAt basis source.now tokens.now range) (IsBasisOf tree.new) true
-        (W.facts out.old) (W.facts out.new) tree.old.trace.fetches tree.new.trace.fetches) }
+    ensures runs { RunsStatements
+        (λ basis is_refused. IsAnswerAt basis source.now tokens.now range is_refused)
+        (λ basis. IsCutAt basis source.now tokens.now range)
+        (IsAsking tree.old.schema source.now (slice_range tokens.now range.0 range.1))
+        tree.old tree.new result (W.facts out.old) (W.facts out.new) }
     ensures begun { IfErr result (λ fault. fault ≢ RunFault.Write
         → W.facts out.new ≡ W.facts out.old) }
     ensures stopped { OnEach tree.old (λ basis. IfErr result (λ fault. fault ≢ RunFault.Write
         → Stops (IsEnded basis source.now (slice_range tokens.now range.0 range.1) fault)
         tree.old tree.new)) }
-    ensures failures { (W.facts out.new).failures
-        ≡ failures_after result (W.facts out.old).failures }
-    ensures effect { Runs tree.old tree.new result }
-    ensures asked { IsAsking tree.old.schema source.now (slice_range tokens.now range.0 range.1)
-        → RunsReading tree.old tree.new result }
 {
     let (from, to) = range;
     let answer = answer_to(alloc, tree, source, &tokens[from..to])?;
@@ -204,15 +163,7 @@ fn answer_to<S: PageStore>(
 ) -> Result<Answer, RunFault>
     requires some { 0 < length tokens.now }
     requires spelled { AreSpelled source.now tokens.now }
-    ensures answer { OnEach tree.old (λ basis. IfOk result (λ a.
-        Replies (IsAnswer basis source.now tokens.now) a.text.items a.is_refused
-        tree.old tree.new)) }
-    ensures stopped { OnEach tree.old (λ basis. IfErr result (λ fault.
-        Stops (IsEnded basis source.now tokens.now fault) tree.old tree.new)) }
-    ensures no_write { ¬ (IsErrOf result RunFault.Write) }
-    ensures effect { Runs tree.old tree.new result }
-    ensures asked { IsAsking tree.old.schema source.now tokens.now
-        → RunsReading tree.old tree.new result }
+    ensures { AnswersTokens source.now tokens.now tree.old tree.new result }
 {
     match parse(alloc, source, tokens, tree.schema()) {
         Ok(statement) => answer_accepted(alloc, tree, &statement),
@@ -227,14 +178,7 @@ fn answer_accepted<S: PageStore>(
     statement: &Statement,
 ) -> Result<Answer, RunFault>
     requires { IsGiven tree.old.schema (command statement.now) }
-    ensures answer { OnEach tree.old (λ basis. IfOk result (λ a.
-        Replies (IsReply basis (Ok (command statement.now))) a.text.items a.is_refused
-        tree.old tree.new)) }
-    ensures stopped { OnEach tree.old (λ basis. IfErr result (λ fault.
-        Stops (IsCommandEnd basis (command statement.now) fault) tree.old tree.new)) }
-    ensures no_write { ¬ (IsErrOf result RunFault.Write) }
-    ensures effect { Runs tree.old tree.new result }
-    ensures asked { ¬ (IsChange (command statement.now)) → RunsReading tree.old tree.new result }
+    ensures { AnswersCommand (command statement.now) tree.old tree.new result }
 {
     match statement {
         Statement::Select(query) => answer_asked(alloc, tree, false, query),
@@ -252,14 +196,7 @@ fn answer_asked<S: PageStore>(
     query: &Query,
 ) -> Result<Answer, RunFault>
     requires { IsPosed (length tree.old.schema.columns) (asked query.now) }
-    ensures answer { OnEach tree.old (λ basis. IfOk result (λ a.
-        Makes (IsAskedReply is_explained basis (asked query.now)) a.text.items a.is_refused
-        tree.old.trace.fetches tree.new.trace.fetches)) }
-    ensures stopped { OnEach tree.old (λ basis. OnErr result
-        (Fetches (AreSomeOf is_explained basis (asked query.now))
-        tree.old.trace.fetches tree.new.trace.fetches)) }
-    ensures no_write { ¬ (IsErrOf result RunFault.Write) }
-    ensures effect { RunsReading tree.old tree.new result }
+    ensures { AnswersAsked is_explained (asked query.now) tree.old tree.new result }
 {
     let plan = plan(alloc, query, tree.schema())?;
     if is_explained {
@@ -278,14 +215,7 @@ fn answer_query<S: PageStore>(
 ) -> Result<Answer, RunFault>
     requires posed { IsPosed (length tree.old.schema.columns) (asked query.now) }
     requires planned { plan.now ≡ plan_of tree.old.schema (asked query.now) }
-    ensures answer { OnEach tree.old (λ basis. IfOk result (λ a.
-        Makes (IsAskedReply false basis (asked query.now)) a.text.items a.is_refused
-        tree.old.trace.fetches tree.new.trace.fetches)) }
-    ensures stopped { OnEach tree.old (λ basis. OnErr result
-        (Fetches (AreSomeOf false basis (asked query.now)) tree.old.trace.fetches
-        tree.new.trace.fetches)) }
-    ensures no_write { ¬ (IsErrOf result RunFault.Write) }
-    ensures effect { RunsReading tree.old tree.new result }
+    ensures { AnswersAsked false (asked query.now) tree.old tree.new result }
 {
     let answer = execute(alloc, tree, plan)?;
     Ok(Answer {
@@ -301,14 +231,7 @@ fn explain_query<S: PageStore>(
     plan: &Plan,
 ) -> Result<Answer, RunFault>
     requires { plan.now ≡ plan_of tree.old.schema plan.now.asked }
-    ensures answer { OnEach tree.old (λ basis. IfOk result (λ a.
-        Makes (IsAskedReply true basis plan.now.asked) a.text.items a.is_refused
-        tree.old.trace.fetches tree.new.trace.fetches)) }
-    ensures stopped { OnEach tree.old (λ basis. OnErr result
-        (Fetches (AreSomeOf true basis plan.now.asked) tree.old.trace.fetches
-        tree.new.trace.fetches)) }
-    ensures no_write { ¬ (IsErrOf result RunFault.Write) }
-    ensures effect { RunsReading tree.old tree.new result }
+    ensures { AnswersAsked true plan.now.asked tree.old tree.new result }
 {
     Ok(Answer {
         text: explain(alloc, plan, tree)?,

@@ -6,45 +6,42 @@ use Rattle.ub_script.proofs.RunFacts.{answer_front, other_err}
 use Rattle.ub_script.specs.declared.fault.RunFault.{RunFault}
 use Rattle.ub_script.proofs.script.run_statement.Goals as goal
 
-pub returns-clause-done : goal.returns-clause-done
-returns-clause-done g c basis is =
-    let (pages, changed, now, answer, left, fetched) = c.in_ok-answer.ensures.answer basis is in
-    (now, _, pages, (changed, answer), left, rw c.deref.ensures.value at c.in_ok-put_all.ensures.whole, fetched)
+pub returns-clause-runs : goal.returns-clause-runs
+returns-clause-runs g c = record {
+  done = λ basis is.
+      let (pages, changed, now, answer, left, fetched) = c.in_ok-answer.ensures.answer basis is in
+      (now, _, pages, (changed, answer), left, rw c.deref.ensures.value at c.in_ok-put_all.ensures.whole, fetched);
+  write = λ basis is same. absurd (no_write_ok _ same);
+  failures = c.in_ok-put_all.ensures.whole.failures;
+  effect = runs_ok _ _ _ _ c.in_ok-answer.ensures.effect;
+  asked = λ asks. reads_ok _ _ _ _ (c.in_ok-answer.ensures.asked asks);
+}
 
-pub returns-in_err-put_all-clause-write : goal.returns-in_err-put_all-clause-write
-returns-in_err-put_all-clause-write g c basis is same =
-    let (pages, changed, now, answer, left, fetched) = c.in_ok-answer.ensures.answer basis is in
-    answer_front basis now c.args.source.now c.args.tokens.now c.args.range _ _ _ changed _ _ _ _ _ pages answer left fetched c.deref.ensures.value c.in_err-put_all.ensures.front
+pub returns-in_err-put_all-clause-runs : goal.returns-in_err-put_all-clause-runs
+returns-in_err-put_all-clause-runs g c = record {
+  done = λ basis is. no_answer c.from_residual-in_err-put_all.result _ _ c.from_residual-in_err-put_all.ensures.1;
+  write = λ basis is same.
+      let (pages, changed, now, answer, left, fetched) = c.in_ok-answer.ensures.answer basis is in
+      answer_front basis now c.args.source.now c.args.tokens.now c.args.range _ _ _ changed _ _ _ _ _ pages answer left fetched c.deref.ensures.value c.in_err-put_all.ensures.front;
+  failures = failures_raised c.from_residual-in_err-put_all.result _ _ _ c.from_residual-in_err-put_all.ensures.1 c.in_err-put_all.ensures.front;
+  effect = runs_write _ c.from_residual-in_err-put_all.result _ _ c.from_residual-in_err-put_all.ensures.1 c.in_ok-answer.ensures.effect;
+  asked = λ asks. reads_write _ c.from_residual-in_err-put_all.result _ _ c.from_residual-in_err-put_all.ensures.1 (c.in_ok-answer.ensures.asked asks);
+}
 
 pub returns-in_err-answer-clause-stopped : goal.returns-in_err-answer-clause-stopped
 returns-in_err-answer-clause-stopped g c basis is = other_err c.from_residual.result _ _ c.from_residual.ensures.1 (λ differs. c.in_err-answer.ensures.stopped basis is)
 
-pub returns-clause-effect : goal.returns-clause-effect
-returns-clause-effect g c = runs_ok _ _ _ _ c.in_ok-answer.ensures.effect
-
-pub returns-clause-asked : goal.returns-clause-asked
-returns-clause-asked g c asks = reads_ok _ _ _ _ (c.in_ok-answer.ensures.asked asks)
-
-pub returns-in_err-answer-clause-done : goal.returns-in_err-answer-clause-done
-returns-in_err-answer-clause-done g c basis is = no_answer c.from_residual.result _ _ c.from_residual.ensures.1
-
-pub returns-in_err-answer-clause-write : goal.returns-in_err-answer-clause-write
-returns-in_err-answer-clause-write g c basis is same = absurd (no_write_by c.from_residual.result _ c.from_residual.ensures.1 (λ same. c.in_err-answer.ensures.no_write (ap (λ (e : RunFault). Err e) same)) same)
+pub returns-in_err-answer-clause-runs : goal.returns-in_err-answer-clause-runs
+returns-in_err-answer-clause-runs g c = record {
+  done = λ basis is. no_answer c.from_residual.result _ _ c.from_residual.ensures.1;
+  write = λ basis is same. absurd (no_write_by c.from_residual.result _ c.from_residual.ensures.1 (λ same. c.in_err-answer.ensures.no_write (ap (λ (e : RunFault). Err e) same)) same);
+  failures = failures_kept c.from_residual.result _ _ c.from_residual.ensures.1 (λ same. c.in_err-answer.ensures.no_write (ap (λ (e : RunFault). Err e) same));
+  effect = runs_err _ c.from_residual.result _ _ _ c.from_residual.ensures.1 c.in_err-answer.ensures.effect;
+  asked = λ asks. reads_err _ c.from_residual.result _ _ _ c.from_residual.ensures.1 (c.in_err-answer.ensures.asked asks);
+}
 
 pub returns-in_err-answer-clause-begun : goal.returns-in_err-answer-clause-begun
 returns-in_err-answer-clause-begun g c = if_err c.from_residual.result _ _ c.from_residual.ensures.1 (λ differs. refl)
-
-pub returns-in_err-answer-clause-failures : goal.returns-in_err-answer-clause-failures
-returns-in_err-answer-clause-failures g c = failures_kept c.from_residual.result _ _ c.from_residual.ensures.1 (λ same. c.in_err-answer.ensures.no_write (ap (λ (e : RunFault). Err e) same))
-
-pub returns-in_err-answer-clause-effect : goal.returns-in_err-answer-clause-effect
-returns-in_err-answer-clause-effect g c = runs_err _ c.from_residual.result _ _ _ c.from_residual.ensures.1 c.in_err-answer.ensures.effect
-
-pub returns-in_err-answer-clause-asked : goal.returns-in_err-answer-clause-asked
-returns-in_err-answer-clause-asked g c asks = reads_err _ c.from_residual.result _ _ _ c.from_residual.ensures.1 (c.in_err-answer.ensures.asked asks)
-
-pub returns-in_err-put_all-clause-done : goal.returns-in_err-put_all-clause-done
-returns-in_err-put_all-clause-done g c basis is = no_answer c.from_residual-in_err-put_all.result _ _ c.from_residual-in_err-put_all.ensures.1
 
 pub returns-in_err-put_all-clause-begun : goal.returns-in_err-put_all-clause-begun
 returns-in_err-put_all-clause-begun g c = only_write c.from_residual-in_err-put_all.result _ c.from_residual-in_err-put_all.ensures.1
@@ -52,23 +49,8 @@ returns-in_err-put_all-clause-begun g c = only_write c.from_residual-in_err-put_
 pub returns-in_err-put_all-clause-stopped : goal.returns-in_err-put_all-clause-stopped
 returns-in_err-put_all-clause-stopped g c basis is = only_write c.from_residual-in_err-put_all.result _ c.from_residual-in_err-put_all.ensures.1
 
-pub returns-in_err-put_all-clause-failures : goal.returns-in_err-put_all-clause-failures
-returns-in_err-put_all-clause-failures g c = failures_raised c.from_residual-in_err-put_all.result _ _ _ c.from_residual-in_err-put_all.ensures.1 c.in_err-put_all.ensures.front
-
-pub returns-in_err-put_all-clause-effect : goal.returns-in_err-put_all-clause-effect
-returns-in_err-put_all-clause-effect g c = runs_write _ c.from_residual-in_err-put_all.result _ _ c.from_residual-in_err-put_all.ensures.1 c.in_ok-answer.ensures.effect
-
-pub returns-in_err-put_all-clause-asked : goal.returns-in_err-put_all-clause-asked
-returns-in_err-put_all-clause-asked g c asks = reads_write _ c.from_residual-in_err-put_all.result _ _ c.from_residual-in_err-put_all.ensures.1 (c.in_ok-answer.ensures.asked asks)
-
-pub returns-clause-write : goal.returns-clause-write
-returns-clause-write g c basis is same = absurd (no_write_ok _ same)
-
 pub returns-clause-begun : goal.returns-clause-begun
 returns-clause-begun g c = tt
 
 pub returns-clause-stopped : goal.returns-clause-stopped
 returns-clause-stopped g c basis is = tt
-
-pub returns-clause-failures : goal.returns-clause-failures
-returns-clause-failures g c = c.in_ok-put_all.ensures.whole.failures

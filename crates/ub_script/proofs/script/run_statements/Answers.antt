@@ -18,7 +18,7 @@ loop-range-init g c = record {
 pub loop-range-preserved : goal.loop-range-preserved
 loop-range-preserved g c =
     let inv = c.loop-range.invariant in
-    let done = c.in_ok-run_statement.ensures.done in
+    let done = c.in_ok-run_statement.ensures.runs.done in
     let next : c.if-branch.refused ≡ c.loop-range.refused + cond c.in_ok-run_statement.field-0 1 0 =
     elim c.if-branch.branch [
       | then-branch w ↦ rw w.if-branch.true w.refused-is
@@ -35,13 +35,13 @@ loop-range-preserved g c =
           come_more c.args.source.now c.args.tokens.now basis c.args.ranges.now c.loop-range.range-index c.loop-range.refused _ _ _ _ _ _ (0, 0) c.loop-range-test.true
           come _ c.in_ok-run_statement.field-0 _ _ (done come.now come.left) next;
       few = few;
-      runs = runs_ok _ _ _ _ (runs_more _ (Ok c.in_ok-run_statement.field-0) _ _ _ inv.runs c.in_ok-run_statement.ensures.effect);
+      runs = runs_ok _ _ _ _ (runs_more _ (Ok c.in_ok-run_statement.field-0) _ _ _ inv.runs c.in_ok-run_statement.ensures.runs.effect);
       asked = λ asks.
           Keeps-more _ _ _ (inv.asked asks)
           (Keeps-by _ _
-          (c.in_ok-run_statement.ensures.asked
+          (c.in_ok-run_statement.ensures.runs.asked
           (asks_at _ _ c.args.source.now c.args.tokens.now c.args.ranges.now c.loop-range.range-index (0, 0) inv.runs.schema asks c.loop-range-test.true)).same);
-      failures = c.in_ok-run_statement.ensures.failures ∙ inv.failures;
+      failures = c.in_ok-run_statement.ensures.runs.failures ∙ inv.failures;
     }
 
 pub returns-in_err-run_statement-clause-begun : goal.returns-in_err-run_statement-clause-begun
@@ -53,52 +53,39 @@ returns-in_err-run_statement-clause-begun g c basis is =
     come_stopped c.args.source.now c.args.tokens.now basis c.args.ranges.now c.loop-range.range-index c.loop-range.refused _ _ _ _ _ _ (0, 0) c.loop-range-test.true
     come _ _ _ more now (c.in_err-run_statement.ensures.begun differs) ended rest fetched)
 
-pub returns-in_err-run_statement-clause-write : goal.returns-in_err-run_statement-clause-write
-returns-in_err-run_statement-clause-write g c basis is same =
-    let come = c.loop-range.invariant.run basis is in
-    let write = c.in_err-run_statement.ensures.write come.now come.left (search rules) in
-    come_broken c.args.source.now c.args.tokens.now basis c.args.ranges.now c.loop-range.range-index c.loop-range.refused _ _ _ _ _ _ (0, 0) c.loop-range-test.true
-    come _ _ write
+pub returns-in_err-run_statement-clause-runs : goal.returns-in_err-run_statement-clause-runs
+returns-in_err-run_statement-clause-runs g c = record {
+  done = λ basis is. no_answer c.from_residual.result _ _ c.from_residual.ensures.1;
+  write = λ basis is same.
+      let come = c.loop-range.invariant.run basis is in
+      let write = c.in_err-run_statement.ensures.runs.write come.now come.left (search rules) in
+      come_broken c.args.source.now c.args.tokens.now basis c.args.ranges.now c.loop-range.range-index c.loop-range.refused _ _ _ _ _ _ (0, 0) c.loop-range-test.true
+      come _ _ write;
+  failures =
+      let raised = c.in_err-run_statement.ensures.runs.failures in
+      let same = same_failures Bool _ _ _ c.from_residual.ensures.1 in
+      rw (raised, c.loop-range.invariant.failures) (sym same);
+  effect = runs_err Bool _ _ _ _ c.from_residual.ensures.1 (runs_more _ (Err _) _ _ _ c.loop-range.invariant.runs c.in_err-run_statement.ensures.runs.effect);
+  asked = λ asks.
+      let inv = c.loop-range.invariant in
+      reads_by _ _ _ _ _ c.from_residual.ensures.1 (inv.asked asks).traced
+      (c.in_err-run_statement.ensures.runs.asked
+      (asks_at _ _ c.args.source.now c.args.tokens.now c.args.ranges.now c.loop-range.range-index (0, 0) inv.runs.schema asks c.loop-range-test.true));
+}
 
-pub returns-in_err-run_statement-clause-failures : goal.returns-in_err-run_statement-clause-failures
-returns-in_err-run_statement-clause-failures g c =
-    let raised = c.in_err-run_statement.ensures.failures in
-    let same = same_failures Bool _ _ _ c.from_residual.ensures.1 in
-    rw (raised, c.loop-range.invariant.failures) (sym same)
-
-pub returns-in_err-run_statement-clause-effect : goal.returns-in_err-run_statement-clause-effect
-returns-in_err-run_statement-clause-effect g c =
-    runs_err Bool _ _ _ _ c.from_residual.ensures.1 (runs_more _ (Err _) _ _ _ c.loop-range.invariant.runs c.in_err-run_statement.ensures.effect)
-
-pub returns-in_err-run_statement-clause-asked : goal.returns-in_err-run_statement-clause-asked
-returns-in_err-run_statement-clause-asked g c asks =
-    let inv = c.loop-range.invariant in
-    reads_by _ _ _ _ _ c.from_residual.ensures.1 (inv.asked asks).traced
-    (c.in_err-run_statement.ensures.asked
-    (asks_at _ _ c.args.source.now c.args.tokens.now c.args.ranges.now c.loop-range.range-index (0, 0) inv.runs.schema asks c.loop-range-test.true))
-
-pub returns-clause-done : goal.returns-clause-done
-returns-clause-done g c basis is =
-    let all : c.loop-range.range-index ≡ length c.args.ranges.now = omega (arith, c.loop-range-test.false, c.loop-range.auto.range-index-end) in
-    come_whole c.args.source.now c.args.tokens.now basis c.args.ranges.now c.loop-range.range-index c.loop-range.refused _ _ _ _ _ all (c.loop-range.invariant.run basis is)
-
-pub returns-clause-effect : goal.returns-clause-effect
-returns-clause-effect g c = runs_ok _ _ _ _ c.loop-range.invariant.runs
-
-pub returns-clause-asked : goal.returns-clause-asked
-returns-clause-asked g c asks = record { same = (c.loop-range.invariant.asked asks).traced; faults = tt }
+pub returns-clause-runs : goal.returns-clause-runs
+returns-clause-runs g c = record {
+  done = λ basis is.
+      let all : c.loop-range.range-index ≡ length c.args.ranges.now = omega (arith, c.loop-range-test.false, c.loop-range.auto.range-index-end) in
+      come_whole c.args.source.now c.args.tokens.now basis c.args.ranges.now c.loop-range.range-index c.loop-range.refused _ _ _ _ _ all (c.loop-range.invariant.run basis is);
+  write = λ basis is same. absurd (no_write_ok _ same);
+  failures = c.loop-range.invariant.failures;
+  effect = runs_ok _ _ _ _ c.loop-range.invariant.runs;
+  asked = λ asks. record { same = (c.loop-range.invariant.asked asks).traced; faults = tt };
+}
 
 pub run_statement-requires-clause-range : goal.run_statement-requires-clause-range
 run_statement-requires-clause-range g c = c.requires.ranges c.loop-range.range-index (0, 0) c.loop-range-test.true
 
-pub returns-in_err-run_statement-clause-done : goal.returns-in_err-run_statement-clause-done
-returns-in_err-run_statement-clause-done g c basis is = no_answer c.from_residual.result _ _ c.from_residual.ensures.1
-
-pub returns-clause-write : goal.returns-clause-write
-returns-clause-write g c basis is same = absurd (no_write_ok _ same)
-
 pub returns-clause-begun : goal.returns-clause-begun
 returns-clause-begun g c basis is = tt
-
-pub returns-clause-failures : goal.returns-clause-failures
-returns-clause-failures g c = c.loop-range.invariant.failures

@@ -20,7 +20,7 @@ returns g c =
     let tokens : AreTokens c.self.inside.source.now c.deref-2.result.now = rw c.deref-2.ensures.value c.self.invariant in
     let ranges : AreStatements c.deref-2.result.now c.deref-3.result.now = same_statements _ _ _ _ (c.deref-2.ensures.value ∙ sym c.deref.ensures.value) c.deref-3.ensures.value c.in_ok-ranges.ensures.statements in
     rw (← c.self.view_is)
-    (run_over _ _ _ _ _ _ _ _ tokens ranges c.run_statements.ensures.done c.run_statements.ensures.write c.run_statements.ensures.begun c.run_statements.ensures.failures c.run_statements.ensures.effect c.run_statements.ensures.asked)
+    (run_over _ _ _ _ _ _ _ _ tokens ranges c.run_statements.ensures.runs.done c.run_statements.ensures.runs.write c.run_statements.ensures.begun c.run_statements.ensures.runs.failures c.run_statements.ensures.runs.effect c.run_statements.ensures.runs.asked)
 
 pub returns-in_err-ranges : goal.returns-in_err-ranges
 returns-in_err-ranges g c =
