@@ -1,21 +1,48 @@
 -- A sweep over any tree, asked for more until the limit is filled or it has none: it has come to the first of the regions that it
 -- awaited, or to all.
-use Rattle.std.proofs.Common.{◌≡◌, ◌<◌, ◌≤◌, ◌+◌, ◌∙◌, ◌++◌, ◌∷◌, inl, inr, ℕ, zero, suc, Bool, List, [], Option, Some, None, Result, Ok, IfSome, length, map, take, refl, sym, ap, subst, arith, append_assoc}
+use Rattle.std.proofs.Common.{◌≡◌, ◌<◌, ◌≤◌, ◌+◌, ◌∙◌, ◌++◌, ◌∷◌, inl, inr, ℕ, zero, suc, Bool, false, List, [], Option, Some, None, Result, Ok, IfSome, length, map, take, refl, sym, ap, subst, arith, append_assoc}
 use Rattle.std.proofs.lemmas.List.{append-nil, length-map, map-append}
 use Rattle.std.specs.Option.{option_map}
 use Rattle.std.specs.List.{AllByRecursion}
 use Rattle.ub_exec.proofs.NotedFacts.{all_joined}
 use Rattle.ub_exec.specs.Answers.{begun}
 use Rattle.ub_exec.specs.Reading.{HasSweptFirst, HasSweptSome, IsFilled, IsIn}
-use Rattle.ub_exec.specs.Sweeping.{BreaksOff, ComesOn, ComesToAll}
 use Rattle.ub_planning.specs.Plan.{PlanView}
 use Rattle.ub_table.specs.declared.row.Row.{Row}
 use Rattle.ub_tetris.specs.Awaited.{AreMetAlong}
 use Rattle.ub_tetris.specs.Effects.{HasAnswered, Sweeps}
-use Rattle.ub_tetris.specs.Sweep.{AwaitedRegion, IsSweepOf, SweepView, rows_left}
+use Rattle.ub_tetris.specs.Sweep.{AreItsRegions, AwaitedRegion, IsSweepOf, SweepView, rows_left}
 use Rattle.ub_tetris.specs.declared.fault.SweepFault.{SweepFault}
 use Rattle.ub_tree.proofs.Laws.{IsTraced}
 use Rattle.ub_tree.specs.View.{TreeView}
+
+-- ---- one call
+
+-- it hasn't failed, and awaits regions that the tree tells of
+abbrev pub IsAtWork : TreeView → SweepView → Type 0
+IsAtWork t s = (s.is_failed ≡ false) × AreItsRegions t s
+
+-- asked for a row, or for the rows of a value, it came to the first of the regions that it awaited, over any tree: each was
+-- taken in, and their pages were noted, and no others. Where it finds none it awaits no region; else there are fewer rows that
+-- it can still give
+pub record ComesOn {A : Type 0} (s new_s : SweepView) (old new : TreeView) (found : Option A) : Type 0 where
+  pub come : List AwaitedRegion
+  pub left : s.awaited ≡ come ++ new_s.awaited
+  pub taken : AllByRecursion (λ a. IsIn old a.region) come
+  pub trace_is : new.trace.pages ≡ old.trace.pages ++ map (λ a. a.region.page) come
+  pub ended : found ≡ None → new_s.awaited ≡ []
+  pub fewer : IfSome found (λ given. rows_left new_s < rows_left s)
+
+-- a fault ended that: the pages of the first of the regions that it awaited were noted, each once and in their order, and no others
+pub record BreaksOff (s : SweepView) (old new : TreeView) : Type 0 where
+  pub count : ℕ
+  pub trace_is : new.trace.pages ≡ old.trace.pages ++ map (λ a. a.region.page) (take count s.awaited)
+
+-- it came to all regions that it awaited, over any tree: each was taken in, and their pages were noted, in its order, and no
+-- others
+pub record ComesToAll (s : SweepView) (old new : TreeView) : Type 0 where
+  pub taken : AllByRecursion (λ a. IsIn old a.region) s.awaited
+  pub trace_is : new.trace.pages ≡ old.trace.pages ++ map (λ a. a.region.page) s.awaited
 
 -- what one call says
 pub comes_on : {A : Type 0} (rows : A → List Row) (plan : PlanView) (found : Option A) (s new_s : SweepView) (old new : TreeView) → Sweeps s new_s old new (Ok found)

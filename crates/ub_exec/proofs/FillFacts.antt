@@ -6,12 +6,12 @@ use Rattle.std.specs.Prelude.{OnErr, OnOk}
 use Rattle.std.specs.Result.{IsErrAnd}
 use Rattle.ub_answer.specs.Shaped.{IsShaped}
 use Rattle.ub_exec.proofs.BreakFacts.{swept_after, swept_before}
-use Rattle.ub_exec.proofs.ComeFacts.{HasComeOn, HasComeOn-more, swept_broken, swept_first, swept_full, swept_whole}
+use Rattle.ub_exec.proofs.ComeFacts.{BreaksOff, ComesOn, HasComeOn, HasComeOn-more, IsAtWork, swept_broken, swept_first, swept_full, swept_whole}
 use Rattle.ub_exec.proofs.NotedFacts.{is_swept, notes_none, notes_ok, notes_then, swept_err}
 use Rattle.ub_exec.proofs.SweptFacts.{HasSwept, HasSwept-none, HasSwept-more, begun_fetches, few_more, few_none, noted_more, wide_more, ended_fetched, ended_answered, filled_fetched, filled_answered, swept_kind}
 use Rattle.ub_exec.specs.Answers.{IsAnswer, IsReady, IsSwept, begun}
 use Rattle.ub_exec.specs.Reading.{IsFilled, NotesPages, ReadsSwept}
-use Rattle.ub_exec.specs.Sweeping.{BreaksOff, ComesOn, Fills, IsAtWork, IsBegun}
+use Rattle.ub_exec.specs.Sweeping.{Fills, IsBegun}
 use Rattle.ub_exec.specs.Visits.{HasFetched, HasFetchedFirst, fetches_then}
 use Rattle.ub_planning.specs.Plan.{PlanView}
 use Rattle.ub_planning.specs.Visits.{Event}

@@ -1,8 +1,9 @@
 -- A sweep of groups over a sound tree, turn by turn: what it has fetched, what it answers, and where it is broken off.
-use Rattle.std.proofs.Common.{◌≡◌, ◌≢◌, ◌<◌, ◌≤◌, ◌∙◌, ℕ, zero, suc, Bool, List, [], ◌∷◌, ◌++◌, Option, Some, None, IfSome, Contains, IsPermutation, filter, length, map, take, inl, inr, refl, sym, ap, subst, arith, append_assoc}
+use Rattle.std.proofs.Common.{◌≡◌, ◌≢◌, ◌<◌, ◌≤◌, ◌∙◌, ℕ, zero, suc, Bool, List, [], ◌∷◌, ◌++◌, Option, Some, None, IfSome, Ok, Contains, IsPermutation, filter, length, map, take, inl, inr, refl, sym, ap, subst, arith, append_assoc}
 use Rattle.std.proofs.lemmas.List.Elements.{All-contains, All-from_recursion, recursion_from_All, Contains-append_left, Contains-append_right}
 use Rattle.std.proofs.lemmas.List.Sorted.{Contains-permutation, IsPermutation-sym}
 use Rattle.std.specs.List.{All, AllByRecursion}
+use Rattle.std.specs.Option.{option_map}
 use Rattle.ub_answer.specs.Shaped.{HaveOneWidth, IsShaped}
 use Rattle.ub_exec.proofs.FirstFacts.{swept_first}
 use Rattle.ub_exec.proofs.GivenFacts.{all_selected, at}
@@ -36,6 +37,7 @@ use Rattle.ub_table.specs.Table.{IsInOrder}
 use Rattle.ub_table.specs.declared.row.Row.{Row}
 use Rattle.ub_table.specs.declared.schema.Schema.{Schema}
 use Rattle.ub_tetris.specs.Machine.{IsRowAlong}
+use Rattle.ub_tetris.specs.Calls.{GivesValue}
 use Rattle.ub_tetris.specs.Sweep.{SweepView, IsSweeping, HasBegun, HasBroken, HasEnded, HasGivenValue, HasSteppedValue}
 use Rattle.ub_tree.proofs.Laws.{Keeps}
 use Rattle.ub_tree.specs.Placed.{Placed, regions_in}
@@ -311,6 +313,12 @@ HaveSwept plan start t s cells =
 abbrev pub Steps : PlanView → TreeView → SweepView → TreeView → SweepView → Option (List Row) → Type 0
 Steps plan t s new new_s found =
     (given rest : List Row) (fetched unread : List Event) → IsSweeping plan t s given rest fetched unread → plan.asked.group ≢ [] → HasSteppedValue plan new new_s given rest fetched unread found
+
+pub value_steps : {A : Type 0} (rows : A → List Row) (plan : PlanView) (s new_s : SweepView) (t new : TreeView) (found value : Option A) → found ≡ value → GivesValue plan s new_s t new (Ok found) rows
+    → Steps plan t s new new_s (option_map rows value)
+value_steps {A = A} rows plan s new_s t new found value is gives =
+    let given : GivesValue plan s new_s t new (Ok value) rows = subst (λ (o : Option A). GivesValue plan s new_s t new (Ok o) rows) is gives in
+    given.next
 
 module _ (plan : PlanView) (start t : TreeView) (columns : ℕ) (posed : IsPosed columns plan.asked) (s : SweepView) (cells : List (List Cell)) (kept : Keeps start t) (come : HaveSwept plan start t s cells) where
   -- the rows of one more value were given, and their groups put in

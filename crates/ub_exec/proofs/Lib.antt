@@ -1,4 +1,6 @@
+pub mod AskFacts
 pub mod BreakFacts
+pub mod ExecFacts
 pub mod FillFacts
 pub mod FirstFacts
 pub mod KeptFacts

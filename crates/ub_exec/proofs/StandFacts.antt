@@ -1,5 +1,5 @@
 -- Where a tree stands once rows of its table were taken out.
-use Rattle.std.proofs.Common.{◌≡◌, ◌<◌, ◌++◌, ◌∷◌, ◌∙◌, ◌||◌, inl, inr, ℕ, zero, suc, Bool, true, false, not, if◌then◌else◌, IsTrue, List, [], Result, Err, Contains, length, map, take, nat_eq, refl, sym, ap, subst, arith}
+use Rattle.std.proofs.Common.{◌≡◌, ◌<◌, ◌++◌, ◌∷◌, ◌∙◌, ◌||◌, inl, inr, ℕ, zero, suc, Bool, true, false, not, if◌then◌else◌, List, [], Result, Err, Contains, length, map, take, nat_eq, refl, sym, ap, subst, arith}
 use Rattle.std.proofs.lemmas.Bool.{cases_Bool, eq-eqb, eqb-true, true≢false}
 use Rattle.std.specs.List.{AllByRecursion}
 use Rattle.ub_exec.specs.Deleting.{StopsAt, TakesOut}
@@ -17,7 +17,7 @@ use Rattle.ub_table.specs.declared.row.Key.{Key}
 use Rattle.ub_table.specs.declared.row.Row.{Row}
 use Rattle.ub_table.specs.declared.schema.Schema.{Schema}
 use Rattle.ub_tree.proofs.Laws.{Keeps, Keeps-by, searched_regions, searched_sound}
-use Rattle.ub_tree.specs.Effects.{HasMissed, IsLeft, Leaves}
+use Rattle.ub_tree.specs.Effects.{IsLeft, Leaves}
 use Rattle.ub_tree.specs.Placed.{Placed, regions_in}
 use Rattle.ub_tree.specs.Reading.{ReadsTree, read_store}
 use Rattle.ub_tree.specs.Removal.{IsRemoved}

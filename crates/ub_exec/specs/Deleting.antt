@@ -7,7 +7,7 @@ use Rattle.ub_exec.specs.Reading.{HasReadRows, NotesPages}
 use Rattle.ub_planning.specs.Plan.{PlanView, plan_of}
 use Rattle.ub_query.specs.Groups.{is_selected}
 use Rattle.ub_query.specs.Shape.{Asked}
-use Rattle.ub_store.specs.Facts.{IsHonest, raised}
+use Rattle.ub_store.specs.Facts.{raised}
 use Rattle.ub_store.specs.declared.fault.StoreFault.TheVariants as store
 use Rattle.ub_table.specs.Region.{keys_of}
 use Rattle.ub_table.specs.declared.row.Key.{Key}

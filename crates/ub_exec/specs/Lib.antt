@@ -1,4 +1,5 @@
 pub mod Answers
+pub mod Calls
 pub mod Deleting
 pub mod Laws
 pub mod Reading

@@ -1,11 +1,10 @@
-ghost use Rattle.std.specs.Prelude.{◌≡◌, ◌++◌, ◌≤◌, ◌∷◌, [], ℕ, false, true, length, map, take, IfOk, OnErr, OnOk, Ok};
-ghost use Rattle.ub_exec.specs.Answers.{begun};
-ghost use Rattle.ub_exec.specs.Deleting.{Deletes, HasReadKeys, IsDeletionOf, ReadsFirst, TakesOutBy};
+ghost use Rattle.std.specs.Prelude.{◌≡◌, ◌++◌, length, IfOk, OnOk};
+ghost use Rattle.ub_exec.specs.Calls.{DeletesBy, FetchesVisits};
+ghost use Rattle.ub_exec.specs.Deleting.{HasReadKeys, IsDeletionOf, TakesOutBy};
 ghost use Rattle.ub_exec.specs.Reading.{NotesPages};
-ghost use Rattle.ub_exec.specs.Stand.{Stand, IsStandOf, selected_of, without_rows, without_selected};
-ghost use Rattle.ub_exec.specs.Visits.{HasFetched, HasFetchedFirst};
+ghost use Rattle.ub_exec.specs.Stand.{Stand, IsStandOf, selected_of};
 ghost use Rattle.ub_query.specs.Posed.{IsPosed};
-ghost use Rattle.ub_table.specs.Region.{key_of, keys_of};
+ghost use Rattle.ub_table.specs.Region.{keys_of};
 ghost use Rattle.ub_tree.specs.Reading.{ReadsTree};
 
 use crate::walking::walk;
@@ -34,19 +33,7 @@ pub fn delete<S: PageStore>(
     plan: &Plan,
 ) -> Result<u32, ReadFault>
     requires { IsPosed (length tree.old.schema.columns) plan.now.asked }
-    ensures deleted { (s : Stand) → IsStandOf tree.old s → IsDeletionOf tree.old plan.now
-        → IfOk result (λ count. (count ≡ length (selected_of plan.now.asked s))
-        × IsStandOf tree.new (without_selected plan.now.asked s)) }
-    ensures stopped { (s : Stand) → IsStandOf tree.old s → IsDeletionOf tree.old plan.now
-        → OnErr result (tree.new.is_failed ≡ false → (j : ℕ)
-        × IsStandOf tree.new (without_rows (take j (selected_of plan.now.asked s)) s)) }
-    ensures pages { IsDeletionOf tree.old plan.now → OnOk result
-        (HasFetched plan.now (begun tree.old) tree.new) }
-    ensures broken { IsDeletionOf tree.old plan.now → OnErr result ((count : ℕ)
-        × HasFetchedFirst plan.now (begun tree.old) tree.new count) }
-    ensures untouched { result ≡ Ok 0 → tree.new ≡ record tree.old { trace = tree.new.trace } }
-    ensures reads { ReadsFirst plan.now (begun tree.old) tree.new result }
-    ensures effect { Deletes tree.old tree.new result }
+    ensures { DeletesBy plan.now tree.old tree.new result }
 {
     tree.begin();
     if tree.has_failed() {
@@ -84,10 +71,8 @@ fn keys_of_selected<S: PageStore>(
         → IfOk result
         (λ keys. keys.items ≡ keys_of s.table.schema.dims (selected_of plan.now.asked s)) }
     ensures read { IfOk result (λ keys. HasReadKeys plan.now tree.old tree.new keys.items) }
-    ensures pages { IsDeletionOf tree.old plan.now → OnOk result
-        (HasFetched plan.now tree.old tree.new) }
-    ensures broken { IsDeletionOf tree.old plan.now → OnErr result ((count : ℕ)
-        × HasFetchedFirst plan.now tree.old tree.new count) }
+    ensures fetches { IsDeletionOf tree.old plan.now
+        → FetchesVisits plan.now tree.old tree.new result }
     ensures notes { NotesPages tree.old tree.new result }
     ensures effect { ReadsTree tree.old tree.new result }
 {

@@ -1,9 +1,9 @@
-ghost use Rattle.std.specs.Prelude.{◌≡◌, ◌≢◌, ◌↔◌, ℕ, true, false, [], Some, Err, length, IsTrue, IfOk, OnErr, OnOk};
+ghost use Rattle.std.specs.Prelude.{◌≡◌, ◌≢◌, ◌↔◌, true, false, [], Some, length, IsTrue, IfOk};
 ghost use Rattle.ub_answer.specs.Shaped.{IsShaped};
-ghost use Rattle.ub_exec.specs.Answers.{IsReady, IsAnswer, IsSwept, begun};
-ghost use Rattle.ub_exec.specs.Reading.{CarriesOut, NotesPages, ReadsSwept};
+ghost use Rattle.ub_exec.specs.Answers.{IsReady, IsSwept};
+ghost use Rattle.ub_exec.specs.Calls.{Answers, Executes, ExecutesSwept};
+ghost use Rattle.ub_exec.specs.Reading.{CarriesOut};
 ghost use Rattle.ub_exec.specs.Scanned.{IsOfRead, IsScanOf};
-ghost use Rattle.ub_exec.specs.Visits.{HasFetched, HasFetchedFirst};
 ghost use Rattle.ub_query.specs.Posed.{IsPosed};
 ghost use Rattle.ub_tree.specs.Reading.{ReadsTree};
 
@@ -42,19 +42,8 @@ pub fn execute<S: PageStore>(
     plan: &Plan,
 ) -> Result<Answer, ReadFault>
     requires { IsPosed (length tree.old.schema.columns) plan.now.asked }
-    ensures rows { IsReady tree.old plan.now → IfOk result
-        (λ a. IsAnswer tree.old plan.now.asked a.rows) }
-    ensures shaped { IfOk result (λ a. IsShaped plan.now.asked a.rows) }
-    ensures scanned { IsScanOf tree.old.schema plan.now → IfOk result
-        (λ a. IsOfRead plan.now (begun tree.old) tree.new a.rows) }
-    ensures pages { IsReady tree.old plan.now → OnOk result
-        (HasFetched plan.now (begun tree.old) tree.new) }
-    ensures broken { IsReady tree.old plan.now → OnErr result ((count : ℕ)
-        × HasFetchedFirst plan.now (begun tree.old) tree.new count) }
+    ensures executes { Executes plan.now tree.old tree.new result (λ a. a.rows) }
     ensures fetched { IfOk result (λ a. a.fetched ≡ length tree.new.trace.pages) }
-    ensures failed { IsTrue tree.old.is_failed → result ≡ Err (ReadFault.Tree TreeFault.Failed) }
-    ensures reads { CarriesOut plan.now (begun tree.old) tree.new (λ a. length a.rows) result }
-    ensures effect { ReadsTree tree.old tree.new result }
 {
     let rows = result_rows(alloc, tree, plan)?;
     Ok(Answer {
@@ -70,19 +59,7 @@ fn result_rows<S: PageStore>(
     plan: &Plan,
 ) -> Result<Cells, ReadFault>
     requires { IsPosed (length tree.old.schema.columns) plan.now.asked }
-    ensures rows { IsReady tree.old plan.now → IfOk result
-        (λ cells. IsAnswer tree.old plan.now.asked cells) }
-    ensures shaped { IfOk result (IsShaped plan.now.asked) }
-    ensures scanned { IsScanOf tree.old.schema plan.now → IfOk result
-        (IsOfRead plan.now (begun tree.old) tree.new) }
-    ensures pages { IsReady tree.old plan.now → OnOk result
-        (HasFetched plan.now (begun tree.old) tree.new) }
-    ensures broken { IsReady tree.old plan.now → OnErr result ((count : ℕ)
-        × HasFetchedFirst plan.now (begun tree.old) tree.new count) }
-    ensures failed { IsTrue tree.old.is_failed → result ≡ Err (ReadFault.Tree TreeFault.Failed) }
-    ensures reads { CarriesOut plan.now (begun tree.old) tree.new (λ cells. length cells)
-        result }
-    ensures effect { ReadsTree tree.old tree.new result }
+    ensures { Executes plan.now tree.old tree.new result (λ cells. cells) }
 {
     tree.begin();
     if tree.has_failed() {
@@ -97,16 +74,7 @@ fn result_rows<S: PageStore>(
 // The rows of the result by a sweep. The trace begins anew.
 fn swept<S: PageStore>(alloc: Global, tree: &mut Tree<S>, plan: &Plan) -> Result<Cells, ReadFault>
     requires { IsPosed (length tree.old.schema.columns) plan.now.asked }
-    ensures rows { IsReady tree.old plan.now → IsSwept plan.now.kind
-        → IfOk result (λ cells. IsAnswer tree.old plan.now.asked cells) }
-    ensures shaped { IfOk result (IsShaped plan.now.asked) }
-    ensures pages { IsReady tree.old plan.now → IsSwept plan.now.kind
-        → OnOk result (HasFetched plan.now (begun tree.old) tree.new) }
-    ensures broken { IsReady tree.old plan.now → IsSwept plan.now.kind → OnErr result ((count : ℕ)
-        × HasFetchedFirst plan.now (begun tree.old) tree.new count) }
-    ensures swept { ReadsSwept plan.now (begun tree.old) tree.new (λ cells. length cells) result }
-    ensures notes { NotesPages (begun tree.old) tree.new result }
-    ensures effect { ReadsTree tree.old tree.new result }
+    ensures { ExecutesSwept (IsSwept plan.now.kind) plan.now tree.old tree.new result }
 {
     if is_grouped(plan.query()) {
         swept_groups(alloc, tree, plan)
@@ -130,15 +98,11 @@ fn scanned_rows<S: PageStore>(
     plan: &Plan,
 ) -> Result<Cells, ReadFault>
     requires { IsPosed (length tree.old.schema.columns) plan.now.asked }
-    ensures rows { IsReady tree.old plan.now → IfOk result
-        (λ cells. IsAnswer tree.old plan.now.asked cells) }
+    ensures done { IsReady tree.old plan.now → ¬ IsSwept plan.now.kind
+        → Answers plan.now tree.old tree.old tree.new result (λ cells. cells) }
     ensures shaped { IfOk result (IsShaped plan.now.asked) }
     ensures scanned { IsScanOf tree.old.schema plan.now → IfOk result
         (IsOfRead plan.now tree.old tree.new) }
-    ensures pages { IsReady tree.old plan.now → ¬ IsSwept plan.now.kind
-        → OnOk result (HasFetched plan.now tree.old tree.new) }
-    ensures broken { IsReady tree.old plan.now → ¬ IsSwept plan.now.kind
-        → OnErr result ((count : ℕ) × HasFetchedFirst plan.now tree.old tree.new count) }
     ensures reads { ¬ IsSwept plan.now.kind
         → CarriesOut plan.now tree.old tree.new (λ cells. length cells) result }
     ensures effect { ReadsTree tree.old tree.new result }

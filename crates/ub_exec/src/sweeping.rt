@@ -1,23 +1,17 @@
-ghost use Rattle.std.specs.Prelude.{◌≡◌, ◌<◌, ◌++◌, ℕ, true, false, List, [], None, length, IfOk, IfSome, OnErr, OnOk};
-ghost use Rattle.ub_answer.specs.Shaped.{IsShaped};
-ghost use Rattle.ub_exec.specs.Answers.{IsReady, IsAnswer, IsSwept, begun};
+ghost use Rattle.std.specs.Prelude.{◌≡◌, ◌<◌, ℕ, true, false, [], length, IfOk, IfSome, OnErr};
+ghost use Rattle.ub_exec.specs.Answers.{IsSwept};
+ghost use Rattle.ub_exec.specs.Calls.{ExecutesSwept};
 ghost use Rattle.ub_exec.specs.Reading.{IsFilled, NotesPages, ReadsSwept};
-ghost use Rattle.ub_exec.specs.Sweeping.{BreaksOff, ComesOn, Fills, IsAtWork, IsBegun};
-ghost use Rattle.ub_exec.specs.Visits.{HasFetched, HasFetchedFirst};
-ghost use Rattle.ub_planning.specs.Visits.{Event};
+ghost use Rattle.ub_exec.specs.Sweeping.{Fills, IsBegun};
+ghost use Rattle.ub_exec.specs.Visits.{HasFetchedFirst};
 ghost use Rattle.ub_query.specs.Posed.{IsPosed};
-ghost use Rattle.ub_table.specs.declared.row.Row.{Row as RowView};
-ghost use Rattle.ub_tetris.specs.Awaited.{AreMetAlong};
-ghost use Rattle.ub_tetris.specs.Sweep.{HasBegun, HasBroken, HasStepped, IsStarted, IsSweeping};
-ghost use Rattle.ub_tetris.specs.Sweep as sweep;
+ghost use Rattle.ub_tetris.specs.Sweep.{HasBegun};
 ghost use Rattle.ub_tree.specs.Reading.{ReadsTree};
-ghost use Rattle.ub_tree.specs.View.{KeepsTrace};
 
 use std::alloc::Global;
 use ub_answer::Cells;
 use ub_planning::Plan;
 use ub_store::PageStore;
-use ub_table::Row;
 use ub_tetris::Sweep;
 use ub_tree::{ReadFault, Tree};
 
@@ -29,21 +23,12 @@ pub(crate) fn swept_rows<S: PageStore>(
     plan: &Plan,
 ) -> Result<Cells, ReadFault>
     requires { IsPosed (length tree.old.schema.columns) plan.now.asked }
-    ensures rows { IsReady tree.old plan.now → IsSwept plan.now.kind → plan.now.asked.group ≡ []
-        → IfOk result (λ cells. IsAnswer tree.old plan.now.asked cells) }
-    ensures shaped { IfOk result (IsShaped plan.now.asked) }
-    ensures pages { IsReady tree.old plan.now → IsSwept plan.now.kind → plan.now.asked.group ≡ []
-        → OnOk result (HasFetched plan.now (begun tree.old) tree.new) }
-    ensures broken { IsReady tree.old plan.now → IsSwept plan.now.kind → plan.now.asked.group ≡ []
-        → OnErr result
-        ((count : ℕ) × HasFetchedFirst plan.now (begun tree.old) tree.new count) }
-    ensures swept { ReadsSwept plan.now (begun tree.old) tree.new (λ cells. length cells) result }
-    ensures notes { NotesPages (begun tree.old) tree.new result }
-    ensures effect { ReadsTree tree.old tree.new result }
+    ensures { ExecutesSwept (IsSwept plan.now.kind × (plan.now.asked.group ≡ [])) plan.now tree.old
+        tree.new result }
 {
-    match begin_sweep(alloc, tree, plan) {
+    match Sweep::new(alloc, tree, plan) {
         Ok(mut sweep) => filled_rows(alloc, &mut sweep, tree, plan),
-        Err(fault) => Err(fault),
+        Err(fault) => Err(ReadFault::from(fault)),
     }
 }
 
@@ -67,10 +52,10 @@ fn filled_rows<S: PageStore>(
     let query = plan.query();
     let mut rows = Cells::none(alloc);
     while !is_filled(query.limit, rows.len()) {
-        match next_row(sweep, tree, plan) {
+        match sweep.next(tree, plan) {
             Ok(Some(row)) => rows.push_row(tree.schema(), query.items.as_slice(), &row)?,
             Ok(None) => return Ok(rows),
-            Err(fault) => return Err(fault),
+            Err(fault) => return Err(ReadFault::from(fault)),
         }
     }
     Ok(rows)
@@ -86,47 +71,4 @@ pub(crate) fn is_filled(limit: Option<u64>, rows: usize) -> bool
         None => false,
         Some(most) => most <= rows as u64,
     }
-}
-
-/// A sweep by the plan, which has given no row.
-pub(crate) fn begin_sweep<S: PageStore>(
-    alloc: Global,
-    tree: &mut Tree<S>,
-    plan: &Plan,
-) -> Result<Sweep, ReadFault>
-    ensures begun { (dim : ℕ) (is_descending : _) → sweep.IsSwept tree.old plan.now dim
-        is_descending
-        → IfOk result (HasBegun plan.now tree.new) }
-    ensures started { IfOk result (IsStarted tree.new) }
-    ensures met { (dim : ℕ) (is_descending : _)
-        → sweep.IsSweepOf tree.old.schema plan.now dim is_descending → IfOk result
-        (λ s. AreMetAlong plan.now.covering.boxes dim is_descending tree.new s.awaited) }
-    ensures trace { OnOk result (tree.new ≡ begun tree.old) }
-    ensures broken { OnErr result (KeepsTrace (begun tree.old) tree.new) }
-    ensures effect { ReadsTree tree.old tree.new result }
-{
-    Ok(Sweep::new(alloc, tree, plan)?)
-}
-
-// The next row of a sweep that hasn't failed.
-fn next_row<S: PageStore>(
-    sweep: &mut Sweep,
-    tree: &mut Tree<S>,
-    plan: &Plan,
-) -> Result<Option<Row>, ReadFault>
-    requires posed { IsPosed (length tree.old.schema.columns) plan.now.asked }
-    requires works { IsAtWork tree.old sweep.old }
-    ensures next { (given rest : List RowView) (fetched unread : List Event)
-        → IsSweeping plan.now tree.old sweep.old given rest fetched unread
-        → IfOk result (HasStepped plan.now tree.new sweep.new given rest fetched unread) }
-    ensures broken { (given rest : List RowView) (fetched unread : List Event)
-        → IsSweeping plan.now tree.old sweep.old given rest fetched unread
-        → OnErr result (HasBroken tree.new sweep.old rest fetched unread) }
-    ensures works { OnOk result (IsAtWork tree.new sweep.new) }
-    ensures comes { IfOk result (ComesOn sweep.old sweep.new tree.old tree.new) }
-    ensures breaks { OnErr result (BreaksOff sweep.old tree.old tree.new) }
-    ensures notes { NotesPages tree.old tree.new result }
-    ensures effect { ReadsTree tree.old tree.new result }
-{
-    Ok(sweep.next(tree, plan)?)
 }

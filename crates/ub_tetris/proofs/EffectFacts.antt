@@ -10,7 +10,7 @@ use Rattle.ub_store.specs.Facts.{raised}
 use Rattle.ub_store.specs.View.{Trace, IsFull}
 use Rattle.ub_store.specs.declared.fault.StoreFault.TheVariants as store
 use Rattle.ub_table.specs.Region.{RegionRows}
-use Rattle.ub_tetris.specs.Effects.{AreAsked, AreTakenIn, Sweeps, IsSweepFault, IsAwaitedFault, as_reading, fetches_then, of_read}
+use Rattle.ub_tetris.specs.Effects.{AreAsked, AreTakenIn, Sweeps, IsSweepFault, IsAwaitedFault, as_reading, fetches_then, of_read, of_reading}
 use Rattle.ub_tetris.specs.Sweep.{AwaitedRegion, SweepView, AreItsRegions}
 use Rattle.ub_tetris.specs.declared.fault.SweepFault.{SweepFault}
 use Rattle.ub_tetris.specs.declared.fault.SweepFault.TheVariants as sweep
@@ -22,6 +22,7 @@ use Rattle.ub_tree.specs.View.{TreeView, KeepsTrace}
 use Rattle.ub_tree.specs.Spans.{Region}
 use Rattle.ub_tree.specs.declared.fault.TreeFault.{TreeFault}
 use Rattle.ub_tree.specs.declared.fault.TreeFault.TheVariants.{Full, Page, Store, Failed as HasFailed, Memory}
+use Rattle.ub_tree.specs.declared.read_fault.ReadFault.{ReadFault}
 use Rattle.ub_tree.specs.declared.read_fault.ReadFault.TheVariants as read
 
 -- a call's fault, seen from before an earlier call that only read
@@ -95,12 +96,6 @@ pub read_swept : {T : Type 0} (x : T) (s new_s : SweepView) (a : AwaitedRegion) 
 read_swept x s new_s a old new one same noted region taken =
     swept_one (Ok x) s new_s a old new one same (a.region.page ∷ []) (noted_own old new a noted) (refl, ((region, taken), tt)) tt (λ all. tt)
 
--- and then memory was refused
-pub memory_swept : {T : Type 0} (r : Result T SweepFault) (s new_s : SweepView) (a : AwaitedRegion) (old new : TreeView) → IsErrAnd r (λ x. x ≡ sweep.Memory) → s.awaited ≡ a ∷ new_s.awaited
-    → new ≡ record old { trace = new.trace } → HasNoted a.region.page old new → Sweeps s new_s old new r
-memory_swept (Ok x) s new_s a old new is one same noted = absurd is
-memory_swept (Err f) s new_s a old new is one same noted = rw is (swept_one (Err sweep.Memory) s new_s a old new one same (a.region.page ∷ []) (noted_own old new a noted) tt tt (λ all. tt))
-
 pub either_noted : {A : Type 0} (result : Result A TreeFault) (old new : TreeView) (page : ℕ) → (KeepsTrace old new × ((result ≡ Err HasFailed) ⊎ ((result ≡ Err Memory) × IsFull old.trace))) ⊎ HasNoted page old new
     → KeepsTrace old new ⊎ HasNoted page old new
 either_noted result old new page (inl kept) = inl kept.0
@@ -111,9 +106,9 @@ first_awaited s new_s a one = subst (λ (those : List AwaitedRegion). Contains t
 
 -- the tree refused it
 module _ {T : Type 0} (s new_s : SweepView) (a : AwaitedRegion) (old new : TreeView) (one : s.awaited ≡ a ∷ new_s.awaited) (pages : List ℕ) (notes : Notes old new a pages) where
-  refused_by : (r : Result T SweepFault) (e : TreeFault) → IsErrAnd r (λ x. x ≡ of_read (fault_of_tree e))
+  refused_by : (r : Result T ReadFault) (e : TreeFault) → IsErrAnd r (λ x. x ≡ fault_of_tree e)
       → new ≡ record old { store = record old.store { failed_reads = raised_by e old.store.failed_reads }; trace = new.trace }
-      → IsSpanFault a.region old e → (IsRegionOf old a.region → IsReadFault old e) → Sweeps s new_s old new r
+      → IsSpanFault a.region old e → (IsRegionOf old a.region → IsReadFault old e) → Sweeps s new_s old new (of_reading r)
   refused_by (Ok x) e is same refused faults = absurd is
   refused_by (Err f) Memory is same refused faults = rw is (swept_one (Err sweep.Memory) s new_s a old new one same pages notes tt tt (λ all. tt))
   refused_by (Err f) Full is same refused faults = absurd refused
@@ -127,8 +122,8 @@ module _ {T : Type 0} (s new_s : SweepView) (a : AwaitedRegion) (old new : TreeV
       rw is (swept_one (Err (sweep.Tree (Store of_store))) s new_s a old new one same pages notes tt ((a, first_awaited s new_s a one, refused), λ x. cc)
       (λ all. (faults (its_region {T = T} (Err (sweep.Tree (Store of_store))) s new_s a old new one same pages notes all), λ x. cc)))
 
-pub tree_swept : {T A : Type 0} (r : Result T SweepFault) (e : TreeFault) (s new_s : SweepView) (a : AwaitedRegion) (old new : TreeView) → IsErrAnd r (λ x. x ≡ of_read (fault_of_tree e))
-    → s.awaited ≡ a ∷ new_s.awaited → ReadsRegion {A = A} a.region old new (Err e) → Sweeps s new_s old new r
+pub tree_swept : {T A : Type 0} (r : Result T ReadFault) (e : TreeFault) (s new_s : SweepView) (a : AwaitedRegion) (old new : TreeView) → IsErrAnd r (λ x. x ≡ fault_of_tree e)
+    → s.awaited ≡ a ∷ new_s.awaited → ReadsRegion {A = A} a.region old new (Err e) → Sweeps s new_s old new (of_reading r)
 tree_swept {A = A} r e s new_s a old new is one reads =
     let (pages, notes) = noted_as old new a (either_noted {A = A} (Err e) old new a.region.page reads.noted) in
     refused_by s new_s a old new one pages notes r e is reads.same reads.refused reads.faults
@@ -240,11 +235,15 @@ sweeps_then x r a b c t m n failed first second =
     faults (Ok x) traced is = tt
     faults (Err e) traced is = subst (λ (x : Bool). IsSweepFault x t e) (sym failed) (sweep_fault_before b.is_failed t m e traced is)
 
+-- a call that was ended by a fault leaves the same, whatever it was to answer
+pub swept_as : {T U : Type 0} (e : SweepFault) (a b : SweepView) (t n : TreeView) → Sweeps {A = U} a b t n (Err e) → Sweeps {A = T} a b t n (Err e)
+swept_as e a b t n swept =
+    record { noted = swept.noted; same = swept.same; trace_is = swept.trace_is; fetches_are = swept.fetches_are; come = swept.come; left = swept.left; once = swept.once; taken = tt; refused = swept.refused; faults = swept.faults; regions = swept.regions }
+
 -- the fault of a call handed on
-pub swept_by : {T U : Type 0} (r : Result T SweepFault) (e : SweepFault) (a b : SweepView) (t n : TreeView) → IsErrAnd r (λ x. x ≡ e) → Sweeps {A = U} a b t n (Err e) → Sweeps a b t n r
+pub swept_by : {T U : Type 0} (r : Result T ReadFault) (e : ReadFault) (a b : SweepView) (t n : TreeView) → IsErrAnd r (λ x. x ≡ e) → Sweeps {A = U} a b t n (Err (of_read e)) → Sweeps a b t n (of_reading r)
 swept_by (Ok x) e a b t n is swept = absurd is
-swept_by (Err f) e a b t n is swept =
-    rw is (record { noted = swept.noted; same = swept.same; trace_is = swept.trace_is; fetches_are = swept.fetches_are; come = swept.come; left = swept.left; once = swept.once; taken = tt; refused = swept.refused; faults = swept.faults; regions = swept.regions })
+swept_by (Err f) e a b t n is swept = rw is (swept_as (of_read e) a b t n swept)
 
 -- the sweep gave more of what it held: it awaits the same regions
 module _ {T : Type 0} (x : T) (s mid new_s : SweepView) (t n : TreeView) (same : mid.awaited ≡ new_s.awaited) (swept : Sweeps s mid t n (Ok x)) where
@@ -267,7 +266,7 @@ module _ {T : Type 0} (x : T) (s mid new_s : SweepView) (t n : TreeView) (same :
   }
 
   -- or memory was refused for it
-  pub swept_short : {U : Type 0} (r : Result U SweepFault) → IsErrAnd r (λ f. f ≡ sweep.Memory) → Sweeps s new_s t n r
+  pub swept_short : {U : Type 0} (r : Result U ReadFault) → IsErrAnd r (λ f. f ≡ read.Memory) → Sweeps s new_s t n (of_reading r)
   swept_short (Ok y) is = absurd is
   swept_short (Err f) is =
       rw is (record {

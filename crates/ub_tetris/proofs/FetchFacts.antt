@@ -79,12 +79,13 @@ none_due s first queue same past is =
     none_at (a ∷ queue) (suc k) past = none_at queue k (omega arith)
 
 pub has_fetched : (plan : PlanView) (choice : Choice) (t new : TreeView) (s new_s : State) (region : RegionRows) (schema : Schema) → HasReadNext t new s region → schema ≡ t.schema
-    → HoldsAlso schema (keys_of plan.asked) (filter (is_chosen choice schema plan) region.rows) s.held new_s.held → HasFetchedNext plan t new s new_s
-has_fetched plan choice t new s new_s region schema read of_tree holds = record {
+    → HoldsAlso schema (keys_of plan.asked) (filter (is_chosen choice schema plan) region.rows) s.held new_s.held → rows_left (view_of new_s) ≤ rows_left (view_of s) → HasFetchedNext plan t new s new_s
+has_fetched plan choice t new s new_s region schema read of_tree holds few = record {
   region = region;
   read = read;
   choice = choice;
   rows = subst (λ (x : Schema). HoldsAlso x (keys_of plan.asked) (filter (is_chosen choice x plan) region.rows) s.held new_s.held) of_tree holds;
+  few = few;
 }
 
 -- ---- how many rows are left

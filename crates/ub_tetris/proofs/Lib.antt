@@ -8,6 +8,7 @@ pub mod EffectFacts
 pub mod EventFacts
 pub mod FetchFacts
 pub mod FoundFacts
+pub mod GiveFacts
 pub mod HandFacts
 pub mod HeldFacts
 pub mod MachineFacts
@@ -15,6 +16,7 @@ pub mod NumberFacts
 pub mod OrderFacts
 pub mod QueueFacts
 pub mod ReachFacts
+pub mod SeenFacts
 pub mod SortedFacts
 pub mod SpanFacts
 pub mod StepFacts

@@ -73,9 +73,8 @@ module _ (plan : PlanView) (t now : TreeView) (s s_now : State) (so_far : Fetche
 
   -- one more region was fetched
   pub Fetches-more : (new : TreeView) (new_s : State) → IsDue s_now true → IsOnward s_now new_s → HasFetchedNext plan now new s_now new_s
-      → rows_left (view_of new_s) ≤ rows_left (view_of s_now)
       → Sweeps {A = Unit {0}} (view_of s_now) (view_of new_s) now new (Ok tt) → Fetches plan t new s new_s
-  Fetches-more new new_s due onward has few effect = record {
+  Fetches-more new new_s due onward has effect = record {
     effect = sweeps_then tt (Ok tt) (view_of s) (view_of s_now) (view_of new_s) t now new refl so_far.effect effect;
     sweeping = λ given rest fetched unread is.
         let (read, left, parts, under) = so_far.sweeping given rest fetched unread is in
@@ -87,7 +86,7 @@ module _ (plan : PlanView) (t now : TreeView) (s s_now : State) (so_far : Fetche
         );
     still = λ past. none_due due past;
     course = onward.0 ∙ so_far.course;
-    few = at_most (rows_left (view_of new_s)) (rows_left (view_of s_now)) (rows_left (view_of s)) few so_far.few;
+    few = at_most (rows_left (view_of new_s)) (rows_left (view_of s_now)) (rows_left (view_of s)) has.few so_far.few;
     kept = gives_more plan t now new (view_of s) s_now new_s (swept_traced tt (view_of s) (view_of s_now) t now so_far.effect) onward has so_far.kept;
   }
 

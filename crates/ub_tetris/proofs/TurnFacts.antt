@@ -9,19 +9,25 @@ use Rattle.ub_query.specs.Posed.{IsPosed}
 use Rattle.ub_query.specs.Shape.{Asked}
 use Rattle.ub_table.specs.declared.row.Row.{Row}
 use Rattle.ub_table.specs.declared.schema.Schema.{Schema}
-use Rattle.ub_tetris.specs.Effects.{FailsOnce, Sweeps}
+use Rattle.ub_tetris.specs.Effects.{FailsOnce, Sweeps, of_read, of_reading}
 use Rattle.ub_tetris.specs.Sweep.{IsSweeping, SweepView}
 use Rattle.ub_tetris.specs.declared.fault.SweepFault.{SweepFault}
 use Rattle.ub_tetris.specs.declared.fault.SweepFault.TheVariants as sweep
 use Rattle.ub_tetris.specs.declared.state.State.{State}
 use Rattle.ub_tetris.specs.inner.Turns.{view_by, view_of}
 use Rattle.ub_tree.specs.View.{TreeView}
+use Rattle.ub_tree.specs.declared.read_fault.ReadFault.{ReadFault}
 
 -- ---- a fault handed on
 
 pub refused_none : {T E : Type 0} (Q : T → Type 0) (r : Result T E) (P : E → Type 0) → IsErrAnd r P → IfOk r Q
 refused_none Q (Ok x) P is = absurd is
 refused_none Q (Err e) P is = tt
+
+-- a fault that the state hands on, as the sweep answers it
+pub as_err : {T : Type 0} (r : Result T ReadFault) (e : ReadFault) → IsErrAnd r (λ f. f ≡ e) → (P : Result T SweepFault → Type 0) → P (Err (of_read e)) → P (of_reading r)
+as_err (Ok x) e is P holds = absurd is
+as_err (Err f) e is P holds = subst (λ (x : ReadFault). P (Err (of_read x))) (sym is) holds
 
 pub never_ok : {T E X : Type 0} (r : Result T E) (x : T) (P : E → Type 0) → IsErrAnd r P → r ≡ Ok x → X
 never_ok (Ok y) x P is same = absurd is

@@ -25,6 +25,11 @@ abbrev pub of_read : ReadFault → SweepFault
 of_read (read.Tree fault) = Tree fault
 of_read read.Memory = Memory
 
+-- the same of what such a call answers
+abbrev pub of_reading : {A : Type 0} → Result A ReadFault → Result A SweepFault
+of_reading (Ok x) = Ok x
+of_reading (Err fault) = Err (of_read fault)
+
 -- a sweep's fault as one of a call that reads a tree: a sweep that has failed before is as a tree that has
 abbrev pub as_read : SweepFault → ReadFault
 as_read (Tree fault) = read.Tree fault

@@ -3,4 +3,5 @@ pub mod Held
 pub mod Sweep
 pub mod Awaited
 pub mod Effects
+pub mod Calls
 pub mod inner

@@ -1,5 +1,5 @@
-ghost use Rattle.std.specs.Prelude.{◌≡◌};
-ghost use Rattle.ub_tetris.specs.Effects.{as_read, of_read};
+ghost use Rattle.std.specs.Prelude.{◌≡◌, is_err};
+ghost use Rattle.ub_tetris.specs.Effects.{as_read, of_read, of_reading};
 ghost use Rattle.ub_tetris.specs.declared.fault.SweepFault.TheVariants.{Memory};
 ghost use Rattle.ub_tree.specs.Reading.{fault_of_tree};
 
@@ -58,5 +58,17 @@ impl From<SweepFault> for ReadFault {
             SweepFault::Memory => ReadFault::Memory,
             SweepFault::Failed => ReadFault::Tree(TreeFault::Failed),
         }
+    }
+}
+
+/// What a sweep answers where its state answers this. After a fault it has failed.
+pub fn settled<T>(is_failed: &mut bool, answer: Result<T, ReadFault>) -> Result<T, SweepFault>
+    ensures answer { result ≡ of_reading answer }
+    ensures failed { is_failed.new ≡ is_err result }
+{
+    *is_failed = answer.is_err();
+    match answer {
+        Ok(value) => Ok(value),
+        Err(fault) => Err(SweepFault::from(fault)),
     }
 }

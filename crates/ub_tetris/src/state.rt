@@ -1,15 +1,12 @@
-ghost use Rattle.std.specs.Prelude.{◌≡◌, ◌≢◌, ◌<◌, ◌≤◌, ◌∷◌, [], length, List, IfOk, OnErr, OnOk};
-ghost use Rattle.std.specs.Option.{option_map};
-ghost use Rattle.ub_planning.specs.Visits.{Event};
+ghost use Rattle.std.specs.Prelude.{◌≡◌, ◌<◌, length, OnOk};
 ghost use Rattle.ub_query.specs.Posed.{IsPosed};
-ghost use Rattle.ub_table.specs.declared.row.Row.{Row as RowView};
-ghost use Rattle.ub_tetris.specs.Effects.{HasAnswered, HasFound, Rests, Sweeps};
-ghost use Rattle.ub_tetris.specs.Sweep.{IsSweeping, HandsOver, HasBroken, HasBrokenOff, HasHandedOver, HasStepped, HasSteppedValue, rows_left};
-ghost use Rattle.ub_tetris.specs.inner.Turns.{HasAskedNext, HasFetchedNext, HasHandedNext, HasReadNext, IsDue, IsOnward, view_of};
+ghost use Rattle.ub_tetris.specs.Calls.{GivesRow, GivesValue, HandsAll};
+ghost use Rattle.ub_tetris.specs.Effects.{of_reading};
+ghost use Rattle.ub_tetris.specs.Sweep.{HandsOver};
+ghost use Rattle.ub_tetris.specs.inner.Turns.{AsksNext, HasFetchedNext, HasHandedNext, HasReadNext, IsDue, begun_view, view_of};
 
 use crate::course::Course;
 use crate::event::{Awaited, is_past};
-use crate::fault::SweepFault;
 use crate::held::{HeldRows, coordinate};
 use std::alloc::Global;
 use ub_filter::{Choice, push_chosen};
@@ -18,7 +15,7 @@ use ub_planning::Plan;
 use ub_query::RowSink;
 use ub_store::PageStore;
 use ub_table::Row;
-use ub_tree::Tree;
+use ub_tree::{ReadFault, Tree};
 
 /// How far a sweep has come.
 #[derive(Drop)]
@@ -35,10 +32,7 @@ pub struct State {
 impl State {
     /// A sweep that awaits these regions, and reads each of them into this page.
     pub fn new(alloc: Global, course: Course, queue: Vec<Awaited>, page: RegionPage) -> State
-        ensures course { result.course ≡ course }
-        ensures held { result.held ≡ [] }
-        ensures queue { result.queue ≡ queue }
-        ensures fetched { result.fetched ≡ 0 }
+        ensures { view_of result ≡ begun_view course queue.items }
     {
         State {
             course,
@@ -62,20 +56,10 @@ impl State {
         &mut self,
         tree: &mut Tree<S>,
         plan: &Plan,
-    ) -> Result<Option<Row>, SweepFault>
+    ) -> Result<Option<Row>, ReadFault>
         requires { IsPosed (length tree.old.schema.columns) plan.now.asked }
-        ensures next { (given rest : List RowView) (fetched unread : List Event)
-            → IsSweeping plan.now tree.old (view_of self.old) given rest fetched unread
-            → IfOk result
-            (HasStepped plan.now tree.new (view_of self.new) given rest fetched unread) }
-        ensures broken { (given rest : List RowView) (fetched unread : List Event)
-            → IsSweeping plan.now tree.old (view_of self.old) given rest fetched unread
-            → OnErr result (HasBroken tree.new (view_of self.old) rest fetched unread) }
-        ensures rests { (view_of self.old).awaited ≡ [] → self.old.held ≡ []
-            → Rests (view_of self.old) (view_of self.new) tree.old tree.new result }
-        ensures answers { IfOk result (λ found. HasAnswered plan.now tree.old (view_of self.old)
-            (view_of self.new) (option_map (λ row. row ∷ []) found)) }
-        ensures effect { Sweeps (view_of self.old) (view_of self.new) tree.old tree.new result }
+        ensures { GivesRow plan.now (view_of self.old) (view_of self.new) tree.old tree.new
+            (of_reading result) }
     {
         while self.is_due() {
             self.fetch(tree, plan)?;
@@ -88,21 +72,10 @@ impl State {
         &mut self,
         tree: &mut Tree<S>,
         plan: &Plan,
-    ) -> Result<Option<Vec<Row>>, SweepFault>
+    ) -> Result<Option<Vec<Row>>, ReadFault>
         requires { IsPosed (length tree.old.schema.columns) plan.now.asked }
-        ensures next { (given rest : List RowView) (fetched unread : List Event)
-            → IsSweeping plan.now tree.old (view_of self.old) given rest fetched unread
-            → plan.now.asked.group ≢ [] → IfOk result
-            (λ found. HasSteppedValue plan.now tree.new (view_of self.new) given rest fetched unread
-            (option_map (λ rows. rows.items) found)) }
-        ensures broken { (given rest : List RowView) (fetched unread : List Event)
-            → IsSweeping plan.now tree.old (view_of self.old) given rest fetched unread
-            → OnErr result (HasBroken tree.new (view_of self.old) rest fetched unread) }
-        ensures rests { (view_of self.old).awaited ≡ [] → self.old.held ≡ []
-            → Rests (view_of self.old) (view_of self.new) tree.old tree.new result }
-        ensures answers { IfOk result (λ found. HasAnswered plan.now tree.old (view_of self.old)
-            (view_of self.new) (option_map (λ rows. rows.items) found)) }
-        ensures effect { Sweeps (view_of self.old) (view_of self.new) tree.old tree.new result }
+        ensures { GivesValue plan.now (view_of self.old) (view_of self.new) tree.old tree.new
+            (of_reading result) (λ rows. rows.items) }
     {
         let Some(first) = self.step(tree, plan)? else {
             return Ok(None);
@@ -117,20 +90,10 @@ impl State {
         tree: &mut Tree<S>,
         plan: &Plan,
         sink: &mut K,
-    ) -> Result<(), SweepFault>
+    ) -> Result<(), ReadFault>
         requires { IsPosed (length tree.old.schema.columns) plan.now.asked }
-        ensures rows { OnOk result (HandsOver (K.HasTaken tree.old.schema plan.now.asked)
-            sink.old sink.new
-            (λ rows. HasFound plan.now tree.old (view_of self.old) (view_of self.new) rows
-            × ((given rest : List RowView) (fetched unread : List Event)
-            → IsSweeping plan.now tree.old (view_of self.old) given rest fetched unread
-            → HasHandedOver plan.now tree.new fetched unread rows))) }
-        ensures broken { (given rest : List RowView) (fetched unread : List Event)
-            → IsSweeping plan.now tree.old (view_of self.old) given rest fetched unread
-            → OnErr result (HasBrokenOff tree.new fetched unread) }
-        ensures left { OnOk result
-            (view_of self.new ≡ record (view_of self.old) { awaited = [] }) }
-        ensures effect { Sweeps (view_of self.old) (view_of self.new) tree.old tree.new result }
+        ensures { HandsAll (K.HasTaken tree.old.schema plan.now.asked) plan.now (view_of self.old)
+            (view_of self.new) tree.old tree.new sink.old sink.new (of_reading result) }
     {
         while self.fetched < self.queue.len() {
             self.hand_next(tree, plan, sink)?;
@@ -153,14 +116,11 @@ impl State {
     }
 
     // Fetches the next region, and holds its rows that are chosen.
-    fn fetch<S: PageStore>(&mut self, tree: &mut Tree<S>, plan: &Plan) -> Result<(), SweepFault>
+    fn fetch<S: PageStore>(&mut self, tree: &mut Tree<S>, plan: &Plan) -> Result<(), ReadFault>
         requires posed { IsPosed (length tree.old.schema.columns) plan.now.asked }
         requires some { self.old.fetched < length self.old.queue.items }
-        ensures onward { IsOnward self.old self.new }
-        ensures asked { HasAskedNext tree.old tree.new self.old }
+        ensures next { AsksNext tree.old tree.new self.old self.new result }
         ensures rows { OnOk result (HasFetchedNext plan.now tree.old tree.new self.old self.new) }
-        ensures few { OnOk result (rows_left (view_of self.new) ≤ rows_left (view_of self.old)) }
-        ensures effect { Sweeps (view_of self.old) (view_of self.new) tree.old tree.new result }
     {
         self.read_next(tree)?;
         // Each call is given its plan, so the choice is made for that one.
@@ -175,15 +135,13 @@ impl State {
         tree: &mut Tree<S>,
         plan: &Plan,
         sink: &mut K,
-    ) -> Result<(), SweepFault>
+    ) -> Result<(), ReadFault>
         requires posed { IsPosed (length tree.old.schema.columns) plan.now.asked }
         requires some { self.old.fetched < length self.old.queue.items }
-        ensures onward { IsOnward self.old self.new }
+        ensures next { AsksNext tree.old tree.new self.old self.new result }
         ensures held { self.new.held ≡ self.old.held }
-        ensures asked { HasAskedNext tree.old tree.new self.old }
         ensures rows { OnOk result (HandsOver (K.HasTaken tree.old.schema plan.now.asked)
             sink.old sink.new (HasHandedNext plan.now tree.old tree.new self.old)) }
-        ensures effect { Sweeps (view_of self.old) (view_of self.new) tree.old tree.new result }
     {
         self.read_next(tree)?;
         let choice = Choice::of(plan, tree.schema());
@@ -192,15 +150,12 @@ impl State {
     }
 
     // Reads the next region.
-    fn read_next<S: PageStore>(&mut self, tree: &mut Tree<S>) -> Result<(), SweepFault>
+    fn read_next<S: PageStore>(&mut self, tree: &mut Tree<S>) -> Result<(), ReadFault>
         requires { self.old.fetched < length self.old.queue.items }
-        ensures onward { IsOnward self.old self.new }
+        ensures next { AsksNext tree.old tree.new self.old self.new result }
         ensures held { self.new.held ≡ self.old.held }
         ensures dims { OnOk result (self.new.page.dims ≡ tree.old.schema.dims) }
-        ensures asked { HasAskedNext tree.old tree.new self.old }
-        ensures read { OnOk result
-            (HasReadNext tree.old tree.new self.old self.new.page.region) }
-        ensures effect { Sweeps (view_of self.old) (view_of self.new) tree.old tree.new result }
+        ensures read { OnOk result (HasReadNext tree.old tree.new self.old self.new.page.region) }
     {
         let region = self.queue[self.fetched].region;
         self.fetched += 1;

@@ -1,7 +1,7 @@
 use crate::awaiting::await_regions;
 use crate::course::{Course, NOWHERE, course_of};
 use crate::event::Awaited;
-use crate::fault::SweepFault;
+use crate::fault::{SweepFault, settled};
 use crate::state::State;
 use std::alloc::Global;
 use std::marker::Model;
@@ -32,15 +32,11 @@ impl Model for Sweep {
 }
 
 impl Sweep {
-    ghost use Rattle.std.specs.Prelude.{◌≡◌, ◌≢◌, ◌∷◌, ℕ, Bool, false, List, [], Err, IsTrue, length, IfOk, OnErr, OnOk};
-    ghost use Rattle.std.specs.Option.{option_map};
-    ghost use Rattle.ub_planning.specs.Visits.{Event};
+    ghost use Rattle.std.specs.Prelude.{◌≡◌, length};
     ghost use Rattle.ub_query.specs.Posed.{IsPosed};
-    ghost use Rattle.ub_table.specs.declared.row.Row.{Row as RowView};
-    ghost use Rattle.ub_tetris.specs.Effects.{Begins, FailsOnce, HasAnswered, HasFound, Rests, Sweeps};
+    ghost use Rattle.ub_tetris.specs.Calls.{BeginsBy, GivesRow, GivesValue, HandsAll};
+    ghost use Rattle.ub_tetris.specs.Effects.{FailsOnce};
     ghost use Rattle.ub_tetris.specs.inner.Turns.{begun_view};
-    ghost use Rattle.ub_tetris.specs.Sweep.{HandsOver, HasBegun, HasBroken, HasBrokenOff, HasHandedOver, HasStepped, HasSteppedValue, IsNoSweep, IsStarted, IsSweepOf, IsSweeping, IsSwept};
-    ghost use Rattle.ub_tetris.specs.Awaited.{AreMetAlong};
 
     /// Begins a sweep by a plan. The trace begins anew; no region is fetched. Of a plan that is no sweep it comes to no region;
     /// of a query's plan over the tree's schema that is one, to all regions that the tree tells of for its boxes, over any tree.
@@ -51,16 +47,7 @@ impl Sweep {
         tree: &mut Tree<S>,
         plan: &Plan,
     ) -> Result<Sweep, SweepFault>
-        ensures begun { (dim : ℕ) (is_descending : Bool)
-            → IsSwept tree.old plan.now dim is_descending → IfOk result (HasBegun plan.now tree.new) }
-        ensures started { IfOk result (IsStarted tree.new) }
-        ensures met { (dim : ℕ) (is_descending : Bool)
-            → IsSweepOf tree.old.schema plan.now dim is_descending → IfOk result
-            (λ s. AreMetAlong plan.now.covering.boxes dim is_descending tree.new s.awaited) }
-        ensures other { IsNoSweep plan.now.kind → IfOk result (λ s. s.awaited ≡ []) }
-        ensures failed { IsTrue tree.old.is_failed
-            → result ≡ Err (SweepFault.Tree TreeFault.Failed) }
-        ensures effect { Begins tree.old tree.new result }
+        ensures { BeginsBy plan.now tree.old tree.new result }
     {
         tree.begin();
         if tree.has_failed() {
@@ -97,25 +84,14 @@ impl Sweep {
         plan: &Plan,
     ) -> Result<Option<Row>, SweepFault>
         requires { IsPosed (length tree.old.schema.columns) plan.now.asked }
-        ensures next { (given rest : List RowView) (fetched unread : List Event)
-            → IsSweeping plan.now tree.old self.old given rest fetched unread
-            → IfOk result (HasStepped plan.now tree.new self.new given rest fetched unread) }
-        ensures broken { (given rest : List RowView) (fetched unread : List Event)
-            → IsSweeping plan.now tree.old self.old given rest fetched unread
-            → OnErr result (HasBroken tree.new self.old rest fetched unread) }
-        ensures rests { self.old.is_failed ≡ false → self.old.awaited ≡ [] → self.old.held ≡ []
-            → Rests self.old self.new tree.old tree.new result }
-        ensures answers { IfOk result (λ found. HasAnswered plan.now tree.old self.old self.new
-            (option_map (λ row. row ∷ []) found)) }
+        ensures gives { GivesRow plan.now self.old self.new tree.old tree.new result }
         ensures once { FailsOnce self.old self.new tree.old tree.new result }
-        ensures effect { Sweeps self.old self.new tree.old tree.new result }
     {
         if self.is_failed {
             return Err(SweepFault::Failed);
         }
         let found = self.state.step(tree, plan);
-        self.is_failed = found.is_err();
-        found
+        settled(&mut self.is_failed, found)
     }
 
     /// All selected rows of the next value of the sweep's dimension that a selected row has, by row number; `None` after the
@@ -129,27 +105,15 @@ impl Sweep {
         plan: &Plan,
     ) -> Result<Option<Vec<Row>>, SweepFault>
         requires { IsPosed (length tree.old.schema.columns) plan.now.asked }
-        ensures next { (given rest : List RowView) (fetched unread : List Event)
-            → IsSweeping plan.now tree.old self.old given rest fetched unread
-            → plan.now.asked.group ≢ [] → IfOk result
-            (λ found. HasSteppedValue plan.now tree.new self.new given rest fetched unread
-            (option_map (λ rows. rows.items) found)) }
-        ensures broken { (given rest : List RowView) (fetched unread : List Event)
-            → IsSweeping plan.now tree.old self.old given rest fetched unread
-            → OnErr result (HasBroken tree.new self.old rest fetched unread) }
-        ensures rests { self.old.is_failed ≡ false → self.old.awaited ≡ [] → self.old.held ≡ []
-            → Rests self.old self.new tree.old tree.new result }
-        ensures answers { IfOk result (λ found. HasAnswered plan.now tree.old self.old self.new
-            (option_map (λ rows. rows.items) found)) }
+        ensures gives { GivesValue plan.now self.old self.new tree.old tree.new result
+            (λ rows. rows.items) }
         ensures once { FailsOnce self.old self.new tree.old tree.new result }
-        ensures effect { Sweeps self.old self.new tree.old tree.new result }
     {
         if self.is_failed {
             return Err(SweepFault::Failed);
         }
         let rows = self.state.step_value(tree, plan);
-        self.is_failed = rows.is_err();
-        rows
+        settled(&mut self.is_failed, rows)
     }
 
     /// Fetches all regions that are left, in order, and hands a sink the selected rows of each, as they stand there: so all rows
@@ -166,25 +130,15 @@ impl Sweep {
         sink: &mut K,
     ) -> Result<(), SweepFault>
         requires { IsPosed (length tree.old.schema.columns) plan.now.asked }
-        ensures rows { OnOk result (HandsOver (K.HasTaken tree.old.schema plan.now.asked)
-            sink.old sink.new
-            (λ rows. HasFound plan.now tree.old self.old self.new rows
-            × ((given rest : List RowView) (fetched unread : List Event)
-            → IsSweeping plan.now tree.old self.old given rest fetched unread
-            → HasHandedOver plan.now tree.new fetched unread rows))) }
-        ensures broken { (given rest : List RowView) (fetched unread : List Event)
-            → IsSweeping plan.now tree.old self.old given rest fetched unread
-            → OnErr result (HasBrokenOff tree.new fetched unread) }
-        ensures left { OnOk result (self.new ≡ record self.old { awaited = [] }) }
+        ensures hands { HandsAll (K.HasTaken tree.old.schema plan.now.asked) plan.now self.old
+            self.new tree.old tree.new sink.old sink.new result }
         ensures once { FailsOnce self.old self.new tree.old tree.new result }
-        ensures effect { Sweeps self.old self.new tree.old tree.new result }
     {
         if self.is_failed {
             return Err(SweepFault::Failed);
         }
         let handed = self.state.hand_over(tree, plan, sink);
-        self.is_failed = handed.is_err();
-        handed
+        settled(&mut self.is_failed, handed)
     }
 
     /// How many rows are held: they were fetched, and are still to be given.

@@ -1,5 +1,5 @@
 -- What the turns of a sweep do to its state: the next region is fetched, or the first row is taken.
-use Rattle.std.specs.Prelude.{◌≡◌, ◌+◌, ◌⊎◌, Bool, false, true, not, List, [], Option, Some, None, map, drop, slice_get, slice_index}
+use Rattle.std.specs.Prelude.{◌≡◌, ◌≤◌, ◌+◌, ◌⊎◌, Bool, false, true, not, List, [], Option, Some, None, Result, map, drop, slice_get, slice_index}
 use Rattle.std.specs.List.{filter, Contains}
 use Rattle.ub_filter.specs.Choice.{is_chosen}
 use Rattle.ub_planning.specs.Plan.{PlanView}
@@ -8,7 +8,8 @@ use Rattle.ub_filter.specs.declared.choice.Choice.{Choice}
 use Rattle.ub_query.specs.Lead.{swept_order}
 use Rattle.ub_table.specs.Region.{RegionRows}
 use Rattle.ub_table.specs.declared.row.Row.{Row}
-use Rattle.ub_tetris.specs.Sweep.{AwaitedRegion, SweepView}
+use Rattle.ub_tetris.specs.Effects.{Sweeps, of_reading}
+use Rattle.ub_tetris.specs.Sweep.{AwaitedRegion, SweepView, rows_left}
 use Rattle.ub_tetris.specs.declared.course.Course.{Course}
 use Rattle.ub_tetris.specs.declared.event.Awaited.{Awaited}
 use Rattle.ub_tetris.specs.declared.state.State.{State}
@@ -16,6 +17,7 @@ use Rattle.ub_tetris.specs.inner.Kept.{HoldsAlso, IsFirstOf}
 use Rattle.ub_tree.specs.Calls.{StandsAt}
 use Rattle.ub_tree.specs.Effects.{HasNoted, IsTakenIn}
 use Rattle.ub_tree.specs.View.{TreeView, IsSound, KeepsTrace, spans_of}
+use Rattle.ub_tree.specs.declared.read_fault.ReadFault.{ReadFault}
 
 -- what contracts see of a sweep in this state
 abbrev pub awaited_of : List Awaited → List AwaitedRegion
@@ -56,6 +58,12 @@ pub record HasAskedNext (t new : TreeView) (s : State) : Type 0 where
   pub at : slice_get s.queue.items s.fetched ≡ Some next
   pub noted : KeepsTrace t new ⊎ HasNoted next.region.page t new
 
+-- it is behind then, whatever was answered, and the tree was read and no more
+pub record AsksNext {A : Type 0} (t new : TreeView) (s new_s : State) (result : Result A ReadFault) : Type 0 where
+  pub onward : IsOnward s new_s
+  pub asked : HasAskedNext t new s
+  pub effect : Sweeps (view_of s) (view_of new_s) t new (of_reading result)
+
 -- the region at the sweep's place was read: this is it
 pub record HasReadNext (t new : TreeView) (s : State) (region : RegionRows) : Type 0 where
   pub next : Awaited
@@ -73,9 +81,10 @@ pub record HasHandedNext (plan : PlanView) (t new : TreeView) (s : State) (rows 
   pub choice : Choice
   pub rows_are : rows ≡ filter (is_chosen choice t.schema plan) region.rows
 
--- the region at the sweep's place was fetched, and its rows that are chosen are held too
+-- the region at the sweep's place was fetched, and its rows that are chosen are held too; there are no more rows to give than before
 pub record HasFetchedNext (plan : PlanView) (t new : TreeView) (s new_s : State) : Type 0 where
   pub region : RegionRows
   pub read : HasReadNext t new s region
   pub choice : Choice
   pub rows : HoldsAlso t.schema (swept_order plan.asked.group plan.asked.order) (filter (is_chosen choice t.schema plan) region.rows) s.held new_s.held
+  pub few : rows_left (view_of new_s) ≤ rows_left (view_of s)

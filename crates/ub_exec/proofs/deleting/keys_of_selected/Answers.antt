@@ -13,6 +13,25 @@ use Rattle.ub_table.specs.declared.row.Key.{Key}
 use Rattle.ub_tree.proofs.Laws.{reads_by}
 use Rattle.ub_exec.proofs.deleting.keys_of_selected.Goals as goal
 
+pub returns-clause-fetches : goal.returns-clause-fetches
+returns-clause-fetches g c deletion =
+    let (handed, held, walk) = c.in_ok-walk.ensures.rows (record { keys = c.new.result }) [] (sym (append-nil c.new.result.items)) in
+    let ready = deletion.ready in
+    record {
+      pages = walk_fetched c.args.plan.now c.args.tree.now c.walk.new.tree handed ready.sound ready.planned (deletion_scans c.args.tree.now.schema c.args.plan.now ready.planned deletion.plain) (walk.1 ready.sound);
+      broken = tt;
+    }
+
+pub returns-in_err-walk-clause-fetches : goal.returns-in_err-walk-clause-fetches
+returns-in_err-walk-clause-fetches g c deletion =
+    let ready = deletion.ready in
+    record {
+      pages = no_result c.from_residual.result _ _ c.from_residual.ensures.1;
+      broken = on_err c.from_residual.result _
+          (walked_first c.args.plan.now c.args.tree.now c.walk.new.tree ready (deletion_scans c.args.tree.now.schema c.args.plan.now ready.planned deletion.plain)
+          (c.in_err-walk.ensures.broken (record { keys = c.new.result }) [] (sym (append-nil c.new.result.items)) ready.sound));
+    }
+
 pub returns-clause-read : goal.returns-clause-read
 returns-clause-read g c =
     let none : c.new.result.items ≡ [] = search rules in
@@ -33,27 +52,11 @@ returns-clause-keys g c s stand deletion =
     c.sort_unstable_by_key.ensures.permutation
     (IsNonDecreasingBy-from_sort_by_key (λ key. key.number) _ c.sort_unstable_by_key.ensures.sorted (λ a r q k. search rules))
 
-pub returns-clause-pages : goal.returns-clause-pages
-returns-clause-pages g c deletion =
-    let (handed, held, walk) = c.in_ok-walk.ensures.rows (record { keys = c.new.result }) [] (sym (append-nil c.new.result.items)) in
-    let ready = deletion.ready in
-    walk_fetched c.args.plan.now c.args.tree.now c.walk.new.tree handed ready.sound ready.planned (deletion_scans c.args.tree.now.schema c.args.plan.now ready.planned deletion.plain) (walk.1 ready.sound)
-
-pub returns-in_err-walk-clause-broken : goal.returns-in_err-walk-clause-broken
-returns-in_err-walk-clause-broken g c deletion =
-    let ready = deletion.ready in
-    on_err c.from_residual.result _
-    (walked_first c.args.plan.now c.args.tree.now c.walk.new.tree ready (deletion_scans c.args.tree.now.schema c.args.plan.now ready.planned deletion.plain)
-    (c.in_err-walk.ensures.broken (record { keys = c.new.result }) [] (sym (append-nil c.new.result.items)) ready.sound))
-
 pub returns-in_err-walk-clause-keys : goal.returns-in_err-walk-clause-keys
 returns-in_err-walk-clause-keys g c s stand deletion = no_answer c.from_residual.result _ _ c.from_residual.ensures.1
 
 pub returns-in_err-walk-clause-read : goal.returns-in_err-walk-clause-read
 returns-in_err-walk-clause-read g c = no_answer c.from_residual.result _ _ c.from_residual.ensures.1
-
-pub returns-in_err-walk-clause-pages : goal.returns-in_err-walk-clause-pages
-returns-in_err-walk-clause-pages g c deletion = no_result c.from_residual.result _ _ c.from_residual.ensures.1
 
 pub returns-in_err-walk-clause-notes : goal.returns-in_err-walk-clause-notes
 returns-in_err-walk-clause-notes g c = notes_err c.from_residual.result _ (Err _) c.args.tree.now c.walk.new.tree c.from_residual.ensures.1 c.in_err-walk.ensures.notes

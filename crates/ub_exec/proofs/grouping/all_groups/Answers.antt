@@ -4,11 +4,14 @@ use Rattle.ub_answer.specs.Gathered.{IsGathered}
 use Rattle.ub_answer.specs.Shaped.{IsShaped}
 use Rattle.ub_answer.specs.Sink.{HasGathered}
 use Rattle.ub_answer.specs.declared.gathering.Gathering.{Gathering}
+use Rattle.ub_exec.proofs.AskFacts.{begun_err, begun_ok, broke, came_to_all}
 use Rattle.ub_exec.proofs.BreakFacts.{ready_begun}
-use Rattle.ub_exec.proofs.ComeFacts.{HasComeOn-all, HasComeOn-none, swept_broken, swept_first, swept_whole}
-use Rattle.ub_exec.proofs.FirstFacts.{all_fetched, none_fetched, on_err}
+use Rattle.ub_exec.proofs.ComeFacts.{HasComeOn-all, HasComeOn-none, IsAtWork, swept_broken, swept_first, swept_whole}
+use Rattle.ub_exec.proofs.ExecFacts.{answers_err}
+use Rattle.ub_exec.proofs.FirstFacts.{all_fetched, none_fetched}
+use Rattle.ub_exec.proofs.KeptFacts.{begins_reads}
 use Rattle.ub_exec.proofs.NotedFacts.{notes_as, notes_err, notes_none, notes_ok, swept_err, traced_begun}
-use Rattle.ub_exec.proofs.RefusedFacts.{memory_reads, no_answer, no_result}
+use Rattle.ub_exec.proofs.RefusedFacts.{memory_reads, no_answer}
 use Rattle.ub_exec.proofs.SweptFacts.{begun_fetches, noted_more, swept_kind}
 use Rattle.ub_exec.proofs.WholeFacts.{whole_fetched, whole_first, whole_meant}
 use Rattle.ub_exec.specs.Answers.{begun}
@@ -25,168 +28,127 @@ use Rattle.ub_exec.proofs.grouping.all_groups.Goals as goal
 none_taken : (schema : Schema) (q : Asked) (gathering : Gathering) → HasGathered schema q gathering [] gathering
 none_taken schema q gathering first has = subst (λ (rows : List Row). IsGathered schema q rows gathering) (sym (append-nil first)) has
 
-pub hand_over-requires-clause-works : goal.hand_over-requires-clause-works
-hand_over-requires-clause-works g c = (c.in_ok-sweep.ensures.started.working, c.in_ok-sweep.ensures.started.regions)
+pub hand_over-requires : goal.hand_over-requires
+hand_over-requires g c =
+    subst (λ (t : TreeView). IsPosed (length t.schema.columns) c.args.plan.now.asked) (sym (begun_ok c.in_ok-sweep.sweep c.args.tree.now c.new.new.tree c.in_ok-sweep.ensures.effect)) c.requires.posed
 
-pub returns-clause-shaped : goal.returns-clause-shaped
-returns-clause-shaped g c = subst (λ (q : Asked). IsShaped q c.in_ok-finish.field-0) c.query-query.ensures c.in_ok-finish.ensures.shaped
-
-pub returns-clause-rows : goal.returns-clause-rows
-returns-clause-rows g c ready kind some =
+pub returns-in_err-sweep : goal.returns-in_err-sweep
+returns-in_err-sweep g c =
     let plan = c.args.plan.now in
     let start = c.args.tree.now in
-    let mid = c.begin_sweep.new.tree in
+    let new = c.new.new.tree in
+    let is = c.from_residual.ensures.1 in
+    let kept = begun_err _ start new c.in_err-sweep.ensures.effect in
+    record {
+      done = λ ready of. answers_err c.from_residual.result _ plan start (begun start) new (λ cells. cells) is (none_fetched plan (begun start) new (ready_begun start plan ready) kept);
+      shaped = no_answer c.from_residual.result _ _ is;
+      swept = swept_err (λ (rows : List (List Cell)). length rows) c.from_residual.result _ plan (begun start) new is (λ dim is_descending of. inl kept);
+      notes = notes_none c.from_residual.result (begun start) new kept;
+      effect = begins_reads c.from_residual.result _ start new is c.in_err-sweep.ensures.effect;
+    }
+
+-- handing the rows over was ended by a fault
+pub returns-in_err-hand_over : goal.returns-in_err-hand_over
+returns-in_err-hand_over g c =
+    let plan = c.args.plan.now in
+    let start = c.args.tree.now in
+    let mid = c.new.new.tree in
+    let new = c.hand_over.new.tree in
+    let sweep = c.in_ok-sweep.sweep in
+    let began = c.in_ok-sweep.ensures in
+    let begins = begun_ok sweep start mid began.effect in
+    let works : IsAtWork mid sweep = (began.started.working, began.started.regions) in
+    let stop = broke _ _ _ sweep c.hand_over.new.self mid new refl works c.in_err-hand_over.ensures.hands.effect in
+    let kept = Keeps-by start mid (begun_traced start mid begins) in
+    let is = c.from_residual-in_err-hand_over.ensures.1 in
+    record {
+      done = λ ready of.
+          let (dim, is_descending, way) = swept_kind plan.kind of.0 in
+          let has = began.begun dim is_descending (record { sound = ready.sound; planned = ready.planned; kind = way }) in
+          answers_err c.from_residual-in_err-hand_over.result _ plan start (begun start) new (λ cells. cells) is
+          (whole_first plan start mid dim is_descending sweep ready way c.requires.whole has kept new
+          (ap (λ (t : TreeView). t.placed) stop.effect.same ∙ kept.regions.placed) (noted_more (Err _) start mid new (begun_fetches start mid begins) stop.notes) of.1
+          (c.in_err-hand_over.ensures.hands.broken [] has.rest [] has.unread has.sweeping));
+      shaped = no_answer c.from_residual-in_err-hand_over.result _ _ is;
+      swept = swept_err (λ (rows : List (List Cell)). length rows) c.from_residual-in_err-hand_over.result _ plan (begun start) new is
+          (λ dim is_descending of. inr (swept_broken plan (begun start) mid sweep (HasComeOn-none plan start mid sweep begins began.met) dim is_descending of new stop.breaks));
+      notes = notes_err c.from_residual-in_err-hand_over.result _ (Err _) (begun start) new is (notes_as (Err _) (begun start) mid new begins stop.notes);
+      effect = reads_by c.from_residual-in_err-hand_over.result _ start mid new is (begun_traced start mid begins) stop.effect;
+    }
+
+-- memory was refused for the groups
+pub returns-in_err-finish : goal.returns-in_err-finish
+returns-in_err-finish g c =
+    let plan = c.args.plan.now in
+    let start = c.args.tree.now in
+    let mid = c.new.new.tree in
+    let new = c.hand_over.new.tree in
+    let sweep = c.in_ok-sweep.sweep in
+    let began = c.in_ok-sweep.ensures in
+    let begins = begun_ok sweep start mid began.effect in
+    let works : IsAtWork mid sweep = (began.started.working, began.started.regions) in
+    let all = came_to_all _ plan sweep c.hand_over.new.self mid new c.new-gathering.result c.hand_over.new.sink works c.in_ok-hand_over.ensures.hands in
+    let kept = Keeps-by start mid (begun_traced start mid begins) in
+    let kept_then = Keeps-more _ _ _ kept (Keeps-by mid new all.effect.same) in
+    let is = c.from_residual-in_err-finish.ensures.1 in
+    record {
+      done = λ ready of.
+          let (dim, is_descending, way) = swept_kind plan.kind of.0 in
+          let has = began.begun dim is_descending (record { sound = ready.sound; planned = ready.planned; kind = way }) in
+          let (handed, takes, (found, over)) = c.in_ok-hand_over.ensures.hands.rows in
+          answers_err c.from_residual-in_err-finish.result _ plan start (begun start) new (λ cells. cells) is
+          (all_fetched plan (begun start) new
+          (whole_fetched plan start mid dim is_descending sweep ready way c.requires.whole has kept new kept_then handed (over [] has.rest [] has.unread has.sweeping)
+          (noted_more (Ok _) start mid new (begun_fetches start mid begins) all.notes) of.1));
+      shaped = no_answer c.from_residual-in_err-finish.result _ _ is;
+      swept = swept_err (λ (rows : List (List Cell)). length rows) c.from_residual-in_err-finish.result _ plan (begun start) new is
+          (λ dim is_descending of. inr (swept_first plan (begun start) new (record sweep { awaited = [] })
+          (HasComeOn-all plan (begun start) mid sweep (traced_begun start mid (begun_traced start mid begins)) (HasComeOn-none plan start mid sweep begins began.met) new all.comes) dim is_descending of));
+      notes = notes_err {B = Unit {0}} c.from_residual-in_err-finish.result _ (Ok tt) (begun start) new is (notes_as (Ok tt) (begun start) mid new begins all.notes);
+      effect = memory_reads c.from_residual-in_err-finish.result start new is kept_then.traced;
+    }
+
+pub returns : goal.returns
+returns g c =
+    let plan = c.args.plan.now in
+    let start = c.args.tree.now in
+    let mid = c.new.new.tree in
     let new = c.hand_over.new.tree in
     let query = asked c.query-query.result.now in
     let same : query ≡ plan.asked = c.query-query.ensures in
-    let (dim, is_descending, way) = swept_kind plan.kind kind in
-    let begins = c.in_ok-sweep.ensures.begun dim is_descending (record { sound = ready.sound; planned = ready.planned; kind = way }) in
-    let kept = Keeps-by start mid (begun_traced start mid c.in_ok-sweep.ensures.trace) in
-    let kept_on = Keeps-by mid new c.in_ok-hand_over.ensures.effect.same in
+    let sweep = c.in_ok-sweep.sweep in
+    let began = c.in_ok-sweep.ensures in
+    let begins = begun_ok sweep start mid began.effect in
+    let works : IsAtWork mid sweep = (began.started.working, began.started.regions) in
+    let all = came_to_all _ plan sweep c.hand_over.new.self mid new c.new-gathering.result c.hand_over.new.sink works c.in_ok-hand_over.ensures.hands in
+    let kept = Keeps-by start mid (begun_traced start mid begins) in
+    let kept_on = Keeps-by mid new all.effect.same in
     let kept_then = Keeps-more _ _ _ kept kept_on in
-    let (handed, takes, (found, over)) = c.in_ok-hand_over.ensures.rows in
-    let gathered = subst (λ (q : Asked). IsGathered mid.schema q [] c.new-gathering.result) same (subst (λ (s : Schema). IsGathered s query [] c.new-gathering.result) c.schema.ensures c.new-gathering.ensures.gathered) in
-    let held = takes c.new-gathering.result [] (none_taken mid.schema plan.asked c.new-gathering.result) [] gathered in
-    let after : c.schema-2.result.now ≡ mid.schema = c.schema-2.ensures ∙ kept_on.regions.schema in
-    whole_meant plan start mid dim is_descending c.in_ok-sweep.sweep ready way c.requires.whole begins kept new kept_then handed (over [] begins.rest [] begins.unread begins.sweeping) query same _
-    (λ table condition schema order numbers chosen.
-    c.in_ok-finish.ensures.answer table condition handed (schema ∙ sym kept.regions.schema ∙ sym after) order numbers chosen
-    (subst (λ (q : Asked). IsGathered c.schema-2.result.now q handed c.hand_over.new.sink) (sym same)
-    (subst (λ (s : Schema). IsGathered s plan.asked handed c.hand_over.new.sink) (sym after) held)))
-
-pub returns-clause-pages : goal.returns-clause-pages
-returns-clause-pages g c ready kind some =
-    let plan = c.args.plan.now in
-    let start = c.args.tree.now in
-    let mid = c.begin_sweep.new.tree in
-    let new = c.hand_over.new.tree in
-    let (dim, is_descending, way) = swept_kind plan.kind kind in
-    let begins = c.in_ok-sweep.ensures.begun dim is_descending (record { sound = ready.sound; planned = ready.planned; kind = way }) in
-    let kept = Keeps-by start mid (begun_traced start mid c.in_ok-sweep.ensures.trace) in
-    let kept_then = Keeps-more _ _ _ kept (Keeps-by mid new c.in_ok-hand_over.ensures.effect.same) in
-    let (handed, takes, (found, over)) = c.in_ok-hand_over.ensures.rows in
-    whole_fetched plan start mid dim is_descending c.in_ok-sweep.sweep ready way c.requires.whole begins kept new kept_then handed (over [] begins.rest [] begins.unread begins.sweeping)
-    (noted_more (Ok _) start mid new (begun_fetches start mid c.in_ok-sweep.ensures.trace) c.in_ok-hand_over.ensures.notes) some
-
-pub returns-in_err-sweep-clause-broken : goal.returns-in_err-sweep-clause-broken
-returns-in_err-sweep-clause-broken g c ready kind some =
-    on_err c.from_residual.result _ (none_fetched c.args.plan.now (begun c.args.tree.now) c.begin_sweep.new.tree (ready_begun c.args.tree.now c.args.plan.now ready) c.in_err-sweep.ensures.broken)
-
-pub returns-in_err-hand_over-clause-broken : goal.returns-in_err-hand_over-clause-broken
-returns-in_err-hand_over-clause-broken g c ready kind some =
-    let plan = c.args.plan.now in
-    let start = c.args.tree.now in
-    let mid = c.begin_sweep.new.tree in
-    let new = c.hand_over.new.tree in
-    let (dim, is_descending, way) = swept_kind plan.kind kind in
-    let begins = c.in_ok-sweep.ensures.begun dim is_descending (record { sound = ready.sound; planned = ready.planned; kind = way }) in
-    let kept = Keeps-by start mid (begun_traced start mid c.in_ok-sweep.ensures.trace) in
-    on_err c.from_residual-in_err-hand_over.result _
-    (whole_first plan start mid dim is_descending c.in_ok-sweep.sweep ready way c.requires.whole begins kept new
-    (ap (λ (t : TreeView). t.placed) c.in_err-hand_over.ensures.effect.same ∙ kept.regions.placed)
-    (noted_more (Err _) start mid new (begun_fetches start mid c.in_ok-sweep.ensures.trace) c.in_err-hand_over.ensures.notes) some
-    (c.in_err-hand_over.ensures.broken [] begins.rest [] begins.unread begins.sweeping))
-
-pub returns-in_err-finish-clause-broken : goal.returns-in_err-finish-clause-broken
-returns-in_err-finish-clause-broken g c ready kind some =
-    let plan = c.args.plan.now in
-    let start = c.args.tree.now in
-    let mid = c.begin_sweep.new.tree in
-    let new = c.hand_over.new.tree in
-    let (dim, is_descending, way) = swept_kind plan.kind kind in
-    let begins = c.in_ok-sweep.ensures.begun dim is_descending (record { sound = ready.sound; planned = ready.planned; kind = way }) in
-    let kept = Keeps-by start mid (begun_traced start mid c.in_ok-sweep.ensures.trace) in
-    let kept_then = Keeps-more _ _ _ kept (Keeps-by mid new c.in_ok-hand_over.ensures.effect.same) in
-    let (handed, takes, (found, over)) = c.in_ok-hand_over.ensures.rows in
-    on_err c.from_residual-in_err-finish.result _
-    (all_fetched plan (begun start) new
-    (whole_fetched plan start mid dim is_descending c.in_ok-sweep.sweep ready way c.requires.whole begins kept new kept_then handed (over [] begins.rest [] begins.unread begins.sweeping)
-    (noted_more (Ok _) start mid new (begun_fetches start mid c.in_ok-sweep.ensures.trace) c.in_ok-hand_over.ensures.notes) some))
-
-pub returns-clause-swept : goal.returns-clause-swept
-returns-clause-swept g c dim is_descending of =
-    swept_whole c.args.plan.now (begun c.args.tree.now) c.hand_over.new.tree (record c.in_ok-sweep.sweep { awaited = [] })
-    (HasComeOn-all c.args.plan.now (begun c.args.tree.now) c.begin_sweep.new.tree c.in_ok-sweep.sweep (traced_begun c.args.tree.now c.begin_sweep.new.tree (begun_traced c.args.tree.now c.begin_sweep.new.tree c.in_ok-sweep.ensures.trace))
-    (HasComeOn-none c.args.plan.now c.args.tree.now c.begin_sweep.new.tree c.in_ok-sweep.sweep c.in_ok-sweep.ensures.trace c.in_ok-sweep.ensures.met) c.hand_over.new.tree c.in_ok-hand_over.ensures.comes)
-    dim is_descending of c.args.plan.now.asked.limit _ refl
-
-pub returns-in_err-sweep-clause-notes : goal.returns-in_err-sweep-clause-notes
-returns-in_err-sweep-clause-notes g c = notes_none c.from_residual.result (begun c.args.tree.now) c.begin_sweep.new.tree c.in_err-sweep.ensures.broken
-
-pub returns-in_err-hand_over-clause-notes : goal.returns-in_err-hand_over-clause-notes
-returns-in_err-hand_over-clause-notes g c =
-    notes_err c.from_residual-in_err-hand_over.result _ (Err _) (begun c.args.tree.now) c.hand_over.new.tree c.from_residual-in_err-hand_over.ensures.1
-    (notes_as (Err _) (begun c.args.tree.now) c.begin_sweep.new.tree c.hand_over.new.tree c.in_ok-sweep.ensures.trace c.in_err-hand_over.ensures.notes)
-
-pub returns-in_err-finish-clause-notes : goal.returns-in_err-finish-clause-notes
-returns-in_err-finish-clause-notes g c =
-    notes_err {B = Unit {0}} c.from_residual-in_err-finish.result _ (Ok tt) (begun c.args.tree.now) c.hand_over.new.tree c.from_residual-in_err-finish.ensures.1
-    (notes_as (Ok tt) (begun c.args.tree.now) c.begin_sweep.new.tree c.hand_over.new.tree c.in_ok-sweep.ensures.trace c.in_ok-hand_over.ensures.notes)
-
-pub returns-clause-notes : goal.returns-clause-notes
-returns-clause-notes g c =
-    notes_as (Ok _) (begun c.args.tree.now) c.begin_sweep.new.tree c.hand_over.new.tree c.in_ok-sweep.ensures.trace
-    (notes_ok tt _ c.begin_sweep.new.tree c.hand_over.new.tree c.in_ok-hand_over.ensures.notes)
-
-pub returns-in_err-hand_over-clause-effect : goal.returns-in_err-hand_over-clause-effect
-returns-in_err-hand_over-clause-effect g c =
-    reads_by _ _ c.args.tree.now c.begin_sweep.new.tree c.hand_over.new.tree c.from_residual-in_err-hand_over.ensures.1 (begun_traced c.args.tree.now c.begin_sweep.new.tree c.in_ok-sweep.ensures.trace) c.in_err-hand_over.ensures.effect
-
-pub returns-in_err-sweep-clause-rows : goal.returns-in_err-sweep-clause-rows
-returns-in_err-sweep-clause-rows g c ready kind some = no_answer c.from_residual.result _ _ c.from_residual.ensures.1
-
-pub returns-in_err-sweep-clause-shaped : goal.returns-in_err-sweep-clause-shaped
-returns-in_err-sweep-clause-shaped g c = no_answer c.from_residual.result _ _ c.from_residual.ensures.1
-
-pub returns-in_err-sweep-clause-pages : goal.returns-in_err-sweep-clause-pages
-returns-in_err-sweep-clause-pages g c ready kind some = no_result c.from_residual.result _ _ c.from_residual.ensures.1
-
-pub returns-in_err-sweep-clause-swept : goal.returns-in_err-sweep-clause-swept
-returns-in_err-sweep-clause-swept g c =
-    swept_err (λ (rows : List (List Cell)). length rows) c.from_residual.result _ c.args.plan.now (begun c.args.tree.now) c.begin_sweep.new.tree c.from_residual.ensures.1 (λ dim is_descending of. inl c.in_err-sweep.ensures.broken)
-
-pub returns-in_err-hand_over-clause-rows : goal.returns-in_err-hand_over-clause-rows
-returns-in_err-hand_over-clause-rows g c ready kind some = no_answer c.from_residual-in_err-hand_over.result _ _ c.from_residual-in_err-hand_over.ensures.1
-
-pub returns-in_err-hand_over-clause-shaped : goal.returns-in_err-hand_over-clause-shaped
-returns-in_err-hand_over-clause-shaped g c = no_answer c.from_residual-in_err-hand_over.result _ _ c.from_residual-in_err-hand_over.ensures.1
-
-pub returns-in_err-hand_over-clause-pages : goal.returns-in_err-hand_over-clause-pages
-returns-in_err-hand_over-clause-pages g c ready kind some = no_result c.from_residual-in_err-hand_over.result _ _ c.from_residual-in_err-hand_over.ensures.1
-
-pub returns-in_err-hand_over-clause-swept : goal.returns-in_err-hand_over-clause-swept
-returns-in_err-hand_over-clause-swept g c =
-    swept_err (λ (rows : List (List Cell)). length rows) c.from_residual-in_err-hand_over.result _ c.args.plan.now (begun c.args.tree.now) c.hand_over.new.tree c.from_residual-in_err-hand_over.ensures.1
-    (λ dim is_descending of. inr (swept_broken c.args.plan.now (begun c.args.tree.now) c.begin_sweep.new.tree c.in_ok-sweep.sweep
-    (HasComeOn-none c.args.plan.now c.args.tree.now c.begin_sweep.new.tree c.in_ok-sweep.sweep c.in_ok-sweep.ensures.trace c.in_ok-sweep.ensures.met) dim is_descending of c.hand_over.new.tree c.in_err-hand_over.ensures.breaks))
-
-pub returns-in_err-finish-clause-rows : goal.returns-in_err-finish-clause-rows
-returns-in_err-finish-clause-rows g c ready kind some = no_answer c.from_residual-in_err-finish.result _ _ c.from_residual-in_err-finish.ensures.1
-
-pub returns-in_err-finish-clause-shaped : goal.returns-in_err-finish-clause-shaped
-returns-in_err-finish-clause-shaped g c = no_answer c.from_residual-in_err-finish.result _ _ c.from_residual-in_err-finish.ensures.1
-
-pub returns-in_err-finish-clause-pages : goal.returns-in_err-finish-clause-pages
-returns-in_err-finish-clause-pages g c ready kind some = no_result c.from_residual-in_err-finish.result _ _ c.from_residual-in_err-finish.ensures.1
-
-pub returns-in_err-finish-clause-swept : goal.returns-in_err-finish-clause-swept
-returns-in_err-finish-clause-swept g c =
-    swept_err (λ (rows : List (List Cell)). length rows) c.from_residual-in_err-finish.result _ c.args.plan.now (begun c.args.tree.now) c.hand_over.new.tree c.from_residual-in_err-finish.ensures.1
-    (λ dim is_descending of. inr (swept_first c.args.plan.now (begun c.args.tree.now) c.hand_over.new.tree (record c.in_ok-sweep.sweep { awaited = [] })
-    (HasComeOn-all c.args.plan.now (begun c.args.tree.now) c.begin_sweep.new.tree c.in_ok-sweep.sweep (traced_begun c.args.tree.now c.begin_sweep.new.tree (begun_traced c.args.tree.now c.begin_sweep.new.tree c.in_ok-sweep.ensures.trace))
-    (HasComeOn-none c.args.plan.now c.args.tree.now c.begin_sweep.new.tree c.in_ok-sweep.sweep c.in_ok-sweep.ensures.trace c.in_ok-sweep.ensures.met) c.hand_over.new.tree c.in_ok-hand_over.ensures.comes) dim is_descending of))
-
-pub hand_over-requires-clause-posed : goal.hand_over-requires-clause-posed
-hand_over-requires-clause-posed g c = subst (λ (t : TreeView). IsPosed (length t.schema.columns) c.args.plan.now.asked) (sym c.in_ok-sweep.ensures.trace) c.requires.posed
-
-pub returns-in_err-sweep-clause-effect : goal.returns-in_err-sweep-clause-effect
-returns-in_err-sweep-clause-effect g c = reads_by c.from_residual.result _ c.args.tree.now c.args.tree.now c.begin_sweep.new.tree c.from_residual.ensures.1 refl c.in_err-sweep.ensures.effect
-
-pub returns-in_err-finish-clause-effect : goal.returns-in_err-finish-clause-effect
-returns-in_err-finish-clause-effect g c =
-    memory_reads c.from_residual-in_err-finish.result c.args.tree.now c.hand_over.new.tree c.from_residual-in_err-finish.ensures.1
-    (Keeps-more _ _ _ (Keeps-by c.args.tree.now c.begin_sweep.new.tree (begun_traced c.args.tree.now c.begin_sweep.new.tree c.in_ok-sweep.ensures.trace)) (Keeps-by c.begin_sweep.new.tree c.hand_over.new.tree c.in_ok-hand_over.ensures.effect.same)).traced
-
-pub returns-clause-effect : goal.returns-clause-effect
-returns-clause-effect g c =
-    record { same = (Keeps-more _ _ _ (Keeps-by c.args.tree.now c.begin_sweep.new.tree (begun_traced c.args.tree.now c.begin_sweep.new.tree c.in_ok-sweep.ensures.trace)) (Keeps-by c.begin_sweep.new.tree c.hand_over.new.tree c.in_ok-hand_over.ensures.effect.same)).traced; faults = tt }
+    record {
+      done = λ ready of.
+          let (dim, is_descending, way) = swept_kind plan.kind of.0 in
+          let has = began.begun dim is_descending (record { sound = ready.sound; planned = ready.planned; kind = way }) in
+          let (handed, takes, (found, over)) = c.in_ok-hand_over.ensures.hands.rows in
+          let gathered = subst (λ (q : Asked). IsGathered mid.schema q [] c.new-gathering.result) same (subst (λ (s : Schema). IsGathered s query [] c.new-gathering.result) c.schema.ensures c.new-gathering.ensures.gathered) in
+          let held = takes c.new-gathering.result [] (none_taken mid.schema plan.asked c.new-gathering.result) [] gathered in
+          let after : c.schema-2.result.now ≡ mid.schema = c.schema-2.ensures ∙ kept_on.regions.schema in
+          record {
+            rows = whole_meant plan start mid dim is_descending sweep ready way c.requires.whole has kept new kept_then handed (over [] has.rest [] has.unread has.sweeping) query same _
+                (λ table condition schema order numbers chosen.
+                c.in_ok-finish.ensures.answer table condition handed (schema ∙ sym kept.regions.schema ∙ sym after) order numbers chosen
+                (subst (λ (q : Asked). IsGathered c.schema-2.result.now q handed c.hand_over.new.sink) (sym same)
+                (subst (λ (s : Schema). IsGathered s plan.asked handed c.hand_over.new.sink) (sym after) held)));
+            fetches = record {
+              pages = whole_fetched plan start mid dim is_descending sweep ready way c.requires.whole has kept new kept_then handed (over [] has.rest [] has.unread has.sweeping)
+                  (noted_more (Ok _) start mid new (begun_fetches start mid begins) all.notes) of.1;
+              broken = tt;
+            };
+          };
+      shaped = subst (λ (q : Asked). IsShaped q c.in_ok-finish.field-0) c.query-query.ensures c.in_ok-finish.ensures.shaped;
+      swept = λ dim is_descending of.
+          swept_whole plan (begun start) new (record sweep { awaited = [] })
+          (HasComeOn-all plan (begun start) mid sweep (traced_begun start mid (begun_traced start mid begins)) (HasComeOn-none plan start mid sweep begins began.met) new all.comes)
+          dim is_descending of plan.asked.limit _ refl;
+      notes = notes_as (Ok _) (begun start) mid new begins (notes_ok tt _ mid new all.notes);
+      effect = record { same = kept_then.traced; faults = tt };
+    }

@@ -1,10 +1,9 @@
 use Rattle.std.proofs.Common.{◌≡◌, Ok, length}
 use Rattle.ub_answer.specs.Shaped.{IsShaped}
-use Rattle.ub_exec.proofs.ComeFacts.{HasComeOn}
+use Rattle.ub_exec.proofs.ComeFacts.{HasComeOn, IsAtWork}
 use Rattle.ub_exec.proofs.GroupTurnFacts.{HaveSwept}
 use Rattle.ub_exec.specs.Answers.{begun}
 use Rattle.ub_exec.specs.Reading.{NotesPages}
-use Rattle.ub_exec.specs.Sweeping.{IsAtWork}
 use Rattle.ub_exec.specs.Visits.{fetches_then}
 use Rattle.ub_tetris.specs.Sweep.{rows_left}
 use Rattle.ub_tree.proofs.Laws.{Keeps}

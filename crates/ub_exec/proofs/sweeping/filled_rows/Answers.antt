@@ -1,6 +1,7 @@
 use Rattle.std.proofs.Common.{◌≡◌, ◌≤◌, ◌∙◌, ◌++◌, ◌∷◌, [], List, Ok, Err, length, map, refl, ap, subst, sym}
 use Rattle.std.specs.List.{AllByRecursion}
 use Rattle.std.specs.Prelude.{All}
+use Rattle.ub_exec.proofs.AskFacts.{broke, came}
 use Rattle.ub_exec.proofs.FillFacts.{HasFilled-none, HasFilled-more, broken_asking, broken_putting, comes_down, fills_ended, fills_full, notes_after, notes_broken, reads_after, swept_asking, swept_ended, swept_filled, swept_putting}
 use Rattle.ub_exec.proofs.FirstFacts.{on_err}
 use Rattle.ub_exec.proofs.NotedFacts.{notes_err, notes_ok}
@@ -17,12 +18,9 @@ use Rattle.ub_exec.proofs.sweeping.filled_rows.Goals as goal
 pub loop-query-init : goal.loop-query-init
 loop-query-init g c = record { filled = HasFilled-none c.args.plan.now c.args.tree.now c.args.sweep.now c.none-rows.result c.requires.begun c.none-rows.ensures }
 
-pub next_row-requires-clause-posed : goal.next_row-requires-clause-posed
-next_row-requires-clause-posed g c =
+pub next-requires : goal.next-requires
+next-requires g c =
     subst (λ (schema : Schema). IsPosed (length schema.columns) c.args.plan.now.asked) (sym c.loop-query.invariant.filled.kept.regions.schema) c.requires.posed
-
-pub next_row-requires-clause-works : goal.next_row-requires-clause-works
-next_row-requires-clause-works g c = c.loop-query.invariant.filled.works
 
 pub push_row-requires-clause-wide : goal.push_row-requires-clause-wide
 push_row-requires-clause-wide g c =
@@ -31,70 +29,87 @@ push_row-requires-clause-wide g c =
 
 pub loop-query-preserved : goal.loop-query-preserved
 loop-query-preserved g c =
+    let turn = came _ _ c.args.plan.now c.in-Ok-Some.field-0 c.loop-query.sweep c.next.new.self c.loop-query.tree c.next.new.tree c.loop-query.invariant.filled.works
+    c.in-Ok-Some.ensures.gives c.in-Ok-Some.ensures.once in
     let items : c.as_slice.result.now ≡ c.args.plan.now.asked.items = c.as_slice.ensures ∙ ap (λ (q : Asked). q.items) c.query-query.ensures in
-    let pushed : c.push_row.new.self ≡ c.loop-query.rows ++ map (row_cell c.next_row.new.tree.schema c.in-Ok-Some.row) c.args.plan.now.asked.items ∷ [] =
+    let pushed : c.push_row.new.self ≡ c.loop-query.rows ++ map (row_cell c.next.new.tree.schema c.in-Ok-Some.row) c.args.plan.now.asked.items ∷ [] =
     c.in_ok-push_row-in-Ok-Some.ensures ∙ ap (λ (schema : Schema). c.loop-query.rows ++ map (row_cell schema c.in-Ok-Some.row) c.as_slice.result.now ∷ []) c.schema.ensures
-    ∙ ap (λ (items : List Item). c.loop-query.rows ++ map (row_cell c.next_row.new.tree.schema c.in-Ok-Some.row) items ∷ []) items in
+    ∙ ap (λ (items : List Item). c.loop-query.rows ++ map (row_cell c.next.new.tree.schema c.in-Ok-Some.row) items ∷ []) items in
     record {
       filled = HasFilled-more c.args.plan.now c.args.tree.now c.loop-query.tree c.args.sweep.now c.loop-query.sweep c.loop-query.rows c.requires.begun.fresh c.loop-query.invariant.filled
           (left_is (asked c.query-query.result.now) c.args.plan.now.asked c.len.result c.loop-query.rows c.query-query.ensures c.len.ensures (c.is_filled.ensures.left c.loop-query-test.true))
-          c.next_row.new.tree c.next_row.new.sweep c.in-Ok-Some.field-0 c.in-Ok-Some.ensures.notes c.in-Ok-Some.ensures.effect
-          c.in-Ok-Some.ensures.next c.in-Ok-Some.ensures.comes c.in-Ok-Some.row c.in-Ok-Some.field-0-is c.push_row.new.self pushed c.in-Ok-Some.ensures.works;
+          c.next.new.tree c.next.new.self c.in-Ok-Some.field-0 turn.notes turn.effect
+          c.in-Ok-Some.ensures.gives.next turn.comes c.in-Ok-Some.row c.in-Ok-Some.field-0-is c.push_row.new.self pushed turn.works;
     }
 
 pub loop-query-smaller : goal.loop-query-smaller
 loop-query-smaller g c =
+    let turn = came _ _ c.args.plan.now c.in-Ok-Some.field-0 c.loop-query.sweep c.next.new.self c.loop-query.tree c.next.new.tree c.loop-query.invariant.filled.works
+    c.in-Ok-Some.ensures.gives c.in-Ok-Some.ensures.once in
     comes_down c.args.plan.now c.args.tree.now c.loop-query.tree c.args.sweep.now c.loop-query.sweep c.loop-query.rows c.requires.begun.fresh c.loop-query.invariant.filled
     (left_is (asked c.query-query.result.now) c.args.plan.now.asked c.len.result c.loop-query.rows c.query-query.ensures c.len.ensures (c.is_filled.ensures.left c.loop-query-test.true))
-    c.next_row.new.tree c.next_row.new.sweep c.in-Ok-Some.field-0 c.in-Ok-Some.ensures.notes c.in-Ok-Some.ensures.effect c.in-Ok-Some.ensures.next c.in-Ok-Some.ensures.comes c.in-Ok-Some.row c.in-Ok-Some.field-0-is
+    c.next.new.tree c.next.new.self c.in-Ok-Some.field-0 turn.notes turn.effect c.in-Ok-Some.ensures.gives.next turn.comes c.in-Ok-Some.row c.in-Ok-Some.field-0-is
 
 pub returns-in_err-push_row-in-Ok-Some-clause-broken : goal.returns-in_err-push_row-in-Ok-Some-clause-broken
 returns-in_err-push_row-in-Ok-Some-clause-broken g c begins plain =
+    let turn = came _ _ c.args.plan.now c.in-Ok-Some.field-0 c.loop-query.sweep c.next.new.self c.loop-query.tree c.next.new.tree c.loop-query.invariant.filled.works
+    c.in-Ok-Some.ensures.gives c.in-Ok-Some.ensures.once in
     on_err c.from_residual.result _
     (broken_putting c.args.plan.now c.args.tree.now c.loop-query.tree c.args.sweep.now c.loop-query.sweep c.loop-query.rows c.requires.begun.fresh c.loop-query.invariant.filled
     (left_is (asked c.query-query.result.now) c.args.plan.now.asked c.len.result c.loop-query.rows c.query-query.ensures c.len.ensures (c.is_filled.ensures.left c.loop-query-test.true))
-    c.next_row.new.tree c.next_row.new.sweep c.in-Ok-Some.field-0 c.in-Ok-Some.ensures.notes c.in-Ok-Some.ensures.effect c.in-Ok-Some.ensures.next c.in-Ok-Some.ensures.comes c.in-Ok-Some.row c.in-Ok-Some.field-0-is begins plain)
+    c.next.new.tree c.next.new.self c.in-Ok-Some.field-0 turn.notes turn.effect c.in-Ok-Some.ensures.gives.next turn.comes c.in-Ok-Some.row c.in-Ok-Some.field-0-is begins plain)
 
 pub returns-in_err-push_row-in-Ok-Some-clause-notes : goal.returns-in_err-push_row-in-Ok-Some-clause-notes
 returns-in_err-push_row-in-Ok-Some-clause-notes g c =
-    notes_err {B = Unit {0}} c.from_residual.result _ (Ok tt) c.args.tree.now c.next_row.new.tree c.from_residual.ensures.1
+    let turn = came _ _ c.args.plan.now c.in-Ok-Some.field-0 c.loop-query.sweep c.next.new.self c.loop-query.tree c.next.new.tree c.loop-query.invariant.filled.works
+    c.in-Ok-Some.ensures.gives c.in-Ok-Some.ensures.once in
+    notes_err {B = Unit {0}} c.from_residual.result _ (Ok tt) c.args.tree.now c.next.new.tree c.from_residual.ensures.1
     (notes_after c.args.plan.now c.args.tree.now c.loop-query.tree c.args.sweep.now c.loop-query.sweep c.loop-query.rows c.requires.begun.fresh c.loop-query.invariant.filled
     (left_is (asked c.query-query.result.now) c.args.plan.now.asked c.len.result c.loop-query.rows c.query-query.ensures c.len.ensures (c.is_filled.ensures.left c.loop-query-test.true))
-    c.next_row.new.tree c.next_row.new.sweep c.in-Ok-Some.field-0 c.in-Ok-Some.ensures.notes c.in-Ok-Some.ensures.effect tt)
+    c.next.new.tree c.next.new.self c.in-Ok-Some.field-0 turn.notes turn.effect tt)
 
 pub returns-in-Ok-None-clause-fills : goal.returns-in-Ok-None-clause-fills
 returns-in-Ok-None-clause-fills g c =
+    let turn = came _ _ c.args.plan.now c.in-Ok-None.field-0 c.loop-query.sweep c.next.new.self c.loop-query.tree c.next.new.tree c.loop-query.invariant.filled.works
+    c.in-Ok-None.ensures.gives c.in-Ok-None.ensures.once in
     fills_ended c.args.plan.now c.args.tree.now c.loop-query.tree c.args.sweep.now c.loop-query.sweep c.loop-query.rows c.requires.begun.fresh c.loop-query.invariant.filled
     (left_is (asked c.query-query.result.now) c.args.plan.now.asked c.len.result c.loop-query.rows c.query-query.ensures c.len.ensures (c.is_filled.ensures.left c.loop-query-test.true))
-    c.next_row.new.tree c.next_row.new.sweep c.in-Ok-None.field-0 c.in-Ok-None.ensures.notes c.in-Ok-None.ensures.effect c.in-Ok-None.ensures.next c.in-Ok-None.ensures.comes c.in-Ok-None.field-0-is
+    c.next.new.tree c.next.new.self c.in-Ok-None.field-0 turn.notes turn.effect c.in-Ok-None.ensures.gives.next turn.comes c.in-Ok-None.field-0-is
 
 pub returns-in-Ok-None-clause-notes : goal.returns-in-Ok-None-clause-notes
 returns-in-Ok-None-clause-notes g c =
+    let turn = came _ _ c.args.plan.now c.in-Ok-None.field-0 c.loop-query.sweep c.next.new.self c.loop-query.tree c.next.new.tree c.loop-query.invariant.filled.works
+    c.in-Ok-None.ensures.gives c.in-Ok-None.ensures.once in
     notes_after c.args.plan.now c.args.tree.now c.loop-query.tree c.args.sweep.now c.loop-query.sweep c.loop-query.rows c.requires.begun.fresh c.loop-query.invariant.filled
     (left_is (asked c.query-query.result.now) c.args.plan.now.asked c.len.result c.loop-query.rows c.query-query.ensures c.len.ensures (c.is_filled.ensures.left c.loop-query-test.true))
-    c.next_row.new.tree c.next_row.new.sweep c.in-Ok-None.field-0 c.in-Ok-None.ensures.notes c.in-Ok-None.ensures.effect _
+    c.next.new.tree c.next.new.self c.in-Ok-None.field-0 turn.notes turn.effect _
 
 pub returns-in-Ok-None-clause-effect : goal.returns-in-Ok-None-clause-effect
 returns-in-Ok-None-clause-effect g c =
+    let turn = came _ _ c.args.plan.now c.in-Ok-None.field-0 c.loop-query.sweep c.next.new.self c.loop-query.tree c.next.new.tree c.loop-query.invariant.filled.works
+    c.in-Ok-None.ensures.gives c.in-Ok-None.ensures.once in
     reads_after c.args.plan.now c.args.tree.now c.loop-query.tree c.args.sweep.now c.loop-query.sweep c.loop-query.rows c.requires.begun.fresh c.loop-query.invariant.filled
     (left_is (asked c.query-query.result.now) c.args.plan.now.asked c.len.result c.loop-query.rows c.query-query.ensures c.len.ensures (c.is_filled.ensures.left c.loop-query-test.true))
-    c.next_row.new.tree c.next_row.new.sweep c.in-Ok-None.field-0 c.in-Ok-None.ensures.notes c.in-Ok-None.ensures.effect _
+    c.next.new.tree c.next.new.self c.in-Ok-None.field-0 turn.notes turn.effect _
 
 pub returns-in-Err-clause-broken : goal.returns-in-Err-clause-broken
 returns-in-Err-clause-broken g c =
+    let stop = broke _ c.in-Err.fault c.from.result c.loop-query.sweep c.next.new.self c.loop-query.tree c.next.new.tree c.from.ensures c.loop-query.invariant.filled.works c.in-Err.ensures.gives.effect in
     broken_asking c.args.plan.now c.args.tree.now c.loop-query.tree c.args.sweep.now c.loop-query.sweep c.loop-query.rows c.requires.begun.fresh c.loop-query.invariant.filled
     (left_is (asked c.query-query.result.now) c.args.plan.now.asked c.len.result c.loop-query.rows c.query-query.ensures c.len.ensures (c.is_filled.ensures.left c.loop-query-test.true))
-    c.next_row.new.tree c.next_row.new.sweep c.in-Err.fault c.in-Err.ensures.notes c.in-Err.ensures.effect c.in-Err.ensures.broken
+    c.next.new.tree c.next.new.self c.from.result stop.notes stop.effect c.in-Err.ensures.gives.broken
 
 pub returns-in-Err-clause-notes : goal.returns-in-Err-clause-notes
 returns-in-Err-clause-notes g c =
+    let stop = broke _ c.in-Err.fault c.from.result c.loop-query.sweep c.next.new.self c.loop-query.tree c.next.new.tree c.from.ensures c.loop-query.invariant.filled.works c.in-Err.ensures.gives.effect in
     notes_broken c.args.plan.now c.args.tree.now c.loop-query.tree c.args.sweep.now c.loop-query.sweep c.loop-query.rows c.requires.begun.fresh c.loop-query.invariant.filled
     (left_is (asked c.query-query.result.now) c.args.plan.now.asked c.len.result c.loop-query.rows c.query-query.ensures c.len.ensures (c.is_filled.ensures.left c.loop-query-test.true))
-    c.next_row.new.tree c.next_row.new.sweep c.in-Err.fault c.in-Err.ensures.notes
+    c.next.new.tree c.next.new.self c.from.result stop.notes
 
 pub returns-in-Err-clause-effect : goal.returns-in-Err-clause-effect
 returns-in-Err-clause-effect g c =
-    reads_by (Err c.in-Err.fault) c.in-Err.fault c.args.tree.now c.loop-query.tree c.next_row.new.tree refl c.loop-query.invariant.filled.kept.traced c.in-Err.ensures.effect
+    let stop = broke _ c.in-Err.fault c.from.result c.loop-query.sweep c.next.new.self c.loop-query.tree c.next.new.tree c.from.ensures c.loop-query.invariant.filled.works c.in-Err.ensures.gives.effect in
+    reads_by (Err c.from.result) c.from.result c.args.tree.now c.loop-query.tree c.next.new.tree refl c.loop-query.invariant.filled.kept.traced stop.effect
 
 pub returns-clause-fills : goal.returns-clause-fills
 returns-clause-fills g c =
@@ -112,13 +127,17 @@ returns-in_err-push_row-in-Ok-Some-clause-fills g c = no_answer c.from_residual.
 
 pub returns-in_err-push_row-in-Ok-Some-clause-effect : goal.returns-in_err-push_row-in-Ok-Some-clause-effect
 returns-in_err-push_row-in-Ok-Some-clause-effect g c =
-    memory_reads c.from_residual.result c.args.tree.now c.next_row.new.tree c.from_residual.ensures.1
-    (Keeps-more _ _ _ c.loop-query.invariant.filled.kept (Keeps-by c.loop-query.tree c.next_row.new.tree c.in-Ok-Some.ensures.effect.same)).traced
+    let turn = came _ _ c.args.plan.now c.in-Ok-Some.field-0 c.loop-query.sweep c.next.new.self c.loop-query.tree c.next.new.tree c.loop-query.invariant.filled.works
+    c.in-Ok-Some.ensures.gives c.in-Ok-Some.ensures.once in
+    memory_reads c.from_residual.result c.args.tree.now c.next.new.tree c.from_residual.ensures.1
+    (Keeps-more _ _ _ c.loop-query.invariant.filled.kept (Keeps-by c.loop-query.tree c.next.new.tree turn.effect.same)).traced
 
 pub push_row-requires-clause-over : goal.push_row-requires-clause-over
 push_row-requires-clause-over g c =
+    let turn = came _ _ c.args.plan.now c.in-Ok-Some.field-0 c.loop-query.sweep c.next.new.self c.loop-query.tree c.next.new.tree c.loop-query.invariant.filled.works
+    c.in-Ok-Some.ensures.gives c.in-Ok-Some.ensures.once in
     let items : c.as_slice.result.now ≡ c.args.plan.now.asked.items = c.as_slice.ensures ∙ ap (λ (q : Asked). q.items) c.query-query.ensures in
-    let kept = Keeps-more _ _ _ c.loop-query.invariant.filled.kept (Keeps-by c.loop-query.tree c.next_row.new.tree c.in-Ok-Some.ensures.effect.same) in
+    let kept = Keeps-more _ _ _ c.loop-query.invariant.filled.kept (Keeps-by c.loop-query.tree c.next.new.tree turn.effect.same) in
     subst (λ (s : Schema). All (λ item. IsItemOver (length s.columns) item) c.as_slice.result.now) (sym (c.schema.ensures ∙ kept.regions.schema))
     (subst (λ (items : List Item). All (λ item. IsItemOver (length c.args.tree.now.schema.columns) item) items) (sym items) c.requires.posed.items)
 
@@ -129,21 +148,26 @@ push_row-requires-clause-some g c =
 
 pub returns-in_err-push_row-in-Ok-Some-clause-swept : goal.returns-in_err-push_row-in-Ok-Some-clause-swept
 returns-in_err-push_row-in-Ok-Some-clause-swept g c =
+    let turn = came _ _ c.args.plan.now c.in-Ok-Some.field-0 c.loop-query.sweep c.next.new.self c.loop-query.tree c.next.new.tree c.loop-query.invariant.filled.works
+    c.in-Ok-Some.ensures.gives c.in-Ok-Some.ensures.once in
     swept_putting c.args.plan.now c.args.tree.now c.loop-query.tree c.args.sweep.now c.loop-query.sweep c.loop-query.rows c.requires.begun.fresh c.loop-query.invariant.filled
     (left_is (asked c.query-query.result.now) c.args.plan.now.asked c.len.result c.loop-query.rows c.query-query.ensures c.len.ensures (c.is_filled.ensures.left c.loop-query-test.true))
-    c.next_row.new.tree c.next_row.new.sweep c.in-Ok-Some.field-0 c.in-Ok-Some.ensures.notes c.in-Ok-Some.ensures.effect c.in-Ok-Some.ensures.next c.in-Ok-Some.ensures.comes c.from_residual.result _ c.from_residual.ensures.1
+    c.next.new.tree c.next.new.self c.in-Ok-Some.field-0 turn.notes turn.effect c.in-Ok-Some.ensures.gives.next turn.comes c.from_residual.result _ c.from_residual.ensures.1
 
 pub returns-in-Ok-None-clause-swept : goal.returns-in-Ok-None-clause-swept
 returns-in-Ok-None-clause-swept g c =
+    let turn = came _ _ c.args.plan.now c.in-Ok-None.field-0 c.loop-query.sweep c.next.new.self c.loop-query.tree c.next.new.tree c.loop-query.invariant.filled.works
+    c.in-Ok-None.ensures.gives c.in-Ok-None.ensures.once in
     swept_ended c.args.plan.now c.args.tree.now c.loop-query.tree c.args.sweep.now c.loop-query.sweep c.loop-query.rows c.requires.begun.fresh c.loop-query.invariant.filled
     (left_is (asked c.query-query.result.now) c.args.plan.now.asked c.len.result c.loop-query.rows c.query-query.ensures c.len.ensures (c.is_filled.ensures.left c.loop-query-test.true))
-    c.next_row.new.tree c.next_row.new.sweep c.in-Ok-None.field-0 c.in-Ok-None.ensures.notes c.in-Ok-None.ensures.effect c.in-Ok-None.ensures.next c.in-Ok-None.ensures.comes c.in-Ok-None.field-0-is
+    c.next.new.tree c.next.new.self c.in-Ok-None.field-0 turn.notes turn.effect c.in-Ok-None.ensures.gives.next turn.comes c.in-Ok-None.field-0-is
 
 pub returns-in-Err-clause-swept : goal.returns-in-Err-clause-swept
 returns-in-Err-clause-swept g c =
+    let stop = broke _ c.in-Err.fault c.from.result c.loop-query.sweep c.next.new.self c.loop-query.tree c.next.new.tree c.from.ensures c.loop-query.invariant.filled.works c.in-Err.ensures.gives.effect in
     swept_asking c.args.plan.now c.args.tree.now c.loop-query.tree c.args.sweep.now c.loop-query.sweep c.loop-query.rows c.requires.begun.fresh c.loop-query.invariant.filled
     (left_is (asked c.query-query.result.now) c.args.plan.now.asked c.len.result c.loop-query.rows c.query-query.ensures c.len.ensures (c.is_filled.ensures.left c.loop-query-test.true))
-    c.next_row.new.tree c.next_row.new.sweep c.in-Err.fault c.in-Err.ensures.breaks
+    c.next.new.tree c.next.new.self c.from.result stop.breaks
 
 pub returns-clause-swept : goal.returns-clause-swept
 returns-clause-swept g c =

@@ -1,7 +1,9 @@
-use Rattle.std.proofs.Common.{inl, length, subst, sym}
+use Rattle.std.proofs.Common.{Err, inl, length, subst, sym}
+use Rattle.ub_exec.proofs.AskFacts.{begun_err, begun_ok}
 use Rattle.ub_exec.proofs.BreakFacts.{ready_begun}
 use Rattle.ub_exec.proofs.FillFacts.{filled_broken, filled_means, filled_pages, filled_shaped, filled_swept, has_begun, is_begun}
 use Rattle.ub_exec.proofs.FirstFacts.{none_fetched}
+use Rattle.ub_exec.proofs.KeptFacts.{begins_reads}
 use Rattle.ub_exec.proofs.NotedFacts.{notes_as, notes_none}
 use Rattle.ub_exec.specs.Answers.{begun}
 use Rattle.ub_query.specs.Posed.{IsPosed}
@@ -10,49 +12,48 @@ use Rattle.ub_tree.specs.View.{TreeView}
 use Rattle.ub_exec.proofs.sweeping.swept_rows.Goals as goal
 
 pub filled_rows-requires-clause-posed : goal.filled_rows-requires-clause-posed
-filled_rows-requires-clause-posed g c = subst (λ (t : TreeView). IsPosed (length t.schema.columns) c.args.plan.now.asked) (sym c.in-Ok.ensures.trace) c.requires
+filled_rows-requires-clause-posed g c =
+    subst (λ (t : TreeView). IsPosed (length t.schema.columns) c.args.plan.now.asked) (sym (begun_ok c.in-Ok.sweep c.args.tree.now c.new.new.tree c.in-Ok.ensures.effect)) c.requires
 
 pub filled_rows-requires-clause-begun : goal.filled_rows-requires-clause-begun
-filled_rows-requires-clause-begun g c = is_begun c.args.plan.now c.args.tree.now c.begin_sweep.new.tree c.in-Ok.sweep c.in-Ok.ensures.trace c.in-Ok.ensures.started c.in-Ok.ensures.met
+filled_rows-requires-clause-begun g c =
+    is_begun c.args.plan.now c.args.tree.now c.new.new.tree c.in-Ok.sweep (begun_ok c.in-Ok.sweep c.args.tree.now c.new.new.tree c.in-Ok.ensures.effect) c.in-Ok.ensures.started c.in-Ok.ensures.met
 
-pub returns-in-Ok-clause-rows : goal.returns-in-Ok-clause-rows
-returns-in-Ok-clause-rows g c ready kind plain =
-    filled_means c.args.plan.now c.args.tree.now c.begin_sweep.new.tree c.in-Ok.sweep c.in-Ok.ensures.trace c.filled_rows.new.tree c.filled_rows.result c.filled_rows.ensures.fills
-    (has_begun c.args.plan.now c.args.tree.now c.begin_sweep.new.tree c.in-Ok.sweep c.in-Ok.ensures.trace ready kind c.in-Ok.ensures.begun) plain
+pub returns-in-Ok : goal.returns-in-Ok
+returns-in-Ok g c =
+    let plan = c.args.plan.now in
+    let old = c.args.tree.now in
+    let mid = c.new.new.tree in
+    let new = c.filled_rows.new.tree in
+    let sweep = c.in-Ok.sweep in
+    let is = begun_ok sweep old mid c.in-Ok.ensures.effect in
+    let filled = c.filled_rows.ensures in
+    record {
+      done = λ ready of.
+          let begins = has_begun plan old mid sweep is ready of.0 c.in-Ok.ensures.begun in
+          record {
+            rows = filled_means plan old mid sweep is new c.filled_rows.result filled.fills begins of.1;
+            fetches = record {
+              pages = filled_pages plan old mid sweep is new c.filled_rows.result filled.fills begins of.1;
+              broken = filled_broken plan old mid sweep is new c.filled_rows.result (filled.broken begins of.1);
+            };
+          };
+      shaped = filled_shaped plan old mid sweep is new c.filled_rows.result filled.fills;
+      swept = filled_swept plan old mid sweep is new c.filled_rows.result filled.swept;
+      notes = notes_as c.filled_rows.result (begun old) mid new is filled.notes;
+      effect = reads_then c.filled_rows.result old mid new (begun_traced old mid is) filled.effect;
+    }
 
-pub returns-in-Ok-clause-shaped : goal.returns-in-Ok-clause-shaped
-returns-in-Ok-clause-shaped g c = filled_shaped c.args.plan.now c.args.tree.now c.begin_sweep.new.tree c.in-Ok.sweep c.in-Ok.ensures.trace c.filled_rows.new.tree c.filled_rows.result c.filled_rows.ensures.fills
-
-pub returns-in-Ok-clause-pages : goal.returns-in-Ok-clause-pages
-returns-in-Ok-clause-pages g c ready kind plain =
-    filled_pages c.args.plan.now c.args.tree.now c.begin_sweep.new.tree c.in-Ok.sweep c.in-Ok.ensures.trace c.filled_rows.new.tree c.filled_rows.result c.filled_rows.ensures.fills
-    (has_begun c.args.plan.now c.args.tree.now c.begin_sweep.new.tree c.in-Ok.sweep c.in-Ok.ensures.trace ready kind c.in-Ok.ensures.begun) plain
-
-pub returns-in-Ok-clause-broken : goal.returns-in-Ok-clause-broken
-returns-in-Ok-clause-broken g c ready kind plain =
-    filled_broken c.args.plan.now c.args.tree.now c.begin_sweep.new.tree c.in-Ok.sweep c.in-Ok.ensures.trace c.filled_rows.new.tree c.filled_rows.result
-    (c.filled_rows.ensures.broken (has_begun c.args.plan.now c.args.tree.now c.begin_sweep.new.tree c.in-Ok.sweep c.in-Ok.ensures.trace ready kind c.in-Ok.ensures.begun) plain)
-
-pub returns-in-Ok-clause-swept : goal.returns-in-Ok-clause-swept
-returns-in-Ok-clause-swept g c =
-    filled_swept c.args.plan.now c.args.tree.now c.begin_sweep.new.tree c.in-Ok.sweep c.in-Ok.ensures.trace c.filled_rows.new.tree c.filled_rows.result c.filled_rows.ensures.swept
-
-pub returns-in-Err-clause-swept : goal.returns-in-Err-clause-swept
-returns-in-Err-clause-swept g c dim is_descending of = inl c.in-Err.ensures.broken
-
-pub returns-in-Ok-clause-notes : goal.returns-in-Ok-clause-notes
-returns-in-Ok-clause-notes g c = notes_as c.filled_rows.result (begun c.args.tree.now) c.begin_sweep.new.tree c.filled_rows.new.tree c.in-Ok.ensures.trace c.filled_rows.ensures.notes
-
-pub returns-in-Ok-clause-effect : goal.returns-in-Ok-clause-effect
-returns-in-Ok-clause-effect g c =
-    reads_then c.filled_rows.result c.args.tree.now c.begin_sweep.new.tree c.filled_rows.new.tree (begun_traced c.args.tree.now c.begin_sweep.new.tree c.in-Ok.ensures.trace) c.filled_rows.ensures.effect
-
-pub returns-in-Err-clause-broken : goal.returns-in-Err-clause-broken
-returns-in-Err-clause-broken g c ready kind plain =
-    none_fetched c.args.plan.now (begun c.args.tree.now) c.begin_sweep.new.tree (ready_begun c.args.tree.now c.args.plan.now ready) c.in-Err.ensures.broken
-
-pub returns-in-Err-clause-notes : goal.returns-in-Err-clause-notes
-returns-in-Err-clause-notes g c = notes_none _ (begun c.args.tree.now) c.begin_sweep.new.tree c.in-Err.ensures.broken
-
-pub returns-in-Err-clause-effect : goal.returns-in-Err-clause-effect
-returns-in-Err-clause-effect g c = record { same = c.in-Err.ensures.effect.same; faults = c.in-Err.ensures.effect.faults }
+pub returns-in-Err : goal.returns-in-Err
+returns-in-Err g c =
+    let plan = c.args.plan.now in
+    let old = c.args.tree.now in
+    let new = c.new.new.tree in
+    let kept = begun_err c.in-Err.fault old new c.in-Err.ensures.effect in
+    record {
+      done = λ ready of. record { rows = tt; fetches = record { pages = tt; broken = none_fetched plan (begun old) new (ready_begun old plan ready) kept } };
+      shaped = tt;
+      swept = λ dim is_descending of. inl kept;
+      notes = notes_none (Err c.from.result) (begun old) new kept;
+      effect = begins_reads (Err c.from.result) c.in-Err.fault old new c.from.ensures c.in-Err.ensures.effect;
+    }

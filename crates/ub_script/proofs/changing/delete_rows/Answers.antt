@@ -28,7 +28,7 @@ returns-in_err-count g c =
       answer = λ basis is. no_answer c.from_residual-in_err-count.result _ _ c.from_residual-in_err-count.ensures.1;
       stopped = λ basis is.
           if_err c.from_residual-in_err-count.result _ _ c.from_residual-in_err-count.ensures.1
-          (delete_stopped old c.delete.new.tree c.in_ok-plan.plan q planned given basis c.in_err-count.field-0.0 is c.in_err-count.ensures.stopped c.in_err-count.ensures.broken
+          (delete_stopped old c.delete.new.tree c.in_ok-plan.plan q planned given basis c.in_err-count.field-0.0 is c.in_err-count.ensures.stopped (λ deletion. (c.in_err-count.ensures.fetches deletion).broken)
           c.in_err-count.ensures.reads c.in_err-count.ensures.effect);
       no_write = no_write_by c.from_residual-in_err-count.result _ c.from_residual-in_err-count.ensures.1 (read_no_write _);
       effect = runs_err ℕ c.from_residual-in_err-count.result _ _ _ c.from_residual-in_err-count.ensures.1 (runs_deletion ℕ _ _ _ c.in_err-count.ensures.effect);
@@ -45,7 +45,7 @@ returns-in_err-deleted_text g c =
       answer = λ basis is. no_answer c.from_residual-in_err-deleted_text.result _ _ c.from_residual-in_err-deleted_text.ensures.1;
       stopped = λ basis is.
           if_err c.from_residual-in_err-deleted_text.result _ _ c.from_residual-in_err-deleted_text.ensures.1
-          (delete_untold old c.delete.new.tree c.in_ok-plan.plan q planned given c.in_ok-count.count c.in_ok-count.ensures.deleted c.in_ok-count.ensures.pages c.in_ok-count.ensures.reads
+          (delete_untold old c.delete.new.tree c.in_ok-plan.plan q planned given c.in_ok-count.count c.in_ok-count.ensures.deleted (λ deletion. (c.in_ok-count.ensures.fetches deletion).pages) c.in_ok-count.ensures.reads
           c.in_ok-count.ensures.effect c.in_ok-count.ensures.untouched basis is);
       no_write = no_write_by c.from_residual-in_err-deleted_text.result _ c.from_residual-in_err-deleted_text.ensures.1 memory_no_write;
       effect = runs_untold c.from_residual-in_err-deleted_text.result _ _ _ c.from_residual-in_err-deleted_text.ensures.1 c.in_ok-count.ensures.effect;
@@ -60,11 +60,11 @@ returns g c =
     let planned : c.in_ok-plan.plan ≡ plan_of old.schema q = c.in_ok-plan.ensures.plan ∙ ap (λ (s : Schema). plan_of s q) c.schema.ensures in
     record {
       answer = λ basis is.
-          delete_replies old c.delete.new.tree c.in_ok-plan.plan q planned given c.in_ok-count.count c.in_ok-count.ensures.deleted c.in_ok-count.ensures.pages c.in_ok-count.ensures.reads
+          delete_replies old c.delete.new.tree c.in_ok-plan.plan q planned given c.in_ok-count.count c.in_ok-count.ensures.deleted (λ deletion. (c.in_ok-count.ensures.fetches deletion).pages) c.in_ok-count.ensures.reads
           c.in_ok-count.ensures.effect c.in_ok-count.ensures.untouched basis _ is c.in_ok-deleted_text.ensures;
       stopped = λ basis is. tt;
       no_write = no_write_ok _;
-      effect = runs_deleted old c.delete.new.tree c.in_ok-plan.plan q planned given c.in_ok-count.count c.in_ok-count.ensures.deleted c.in_ok-count.ensures.pages c.in_ok-count.ensures.reads
+      effect = runs_deleted old c.delete.new.tree c.in_ok-plan.plan q planned given c.in_ok-count.count c.in_ok-count.ensures.deleted (λ deletion. (c.in_ok-count.ensures.fetches deletion).pages) c.in_ok-count.ensures.reads
           c.in_ok-count.ensures.effect c.in_ok-count.ensures.untouched _;
       asked = λ asks. absurd (asks tt);
     }

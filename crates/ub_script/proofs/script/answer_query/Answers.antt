@@ -11,11 +11,11 @@ pub returns : goal.returns
 returns g c = record {
   answer = λ basis is.
       reply_on basis c.args.tree.now c.execute.new.tree _ c.in_ok-answer.answer.fetched _ _ _ c.args.plan.now (asked c.args.query.now) c.in_ok-answer.answer.rows _ is
-      (c.schema.ensures ∙ ap (λ (t : TreeView). t.schema) c.in_ok-answer.ensures.effect.same) c.in_ok-answer.ensures.fetched c.requires.planned
-      c.in_ok-answer.ensures.rows c.in_ok-answer.ensures.pages c.in_ok-answer.ensures.reads refl c.in_ok-answer.ensures.scanned c.in_ok-answer.ensures.failed c.in_ok-answer.ensures.shaped c.in_ok-answer_text.ensures;
+      (c.schema.ensures ∙ ap (λ (t : TreeView). t.schema) c.in_ok-answer.ensures.executes.effect.same) c.in_ok-answer.ensures.fetched c.requires.planned
+      (λ ready. (c.in_ok-answer.ensures.executes.done ready).rows) (λ ready. (c.in_ok-answer.ensures.executes.done ready).fetches.pages) c.in_ok-answer.ensures.executes.reads refl c.in_ok-answer.ensures.executes.scanned c.in_ok-answer.ensures.executes.failed c.in_ok-answer.ensures.executes.shaped c.in_ok-answer_text.ensures;
   stopped = λ basis is. tt;
   no_write = no_write_ok _;
-  effect = reads_done _ _ _ _ c.in_ok-answer.ensures.effect;
+  effect = reads_done _ _ _ _ c.in_ok-answer.ensures.executes.effect;
 }
 
 pub returns-in_err-answer : goal.returns-in_err-answer
@@ -23,9 +23,9 @@ returns-in_err-answer g c = record {
   answer = λ basis is. no_answer c.from_residual.result _ _ c.from_residual.ensures.1;
   stopped = λ basis is.
       on_err c.from_residual.result _
-      (starts_of_plan _ basis c.args.tree.now c.execute.new.tree c.args.plan.now (asked c.args.query.now) is c.requires.planned c.in_err-answer.ensures.broken c.in_err-answer.ensures.reads.notes);
+      (starts_of_plan _ basis c.args.tree.now c.execute.new.tree c.args.plan.now (asked c.args.query.now) is c.requires.planned (λ ready. (c.in_err-answer.ensures.executes.done ready).fetches.broken) c.in_err-answer.ensures.executes.reads.notes);
   no_write = no_write_by c.from_residual.result _ c.from_residual.ensures.1 (read_no_write _);
-  effect = reads_refused c.from_residual.result _ _ _ c.from_residual.ensures.1 c.in_err-answer.ensures.effect c.in_err-answer.ensures.failed;
+  effect = reads_refused c.from_residual.result _ _ _ c.from_residual.ensures.1 c.in_err-answer.ensures.executes.effect c.in_err-answer.ensures.executes.failed;
 }
 
 pub returns-in_err-answer_text : goal.returns-in_err-answer_text
@@ -33,9 +33,9 @@ returns-in_err-answer_text g c = record {
   answer = λ basis is. no_answer c.from_residual-in_err-answer_text.result _ _ c.from_residual-in_err-answer_text.ensures.1;
   stopped = λ basis is.
       on_err c.from_residual-in_err-answer_text.result _
-      (starts_of_all _ basis c.args.tree.now c.execute.new.tree c.args.plan.now (asked c.args.query.now) is c.requires.planned c.in_ok-answer.ensures.pages c.in_ok-answer.ensures.reads.notes);
+      (starts_of_all _ basis c.args.tree.now c.execute.new.tree c.args.plan.now (asked c.args.query.now) is c.requires.planned (λ ready. (c.in_ok-answer.ensures.executes.done ready).fetches.pages) c.in_ok-answer.ensures.executes.reads.notes);
   no_write = no_write_by c.from_residual-in_err-answer_text.result _ c.from_residual-in_err-answer_text.ensures.1 memory_no_write;
-  effect = reads_untold c.from_residual-in_err-answer_text.result _ _ _ c.from_residual-in_err-answer_text.ensures.1 c.in_ok-answer.ensures.effect;
+  effect = reads_untold c.from_residual-in_err-answer_text.result _ _ _ c.from_residual-in_err-answer_text.ensures.1 c.in_ok-answer.ensures.executes.effect;
 }
 
 pub execute-requires : goal.execute-requires

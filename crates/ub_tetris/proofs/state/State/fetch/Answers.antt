@@ -11,57 +11,46 @@ use Rattle.ub_table.specs.declared.schema.Schema.{Schema}
 use Rattle.ub_tetris.proofs.TurnFacts.{posed_still, refused_none}
 use Rattle.ub_tetris.proofs.state.State.fetch.Goals as goal
 
-pub returns-in_err-read_next-clause-effect : goal.returns-in_err-read_next-clause-effect
-returns-in_err-read_next-clause-effect g c =
-    swept_by c.from_residual.result _ (view_of c.args.self.now) (view_of c.read_next.new.self) c.args.tree.now c.read_next.new.tree c.from_residual.ensures.1 c.in_err-read_next.ensures.effect
+pub returns-in_err-read_next-clause-next : goal.returns-in_err-read_next-clause-next
+returns-in_err-read_next-clause-next g c =
+    let next = c.in_err-read_next.ensures.next in
+    record {
+      onward = next.onward;
+      asked = next.asked;
+      effect = swept_by c.from_residual.result _ (view_of c.args.self.now) (view_of c.read_next.new.self) c.args.tree.now c.read_next.new.tree c.from_residual.ensures.1 next.effect;
+    }
 
-pub returns-in_err-push_chosen-clause-effect : goal.returns-in_err-push_chosen-clause-effect
-returns-in_err-push_chosen-clause-effect g c =
-    swept_short _ (view_of c.args.self.now) (view_of c.read_next.new.self) (view_of (record c.read_next.new.self { held = c.push_chosen.new.sink })) c.args.tree.now c.read_next.new.tree refl
-    c.in_ok-read_next.ensures.effect c.from_residual-in_err-push_chosen.result c.from_residual-in_err-push_chosen.ensures.1
+pub returns-in_err-push_chosen-clause-next : goal.returns-in_err-push_chosen-clause-next
+returns-in_err-push_chosen-clause-next g c =
+    let next = c.in_ok-read_next.ensures.next in
+    record {
+      onward = next.onward;
+      asked = next.asked;
+      effect = swept_short _ (view_of c.args.self.now) (view_of c.read_next.new.self) (view_of (record c.read_next.new.self { held = c.push_chosen.new.sink })) c.args.tree.now c.read_next.new.tree refl
+          next.effect c.from_residual-in_err-push_chosen.result c.from_residual-in_err-push_chosen.ensures.1;
+    }
 
-pub returns-clause-effect : goal.returns-clause-effect
-returns-clause-effect g c =
-    swept_with _ (view_of c.args.self.now) (view_of c.read_next.new.self) (view_of (record c.read_next.new.self { held = c.push_chosen.new.sink })) c.args.tree.now c.read_next.new.tree refl
-    c.in_ok-read_next.ensures.effect tt
+pub returns-clause-next : goal.returns-clause-next
+returns-clause-next g c =
+    let next = c.in_ok-read_next.ensures.next in
+    record {
+      onward = next.onward;
+      asked = next.asked;
+      effect = swept_with _ (view_of c.args.self.now) (view_of c.read_next.new.self) (view_of (record c.read_next.new.self { held = c.push_chosen.new.sink })) c.args.tree.now c.read_next.new.tree refl next.effect tt;
+    }
 
 pub returns-clause-rows : goal.returns-clause-rows
 returns-clause-rows g c =
     let read = c.in_ok-read_next.ensures.read in
     let schema = c.schema-2.result.now in
     let held = c.args.self.now.held in
-    has_fetched c.args.plan.now c.of-choice.result c.args.tree.now c.read_next.new.tree c.args.self.now (record c.read_next.new.self { held = c.push_chosen.new.sink })
-    c.read_next.new.self.page.region schema read (schema_read c.args.tree.now c.read_next.new.tree c.args.self.now c.read_next.new.self.page.region schema read c.schema-2.ensures)
-    (c.in_ok-push_chosen.ensures held []
-    (subst (λ (hs : List HeldRow). HoldsAlso schema (keys_of c.args.plan.now.asked) [] held hs) (sym c.in_ok-read_next.ensures.held) (HoldsAlso-none schema (keys_of c.args.plan.now.asked) held)))
-
-pub returns-clause-few : goal.returns-clause-few
-returns-clause-few g c =
-    let read = c.in_ok-read_next.ensures.read in
-    let schema = c.schema-2.result.now in
-    let held = c.args.self.now.held in
-    few_onward c.args.self.now (record c.read_next.new.self { held = c.push_chosen.new.sink }) read.next c.in_ok-read_next.ensures.onward read.at
-    (held_few (is_chosen c.of-choice.result schema c.args.plan.now) schema c.args.tree.now.schema (keys_of c.args.plan.now.asked) c.read_next.new.self.page.region held _ read.taken.0
-    (c.in_ok-push_chosen.ensures held []
-    (subst (λ (hs : List HeldRow). HoldsAlso schema (keys_of c.args.plan.now.asked) [] held hs) (sym c.in_ok-read_next.ensures.held) (HoldsAlso-none schema (keys_of c.args.plan.now.asked) held))))
-
-pub returns-in_err-read_next-clause-onward : goal.returns-in_err-read_next-clause-onward
-returns-in_err-read_next-clause-onward g c = c.in_err-read_next.ensures.onward
-
-pub returns-in_err-read_next-clause-asked : goal.returns-in_err-read_next-clause-asked
-returns-in_err-read_next-clause-asked g c = c.in_err-read_next.ensures.asked
-
-pub returns-in_err-push_chosen-clause-onward : goal.returns-in_err-push_chosen-clause-onward
-returns-in_err-push_chosen-clause-onward g c = c.in_ok-read_next.ensures.onward
-
-pub returns-in_err-push_chosen-clause-asked : goal.returns-in_err-push_chosen-clause-asked
-returns-in_err-push_chosen-clause-asked g c = c.in_ok-read_next.ensures.asked
-
-pub returns-clause-onward : goal.returns-clause-onward
-returns-clause-onward g c = c.in_ok-read_next.ensures.onward
-
-pub returns-clause-asked : goal.returns-clause-asked
-returns-clause-asked g c = c.in_ok-read_next.ensures.asked
+    let now = record c.read_next.new.self { held = c.push_chosen.new.sink } in
+    let holds = c.in_ok-push_chosen.ensures held []
+    (subst (λ (hs : List HeldRow). HoldsAlso schema (keys_of c.args.plan.now.asked) [] held hs) (sym c.in_ok-read_next.ensures.held) (HoldsAlso-none schema (keys_of c.args.plan.now.asked) held)) in
+    has_fetched c.args.plan.now c.of-choice.result c.args.tree.now c.read_next.new.tree c.args.self.now now
+    c.read_next.new.self.page.region schema read (schema_read c.args.tree.now c.read_next.new.tree c.args.self.now c.read_next.new.self.page.region schema read c.schema-2.ensures) holds
+    (few_onward c.args.self.now now read.next c.in_ok-read_next.ensures.next.onward read.at
+    (held_few (is_chosen c.of-choice.result schema c.args.plan.now) schema c.args.tree.now.schema (keys_of c.args.plan.now.asked) c.read_next.new.self.page.region held _ read.taken.0 holds))
 
 pub of-choice-requires : goal.of-choice-requires
 of-choice-requires g c =
@@ -87,11 +76,5 @@ push_chosen-requires-clause-dims g c =
 pub returns-in_err-read_next-clause-rows : goal.returns-in_err-read_next-clause-rows
 returns-in_err-read_next-clause-rows g c = refused_none _ c.from_residual.result _ c.from_residual.ensures.1
 
-pub returns-in_err-read_next-clause-few : goal.returns-in_err-read_next-clause-few
-returns-in_err-read_next-clause-few g c = refused_none _ c.from_residual.result _ c.from_residual.ensures.1
-
 pub returns-in_err-push_chosen-clause-rows : goal.returns-in_err-push_chosen-clause-rows
 returns-in_err-push_chosen-clause-rows g c = refused_none _ c.from_residual-in_err-push_chosen.result _ c.from_residual-in_err-push_chosen.ensures.1
-
-pub returns-in_err-push_chosen-clause-few : goal.returns-in_err-push_chosen-clause-few
-returns-in_err-push_chosen-clause-few g c = refused_none _ c.from_residual-in_err-push_chosen.result _ c.from_residual-in_err-push_chosen.ensures.1

@@ -8,18 +8,33 @@ use Rattle.ub_tetris.specs.inner.Turns.{view_of}
 use Rattle.ub_tetris.proofs.TurnFacts.{posed_still, refused_none}
 use Rattle.ub_tetris.proofs.state.State.hand_next.Goals as goal
 
-pub returns-in_err-read_next-clause-effect : goal.returns-in_err-read_next-clause-effect
-returns-in_err-read_next-clause-effect g c =
-    swept_by c.from_residual.result _ (view_of c.args.self.now) (view_of c.read_next.new.self) c.args.tree.now c.read_next.new.tree c.from_residual.ensures.1 c.in_err-read_next.ensures.effect
+pub returns-in_err-read_next-clause-next : goal.returns-in_err-read_next-clause-next
+returns-in_err-read_next-clause-next g c =
+    let next = c.in_err-read_next.ensures.next in
+    record {
+      onward = next.onward;
+      asked = next.asked;
+      effect = swept_by c.from_residual.result _ (view_of c.args.self.now) (view_of c.read_next.new.self) c.args.tree.now c.read_next.new.tree c.from_residual.ensures.1 next.effect;
+    }
 
-pub returns-in_err-push_chosen-clause-effect : goal.returns-in_err-push_chosen-clause-effect
-returns-in_err-push_chosen-clause-effect g c =
-    swept_short _ (view_of c.args.self.now) (view_of c.read_next.new.self) (view_of c.read_next.new.self) c.args.tree.now c.read_next.new.tree refl
-    c.in_ok-read_next.ensures.effect c.from_residual-in_err-push_chosen.result c.from_residual-in_err-push_chosen.ensures.1
+pub returns-in_err-push_chosen-clause-next : goal.returns-in_err-push_chosen-clause-next
+returns-in_err-push_chosen-clause-next g c =
+    let next = c.in_ok-read_next.ensures.next in
+    record {
+      onward = next.onward;
+      asked = next.asked;
+      effect = swept_short _ (view_of c.args.self.now) (view_of c.read_next.new.self) (view_of c.read_next.new.self) c.args.tree.now c.read_next.new.tree refl
+          next.effect c.from_residual-in_err-push_chosen.result c.from_residual-in_err-push_chosen.ensures.1;
+    }
 
-pub returns-clause-effect : goal.returns-clause-effect
-returns-clause-effect g c =
-    swept_with _ (view_of c.args.self.now) (view_of c.read_next.new.self) (view_of c.read_next.new.self) c.args.tree.now c.read_next.new.tree refl c.in_ok-read_next.ensures.effect tt
+pub returns-clause-next : goal.returns-clause-next
+returns-clause-next g c =
+    let next = c.in_ok-read_next.ensures.next in
+    record {
+      onward = next.onward;
+      asked = next.asked;
+      effect = swept_with _ (view_of c.args.self.now) (view_of c.read_next.new.self) (view_of c.read_next.new.self) c.args.tree.now c.read_next.new.tree refl next.effect tt;
+    }
 
 pub returns-clause-rows : goal.returns-clause-rows
 returns-clause-rows g c =
@@ -34,24 +49,6 @@ returns-clause-rows g c =
           → g.K.RowSink.HasTaken s plan.asked before (taken ++ filter (is_chosen choice s plan) region.rows) c.push_chosen.new.sink) same (c.in_ok-push_chosen.ensures before taken),
       record { region = region; read = read; choice = choice; rows_are = refl },
     )
-
-pub returns-in_err-read_next-clause-onward : goal.returns-in_err-read_next-clause-onward
-returns-in_err-read_next-clause-onward g c = c.in_err-read_next.ensures.onward
-
-pub returns-in_err-read_next-clause-asked : goal.returns-in_err-read_next-clause-asked
-returns-in_err-read_next-clause-asked g c = c.in_err-read_next.ensures.asked
-
-pub returns-in_err-push_chosen-clause-onward : goal.returns-in_err-push_chosen-clause-onward
-returns-in_err-push_chosen-clause-onward g c = c.in_ok-read_next.ensures.onward
-
-pub returns-in_err-push_chosen-clause-asked : goal.returns-in_err-push_chosen-clause-asked
-returns-in_err-push_chosen-clause-asked g c = c.in_ok-read_next.ensures.asked
-
-pub returns-clause-onward : goal.returns-clause-onward
-returns-clause-onward g c = c.in_ok-read_next.ensures.onward
-
-pub returns-clause-asked : goal.returns-clause-asked
-returns-clause-asked g c = c.in_ok-read_next.ensures.asked
 
 pub of-choice-requires : goal.of-choice-requires
 of-choice-requires g c =

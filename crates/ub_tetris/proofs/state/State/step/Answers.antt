@@ -1,10 +1,11 @@
 use Rattle.std.proofs.Common.{Bool, Err, ap, refl, subst}
-use Rattle.ub_tetris.proofs.EffectFacts.{sweeps_then, swept_by, swept_with}
+use Rattle.ub_tetris.proofs.EffectFacts.{sweeps_then, swept_as, swept_with}
 use Rattle.ub_tetris.proofs.FetchFacts.{due_within}
-use Rattle.ub_tetris.proofs.StepsFacts.{Fetches-more, Fetches-none, end_unbroken, fewer, on_err, step_answers, step_broken, step_ends, step_rests, same_schema}
+use Rattle.ub_tetris.proofs.StepsFacts.{Fetches-more, Fetches-none, end_unbroken, fewer, step_answers, step_broken, step_ends, step_rests, same_schema}
+use Rattle.ub_tetris.specs.Calls.{GivesRow}
 use Rattle.ub_tetris.specs.inner.Turns.{IsDue, view_of}
 use Rattle.ub_tree.specs.View.{TreeView}
-use Rattle.ub_tetris.proofs.TurnFacts.{posed_still, refused_none}
+use Rattle.ub_tetris.proofs.TurnFacts.{as_err, posed_still}
 use Rattle.ub_tetris.proofs.state.State.step.Goals as goal
 
 pub loop-self-init : goal.loop-self-init
@@ -15,62 +16,45 @@ fetch-requires-clause-some g c = due_within c.loop-self.self (subst (λ (due : B
 
 pub loop-self-smaller : goal.loop-self-smaller
 loop-self-smaller g c =
-    fewer c.loop-self.self.queue.items c.fetch.new.self.queue.items c.loop-self.self.fetched c.fetch.new.self.fetched (ap (λ (queue : _). queue.items) c.in_ok-fetch.ensures.onward.1)
-    c.in_ok-fetch.ensures.onward.2 (due_within c.loop-self.self (subst (λ (due : Bool). IsDue c.loop-self.self due) c.loop-self-test.true c.is_due.ensures))
+    fewer c.loop-self.self.queue.items c.fetch.new.self.queue.items c.loop-self.self.fetched c.fetch.new.self.fetched (ap (λ (queue : _). queue.items) c.in_ok-fetch.ensures.next.onward.1)
+    c.in_ok-fetch.ensures.next.onward.2 (due_within c.loop-self.self (subst (λ (due : Bool). IsDue c.loop-self.self due) c.loop-self-test.true c.is_due.ensures))
 
 pub loop-self-preserved : goal.loop-self-preserved
 loop-self-preserved g c =
     Fetches-more c.args.plan.now c.args.tree.now c.loop-self.tree c.args.self.now c.loop-self.self c.loop-self.invariant c.fetch.new.tree c.fetch.new.self
-    (subst (λ (due : Bool). IsDue c.loop-self.self due) c.loop-self-test.true c.is_due.ensures) c.in_ok-fetch.ensures.onward
-    c.in_ok-fetch.ensures.rows c.in_ok-fetch.ensures.few c.in_ok-fetch.ensures.effect
+    (subst (λ (due : Bool). IsDue c.loop-self.self due) c.loop-self-test.true c.is_due.ensures) c.in_ok-fetch.ensures.next.onward
+    c.in_ok-fetch.ensures.rows c.in_ok-fetch.ensures.next.effect
 
-pub returns-in_err-fetch-clause-effect : goal.returns-in_err-fetch-clause-effect
-returns-in_err-fetch-clause-effect g c =
-    swept_by c.from_residual.result _ (view_of c.args.self.now) (view_of c.fetch.new.self) c.args.tree.now c.fetch.new.tree c.from_residual.ensures.1
-    (sweeps_then tt (Err _) (view_of c.args.self.now) (view_of c.loop-self.self) (view_of c.fetch.new.self) c.args.tree.now c.loop-self.tree c.fetch.new.tree refl
-    c.loop-self.invariant.effect c.in_err-fetch.ensures.effect)
+pub returns-in_err-fetch : goal.returns-in_err-fetch
+returns-in_err-fetch g c =
+    let plan = c.args.plan.now in
+    let t = c.args.tree.now in
+    let due = subst (λ (due : Bool). IsDue c.loop-self.self due) c.loop-self-test.true c.is_due.ensures in
+    let asks = c.in_err-fetch.ensures.next in
+    as_err c.from_residual.result _ c.from_residual.ensures.1 (λ q. GivesRow plan (view_of c.args.self.now) (view_of c.fetch.new.self) t c.fetch.new.tree q) (record {
+      next = λ given rest fetched unread of. tt;
+      broken = step_broken plan t c.loop-self.tree c.args.self.now c.loop-self.self c.loop-self.invariant c.fetch.new.tree due asks.asked (ap (λ (v : TreeView). v.placed) asks.effect.same);
+      rests = λ working none empty. end_unbroken plan t c.loop-self.tree c.args.self.now c.loop-self.self c.loop-self.invariant due none;
+      answers = tt;
+      effect = swept_as _ (view_of c.args.self.now) (view_of c.fetch.new.self) t c.fetch.new.tree
+          (sweeps_then tt (Err _) (view_of c.args.self.now) (view_of c.loop-self.self) (view_of c.fetch.new.self) t c.loop-self.tree c.fetch.new.tree refl c.loop-self.invariant.effect asks.effect);
+    })
 
-pub returns-clause-next : goal.returns-clause-next
-returns-clause-next g c given rest fetched unread is =
-    step_ends c.args.plan.now c.args.tree.now c.loop-self.tree c.args.self.now c.loop-self.self c.loop-self.invariant (record c.loop-self.self { held = c.take_first.new.self }) c.take_first.result
-    (subst (λ (due : Bool). IsDue c.loop-self.self due) c.loop-self-test.false c.is_due.ensures) c.take_first.ensures (refl, refl, refl) given rest fetched unread is
-
-pub returns-in_err-fetch-clause-broken : goal.returns-in_err-fetch-clause-broken
-returns-in_err-fetch-clause-broken g c given rest fetched unread is =
-    on_err c.from_residual.result _
-    (step_broken c.args.plan.now c.args.tree.now c.loop-self.tree c.args.self.now c.loop-self.self c.loop-self.invariant c.fetch.new.tree
-    (subst (λ (due : Bool). IsDue c.loop-self.self due) c.loop-self-test.true c.is_due.ensures) c.in_err-fetch.ensures.asked
-    (ap (λ (t : TreeView). t.placed) c.in_err-fetch.ensures.effect.same) given rest fetched unread is)
-
-pub returns-in_err-fetch-clause-rests : goal.returns-in_err-fetch-clause-rests
-returns-in_err-fetch-clause-rests g c none empty =
-    end_unbroken c.args.plan.now c.args.tree.now c.loop-self.tree c.args.self.now c.loop-self.self c.loop-self.invariant
-    (subst (λ (due : Bool). IsDue c.loop-self.self due) c.loop-self-test.true c.is_due.ensures) none
-
-pub returns-clause-rests : goal.returns-clause-rests
-returns-clause-rests g c none empty =
-    step_rests c.args.plan.now c.args.tree.now c.loop-self.tree c.args.self.now c.loop-self.self c.loop-self.invariant (record c.loop-self.self { held = c.take_first.new.self }) c.take_first.result c.take_first.ensures (refl, refl, refl) none empty
-
-pub returns-clause-answers : goal.returns-clause-answers
-returns-clause-answers g c =
-    step_answers c.args.plan.now c.args.tree.now c.loop-self.tree c.args.self.now c.loop-self.self c.loop-self.invariant (record c.loop-self.self { held = c.take_first.new.self }) c.take_first.result
-    (subst (λ (due : Bool). IsDue c.loop-self.self due) c.loop-self-test.false c.is_due.ensures) c.take_first.ensures (refl, refl, refl)
+pub returns : goal.returns
+returns g c =
+    let plan = c.args.plan.now in
+    let t = c.args.tree.now in
+    let due = subst (λ (due : Bool). IsDue c.loop-self.self due) c.loop-self-test.false c.is_due.ensures in
+    let now = record c.loop-self.self { held = c.take_first.new.self } in
+    record {
+      next = step_ends plan t c.loop-self.tree c.args.self.now c.loop-self.self c.loop-self.invariant now c.take_first.result due c.take_first.ensures (refl, refl, refl);
+      broken = λ given rest fetched unread of. tt;
+      rests = λ working none empty. step_rests plan t c.loop-self.tree c.args.self.now c.loop-self.self c.loop-self.invariant now c.take_first.result c.take_first.ensures (refl, refl, refl) none empty;
+      answers = step_answers plan t c.loop-self.tree c.args.self.now c.loop-self.self c.loop-self.invariant now c.take_first.result due c.take_first.ensures (refl, refl, refl);
+      effect = swept_with tt (view_of c.args.self.now) (view_of c.loop-self.self) (view_of now) t c.loop-self.tree refl c.loop-self.invariant.effect c.take_first.result;
+    }
 
 pub fetch-requires-clause-posed : goal.fetch-requires-clause-posed
 fetch-requires-clause-posed g c =
     posed_still c.loop-self.tree.schema c.args.tree.now.schema c.args.plan.now.asked
     (same_schema c.args.plan.now c.args.tree.now c.loop-self.tree c.args.self.now c.loop-self.self c.loop-self.invariant) c.requires
-
-pub returns-clause-effect : goal.returns-clause-effect
-returns-clause-effect g c =
-    swept_with tt (view_of c.args.self.now) (view_of c.loop-self.self) (view_of (record c.loop-self.self { held = c.take_first.new.self })) c.args.tree.now c.loop-self.tree refl
-    c.loop-self.invariant.effect c.take_first.result
-
-pub returns-clause-broken : goal.returns-clause-broken
-returns-clause-broken g c given rest fetched unread is = tt
-
-pub returns-in_err-fetch-clause-next : goal.returns-in_err-fetch-clause-next
-returns-in_err-fetch-clause-next g c given rest fetched unread is = refused_none _ c.from_residual.result _ c.from_residual.ensures.1
-
-pub returns-in_err-fetch-clause-answers : goal.returns-in_err-fetch-clause-answers
-returns-in_err-fetch-clause-answers g c = refused_none _ c.from_residual.result _ c.from_residual.ensures.1

@@ -1,68 +1,22 @@
-use Rattle.std.proofs.Common.{[], ◌∷◌, ◌∙◌, IfOk, ap, subst, sym}
-use Rattle.std.specs.Option.{option_map}
-use Rattle.std.specs.Prelude.{OnErr}
-use Rattle.ub_tetris.proofs.BrokenFacts.{rests_seen, same_view}
-use Rattle.ub_tetris.proofs.EffectFacts.{Sweeps-failed}
-use Rattle.ub_tetris.specs.Effects.{HasAnswered}
-use Rattle.ub_tetris.specs.Sweep.{HasBroken, IsSweeping, SweepView, HasStepped}
-use Rattle.ub_tetris.specs.inner.Turns.{view_of}
-use Rattle.ub_tetris.proofs.TurnFacts.{FailsOnce-failed, never_swept, never_works, ok_seen, once_seen, sweeps_seen}
+use Rattle.std.proofs.Common.{◌∙◌, ap, sym}
+use Rattle.ub_tetris.proofs.BrokenFacts.{same_view}
+use Rattle.ub_tetris.proofs.SeenFacts.{Gives-failed, row_seen}
+use Rattle.ub_tetris.specs.Sweep.{SweepView}
+use Rattle.ub_tetris.proofs.TurnFacts.{FailsOnce-failed, once_seen}
 use Rattle.ub_tetris.proofs.sweep.Sweep.next.Goals as goal
 
-pub returns-clause-broken : goal.returns-clause-broken
-returns-clause-broken g c given rest fetched unread is =
-    let same = same_view c.self.inside.state c.self.inside.is_failed c.args.self.now c.self.view_is c.if-self.false in
-    subst (λ (view : SweepView). OnErr c.step-found.result (HasBroken c.step-found.new.tree view rest fetched unread)) (sym same)
-    (c.step-found.ensures.broken given rest fetched unread (subst (λ (view : SweepView). IsSweeping c.args.plan.now c.args.tree.now view given rest fetched unread) same is))
-
-pub returns-clause-rests : goal.returns-clause-rests
-returns-clause-rests g c working none empty =
-    let same = same_view c.self.inside.state c.self.inside.is_failed c.args.self.now c.self.view_is c.if-self.false in
-    rests_seen c.step-found.result c.self.inside.state c.step-found.new.self c.args.self.now c.is_err-self-inside.result c.args.tree.now c.step-found.new.tree same c.is_err-self-inside.ensures.value
-    (c.step-found.ensures.rests (ap (λ (v : SweepView). v.awaited) (sym same) ∙ none) (ap (λ (v : SweepView). v.held) (sym same) ∙ empty))
-
-pub returns-then-self-clause-effect : goal.returns-then-self-clause-effect
-returns-then-self-clause-effect g c = Sweeps-failed c.args.self.now c.args.tree.now (ap (λ (v : SweepView). v.is_failed) (sym c.self.view_is) ∙ c.if-self.true)
-
-pub returns-clause-answers : goal.returns-clause-answers
-returns-clause-answers g c =
-    let same = same_view c.self.inside.state c.self.inside.is_failed c.args.self.now c.self.view_is c.if-self.false in
-    ok_seen c.step-found.result c.self.inside.state c.step-found.new.self c.args.self.now c.is_err-self-inside.result same c.is_err-self-inside.ensures.value
-    (λ v found. HasAnswered c.args.plan.now c.args.tree.now c.args.self.now v (option_map (λ row. row ∷ []) found))
-    (subst (λ (view : SweepView). IfOk c.step-found.result (λ found. HasAnswered c.args.plan.now c.args.tree.now view (view_of c.step-found.new.self) (option_map (λ row. row ∷ []) found))) (sym same)
-    c.step-found.ensures.answers)
-
-pub returns-then-self-clause-next : goal.returns-then-self-clause-next
-returns-then-self-clause-next g c given rest fetched unread is = tt
-
-pub returns-then-self-clause-rests : goal.returns-then-self-clause-rests
-returns-then-self-clause-rests g c working none empty = never_works c.args.self.now.is_failed (ap (λ (v : SweepView). v.is_failed) (sym c.self.view_is) ∙ c.if-self.true) working
-
-pub returns-then-self-clause-answers : goal.returns-then-self-clause-answers
-returns-then-self-clause-answers g c = tt
-
-pub returns-clause-next : goal.returns-clause-next
-returns-clause-next g c given rest fetched unread is =
-    let same = same_view c.self.inside.state c.self.inside.is_failed c.args.self.now c.self.view_is c.if-self.false in
-    ok_seen c.step-found.result c.self.inside.state c.step-found.new.self c.args.self.now c.is_err-self-inside.result same c.is_err-self-inside.ensures.value
-    (λ v found. HasStepped c.args.plan.now c.step-found.new.tree v given rest fetched unread found)
-    (c.step-found.ensures.next given rest fetched unread (subst (λ (view : SweepView). IsSweeping c.args.plan.now c.args.tree.now view given rest fetched unread) same is))
-
-pub returns-then-self-clause-broken : goal.returns-then-self-clause-broken
-returns-then-self-clause-broken g c given rest fetched unread is =
-    never_swept c.args.plan.now c.args.tree.now c.args.self.now given rest fetched unread (ap (λ (v : SweepView). v.is_failed) (sym c.self.view_is) ∙ c.if-self.true) is
+pub returns-then-self-clause-gives : goal.returns-then-self-clause-gives
+returns-then-self-clause-gives g c = Gives-failed _ _ c.args.plan.now c.args.self.now c.args.tree.now (ap (λ (v : SweepView). v.is_failed) (sym c.self.view_is) ∙ c.if-self.true)
 
 pub returns-then-self-clause-once : goal.returns-then-self-clause-once
 returns-then-self-clause-once g c = FailsOnce-failed c.args.self.now c.args.tree.now (ap (λ (v : SweepView). v.is_failed) (sym c.self.view_is) ∙ c.if-self.true)
 
+pub returns-clause-gives : goal.returns-clause-gives
+returns-clause-gives g c =
+    row_seen c.self.inside.state c.step-found.new.self c.args.self.now c.settled.new.is_failed (same_view c.self.inside.state c.self.inside.is_failed c.args.self.now c.self.view_is c.if-self.false) c.args.plan.now c.args.tree.now c.step-found.new.tree
+    c.settled.result c.step-found.result c.settled.ensures.answer c.settled.ensures.failed c.step-found.ensures
+
 pub returns-clause-once : goal.returns-clause-once
 returns-clause-once g c =
-    once_seen c.step-found.result c.self.inside.state c.step-found.new.self c.args.self.now c.is_err-self-inside.result
-    (same_view c.self.inside.state c.self.inside.is_failed c.args.self.now c.self.view_is c.if-self.false) c.is_err-self-inside.ensures.value
+    once_seen c.settled.result c.self.inside.state c.step-found.new.self c.args.self.now c.settled.new.is_failed (same_view c.self.inside.state c.self.inside.is_failed c.args.self.now c.self.view_is c.if-self.false) c.settled.ensures.failed
     c.args.tree.now c.step-found.new.tree
-
-pub returns-clause-effect : goal.returns-clause-effect
-returns-clause-effect g c =
-    sweeps_seen c.step-found.result c.self.inside.state c.step-found.new.self c.args.self.now c.is_err-self-inside.result
-    (same_view c.self.inside.state c.self.inside.is_failed c.args.self.now c.self.view_is c.if-self.false) c.is_err-self-inside.ensures.value
-    c.args.tree.now c.step-found.new.tree c.step-found.ensures.effect
