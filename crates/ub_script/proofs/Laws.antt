@@ -18,13 +18,14 @@ use Rattle.ub_query.proofs.Laws.{queries_have_one_meaning}
 use Rattle.ub_query.specs.Shape.{Asked}
 use Rattle.ub_query.specs.declared.cell.Cell.{Cell}
 use Rattle.ub_region.specs.Regions.{AreRegions}
-use Rattle.ub_script.specs.Basis.{Basis, on_stand, over_any, schema_of, IsAskedReply, IsCommandEnd, IsEndOf, IsReply}
+use Rattle.ub_script.specs.Basis.{Basis, on_stand, over_any, schema_of, IsAskedReply, IsCommandEnd, IsEndOf, IsReply, IsReplyOver}
 use Rattle.ub_script.specs.Changes.{HasPutIn, HasTakenOut, IsTableDelete}
 use Rattle.ub_script.specs.Faults.{fault_of_tree}
 use Rattle.ub_script.specs.Formed.{IsSameBut}
 use Rattle.ub_script.specs.Output.{IsFrontOf}
 use Rattle.ub_script.specs.Run.{IsAnswer, IsEnded, AreAnswers, FirstAt, FirstOver, summary_of}
-use Rattle.ub_script.specs.Laws.{IsUnchanged, QueriesFetchOneNumberOfPages, OutcomesHaveOneReply, StatementsHaveOneReplyEach, ScriptsHaveOneEnd, ScriptsHaveOneSummary, CutTextsAreAFront, StoppedTextsAreAFront, StoppedTextsAreWhole, UnchangedTablesStay, FullTablesStay}
+use Rattle.ub_script.specs.Laws.{IsUnchanged, QueriesFetchOneNumberOfPages, OutcomesHaveOneReply, StatementsHaveOneReplyEach, ScriptsHaveOneEnd, ScriptsHaveOneSummary, CutTextsAreAFront, StoppedTextsAreAFront, StoppedTextsAreWhole, UnchangedTablesStay, FullTablesStay, RepliesOnATableAreThose}
+use Rattle.ub_script.specs.Replies.{AreFirstReplies, AreRepliesAt, IsReplyOn}
 use Rattle.ub_script.specs.Script.{IsTheOutcome, Outcome}
 use Rattle.ub_script.specs.Text.{Reply, reply, answer_text, changed_by, deleted_text, IsExplainReply, IsQueryReply, IsTableReply, texts_of, pages_of, refused_in}
 use Rattle.ub_table.specs.Region.{RegionRows}
@@ -77,21 +78,22 @@ one_deleted s q first second now other stand h k =
     same_reply first second (h.text_is ∙ ap deleted_text changed ∙ sym k.text_is)
     (queries_fetch_one_number_of_pages s.table.schema s.next s.regions q first.pages second.pages stand.regions_are h.pages_are k.pages_are) (h.accepted ∙ sym k.accepted) changed
 
-pub outcomes_have_one_reply : OutcomesHaveOneReply
-outcomes_have_one_reply s (Ok (asks t)) first second now other stand (answer, none, still) (also, no_more, unmoved) =
+one_on : (s : Stand) (outcome : Outcome) (first second : Reply) (after later : Stand) → IsStand s → IsReplyOn s outcome first after → IsReplyOn s outcome second later
+    → (first ≡ second) × (after ≡ later)
+one_on s (Ok (asks t)) first second after later stand (answer, none, still) (also, no_more, unmoved) =
     (one_asked t.is_explained s.table s.next s.regions t.asked first second stand.regions_are (none ∙ sym no_more) answer also, still ∙ sym unmoved)
-outcomes_have_one_reply s (Ok (puts values)) first second now other stand (after, h, at) (later, k, there) =
-    (h.reply_is ∙ sym k.reply_is, at ∙ ap on_stand (h.now_is ∙ sym k.now_is) ∙ sym there)
-outcomes_have_one_reply s (Ok (takes q)) first second now other stand (after, h, at) (later, k, there) =
-    (one_deleted s q first second after later stand h k, at ∙ ap on_stand (h.now_is ∙ sym k.now_is) ∙ sym there)
-outcomes_have_one_reply s (Err fault) first second now other stand (h, still) (k, unmoved) = (h ∙ sym k, still ∙ sym unmoved)
+one_on s (Ok (puts values)) first second after later stand h k = (h.reply_is ∙ sym k.reply_is, h.now_is ∙ sym k.now_is)
+one_on s (Ok (takes q)) first second after later stand h k = (one_deleted s q first second after later stand h k, h.now_is ∙ sym k.now_is)
+one_on s (Err fault) first second after later stand (h, still) (k, unmoved) = (h ∙ sym k, still ∙ sym unmoved)
+
+pub outcomes_have_one_reply : OutcomesHaveOneReply
+outcomes_have_one_reply s outcome first second now other stand (after, h, at) (later, k, there) =
+    let same = one_on s outcome first second after later stand h k in
+    (same.0, at ∙ ap on_stand same.1 ∙ sym there)
 
 -- a table that stands somewhere stands somewhere after a reply
 stands_on : (s : Stand) (outcome : Outcome) (r : Reply) (now : Basis) → IsReply (on_stand s) outcome r now → (after : Stand) × (now ≡ on_stand after)
-stands_on s (Ok (asks t)) r now (answer, none, still) = (s, still)
-stands_on s (Ok (puts values)) r now (after, h, at) = (after, at)
-stands_on s (Ok (takes q)) r now (after, h, at) = (after, at)
-stands_on s (Err fault) r now (h, still) = (s, still)
+stands_on s outcome r now (after, h, at) = (after, at)
 
 -- ---- one reply each to the statements of a script
 
@@ -204,13 +206,21 @@ asked_accepted false (on_stand s) q r h = h.accepted
 asked_accepted true (over_any seen) q r h = h.accepted
 asked_accepted false (over_any seen) q r h = h.accepted
 
+refused_on : (s : Stand) (outcome : Outcome) (r : Reply) (now : Stand) → IsReplyOn s outcome r now → r.is_refused ≡ refuses outcome
+refused_on s (Ok (asks t)) r now (answer, none, still) = asked_accepted t.is_explained (on_stand s) t.asked r answer
+refused_on s (Ok (puts values)) r now h = ap (λ (x : Reply). x.is_refused) h.reply_is
+refused_on s (Ok (takes q)) r now h = h.accepted
+refused_on s (Err fault) r now (h, still) = ap (λ (x : Reply). x.is_refused) h
+
+refused_over : (seen : TreeView) (outcome : Outcome) (r : Reply) (now : TreeView) → IsReplyOver seen outcome r now → r.is_refused ≡ refuses outcome
+refused_over seen (Ok (asks t)) r now (answer, none, still) = asked_accepted t.is_explained (over_any seen) t.asked r answer
+refused_over seen (Ok (puts values)) r now h = ap (λ (x : Reply). x.is_refused) h.reply_is
+refused_over seen (Ok (takes q)) r now h = h.accepted
+refused_over seen (Err fault) r now (h, still) = ap (λ (x : Reply). x.is_refused) h
+
 refused_as : (basis : Basis) (outcome : Outcome) (r : Reply) (now : Basis) → IsReply basis outcome r now → r.is_refused ≡ refuses outcome
-refused_as basis (Ok (asks t)) r now (answer, none, still) = asked_accepted t.is_explained basis t.asked r answer
-refused_as (on_stand s) (Ok (puts values)) r now (after, h, at) = ap (λ (x : Reply). x.is_refused) h.reply_is
-refused_as (over_any seen) (Ok (puts values)) r now (after, h, at) = ap (λ (x : Reply). x.is_refused) h.reply_is
-refused_as (on_stand s) (Ok (takes q)) r now (after, h, at) = h.accepted
-refused_as (over_any seen) (Ok (takes q)) r now (after, h, at) = h.accepted
-refused_as basis (Err fault) r now (h, still) = ap (λ (x : Reply). x.is_refused) h
+refused_as (on_stand s) outcome r now (after, h, at) = refused_on s outcome r after h
+refused_as (over_any seen) outcome r now (after, h, at) = refused_over seen outcome r after h
 
 -- rows that are taken out leave the schema
 without_schema : (rows : List Row) (s : Stand) → (without_rows rows s).table.schema ≡ s.table.schema
@@ -218,16 +228,21 @@ without_schema [] s = refl
 without_schema (row ∷ rows) s = without_schema rows (without_row row s)
 
 -- and every statement does
+schema_on : (s : Stand) (outcome : Outcome) (r : Reply) (now : Stand) → IsReplyOn s outcome r now → now.table.schema ≡ s.table.schema
+schema_on s (Ok (asks t)) r now (answer, none, still) = ap (λ (x : Stand). x.table.schema) still
+schema_on s (Ok (puts values)) r now h = ap (λ (x : Stand). x.table.schema) h.now_is
+schema_on s (Ok (takes q)) r now h = ap (λ (x : Stand). x.table.schema) h.now_is ∙ without_schema (selected_of q s) s
+schema_on s (Err fault) r now (h, still) = ap (λ (x : Stand). x.table.schema) still
+
+schema_over : (seen : TreeView) (outcome : Outcome) (r : Reply) (now : TreeView) → IsReplyOver seen outcome r now → now.schema ≡ seen.schema
+schema_over seen (Ok (asks t)) r now (answer, none, still) = ap (λ (x : TreeView). x.schema) still
+schema_over seen (Ok (puts values)) r now h = ap (λ (t : TreeView). t.schema) h.put.put.puts_in.effect.frame ∙ ap (λ (t : TreeView). t.schema) h.put.put.same
+schema_over seen (Ok (takes q)) r now h = ap (λ (t : TreeView). t.schema) h.taken.deletes.frame ∙ ap (λ (t : TreeView). t.schema) h.taken.same
+schema_over seen (Err fault) r now (h, still) = ap (λ (x : TreeView). x.schema) still
+
 schema_kept : (basis : Basis) (outcome : Outcome) (r : Reply) (now : Basis) → IsReply basis outcome r now → schema_of now ≡ schema_of basis
-schema_kept basis (Ok (asks t)) r now (answer, none, still) = ap schema_of still
-schema_kept (on_stand s) (Ok (puts values)) r now (after, h, at) = ap schema_of at ∙ ap (λ (x : Stand). x.table.schema) h.now_is
-schema_kept (over_any seen) (Ok (puts values)) r now (after, h, at) =
-    ap schema_of at ∙ ap (λ (t : TreeView). t.schema) h.put.put.puts_in.effect.frame ∙ ap (λ (t : TreeView). t.schema) h.put.put.same
-schema_kept (on_stand s) (Ok (takes q)) r now (after, h, at) =
-    ap schema_of at ∙ ap (λ (x : Stand). x.table.schema) h.now_is ∙ without_schema (selected_of q s) s
-schema_kept (over_any seen) (Ok (takes q)) r now (after, h, at) =
-    ap schema_of at ∙ ap (λ (t : TreeView). t.schema) h.taken.deletes.frame ∙ ap (λ (t : TreeView). t.schema) h.taken.same
-schema_kept basis (Err fault) r now (h, still) = ap schema_of still
+schema_kept (on_stand s) outcome r now (after, h, at) = ap schema_of at ∙ schema_on s outcome r after h
+schema_kept (over_any seen) outcome r now (after, h, at) = ap schema_of at ∙ schema_over seen outcome r after h
 
 module _ (source : List ℕ) (tokens : List Token) where
   refused_alike : (basis other : Basis) (statement : List Token) (x y : Reply) (now later : Basis) → schema_of basis ≡ schema_of other → IsAnswer basis source statement x now
@@ -326,18 +341,22 @@ none_taken [] s none = refl
 none_taken (row ∷ rows) s none = absurd (omega (arith, none))
 
 -- a statement that puts in no row and takes out none
+stays_on : (s : Stand) (outcome : Outcome) (r : Reply) (now : Stand) → r.changed ≡ 0 → IsReplyOn s outcome r now → now ≡ s
+stays_on s (Ok (asks t)) r now none (answer, zero_too, still) = still
+stays_on s (Ok (puts values)) r now none h = absurd (let one : r.changed ≡ 1 = ap (λ (x : Reply). x.changed) h.reply_is in omega (arith, one, none))
+stays_on s (Ok (takes q)) r now none h = h.now_is ∙ none_taken (selected_of q s) s (sym h.changed_is ∙ none)
+stays_on s (Err fault) r now none (h, still) = still
+
+stays_over : (seen : TreeView) (outcome : Outcome) (r : Reply) (now : TreeView) → r.changed ≡ 0 → IsReplyOver seen outcome r now → IsSameBut seen now
+stays_over seen (Ok (asks t)) r now none (answer, zero_too, still) = subst (λ (t : TreeView). IsSameBut seen t) (sym still) refl
+stays_over seen (Ok (puts values)) r now none h = absurd (let one : r.changed ≡ 1 = ap (λ (x : Reply). x.changed) h.reply_is in omega (arith, one, none))
+stays_over seen (Ok (takes q)) r now none h =
+    h.taken.untouched (ap (λ (n : ℕ). Ok n) none) ∙ ap (λ (t : TreeView). record t { trace = now.trace }) h.taken.same
+stays_over seen (Err fault) r now none (h, still) = subst (λ (t : TreeView). IsSameBut seen t) (sym still) refl
+
 stays : (basis : Basis) (outcome : Outcome) (r : Reply) (now : Basis) → r.changed ≡ 0 → IsReply basis outcome r now → IsUnchanged basis now
-stays basis (Ok (asks t)) r now none (answer, zero_too, still) = unmoved basis now still
-stays (on_stand s) (Ok (puts values)) r now none (after, h, at) =
-    absurd (let one : r.changed ≡ 1 = ap (λ (x : Reply). x.changed) h.reply_is in omega (arith, one, none))
-stays (over_any seen) (Ok (puts values)) r now none (after, h, at) =
-    absurd (let one : r.changed ≡ 1 = ap (λ (x : Reply). x.changed) h.reply_is in omega (arith, one, none))
-stays (on_stand s) (Ok (takes q)) r now none (after, h, at) =
-    unmoved (on_stand s) now (at ∙ ap on_stand (h.now_is ∙ none_taken (selected_of q s) s (sym h.changed_is ∙ none)))
-stays (over_any seen) (Ok (takes q)) r now none (after, h, at) =
-    subst (λ (b : Basis). IsUnchanged (over_any seen) b) (sym at)
-    (h.taken.untouched (ap (λ (n : ℕ). Ok n) none) ∙ ap (λ (t : TreeView). record t { trace = after.trace }) h.taken.same)
-stays basis (Err fault) r now none (h, still) = unmoved basis now still
+stays (on_stand s) outcome r now none (after, h, at) = unmoved (on_stand s) now (at ∙ ap on_stand (stays_on s outcome r after none h))
+stays (over_any seen) outcome r now none (after, h, at) = subst (λ (b : Basis). IsUnchanged (over_any seen) b) (sym at) (stays_over seen outcome r after none h)
 
 all_stay : (basis : Basis) (source : List ℕ) (tokens : List Token) (ranges : List (ℕ × ℕ)) (replies : List Reply) (now : Basis) → changed_by replies ≡ 0
     → AreAnswers basis source tokens ranges replies now → IsUnchanged basis now
@@ -387,3 +406,58 @@ full_from seen script tokens (over_any m) now pages h (inr u) = unchanged_on (ov
 pub full_tables_stay : FullTablesStay
 full_tables_stay seen script replies left pages now h none =
     full_from seen script _ h.ended.0 now pages (all_stay (over_any seen) script h.tokens (take (length replies) h.ranges) replies h.ended.0 none h.ended.1.1) h.ended.2.2
+
+-- ---- replies on the basis of a table, and on that table alone
+
+-- the table that stands there
+abbrev stand_in : Stand → Basis → Stand
+stand_in s (on_stand now) = now
+stand_in s (over_any seen) = s
+
+module _ (source : List ℕ) (tokens : List Token) where
+  pub on_table : (s : Stand) (ranges : List (ℕ × ℕ)) (replies : List Reply) (now : Stand) → AreAnswers (on_stand s) source tokens ranges replies (on_stand now)
+      → AreRepliesAt s source tokens ranges replies now
+  on_table s [] [] now h = ap (stand_in s) h
+  on_table s [] (r ∷ replies) now h = absurd h
+  on_table s (range ∷ ranges) [] now h = absurd h
+  on_table s (range ∷ ranges) (r ∷ replies) now (mid, one, rest) =
+      let (after, is, at) = one.reply_is in (
+        after,
+        record { outcome = one.outcome; heard = one.heard; stands = one.stands; reply_is = is },
+        on_table after ranges replies now (subst (λ (b : Basis). AreAnswers b source tokens ranges replies (on_stand now)) at rest),
+      )
+
+  on_basis : (s : Stand) (ranges : List (ℕ × ℕ)) (replies : List Reply) (now : Stand) → AreRepliesAt s source tokens ranges replies now
+      → AreAnswers (on_stand s) source tokens ranges replies (on_stand now)
+  on_basis s [] [] now h = ap on_stand h
+  on_basis s [] (r ∷ replies) now h = absurd h
+  on_basis s (range ∷ ranges) [] now h = absurd h
+  on_basis s (range ∷ ranges) (r ∷ replies) now (mid, one, rest) = (
+    on_stand mid,
+    record { outcome = one.outcome; heard = one.heard; stands = one.stands; reply_is = (mid, one.reply_is, refl) },
+    on_basis mid ranges replies now rest,
+  )
+
+pub replies_on_a_table_are_those : RepliesOnATableAreThose
+replies_on_a_table_are_those s script replies left now = (forth, back)
+  where
+    forth : FirstOver (on_stand s) script replies left (on_stand now) → (first : AreFirstReplies s script replies now) × (length replies + left ≡ length first.ranges)
+    forth h = (
+      record {
+        tokens = h.tokens;
+        ranges = h.ranges;
+        tokens_are = h.tokens_are;
+        ranges_are = h.ranges_are;
+        first = on_table script h.tokens s (take (length replies) h.ranges) replies now h.first.1;
+      },
+      h.first.0,
+    )
+
+    back : (first : AreFirstReplies s script replies now) × (length replies + left ≡ length first.ranges) → FirstOver (on_stand s) script replies left (on_stand now)
+    back (h, count) = record {
+      tokens = h.tokens;
+      ranges = h.ranges;
+      tokens_are = h.tokens_are;
+      ranges_are = h.ranges_are;
+      first = (count, on_basis script h.tokens s (take (length replies) h.ranges) replies now h.first);
+    }

@@ -3,17 +3,19 @@ use Rattle.std.specs.Prelude.{◌≡◌, ◌≤◌, ◌⊎◌, ℕ, ℤ, Bool, t
 use Rattle.ub_exec.specs.Stand.{Stand, IsStand, IsStandOf, selected_of, without_rows}
 use Rattle.ub_parser.specs.Outcome.{Command, asks, puts, takes}
 use Rattle.ub_query.specs.Shape.{Asked}
-use Rattle.ub_script.specs.Changes.{HasPutIn, HasTakenOut, IsFormedDelete, IsFormedInsert, IsTableDelete, IsTableInsert}
+use Rattle.ub_script.specs.Changes.{HasPutIn, HasTakenOut, IsFormedDelete, IsFormedInsert}
 use Rattle.ub_script.specs.Faults.{IsGiven, counted, fault_of_read, fault_of_tree}
 use Rattle.ub_script.specs.Formed.{IsFormedReply, IsSameBut}
+use Rattle.ub_script.specs.Replies.{IsReplyOn}
 use Rattle.ub_script.specs.Script.{Outcome}
 use Rattle.ub_script.specs.Text.{Reply, reply, refused_text, IsTableReply}
 use Rattle.ub_script.specs.declared.fault.RunFault.{RunFault}
 use Rattle.ub_script.specs.declared.fault.RunFault.TheVariants.{Memory, Tree}
+use Rattle.ub_store.specs.declared.fault.StoreFault.TheVariants.{BadSize, Device}
 use Rattle.ub_table.specs.declared.schema.Schema.{Schema}
 use Rattle.ub_tree.specs.View.{TreeView}
 use Rattle.ub_tree.specs.declared.fault.TreeFault.{TreeFault}
-use Rattle.ub_tree.specs.declared.fault.TreeFault.TheVariants.{Failed}
+use Rattle.ub_tree.specs.declared.fault.TreeFault.TheVariants.{Failed, Full, Store}
 use Rattle.ub_tree.specs.declared.read_fault.ReadFault.{ReadFault}
 
 -- where a table stands; or any tree
@@ -47,22 +49,25 @@ abbrev pub IsAskedReply : Bool → Basis → Asked → Reply → Type 0
 IsAskedReply is_explained (on_stand s) q r = IsTableReply is_explained s.table s.regions q r
 IsAskedReply is_explained (over_any seen) q r = IsFormedReply is_explained seen q r
 
+-- the reply to a statement with this outcome over any tree; for a refused one no page is fetched, and nothing is changed
+abbrev pub IsReplyOver : TreeView → Outcome → Reply → TreeView → Type 0
+IsReplyOver seen (Ok (asks t)) r now = IsFormedReply t.is_explained seen t.asked r × (r.changed ≡ 0) × (now ≡ seen)
+IsReplyOver seen (Ok (puts values)) r now = IsFormedInsert seen values r now
+IsReplyOver seen (Ok (takes q)) r now = IsFormedDelete seen q r now
+IsReplyOver seen (Err fault) r now = (r ≡ reply (refused_text fault) 0 true 0) × (now ≡ seen)
+
+-- the reply to a statement with this outcome: on a table that stands somewhere, or over any tree
+abbrev pub IsReply : Basis → Outcome → Reply → Basis → Type 0
+IsReply (on_stand s) outcome r now = (after : Stand) × IsReplyOn s outcome r after × (now ≡ on_stand after)
+IsReply (over_any seen) outcome r now = (after : TreeView) × IsReplyOver seen outcome r after × (now ≡ over_any after)
+
 -- the reply to an INSERT
 abbrev pub IsInsertReply : Basis → List ℤ → Reply → Basis → Type 0
-IsInsertReply (on_stand s) values r now = (after : Stand) × IsTableInsert s values r after × (now ≡ on_stand after)
-IsInsertReply (over_any seen) values r now = (after : TreeView) × IsFormedInsert seen values r after × (now ≡ over_any after)
+IsInsertReply basis values r now = IsReply basis (Ok (puts values)) r now
 
 -- the reply to a DELETE
 abbrev pub IsDeleteReply : Basis → Asked → Reply → Basis → Type 0
-IsDeleteReply (on_stand s) q r now = (after : Stand) × IsTableDelete s q r after × (now ≡ on_stand after)
-IsDeleteReply (over_any seen) q r now = (after : TreeView) × IsFormedDelete seen q r after × (now ≡ over_any after)
-
--- the reply to a statement with this outcome; for a refused one no page is fetched, and nothing is changed
-abbrev pub IsReply : Basis → Outcome → Reply → Basis → Type 0
-IsReply basis (Ok (asks t)) r now = IsAskedReply t.is_explained basis t.asked r × (r.changed ≡ 0) × (now ≡ basis)
-IsReply basis (Ok (puts values)) r now = IsInsertReply basis values r now
-IsReply basis (Ok (takes q)) r now = IsDeleteReply basis q r now
-IsReply basis (Err fault) r now = (r ≡ reply (refused_text fault) 0 true 0) × (now ≡ basis)
+IsDeleteReply basis q r now = IsReply basis (Ok (takes q)) r now
 
 -- ---- the ends by a fault, each with what is left
 
@@ -104,10 +109,24 @@ abbrev pub IsAskedFault : Basis → RunFault → Type 0
 IsAskedFault (on_stand s) fault = Unit {0}
 IsAskedFault (over_any seen) fault = IsGiven seen fault
 
--- over a tree that has failed a fault is that, or want of memory
-abbrev pub IsFaultOver : Basis → RunFault → Type 0
-IsFaultOver (on_stand s) fault = Unit {0}
-IsFaultOver (over_any seen) fault = IsTrue seen.is_failed → (fault ≡ Memory) ⊎ (fault ≡ Tree Failed)
+-- memory was refused, or the store failed
+abbrev pub IsPassingFault : RunFault → Type 0
+IsPassingFault fault = (fault ≡ Memory) ⊎ (fault ≡ Tree (Store Device))
+
+-- a row has no place: no number is left, the index has no room, or the store can't have another page
+abbrev pub IsPlaceFault : RunFault → Type 0
+IsPlaceFault fault = (fault ≡ Tree Full) ⊎ (fault ≡ Tree (Store BadSize))
+
+-- on a table a statement is ended by want of memory, or as the store failed; and an INSERT also where its row has no place
+abbrev pub IsFaultOn : Command → RunFault → Type 0
+IsFaultOn (asks t) fault = IsPassingFault fault
+IsFaultOn (puts values) fault = IsPassingFault fault ⊎ IsPlaceFault fault
+IsFaultOn (takes q) fault = IsPassingFault fault
+
+-- so it is on a table; over a tree that has failed a fault is that, or want of memory
+abbrev pub IsFaultOver : Basis → Command → RunFault → Type 0
+IsFaultOver (on_stand s) says fault = IsFaultOn says fault
+IsFaultOver (over_any seen) says fault = IsTrue seen.is_failed → (fault ≡ Memory) ⊎ (fault ≡ Tree Failed)
 
 -- a statement that is accepted was ended by a fault, so many pages were fetched for it, and this is left
 abbrev pub IsCommandEnd : Basis → Command → RunFault → ℕ → Basis → Type 0

@@ -1,5 +1,5 @@
 -- The laws of the definitions. Each is what the function of its name in `law` ensures.
-use Rattle.std.specs.Prelude.{◌≡◌, ◌≤◌, ◌+◌, ◌++◌, ℕ, List, ◌∷◌, length, take}
+use Rattle.std.specs.Prelude.{◌≡◌, ◌≤◌, ◌+◌, ◌++◌, ◌↔◌, ℕ, List, ◌∷◌, length, take}
 use Rattle.std.specs.List.{AllByRecursion, flat_map}
 use Rattle.ub_exec.specs.Stand.{Stand, IsStand}
 use Rattle.ub_load.specs.LoadedTable.{IsLoaded}
@@ -12,6 +12,7 @@ use Rattle.ub_script.specs.Exports.{all_rows, renumbered}
 use Rattle.ub_script.specs.Formed.{IsSameBut}
 use Rattle.ub_script.specs.Output.{IsFrontOf}
 use Rattle.ub_script.specs.Parts.{answers_in, notes_in}
+use Rattle.ub_script.specs.Replies.{AreFirstReplies}
 use Rattle.ub_script.specs.Run.{EndedOver, FirstOver, IsCutOff, IsStopped, IsWhole}
 use Rattle.ub_script.specs.Script.{Outcome}
 use Rattle.ub_script.specs.Text.{ArePages, Reply, answer_text, changed_by, comma_line, counts_line, row_line, texts_of}
@@ -82,6 +83,12 @@ StoppedTextsAreWhole =
     → IsWhole (FirstOver (on_stand s) script) summary later text all
     → (replies : List Reply) × (more : List Reply) × FirstOver (on_stand s) script (replies ++ more) 0 later
     × (bytes ≡ texts_of replies) × (text ≡ texts_of (replies ++ more))
+
+-- on the basis of a table the replies to the first statements of a script are those on that table alone
+abbrev pub RepliesOnATableAreThose : Type 0
+RepliesOnATableAreThose = (s : Stand) (script : List ℕ) (replies : List Reply) (left : ℕ) (now : Stand)
+    → FirstOver (on_stand s) script replies left (on_stand now)
+    ↔ ((first : AreFirstReplies s script replies now) × (length replies + left ≡ length first.ranges))
 
 -- nothing but its trace tells what a tree is now from what it was, or a table stands where it stood
 abbrev pub IsUnchanged : Basis → Basis → Type 0

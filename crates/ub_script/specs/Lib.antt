@@ -6,6 +6,7 @@ pub mod Parts
 pub mod Exports
 pub mod Formed
 pub mod Changes
+pub mod Replies
 pub mod Basis
 pub mod Appending
 pub mod Run

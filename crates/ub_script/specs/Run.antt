@@ -34,14 +34,14 @@ pub record IsAnswer (basis : Basis) (source : List ℕ) (tokens : List Token) (r
   pub stands : Stands basis
   pub reply_is : IsReply basis outcome r now
 
--- the statement of these tokens is accepted, and has no reply, since a fault ended it; so many pages were fetched for it. Over a tree
--- that has failed that is the fault, unless memory was refused
+-- the statement of these tokens is accepted, and has no reply, since a fault ended it; so many pages were fetched for it. On a table that
+-- is one that such a statement can meet there; over a tree that has failed it is that, unless memory was refused
 pub record IsUnanswered (basis : Basis) (source : List ℕ) (tokens : List Token) (fault : RunFault) (pages : ℕ) (now : Basis)
     : Type 0 where
   pub says : Command
   pub heard : IsTheOutcome (schema_of basis) source tokens (Ok says)
   pub ended : IsCommandEnd basis says fault pages now
-  pub failed : IsFaultOver basis fault
+  pub failed : IsFaultOver basis says fault
 
 -- a fault ended the statement of these tokens: want of memory, before any page; or the statement is accepted
 abbrev pub IsEnded : Basis → List ℕ → List Token → RunFault → ℕ → Basis → Type 0

@@ -1,4 +1,4 @@
-ghost use Rattle.ub_script.specs.Laws.{QueriesFetchOneNumberOfPages, OutcomesHaveOneReply, StatementsHaveOneReplyEach, ScriptsHaveOneEnd, ScriptsHaveOneSummary, CutTextsAreAFront, StoppedTextsAreAFront, StoppedTextsAreWhole, UnchangedTablesStay, FullTablesStay, AnswersAreTheirLines, ExportsAreLoaded};
+ghost use Rattle.ub_script.specs.Laws.{QueriesFetchOneNumberOfPages, OutcomesHaveOneReply, StatementsHaveOneReplyEach, ScriptsHaveOneEnd, ScriptsHaveOneSummary, CutTextsAreAFront, StoppedTextsAreAFront, StoppedTextsAreWhole, UnchangedTablesStay, FullTablesStay, RepliesOnATableAreThose, AnswersAreTheirLines, ExportsAreLoaded};
 
 // Each function here does nothing, and its clause is a law of the definitions in specs/. So the law is proved, and is read
 // beside the code.
@@ -45,6 +45,12 @@ pub fn stopped_texts_are_a_front()
 /// What stands then are the whole texts of the first statements.
 pub fn stopped_texts_are_whole()
     ensures { StoppedTextsAreWhole }
+{}
+
+/// What is said of the replies of a run over a sound tree, on the basis of its table, is what is said of replies on that table alone,
+/// where there is no tree.
+pub fn replies_on_a_table_are_those()
+    ensures { RepliesOnATableAreThose }
 {}
 
 /// Statements that put in no row and take out none leave a table as it was, and any tree but for its trace.

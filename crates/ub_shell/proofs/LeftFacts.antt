@@ -27,13 +27,10 @@ use Rattle.ub_shell.specs.Laws.{HasLeft, HasStopped}
 
 -- after a reply
 after_reply : (s : Stand) (outcome : Outcome) (r : Reply) (now : Basis) → IsReply (on_stand s) outcome r now → (after : Stand) × (now ≡ on_stand after)
-after_reply s (Ok (asks t)) r now (answer, none, still) = (s, still)
-after_reply s (Ok (puts values)) r now (after, h, at) = (after, at)
-after_reply s (Ok (takes q)) r now (after, h, at) = (after, at)
-after_reply s (Err fault) r now (h, still) = (s, still)
+after_reply s outcome r now (after, h, at) = (after, at)
 
 -- after several
-after_answers : (s : Stand) (source : List ℕ) (tokens : List Token) (ranges : List (ℕ × ℕ)) (replies : List Reply) (now : Basis)
+pub after_answers : (s : Stand) (source : List ℕ) (tokens : List Token) (ranges : List (ℕ × ℕ)) (replies : List Reply) (now : Basis)
     → AreAnswers (on_stand s) source tokens ranges replies now → (after : Stand) × (now ≡ on_stand after)
 after_answers s source tokens [] [] now h = (s, h)
 after_answers s source tokens [] (r ∷ replies) now h = absurd h
