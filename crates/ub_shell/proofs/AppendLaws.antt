@@ -21,7 +21,8 @@ use Rattle.ub_shell.proofs.LeftFacts.{where_ok}
 use Rattle.ub_shell.specs.Appended.{TellsAppended}
 use Rattle.ub_shell.specs.Commands.{both_ended, IsKept}
 use Rattle.ub_shell.specs.Ending.{Tells}
-use Rattle.ub_shell.specs.Laws.{AppendedTablesHaveTheRows, AreStanding, HasMore, IsHeldStand, NoRowsNoChange, RefusedDataLeavesTheTable, SaysRefused, StandsAs}
+use Rattle.ub_shell.specs.Laws.{AppendedTablesHaveTheRows, HasMore, IsHeldStand, NoRowsNoChange, RefusedDataLeavesTheTable, SaysRefused, StandsAs}
+use Rattle.ub_shell.specs.Short.{AreStanding}
 use Rattle.ub_shell.specs.Status.{load_fault_status, open_fault_status, tree_fault_status}
 use Rattle.ub_shell.specs.declared.status.Status.{Status}
 use Rattle.ub_shell.specs.declared.status.Status.TheVariants as ended
@@ -40,7 +41,7 @@ use Rattle.ub_tree.specs.declared.fault.TreeFault.{TreeFault}
 -- ---- a table file to which no row was appended
 
 -- the status of a line that was told, or of a write that failed
-told_either : (out out_now : OutFacts) (line : List ℕ) (wanted status : Status) → Tells out out_now line wanted status → (status ≡ wanted) ⊎ (status ≡ ended.Device)
+pub told_either : (out out_now : OutFacts) (line : List ℕ) (wanted status : Status) → Tells out out_now line wanted status → (status ≡ wanted) ⊎ (status ≡ ended.Device)
 told_either out out_now line wanted status (inl told) = inl told.0
 told_either out out_now line wanted status (inr broken) = inr broken.0
 
@@ -178,7 +179,7 @@ standing_pages absent store s stored is = absurd is
 standing_pages (bytes text) store s stored is = absurd is
 
 -- and the tree that was opened in it stands so
-opened_stand : (t : TreeView) (s : Stand) (placed : List Placed) → IsSound t → t.schema ≡ s.table.schema → t.placed ≡ placed → t.next ≡ s.next → s.regions ≡ regions_in placed
+pub opened_stand : (t : TreeView) (s : Stand) (placed : List Placed) → IsSound t → t.schema ≡ s.table.schema → t.placed ≡ placed → t.next ≡ s.next → s.regions ≡ regions_in placed
     → IsStand s → IsStandOf t s
 opened_stand t s placed sound of_schema of_placed of_next regions_are stands = record {
   sound = sound;
@@ -199,7 +200,7 @@ open_not_done : (fault : OpenFault) → Done ≡ open_fault_status fault → ⊥
 open_not_done (opening.Store fault) e = store_not_done fault e
 open_not_done opening.BadJournal e = let bad = e in cc
 
-load_not_done : (fault : LoadFault) → Done ≡ load_fault_status fault → ⊥
+pub load_not_done : (fault : LoadFault) → Done ≡ load_fault_status fault → ⊥
 load_not_done load.NoHeader e = let bad = e in cc
 load_not_done (load.BadName n) e = let bad = e in cc
 load_not_done load.ColumnCount e = let bad = e in cc

@@ -116,7 +116,7 @@ left_by_reading path table old new r other h = elim (cases_Bool (bytes_eq table 
 ]
 
 -- so does its opening
-left_by_opening : (changes : Bool) (table : List ℕ) (old new : FilesFacts) → OpensFor changes table old new → new.holds table ≡ old.holds table
+pub left_by_opening : (changes : Bool) (table : List ℕ) (old new : FilesFacts) → OpensFor changes table old new → new.holds table ≡ old.holds table
 left_by_opening true table old new opens = ap (λ (f : FilesFacts). f.holds table) opens.same
 left_by_opening false table old new opens = held_same table old new opens
 
@@ -126,7 +126,7 @@ left_unlent true table old new out out_now status unready = ap (λ (f : FilesFac
 left_unlent false table old new out out_now status unopened = ap (λ (f : FilesFacts). f.holds table) unopened.files
 
 -- and where pages were to be kept it holds what it did, or them
-kept_either : (changes : Bool) (table : List ℕ) (left : List (List ℕ)) (closing : Result (Unit {0}) TreeFault) (keeping : Result (Unit {0}) StoreFault) (old new : FilesFacts)
+pub kept_either : (changes : Bool) (table : List ℕ) (left : List (List ℕ)) (closing : Result (Unit {0}) TreeFault) (keeping : Result (Unit {0}) StoreFault) (old new : FilesFacts)
     → IsKept changes table left closing keeping old new → (new.holds table ≡ old.holds table) ⊎ (IsOk closing × HasPages (new.holds table) left)
 kept_either true table left (Ok done) (Ok kept) old new h = inr (refl, h.kept.0)
 kept_either true table left (Ok done) (Err fault) old new h = elim h.either [
@@ -272,7 +272,7 @@ made_done rows regions (Ok made) out out_now told = refl
 made_done rows regions (Err (opening.Store fault)) out out_now told = absurd (store_not_done fault (told_done out out_now _ _ told))
 made_done rows regions (Err opening.BadJournal) out out_now told = let bad = told_done out out_now _ _ told in cc
 
-made_pages : (table : List ℕ) (all : List (List ℕ)) (rows regions : ℕ) (old new : FilesFacts) (out out_now : OutFacts) → MakesTable table all rows regions old new out out_now Done
+pub made_pages : (table : List ℕ) (all : List (List ℕ)) (rows regions : ℕ) (old new : FilesFacts) (out out_now : OutFacts) → MakesTable table all rows regions old new out out_now Done
     → HasPages (new.holds table) all
 made_pages table all rows regions old new out out_now m = (where_ok m.result (made_done rows regions m.result out out_now m.tells) m.makes.made).0
 
@@ -416,12 +416,12 @@ module _ (schema : Schema) (placed : List Placed) (next : ℕ) where
     ]
   ]
 
-passing_told : (out out_now : OutFacts) (status : Status) (fault : TreeFault) → IsPassing fault → Tells out out_now (tree_fault_text fault) (tree_fault_status fault) status
+pub passing_told : (out out_now : OutFacts) (status : Status) (fault : TreeFault) → IsPassing fault → Tells out out_now (tree_fault_text fault) (tree_fault_status fault) status
     → TellsPassing out out_now status
 passing_told out out_now status fault (inl memory) told = inr (subst (λ (f : TreeFault). Tells out out_now (tree_fault_text f) (tree_fault_status f) status) memory told)
 passing_told out out_now status fault (inr device) told = inl (subst (λ (f : TreeFault). Tells out out_now (tree_fault_text f) (tree_fault_status f) status) device told)
 
-store_passing_told : (out out_now : OutFacts) (status : Status) (fault : StoreFault) → (fault ≡ store.Device) ⊎ (fault ≡ store.Memory)
+pub store_passing_told : (out out_now : OutFacts) (status : Status) (fault : StoreFault) → (fault ≡ store.Device) ⊎ (fault ≡ store.Memory)
     → Tells out out_now (store_fault_text fault) (store_fault_status fault) status → TellsPassing out out_now status
 store_passing_told out out_now status fault (inl device) told = inl (subst (λ (f : StoreFault). Tells out out_now (store_fault_text f) (store_fault_status f) status) device told)
 store_passing_told out out_now status fault (inr memory) told = inr (subst (λ (f : StoreFault). Tells out out_now (store_fault_text f) (store_fault_status f) status) memory told)

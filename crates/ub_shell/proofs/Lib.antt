@@ -12,3 +12,5 @@ pub mod DescribeFacts
 pub mod CheckFacts
 pub mod Laws
 pub mod AppendLaws
+pub mod ShortFacts
+pub mod ShortLaws

@@ -230,7 +230,8 @@ TellsRan (Err (ran.Tree fault)) closed out out_now status =
 
 -- a script was run on a tree, which was then closed, also after a fault, with this store left of it, which may have been kept; and it was
 -- told how all that has ended. `ran` says what the statements made of the tree, and `closes` what of that is in the store: where the
--- closing isn't refused, all of it, as a closed table. A tree that has failed isn't closed: its store is as the run left it
+-- closing isn't refused, all of it, as a closed table. A tree that has failed isn't closed: its store is as the run left it. A keeping is
+-- refused only as the file failed
 pub record HasRunTree (t : TreeView) (script : List ℕ) (left : StoreFacts) (out out_now : OutFacts) (status : Status) : Type 0 where
   pub now : TreeView
   pub result : Result Summary RunFault
@@ -239,6 +240,7 @@ pub record HasRunTree (t : TreeView) (script : List ℕ) (left : StoreFacts) (ou
   pub mid : OutFacts
   pub ran : IsRun t now script result out mid
   pub closes : Closes now left closing
+  pub faults : IfErr keeping (λ fault. fault ≡ store.Device)
   pub tells : TellsRan result (both_ended closing keeping) mid out_now status
 
 -- the tree of these pages: where they are a closed table it is sound, with that table's regions

@@ -1,14 +1,14 @@
 -- The laws of how a command ends. Each is what the function of its name in `law` ensures, and is proved in proofs/Laws.antt.
 use Rattle.std.specs.Prelude.{◌≡◌, ◌≢◌, ◌≤◌, ◌⊎◌, ◌+◌, ◌++◌, ℕ, Bool, true, false, List, [], ◌∷◌, Some, Result, Ok, Err, IsOk, IsTrue, codes, length}
 use Rattle.std.specs.List.{flat_map}
-use Rattle.ub_exec.specs.Stand.{Stand, IsStand, IsStandOf}
+use Rattle.ub_exec.specs.Stand.{Stand, IsStandOf}
 use Rattle.ub_words.specs.CommandLine.{AsksHelp, AsksHelpAlone, AsksNothing, AsksQuery}
 use Rattle.ub_load.specs.Appending.{AreRowsOf}
-use Rattle.ub_load.specs.LoadedTable.{records_of}
+use Rattle.ub_load.specs.LoadedTable.{IsLoaded, records_of}
 use Rattle.ub_region.specs.Regions.{numbered_from}
 use Rattle.ub_script.specs.Basis.{Basis, on_stand, over_any}
 use Rattle.ub_script.specs.Output.{OutFacts, HasTaken, IsFrontOf, out_facts}
-use Rattle.ub_script.specs.Run.{EndedOver, FirstOver, summary_of}
+use Rattle.ub_script.specs.Run.{EndedOver, FirstOver, loaded_stand, summary_of}
 use Rattle.ub_script.specs.Script.{OnlyAsks}
 use Rattle.ub_script.specs.Text.{Reply, changed_by, texts_of}
 use Rattle.ub_script.specs.declared.fault.RunFault.{RunFault}
@@ -18,6 +18,7 @@ use Rattle.ub_store.specs.Facts.{StoreFacts, IsHonest}
 use Rattle.ub_table.specs.declared.axes.Axes.{Axes}
 use Rattle.ub_table.specs.declared.schema.Schema.{Schema}
 use Rattle.ub_table.specs.Region.{RegionRows}
+use Rattle.ub_table.specs.Table.{Table}
 use Rattle.ub_table.specs.declared.row.Row.{Row}
 use Rattle.ub_tree.specs.Old.{AreOldPages}
 use Rattle.ub_tree.specs.Placed.{Placed, regions_in}
@@ -34,6 +35,7 @@ use Rattle.ub_shell.specs.Described.{DescribesFile}
 use Rattle.ub_shell.specs.Ending.{Tells}
 use Rattle.ub_shell.specs.Queried.{IsShown, QueriesFile}
 use Rattle.ub_shell.specs.Ran.{HasEnded, HasHelped, HasNoMemory, HasRefused}
+use Rattle.ub_shell.specs.Short.{AreStanding, IsLeftAt, Lends}
 use Rattle.ub_shell.specs.Upgrading.{UpgradesFile}
 use Rattle.ub_shell.specs.declared.status.Status.{Status}
 use Rattle.ub_shell.specs.declared.status.Status.TheVariants as ended
@@ -356,11 +358,6 @@ NoRowsNoChange =
     (table source : List ℕ) (old new : FilesFacts) (out out_now : OutFacts) (status : Status) → HasNoRow (old.holds source)
     → AppendsFile table source old new out out_now status → new.holds table ≡ old.holds table
 
--- these pages are those of a closed table that stands so
-abbrev pub AreStanding : List (List ℕ) → Stand → Type 0
-AreStanding all s =
-    (placed : List Placed) × AreSoundPages all s.table.schema placed s.next × (s.regions ≡ regions_in placed) × IsStand s
-
 -- what a path holds is such pages
 abbrev pub IsHeldStand : Held → Stand → Type 0
 IsHeldStand (pages all) s = AreStanding all s
@@ -384,3 +381,22 @@ AppendedTablesHaveTheRows =
     → AppendsFile table source old new out out_now Done
     → (text : List ℕ) × (rows : List Row) × (now : Stand) × IsText (old.holds source) text × AreRowsOf text s.table.schema s.next rows
     × HasMore s rows now × StandsAs (new.holds table) now
+
+-- ---- the tables of which the short promise speaks
+
+-- where a table file was checked, it lent pages: with nothing wrong they are those of a closed table, and where they are, the status is that of
+-- nothing wrong, unless a file or the output failed or memory was refused
+abbrev pub CheckedTablesStand : Type 0
+CheckedTablesStand =
+    (table : List ℕ) (old new : FilesFacts) (out out_now : OutFacts) (status : Status) → IsTrue old.honest → ChecksFile table old new out out_now status
+    → (all : List (List ℕ)) × Lends (old.holds table) all × (status ≡ Done → (s : Stand) × AreStanding all s)
+    × ((s : Stand) → AreStanding all s → (status ≡ Done) ⊎ ((status ≡ ended.Device) ⊎ (status ≡ ended.Memory)))
+
+-- where a CSV file was loaded into a table file, and all was done, a closed table is left there, whose rows are those of the text, in order, in
+-- the regions that they make one after the other, and whose next number is one more than there are
+abbrev pub LoadedTablesStand : Type 0
+LoadedTablesStand =
+    (source table name : List ℕ) (axes : Axes) (page_rows : ℕ) (old new : FilesFacts) (out out_now : OutFacts)
+    → LoadsFile source table name axes page_rows old new out out_now Done
+    → (text : List ℕ) × (loaded : Table) × IsText (old.holds source) text × IsLoaded text axes page_rows name loaded.schema loaded.rows
+    × IsLeftAt table new (loaded_stand axes.dims page_rows loaded)

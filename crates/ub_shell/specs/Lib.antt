@@ -9,5 +9,6 @@ pub mod Crashes
 pub mod Described
 pub mod Checked
 pub mod Ran
+pub mod Short
 pub mod Program
 pub mod Laws

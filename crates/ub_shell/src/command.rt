@@ -1,6 +1,7 @@
 ghost use Rattle.std.specs.Prelude.{◌≡◌, map, string_bytes};
 ghost use Rattle.ub_shell.specs.Program.{EndsCommand};
 ghost use Rattle.ub_shell.specs.Ran.{unheard};
+ghost use Rattle.ub_shell.specs.Short.{KeepsShortPromise};
 ghost use Rattle.ub_shell.specs.Status.{status_code};
 ghost use Rattle.ub_shell.specs.declared.status.Status.{Status};
 
@@ -25,10 +26,12 @@ use ub_words::{Asked, read_words};
 /// the last line tells it, but for a failed write, after which nothing is written. Where the words ask for the help, only the help is
 /// written. A table file is changed whole or not at all, and none is made before its table stands in memory.
 pub fn command<F: Files, W: Out>(alloc: Global, files: &mut F, words: &[String], out: &mut W) -> u8
-    ensures { (status : Status) × (result ≡ status_code status)
+    ensures ends { (status : Status) × (result ≡ status_code status)
         × EndsCommand (map string_bytes words.now) (F.facts files.old) (F.facts files.new)
         (F.clock files.old) (F.clock files.new)
         (W.facts out.old) (W.facts out.new) unheard unheard status }
+    ensures short { KeepsShortPromise (map string_bytes words.now)
+        (F.facts files.old) (F.facts files.new) (W.facts out.old) (W.facts out.new) result }
 {
     command_apart(alloc, files, words, out, &mut Unheard {})
 }
@@ -42,10 +45,12 @@ pub fn command_apart<F: Files, W: Out, N: Out>(
     out: &mut W,
     notes: &mut N,
 ) -> u8
-    ensures { (status : Status) × (result ≡ status_code status)
+    ensures ends { (status : Status) × (result ≡ status_code status)
         × EndsCommand (map string_bytes words.now) (F.facts files.old) (F.facts files.new)
         (F.clock files.old) (F.clock files.new)
         (W.facts out.old) (W.facts out.new) (N.facts notes.old) (N.facts notes.new) status }
+    ensures short { KeepsShortPromise (map string_bytes words.now)
+        (F.facts files.old) (F.facts files.new) (W.facts out.old) (W.facts out.new) result }
 {
     run_words(alloc, files, words, out, notes).code()
 }

@@ -1,4 +1,4 @@
-ghost use Rattle.ub_shell.specs.Laws.{AppendedTablesHaveTheRows, AskingLeavesTheTable, CheckedTablesAreRunAsSound, CheckedTablesAreSound, CheckingLeavesTheTable, CrashesLeaveATable, DescribingLeavesTheTable, FailedRunsLoseNothing, FullTablesAreLeft, KeptRunsLast, NoRowsNoChange, OldTablesAreNotLost, OnlyHelpIsWritten, OnlyQueriesNote, OnlySoundTablesAreUpgraded, RefusedDataLeavesTheTable, SoundTablesPass, UnchangedTablesAreLeft, UpgradedTablesAreTheSame, UpgradingLeavesTheOldTable, WhatWasDoneStands, WrongWordsAreTold};
+ghost use Rattle.ub_shell.specs.Laws.{AppendedTablesHaveTheRows, AskingLeavesTheTable, CheckedTablesAreRunAsSound, CheckedTablesAreSound, CheckedTablesStand, CheckingLeavesTheTable, CrashesLeaveATable, DescribingLeavesTheTable, FailedRunsLoseNothing, FullTablesAreLeft, KeptRunsLast, LoadedTablesStand, NoRowsNoChange, OldTablesAreNotLost, OnlyHelpIsWritten, OnlyQueriesNote, OnlySoundTablesAreUpgraded, RefusedDataLeavesTheTable, SoundTablesPass, UnchangedTablesAreLeft, UpgradedTablesAreTheSame, UpgradingLeavesTheOldTable, WhatWasDoneStands, WrongWordsAreTold};
 
 // Each function here does nothing, and its clause is a law of the definitions in specs/.
 
@@ -125,4 +125,16 @@ pub fn no_rows_no_change()
 /// of the text, with numbers from the one on that was next.
 pub fn appended_tables_have_the_rows()
     ensures { AppendedTablesHaveTheRows }
+{}
+
+/// Where a table file was checked, with nothing wrong, the pages that it lent are those of a closed table, which stands somewhere; and
+/// where they are, nothing is found wrong, unless a file or the output failed or memory was refused.
+pub fn checked_tables_stand()
+    ensures { CheckedTablesStand }
+{}
+
+/// Where a CSV file was loaded, and all was done, the table file is a closed table that has the rows of the text, in order, in the
+/// regions that they make one after the other.
+pub fn loaded_tables_stand()
+    ensures { LoadedTablesStand }
 {}

@@ -2,6 +2,7 @@ ghost use Rattle.std.specs.Prelude.{◌≡◌, ℕ, MatchResult, map, string_byt
 ghost use Rattle.ub_script.specs.Output.{out_facts};
 ghost use Rattle.ub_shell.specs.Ending.{words_fault_status, words_fault_text, Tells};
 ghost use Rattle.ub_shell.specs.Program.{EndsCommand, EndsUnread};
+ghost use Rattle.ub_shell.specs.Short.{KeepsShortPromise};
 ghost use Rattle.ub_shell.specs.Status.{status_code};
 ghost use Rattle.ub_shell.specs.declared.status.Status.{Status};
 
@@ -46,7 +47,7 @@ pub fn run_program<F: Files, W: Write, N: Write>(
     to: W,
     notes: N,
 ) -> (u8, W, N)
-    ensures { (status : Status) × (failures : ℕ) × (unnoted : ℕ)
+    ensures ends { (status : Status) × (failures : ℕ) × (unnoted : ℕ)
         × (result.0 ≡ status_code status) × MatchResult words
         (λ all. EndsCommand (map string_bytes all.items) (F.facts files.old) (F.facts files.new)
         (F.clock files.old) (F.clock files.new)
@@ -56,6 +57,11 @@ pub fn run_program<F: Files, W: Write, N: Write>(
         (F.clock files.old) (F.clock files.new)
         (out_facts (W.contents to) 0) (out_facts (W.contents result.1) failures)
         (out_facts (N.contents notes) 0) (out_facts (N.contents result.2) unnoted) status) }
+    ensures short { (failures : ℕ) × MatchResult words
+        (λ all. KeepsShortPromise (map string_bytes all.items)
+        (F.facts files.old) (F.facts files.new)
+        (out_facts (W.contents to) 0) (out_facts (W.contents result.1) failures) result.0)
+        (λ fault. Unit {0}) }
 {
     let mut out = Over::new(to);
     let mut noted = Over::new(notes);
@@ -71,13 +77,17 @@ fn run_or_tell<F: Files, W: Out, N: Out>(
     out: &mut W,
     notes: &mut N,
 ) -> u8
-    ensures { (status : Status) × (result ≡ status_code status) × MatchResult words
+    ensures ends { (status : Status) × (result ≡ status_code status) × MatchResult words
         (λ all. EndsCommand (map string_bytes all.items) (F.facts files.old) (F.facts files.new)
         (F.clock files.old) (F.clock files.new)
         (W.facts out.old) (W.facts out.new) (N.facts notes.old) (N.facts notes.new) status)
         (λ fault. EndsUnread fault (F.facts files.old) (F.facts files.new)
         (F.clock files.old) (F.clock files.new)
         (W.facts out.old) (W.facts out.new) (N.facts notes.old) (N.facts notes.new) status) }
+    ensures short { MatchResult words
+        (λ all. KeepsShortPromise (map string_bytes all.items)
+        (F.facts files.old) (F.facts files.new) (W.facts out.old) (W.facts out.new) result)
+        (λ fault. Unit {0}) }
 {
     match words {
         Ok(words) => command_apart(alloc, files, words.as_slice(), out, notes),

@@ -15,6 +15,7 @@ returns g c =
         mid = g.W.Out.facts c.run-ran.new.out;
         ran = c.run-ran.ensures;
         closes = closed.closes;
+        faults = closed.faults;
         tells = rw closed.ended at c.tell_ran.ensures;
       },
       closed.kept,
