@@ -1,8 +1,9 @@
 #!/usr/bin/env python3
-"""Writes docs/BELIEVE.md: the clause of `run_program`, and each definition that it reaches, in reading order.
+"""Writes docs/BELIEVE.md: the short clause of `run_program`, and each definition that it reaches, in reading order.
 
     docs/believe.py            writes the page
     docs/believe.py --check    says whether the page is what it would write (status 1 where it isn't)
+    docs/believe.py --all      prints what else is promised: the whole contract, and each other definition that it reaches
 
 It begins at the words of the clause and follows the words of each definition found, by the `use` lines of its file, through
 the `specs/` of all crates. Words of std and of other libraries are not followed, nor types that code declares. An argument
@@ -16,6 +17,7 @@ from specs import TOP, Definition, crate_lines, path_of, program_crates, spec_fi
 
 PAGE = TOP / "docs" / "BELIEVE.md"
 PROMISE = ("ub_shell", "program", "run_program")
+SHORT = "short"
 HEART = ("ub_query", "Meaning", "IsMeaning")
 USE = re.compile(r"(?:ghost |pub )?use (Rattle\.[^\s;{]+?)\.?(?:\{([^}]*)\}| as ([^\s;]+))?;?$")
 
@@ -26,11 +28,18 @@ Other = namedtuple("Other", "kind crate file name")
 # its definitions; these are pairs too, of the definition and what its words stand for.
 Section = namedtuple("Section", "title sentence files")
 
-# The first section, and its files in order.
+# The first section: what the clause itself says.
+PLAIN = (
+    "What is promised of a run",
+    "How a run ends that the words ask for. What its words mean stands below.",
+    "ub_shell.Short",
+)
+
+# The next one, and its files in order.
 FIRST = (
     "What a query means",
-    "The heart, in full: which rows of cells a query has on a table, and in which order. All else on this page says\n"
-    "which queries are accepted, how such rows are written, which pages are read for them, and what the commands do.",
+    "The heart, in full: which rows of cells a query has on a table, and in which order. All else says which queries are\n"
+    "accepted, how such rows are written, which pages are read for them, and what the commands do.",
     "ub_table.Table ub_query.Shape ub_query.Truth ub_query.Groups ub_query.Cells ub_query.Order ub_query.Posed"
     " ub_query.Meaning",
 )
@@ -55,7 +64,7 @@ SECTIONS = [
     ),
     (
         "Refusals, and what an accepted statement asks",
-        "Why a statement is refused, the first reason first; and the query that any other one asks.",
+        "Why a statement is refused, the first reason first; and what any other one asks.",
         "ub_parser ub_query",
     ),
     (
@@ -71,8 +80,8 @@ SECTIONS = [
     ),
     (
         "What a statement changes",
-        "Where a table stands: its rows, their regions and the next number; what an INSERT and a DELETE make of that. Most of it\n"
-        "is about any tree, also one that isn't sound: what was asked of it, and what a fault leaves.",
+        "Where a table stands: its rows, their regions and the next number; what an INSERT and a DELETE make of that, and of any\n"
+        "tree, also one that isn't sound.",
         "ub_exec.Stand ub_exec.Deleting ub_script.Changes ub_tree.Change ub_tree.Removal ub_tree.Effects ub_tree.Holding"
         " ub_tree.Others ub_index_change.Changing ub_index_change.Preparing ub_index_change.Lowering",
     ),
@@ -93,9 +102,15 @@ SECTIONS = [
 HEAD = """# What a reader must believe
 
 The checker proves that the program keeps its promise. Whether the promise says what it should is
-for a reader to judge. It is one clause, below, and the {definitions} definitions that this is made
-of, {lines} lines without their comments. The first section is what SQL means here: who reads no
-more has read which rows an answer has.
+for a reader to judge. It has two clauses. The short one, below, says what `run TABLE SCRIPT` does
+where TABLE holds a sound table and the files give back what was written to them: each statement has
+its reply on the table as the one before left it, and nothing else is written. It is made of the
+{definitions} definitions on this page, {lines} lines without their comments. The section 'What a query
+means' is what SQL means here: who reads no more has read which rows an answer has.
+
+The other clause has what else is promised: of damaged tables and files that fail, of crashes, and of
+the other commands. It is made of {others} definitions more, {other_lines} lines; `docs/believe.py --all`
+prints them, and their table of contents stands at the end.
 
 This page is made by `docs/believe.py`, from the clause and from the crates' `specs/`: it begins at
 the words of the clause and follows the words of each definition. What only proofs or the contracts
@@ -122,7 +137,33 @@ of those: not what a path holds, and that they give back what was written to the
 ```
 {promise}
 ```
+
+## All definitions, each in a line
 """
+ALL = """# What else is promised
+
+Beside the short clause (docs/BELIEVE.md) the program's promise has the one below. It is made of the
+{definitions} definitions here, {lines} lines without their comments, and of those of the short one, which
+aren't here again. Printed by `docs/believe.py --all`.
+
+| Section | Definitions | Lines |
+|---|---|---|
+{table}
+
+## The promise
+
+```
+{promise}
+```
+"""
+ELSE = """## What else is promised
+
+The other clause of `run_program` says how each command ends, however that is; what is written of
+damaged tables and files that fail; and what a crash leaves at each moment. Beside the definitions
+above it is made of these, which `docs/believe.py --all` prints.
+
+| Section | File | Definitions | Lines |
+|---|---|---|---|"""
 LIBRARIES = """These stand in the definitions above and are defined in libraries of the kit: how a CSV text is
 read into records, how words are taken by a command line, and how a number stands in bytes."""
 
@@ -227,11 +268,21 @@ def promise():
     return lines[start:end], lines
 
 
-def promised(words):
-    """The definitions that the promise's clauses name."""
-    clauses, lines = promise()
-    uses = uses_of(lines)
-    named = [words.follow(uses.get(word.split(".")[0])) for word in words_in(clauses) if not word.startswith("///")]
+def parted():
+    """The promise's lines before its clauses, and those of each clause by its name."""
+    before, clauses = [], {}
+    for line in promise()[0]:
+        found = re.match(r" +ensures (\w+) {", line)
+        if found:
+            clauses[found[1]] = []
+        (clauses[found[1]] if found else list(clauses.values())[-1] if clauses else before).append(line)
+    return before, clauses
+
+
+def promised(words, clauses):
+    """The definitions that some lines of the promise name."""
+    uses = uses_of(promise()[1])
+    named = [words.follow(uses.get(word.split(".")[0])) for word in words_in(clauses)]
     return [it for it in named if isinstance(it, Definition)]
 
 
@@ -274,17 +325,27 @@ def in_files(words, found, places):
     return [(place, [found[(*place, name)] for name in words.own[place] if (*place, name) in found]) for place in places]
 
 
-def sections(words):
-    whole = reached(words, promised(words))
+def reach():
+    """All words, what the short clause leads to, and what else the others do."""
+    words = Words()
+    clauses = parted()[1]
+    short = reached(words, promised(words, clauses[SHORT]))
+    others = reached(words, promised(words, [line for lines in clauses.values() for line in lines]))
+    return words, short, {key: told for key, told in others.items() if key not in short}
+
+
+def sections(words, found):
+    """Some definitions in sections, those of the heart first, without the sections that have none."""
     crate, file, name = HEART
-    heart = reached(words, [words.own[crate, file][name]])
-    rest = {key: told for key, told in whole.items() if key not in heart}
+    heart = {key: told for key, told in reached(words, [words.own[crate, file][name]]).items() if key in found}
+    plain = {key: told for key, told in found.items() if ".".join(key[:2]) in PLAIN[2].split()}
+    rest = {key: told for key, told in found.items() if key not in heart and key not in plain}
     order = ordered(words, {key[:2] for key in rest})
-    title, sentence, homes = FIRST
-    made = [Section(title, sentence, in_files(words, heart, [tuple(home.split(".")) for home in homes.split()]))]
+    made = [Section(title, sentence, in_files(words, part, [tuple(home.split(".")) for home in homes.split()]))
+            for (title, sentence, homes), part in ((PLAIN, plain), (FIRST, heart)) if part]
     for title, sentence, _ in SECTIONS:
         made.append(Section(title, sentence, in_files(words, rest, [place for place in order if home_of(place) == title])))
-    return made
+    return [part for part in made if part.files]
 
 
 def others_in(section, kind):
@@ -333,33 +394,65 @@ def table(parts):
     return [*lines, "| all | {} | {} |".format(*sizes(parts))]
 
 
-def page(words, parts):
-    definitions, length = sizes(parts)
-    clause = "\n".join(promise()[0])
-    lines = [HEAD.format(definitions=definitions, lines=length, table="\n".join(table(parts)), promise=clause)]
-    known, libraries = set(), set()
+def box(parts):
+    """A line for each definition: its name, and what its comment says."""
+    for part in parts:
+        yield from ["", f"**{part.title}**", ""]
+        for _, told in part.files:
+            yield from (f"- `{it.name}`" + (f": {it.comment}" if it.comment else "") for it, _ in told)
+    yield ""
+
+
+def contents(parts):
+    """A line for each file of some sections, with how many definitions are in it."""
+    for part in parts:
+        for number, (place, told) in enumerate(part.files):
+            yield "| {} | `{}` | {} | {} |".format("" if number else part.title, path_of(*place), *sizes([Section("", "", [(place, told)])]))
+    yield "| all | | {} | {} |".format(*sizes(parts))
+
+
+def body(words, parts):
+    lines, known, libraries = [], set(), set()
     for part in parts:
         lines += section_lines(words, part, known)
         known |= others_in(part, "code")
         libraries |= {it for it in others_in(part, "library") if it.crate != "std"}
-    lines += ["## Words of other libraries", "", LIBRARIES, "", *by_file(libraries, "`{0.crate}`, `{0.file}`")]
-    return "\n".join(lines) + "\n"
+    return [*lines, "## Words of other libraries", "", LIBRARIES, "", *by_file(libraries, "`{0.crate}`, `{0.file}`")]
+
+
+def page(words, short, others):
+    """The page of the short clause."""
+    (definitions, lines), (more, other_lines) = sizes(short), sizes(others)
+    before, clauses = parted()
+    head = HEAD.format(definitions=definitions, lines=lines, others=more, other_lines=other_lines, table="\n".join(table(short)),
+                       promise="\n".join([*before, *clauses[SHORT]]))
+    return "\n".join([head.rstrip("\n"), *box(short), *body(words, short), "", ELSE, *contents(others)]) + "\n"
+
+
+def whole_page(words, others):
+    """The page of what else is promised."""
+    definitions, lines = sizes(others)
+    head = ALL.format(definitions=definitions, lines=lines, table="\n".join(table(others)), promise="\n".join(promise()[0]))
+    return "\n".join([head, *body(words, others)])
 
 
 def faults(parts):
-    """What is wrong with the sections: that one is empty, or that a definition stands twice."""
+    """What is wrong with the sections: that a file in one has no definitions, or that a definition stands twice."""
     keys = Counter((place, definition.name) for part in parts for place, told in part.files for definition, _ in told)
     yield from (f"docs/believe.py: {key} stands {count} times" for key, count in keys.items() if count > 1)
     for part in parts:
-        if any(not told for _, told in part.files) or not part.files:
-            yield f"docs/believe.py: the section '{part.title}' or a file in it has no definitions"
+        if any(not told for _, told in part.files):
+            yield f"docs/believe.py: a file in the section '{part.title}' has no definitions"
 
 
 def main():
-    words = Words()
-    parts = sections(words)
-    status = write_or_check(PAGE, page(words, parts), "believe.py", sys.argv[1:])
-    for fault in faults(parts):
+    words, short, others = reach()
+    short, others = sections(words, short), sections(words, others)
+    if sys.argv[1:] == ["--all"]:
+        print(whole_page(words, others))
+        return 0
+    status = write_or_check(PAGE, page(words, short, others), "believe.py", sys.argv[1:])
+    for fault in faults([*short, *others]):
         print(fault)
         status = 1
     return status
