@@ -1,24 +1,25 @@
 -- How a search goes down to a leaf, and what it finds there behind a region.
-use Rattle.std.proofs.Common.{rules, ◌≡◌, ◌<◌, ◌-◌, ◌↔◌, ◌⊎◌, inl, inr, ℕ, List, [], ◌∷◌, Option, Some, None, IfSome, ◌∙◌, sym, ap, subst, refl, arith}
+use Rattle.std.proofs.Common.{rules, false, ◌≡◌, ◌<◌, ◌-◌, ◌↔◌, ◌⊎◌, inl, inr, ℕ, List, [], ◌∷◌, Option, Some, None, IfSome, ◌∙◌, sym, ap, subst, refl, arith}
 use Rattle.ub_region.specs.declared.region.Region.{Region}
 use Rattle.ub_page.specs.Index.{node_on}
 use Rattle.ub_region.specs.declared.entry.Entry.{Entry}
 use Rattle.ub_store.specs.Facts.{StoreFacts, IsHonest}
-use Rattle.ub_table.proofs.Laws.{not_before_origin, not_before_self, not_both_before}
-use Rattle.ub_table.specs.Keys.{IsBefore, origin}
+use Rattle.std.proofs.lemmas.Bool.{true≢false}
+use Rattle.ub_table.proofs.Laws.{not_before_origin, not_before_self, not_both_before, precedes_of}
+use Rattle.ub_table.specs.Keys.{IsBefore, origin, precedes}
 use Rattle.ub_table.specs.declared.row.Key.{Key}
 use Rattle.ub_index.specs.Descending.{FindsAfter, HoldsLeaf, LeadsDown, LooksAt, StepsTo}
 use Rattle.ub_index.specs.Fitting.{FallsTo, FitsAtEnds}
 use Rattle.ub_index.specs.Index.{entries_of, first_or, page_in, NamesFitting}
 use Rattle.ub_index.specs.Searching.{Gives, IsAim, IsFrom, IsSought}
-use Rattle.ub_index.specs.Spans.{region_of}
+use Rattle.ub_index.specs.Spans.{IsLater, region_of}
 use Rattle.ub_index.specs.View.{IndexView, Leads}
 use Rattle.ub_index.specs.Way.{HoldsKey}
 use Rattle.ub_index.specs.declared.descent.Found.TheVariants.{Nothing, Here, Beyond}
 use Rattle.ub_index.specs.declared.descent.Leaf.{Leaf}
 use Rattle.ub_index.specs.declared.descent.Place.{Place}
 use Rattle.ub_index.proofs.FitFacts.{after_first}
-use Rattle.ub_index.proofs.KeyFacts.{le_trans}
+use Rattle.ub_index.proofs.KeyFacts.{before_le, le_trans}
 use Rattle.ub_index.proofs.WayFacts.{falls_from, holds_below, leads_on, stops_on}
 use Rattle.ub_index.proofs.WaysFacts.{never_cross, not_before_from}
 
@@ -133,6 +134,17 @@ module _ (index : IndexView) (store : StoreFacts) (To : Key → Option ℕ → T
       let (below, falls, is_aim, past) = h.looks in
       let given = gives h.page h.ends h.named h.there region.first (not_before_self region.first) holds.until below (Some from) falls in
       inr (from, (region_of index.last below (Some from), given, refl), is_aim)
+
+-- what doesn't begin before where the search went on is later than the region behind which it did
+pub is_later : (index : IndexView) (store : StoreFacts) (To : Key → Option ℕ → Type 0) (after : Option Region) (from : Key) (found : Region)
+    → FindsAfter index store To after (Some (from, found)) → precedes found.first from ≡ false → IsLater after found
+is_later index store To after from found (start, is_from, (is, aim, is_aim, got)) late = by_after after is_from
+  where
+    by_after : (o : Option Region) → IsFrom index store o start → IsLater o found
+    by_after None same = tt
+    by_after (Some other) (first, given, next) =
+        before_le other.first from found.first (subst (λ (o : Option Key). IfSome o (IsBefore other.first)) (sym next ∙ is) given.holds.to)
+        (λ sooner. true≢false (sym (precedes_of found.first from sooner) ∙ late))
 
 -- over an honest store no region is found that begins before where the search went on
 pub not_crossed : (index : IndexView) (store : StoreFacts) (To : Key → Option ℕ → Type 0) (after : Option Region) (from : Key) (found : Region)

@@ -14,9 +14,10 @@ use Rattle.ub_store.specs.Facts.{StoreFacts}
 use Rattle.ub_table.proofs.Laws.{ascending_get, before_of, not_before_origin, precedes_of, precedes_trans}
 use Rattle.ub_table.specs.Keys.{IsBefore, precedes, origin, are_ascending}
 use Rattle.ub_table.specs.declared.row.Key.{Key}
-use Rattle.ub_index.specs.Searching.{Aims, Gives, GivesAfter, IsFrom, at_least}
+use Rattle.ub_index.specs.Searching.{Aims, Gives, GivesAfter, IsFrom, IsMet, at_least}
 use Rattle.ub_index.specs.View.{IndexView, IsIndexOn, IsRegionAt, entries_in, entry_at}
 use Rattle.ub_index.specs.declared.fault.IndexFault.{IndexFault}
+use Rattle.ub_index.specs.declared.goal.Goal.{Goal}
 use Rattle.ub_index.specs.declared.goal.Goal.TheVariants.{Address, Boxes}
 use Rattle.ub_index.proofs.PlaceFacts.{begins, index_below, index_ge, index_of_first, up, within}
 use Rattle.ub_index.proofs.WayFacts.{way_ends_at}
@@ -131,7 +132,7 @@ module _ (index : IndexView) (store : StoreFacts) (is : IsIndexOn index store) (
         (subst (λ (k : Key). LeastFrom (HoldsAny boxes) k.z (Some z)) (sym e.2) least))
 
   -- what is given on an index is the first of its regions
-  pub seek_given : (z : ℕ) (found : Option Region) → GivesAfter index store (Aims (Address z)) after found
+  seek_given : (z : ℕ) (found : Option Region) → GivesAfter index store (Aims (Address z)) after found
       → First (λ r. IsLater after r × (z ≤ r.to)) (regions_of index.last (entries_in index store)) found
   seek_given z None (None, from, none) = none_found (λ r. z ≤ r.to) from
   seek_given z None (Some key, from, inl none) = let no : None ≡ Some z = none in cc
@@ -153,6 +154,11 @@ module _ (index : IndexView) (store : StoreFacts) (is : IsIndexOn index store) (
   meeting_given boxes (Some region) (None, from, none) = absurd none
   meeting_given boxes (Some region) (Some key, from, (aim, (z, to, le, is_aim), given)) =
       meets_found boxes.now key from z (Some region) to (le, subst (λ (k : Key). Gives index store k region) is_aim given)
+
+  pub goal_given : (goal : Goal) (found : Option Region) → GivesAfter index store (Aims goal) after found
+      → First (λ r. IsLater after r × IsMet goal r) (regions_of index.last (entries_in index store)) found
+  goal_given (Address z) found given = seek_given z found given
+  goal_given (Boxes boxes) found given = meeting_given boxes found given
 
 -- what holds of each answer holds of the one that there is
 pub if_ok : {T : Type 0} (r : Result T IndexFault) (P Q : T → Type 0) → ((x : T) → P x → Q x) → IfOk r P → IfOk r Q

@@ -19,3 +19,6 @@ pub mod Numbers
 pub mod StandFacts
 pub mod LeadFacts
 pub mod FirstFacts
+pub mod StretchSteps
+pub mod StretchFacts
+pub mod StretchCover

@@ -12,7 +12,7 @@ use Rattle.ub_index.specs.Bringing.{BringsFitting, IsBringFault}
 use Rattle.ub_index.specs.Descending.{IsStepFault, Steps, StepsDown}
 use Rattle.ub_index.specs.Held.{AreChecked}
 use Rattle.ub_index.specs.Index.{Fits, NamesFitting}
-use Rattle.ub_index.specs.Searching.{GoesDown, IsWayFault}
+use Rattle.ub_index.specs.Searching.{GoesDown, IsWayFault, ReadsIndex}
 use Rattle.ub_index.specs.View.{IndexView}
 use Rattle.ub_index.specs.declared.fault.IndexFault.{IndexFault}
 use Rattle.ub_index.specs.declared.fault.IndexFault.TheVariants.{Full, Page, Store}
@@ -41,7 +41,7 @@ pub same_honest : (old new : PagerView) → new ≡ record old { cached = new.ca
 same_honest old new same good = subst (λ (p : PagerView). IsHonest p.store) same good
 
 -- what a step of a change leaves of the pages that are held
-pub steps_keep : {T : Type 0} {last level : ℕ} {entry : Entry} {end : Option Key} {old new : PagerView} {r : Result T IndexFault} → Steps last level entry end old new r → Keeps last old new
+pub steps_keep : {T : Type 0} {last : ℕ} {F : IndexFault → Type 0} {old new : PagerView} {r : Result T IndexFault} → ReadsIndex last F old new r → Keeps last old new
 steps_keep h = (h.checked, h.more)
 
 pub stepped_down : {T : Type 0} (last : ℕ) (level : ℕ) (entry : Entry) (end : Option Key) (old new : PagerView) (x : T) → new.store ≡ old.store → new.trace ≡ old.trace

@@ -56,7 +56,7 @@ record IsPlace (key : Key) (entries : List Entry) (end : Option Key) (found : En
   from : ¬ (IsBefore key found.first)
   to : IfSome next (IsBefore key)
 
-rest_begins : (last : ℕ) (pages : List (List ℕ)) (level : ℕ) (rest : List Entry) (end : Option Key) → EachTo (IsUnder last pages level) rest end
+pub rest_begins : (last : ℕ) (pages : List (List ℕ)) (level : ℕ) (rest : List Entry) (end : Option Key) → EachTo (IsUnder last pages level) rest end
     → first_or rest end ≡ first_or (flat_map (under pages level) rest) end
 rest_begins last pages level [] end each = refl
 rest_begins last pages level (x ∷ xs) end each =

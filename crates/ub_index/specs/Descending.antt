@@ -1,11 +1,12 @@
--- The steps of the way down.
-use Rattle.std.specs.Prelude.{◌≡◌, ◌≤◌, ℕ, IsTrue, List, Option, Some, None, Result, IfErr, IfSome}
+-- The steps of the way down, and what a search for a later region promises.
+use Rattle.std.specs.Prelude.{◌≡◌, ◌≤◌, ◌<◌, ◌^◌, ℕ, IsTrue, List, Option, Some, None, Result, IfErr, IfOk, IfSome}
 use Rattle.ub_region.specs.declared.region.Region.{Region}
 use Rattle.ub_index.specs.Fitting.{FallsTo, FitsAtEnds, IsNotTaken}
 use Rattle.ub_index.specs.Held.{AreChecked, KeepsChecked, NoneMoreButIndex}
 use Rattle.ub_index.specs.Index.{entries_of, page_in, top, NamesFitting}
-use Rattle.ub_index.specs.Searching.{store_after, Gives, IsAim, IsAimless, IsFrom}
-use Rattle.ub_index.specs.View.{IndexView, Stops}
+use Rattle.ub_index.specs.Searching.{store_after, Gives, GivesAfter, GoesDown, IsAim, IsAimless, IsFrom, IsSought, ReadsIndex}
+use Rattle.ub_index.specs.Spans.{First, IsLater, regions_of}
+use Rattle.ub_index.specs.View.{IndexView, IsIndexOn, Stops, entries_in}
 use Rattle.ub_index.specs.Way.{HoldsKey, LeadsTo, StopsAt}
 use Rattle.ub_index.specs.declared.descent.Leaf.{Leaf}
 use Rattle.ub_index.specs.declared.descent.Found.{Found}
@@ -32,14 +33,9 @@ IsStepFault last old level entry end Full = ⊥
 IsStepFault last old level entry end (Page n why) =
     (n ≡ entry.page) × (IsHonest old → IsNotTaken last old.pages level entry end (Some why))
 
--- a step with this result: with the device's fault the store has one failed read more, and else nothing has changed but the
--- pages that the pager holds, each of which was checked, if they were before; none that it holds more is that of a region, but
--- each one of an index
-pub record Steps {A : Type 0} (last level : ℕ) (entry : Entry) (end : Option Key) (old new : PagerView) (result : Result A IndexFault) : Type 0 where
-  pub same : new ≡ record old { store = store_after result old.store; cached = new.cached }
-  pub checked : KeepsChecked last old new
-  pub more : NoneMoreButIndex last old.cached new.cached
-  pub faults : IfErr result (IsStepFault last old.store level entry end)
+-- a step with this result
+abbrev pub Steps : {A : Type 0} → ℕ → ℕ → Entry → Option Key → PagerView → PagerView → Result A IndexFault → Type 0
+Steps last level entry end old new result = ReadsIndex last (IsStepFault last old.store level entry end) old new result
 
 -- the same of a search, which looks at the ends of a page that is held: it is refused so where each page that was held was checked
 pub record StepsDown {A : Type 0} (last level : ℕ) (entry : Entry) (end : Option Key) (old new : PagerView) (result : Result A IndexFault) : Type 0 where
@@ -105,3 +101,23 @@ FindsFrom index store To from (Some found) = (from ≡ Some found.0) × (aim : K
 -- the same after a region, if one is given
 abbrev pub FindsAfter : IndexView → StoreFacts → (Key → Option ℕ → Type 0) → Option Region → Option (Key × Region) → Type 0
 FindsAfter index store To after found = (from : Option Key) × IsFrom index store after from × FindsFrom index store To from found
+
+-- a step of a search after a region, if one is given, for the address that `To` tells, and this was answered, with where the search goes on from
+pub record FindsBehind (To : Key → Option ℕ → Type 0) (index : IndexView) (after : Option Region) (old new : PagerView)
+    (result : Result (Option (Key × Region)) IndexFault) : Type 0 where
+  pub found : AreChecked index.last old → IfOk result (FindsAfter index old.store To after)
+  pub small : IfOk result (λ step. IfSome step (λ some. some.1.first.number < 2 ^ 32))
+  pub forgotten : IfErr result (IsForgotten new)
+  pub effect : GoesDown (IsSought index old.store To after) index old new result
+
+-- a search after a region, if one is given, for the address that `To` tells, and this was answered. Done, on an index: the first of its later
+-- regions that has the property. Over any store which one is given where each page that is held was checked; and what is left
+pub record Seeks (To : Key → Option ℕ → Type 0) (P : Region → Type 0) (index : IndexView) (after : Option Region) (old new : PagerView)
+    (result : Result (Option Region) IndexFault) : Type 0 where
+  pub given : AreChecked index.last old → IfOk result (GivesAfter index old.store To after)
+  pub later : AreChecked index.last old → IfOk result (λ found. IfSome found (IsLater after))
+  pub small : IfOk result (λ found. IfSome found (λ r. r.first.number < 2 ^ 32))
+  pub found : AreChecked index.last old → IsIndexOn index old.store
+      → IfOk result (First (λ r. IsLater after r × P r) (regions_of index.last (entries_in index old.store)))
+  pub forgotten : IfErr result (IsForgotten new)
+  pub effect : GoesDown (IsSought index old.store To after) index old new result

@@ -10,3 +10,4 @@ pub mod Descending
 pub mod Bringing
 pub mod Opening
 pub mod Standing
+pub mod Stretches

@@ -1,16 +1,17 @@
 -- Opening an index that stands on a store, and making one of a single region.
-use Rattle.std.specs.Prelude.{◌≡◌, ◌≤◌, ℕ, IsTrue, List, [], ◌∷◌, None, Result, IfErr}
+use Rattle.std.specs.Prelude.{◌≡◌, ◌≤◌, ◌<◌, ℕ, IsTrue, List, [], ◌∷◌, None, Result, IfErr, IfOk, OnOk}
 use Rattle.ub_index.specs.Bringing.{IsBringFault}
+use Rattle.ub_index.specs.Descending.{IsForgotten}
 use Rattle.ub_index.specs.Held.{KeepsChecked}
 use Rattle.ub_index.specs.Index.{Fits, NamesFitting, top}
-use Rattle.ub_index.specs.View.{IsReachedOnce, pages_of_index, IndexView, IsIndexOn, entries_in}
+use Rattle.ub_index.specs.View.{IsReachedOnce, pages_of_index, IndexView, IsIndexOn, entries_in, index_view}
 use Rattle.ub_index.specs.Searching.{store_after}
 use Rattle.ub_index.specs.declared.fault.IndexFault.{IndexFault}
 use Rattle.ub_index.specs.declared.fault.IndexFault.TheVariants.{Store}
 use Rattle.ub_page.specs.Index.{index_page}
 use Rattle.ub_store.specs.Cache.{NoneMoreBut}
-use Rattle.ub_store.specs.Facts.{StoreFacts, page_count}
-use Rattle.ub_store.specs.View.{Holds, PagerView}
+use Rattle.ub_store.specs.Facts.{StoreFacts, IsHonest, WritesAt, page_count}
+use Rattle.ub_store.specs.View.{Holds, PagerView, SameTrace}
 use Rattle.ub_store.specs.declared.fault.StoreFault.{StoreFault}
 use Rattle.ub_store.specs.declared.fault.StoreFault.TheVariants as store
 
@@ -42,6 +43,16 @@ pub record Opens {A : Type 0} (index : IndexView) (old new : PagerView) (result 
   pub cached : NoneMoreBut index.root old.cached new.cached
   pub faults : IfErr result (IsOpenFault index old.store)
 
+-- an index was to be opened, and this was answered. Done: it is this one, the pager holds the page of its root, and over an honest store
+-- nothing else is refused for what a page tells. Over any store a page that is refused isn't held; and what is left
+pub record OpensIndex (view : IndexView) (old new : PagerView) (result : Result IndexView IndexFault) : Type 0 where
+  pub index : IfOk result (λ index. index ≡ view)
+  pub held : IfOk result (λ index. HoldsRoot index new)
+  pub rooted : IsHonest old.store → IfOk result (λ index. IsRooted index old.store)
+  pub exact : IsHonest old.store → IsRooted view old.store → IfErr result IsPassing
+  pub forgotten : IfErr result (IsForgotten new)
+  pub effect : Opens view old new result
+
 -- the page of a root that names one region, on this page
 abbrev pub root_page : ℕ → List ℕ
 root_page page = index_page (record { level = 1; entries = top page ∷ [] })
@@ -58,3 +69,14 @@ pub record IsAlone (index : IndexView) (page : ℕ) (store : StoreFacts) : Type 
   pub reached : IsReachedOnce index store
   pub entries_are : entries_in index store ≡ top page ∷ []
   pub pages_are : pages_of_index index store ≡ index.root ∷ []
+
+-- an index of the region on this page was to be made, with its root on that one, and this was answered. Done: it is that one, and stands on an
+-- honest store; over any store why it is refused, and what is left
+pub record CreatesIndex (root page last : ℕ) (old new : PagerView) (result : Result IndexView StoreFault) : Type 0 where
+  pub index : IfOk result (λ index. index ≡ index_view root 1 last)
+  pub stands : IsHonest old.store → 1 ≤ root → 1 ≤ page → IfOk result (λ index. IsAlone index page new.store)
+  pub trace : SameTrace old new
+  pub there : OnOk result (root < page_count old.store)
+  pub checked : 1 ≤ page → KeepsChecked last old new
+  pub refused : IfErr result (IsRootFault root old.store)
+  pub effect : WritesAt root (root_page page) old.store new.store result

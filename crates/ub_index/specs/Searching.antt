@@ -4,6 +4,7 @@ use Rattle.ub_bigmin.specs.Box.{HoldsAny}
 use Rattle.ub_bigmin.specs.Extremes.{LeastFrom}
 use Rattle.ub_region.specs.declared.region.Region.{Region}
 use Rattle.ub_index.specs.Held.{AreChecked, KeepsChecked, NoneMoreButIndex}
+use Rattle.ub_index.specs.Spans.{Meets}
 use Rattle.ub_index.specs.View.{IndexView, Leads, Stops}
 use Rattle.ub_index.specs.Way.{HoldsKey}
 use Rattle.ub_index.specs.declared.fault.IndexFault.{IndexFault}
@@ -51,6 +52,11 @@ at_least from z = if precedes (record { z = z; number = 0 }) from then from else
 abbrev pub Aims : Goal → Key → Option ℕ → Type 0
 Aims (Address z) from to = to ≡ Some z
 Aims (Boxes boxes) from to = LeastFrom (HoldsAny boxes.now) from.z to
+
+-- what it is after in a region: a span that ends at the address or later, or that meets one of the boxes
+abbrev pub IsMet : Goal → Region → Type 0
+IsMet (Address z) region = z ≤ region.to
+IsMet (Boxes boxes) region = Meets boxes.now region
 
 -- there is no such address in the space, or the search doesn't go on
 abbrev pub IsAimless : ℕ → (Key → Option ℕ → Type 0) → Option Key → Type 0
@@ -103,9 +109,16 @@ count_with _ n = n
 abbrev pub store_after : {A : Type 0} → Result A IndexFault → StoreFacts → StoreFacts
 store_after result old = record old { failed_reads = count_with result old.failed_reads }
 
--- a call with this result that goes down to these keys: with the device's fault the store has one failed read more, and else
--- nothing has changed but the pages that the pager holds, each of which was checked, if they were before; none that it holds more
--- is that of a region, but each one of an index; and then why it is refused
+-- a call with this result that reads pages of an index: with the device's fault the store has one failed read more, and else nothing
+-- has changed but the pages that the pager holds, each of which was checked, if they were before; none that it holds more is that of a
+-- region, but each one of an index; and then why it is refused
+pub record ReadsIndex {A : Type 0} (last : ℕ) (IsFault : IndexFault → Type 0) (old new : PagerView) (result : Result A IndexFault) : Type 0 where
+  pub same : new ≡ record old { store = store_after result old.store; cached = new.cached }
+  pub checked : KeepsChecked last old new
+  pub more : NoneMoreButIndex last old.cached new.cached
+  pub faults : IfErr result IsFault
+
+-- the same of a search that goes down to these keys: it is refused so where each page that was held was checked
 pub record GoesDown {A : Type 0} (Sought : Key → Type 0) (index : IndexView) (old new : PagerView) (result : Result A IndexFault) : Type 0 where
   pub same : new ≡ record old { store = store_after result old.store; cached = new.cached }
   pub checked : KeepsChecked index.last old new

@@ -338,8 +338,8 @@ fn is_slot(page: &Page, count: usize, slot: usize, key: &Key) -> bool
         && (slot + 1 == count || key.is_before(&first_at(page, slot + 1)))
 }
 
-// Where the entry after that of a slot begins, or else the end.
-fn first_after(page: &Page, count: usize, slot: usize, end: Option<Key>) -> Option<Key>
+/// Where the entry after that of a slot begins, or else the end.
+pub fn first_after(page: &Page, count: usize, slot: usize, end: Option<Key>) -> Option<Key>
     requires count { count ≡ (head_on page.now).count }
     requires within { slot < count }
     requires few { count ≤ MAX_ENTRIES }

@@ -1,11 +1,11 @@
-ghost use Rattle.std.specs.Prelude.{◌≡◌, ◌≤◌, ◌<◌, ◌^◌, ℕ, None, Some, IfOk, IfErr, IfSome, option_copied};
+ghost use Rattle.std.specs.Prelude.{◌≡◌, ◌≤◌, ◌<◌, ◌^◌, ℕ, None, Some, IfOk, IfErr, option_copied};
 ghost use Rattle.ub_bigmin.specs.Box.{HoldsAny};
 ghost use Rattle.ub_bigmin.specs.Extremes.{LeastFrom};
-ghost use Rattle.ub_index.specs.Spans.{first_keys, regions_of, Meets, IsLater, First, region_of};
+ghost use Rattle.ub_index.specs.Spans.{first_keys, Meets, region_of};
 ghost use Rattle.ub_index.specs.View.{IsIndexOn, IsRegionAt, IsNextRegion, IsPreviousRegion, entries_in, index_view};
-ghost use Rattle.ub_index.specs.Descending.{FindsAfter, HoldsLeaf, IsForgotten, LeadsDown};
+ghost use Rattle.ub_index.specs.Descending.{FindsBehind, HoldsLeaf, IsForgotten, LeadsDown, Seeks};
 ghost use Rattle.ub_index.specs.Held.{AreChecked};
-ghost use Rattle.ub_index.specs.Searching.{Aims, Gives, GivesAny, GivesAfter, IsSought, GoesDown, key_before};
+ghost use Rattle.ub_index.specs.Searching.{Aims, Gives, GivesAny, GoesDown, IsMet, key_before};
 ghost use Rattle.ub_region.specs.Spans.{end_before};
 ghost use Rattle.ub_page.specs.declared.header.TheConstants.{MAX_LEVEL};
 ghost use Rattle.ub_region.specs.Regions.{index_holding};
@@ -156,19 +156,8 @@ impl Index {
         z: u128,
         after: Option<&Region>,
     ) -> Result<Option<Region>, IndexFault>
-        ensures given { AreChecked self.now.last pager.old
-            → IfOk result (GivesAfter self.now pager.old.store (λ _ to. to ≡ Some z)
-            (option_copied after.entry)) }
-        ensures later { AreChecked self.now.last pager.old
-            → IfOk result (λ found. IfSome found (IsLater (option_copied after.entry))) }
-        ensures small { IfOk result (λ found. IfSome found (λ r. r.first.number < 2 ^ 32)) }
-        ensures found { AreChecked self.now.last pager.old
-            → IsIndexOn self.now pager.old.store → IfOk result (First
-            (λ r. IsLater (option_copied after.entry) r × (z ≤ r.to))
-            (regions_of self.now.last (entries_in self.now pager.old.store))) }
-        ensures forgotten { IfErr result (IsForgotten pager.new) }
-        ensures effect { GoesDown (IsSought self.now pager.old.store (λ _ to. to ≡ Some z)
-            (option_copied after.entry)) self.now pager.old pager.new result }
+        ensures { Seeks (λ _ to. to ≡ Some z) (λ r. z ≤ r.to) self.now (option_copied after.entry)
+            pager.old pager.new result }
     {
         self.later_region(pager, &Goal::Address(z), after)
     }
@@ -181,20 +170,8 @@ impl Index {
         boxes: &[ZBox],
         after: Option<&Region>,
     ) -> Result<Option<Region>, IndexFault>
-        ensures given { AreChecked self.now.last pager.old
-            → IfOk result (GivesAfter self.now pager.old.store
-            (λ from. LeastFrom (HoldsAny boxes.now) from.z) (option_copied after.entry)) }
-        ensures later { AreChecked self.now.last pager.old
-            → IfOk result (λ found. IfSome found (IsLater (option_copied after.entry))) }
-        ensures small { IfOk result (λ found. IfSome found (λ r. r.first.number < 2 ^ 32)) }
-        ensures found { AreChecked self.now.last pager.old
-            → IsIndexOn self.now pager.old.store → IfOk result (First
-            (λ r. IsLater (option_copied after.entry) r × Meets boxes.now r)
-            (regions_of self.now.last (entries_in self.now pager.old.store))) }
-        ensures forgotten { IfErr result (IsForgotten pager.new) }
-        ensures effect { GoesDown (IsSought self.now pager.old.store
-            (λ from. LeastFrom (HoldsAny boxes.now) from.z) (option_copied after.entry))
-            self.now pager.old pager.new result }
+        ensures { Seeks (λ from. LeastFrom (HoldsAny boxes.now) from.z) (Meets boxes.now) self.now
+            (option_copied after.entry) pager.old pager.new result }
     {
         self.later_region(pager, &Goal::Boxes(boxes), after)
     }
@@ -207,15 +184,8 @@ impl Index {
         goal: &Goal,
         after: Option<&Region>,
     ) -> Result<Option<Region>, IndexFault>
-        ensures given { AreChecked self.now.last pager.old
-            → IfOk result (GivesAfter self.now pager.old.store (Aims goal.now)
-            (option_copied after.entry)) }
-        ensures later { AreChecked self.now.last pager.old
-            → IfOk result (λ found. IfSome found (IsLater (option_copied after.entry))) }
-        ensures small { IfOk result (λ found. IfSome found (λ r. r.first.number < 2 ^ 32)) }
-        ensures forgotten { IfErr result (IsForgotten pager.new) }
-        ensures effect { GoesDown (IsSought self.now pager.old.store (Aims goal.now)
-            (option_copied after.entry)) self.now pager.old pager.new result }
+        ensures { Seeks (Aims goal.now) (IsMet goal.now) self.now (option_copied after.entry)
+            pager.old pager.new result }
     {
         match self.region_after(pager, goal, after)? {
             Some((from, region)) if region.first.is_before(&from) => {
@@ -238,13 +208,8 @@ impl Index {
         goal: &Goal,
         after: Option<&Region>,
     ) -> Result<Option<(Key, Region)>, IndexFault>
-        ensures found { AreChecked self.now.last pager.old → IfOk result
-            (FindsAfter self.now pager.old.store (Aims goal.now) (option_copied after.entry)) }
-        ensures small { IfOk result
-            (λ found. IfSome found (λ found. found.1.first.number < 2 ^ 32)) }
-        ensures forgotten { IfErr result (IsForgotten pager.new) }
-        ensures effect { GoesDown (IsSought self.now pager.old.store (Aims goal.now)
-            (option_copied after.entry)) self.now pager.old pager.new result }
+        ensures { FindsBehind (Aims goal.now) self.now (option_copied after.entry) pager.old
+            pager.new result }
     {
         match after {
             Some(region) => self.region_behind(pager, goal, region),
@@ -258,13 +223,7 @@ impl Index {
         pager: &mut Pager<S>,
         goal: &Goal,
     ) -> Result<Option<(Key, Region)>, IndexFault>
-        ensures found { AreChecked self.now.last pager.old → IfOk result
-            (FindsAfter self.now pager.old.store (Aims goal.now) None) }
-        ensures small { IfOk result
-            (λ found. IfSome found (λ found. found.1.first.number < 2 ^ 32)) }
-        ensures forgotten { IfErr result (IsForgotten pager.new) }
-        ensures effect { GoesDown (IsSought self.now pager.old.store (Aims goal.now) None) self.now
-            pager.old pager.new result }
+        ensures { FindsBehind (Aims goal.now) self.now None pager.old pager.new result }
     {
         match aim(goal, self.last, &ORIGIN) {
             Some(aim) => Ok(Some((ORIGIN, self.region_holding(pager, &aim)?))),
@@ -280,13 +239,8 @@ impl Index {
         goal: &Goal,
         region: &Region,
     ) -> Result<Option<(Key, Region)>, IndexFault>
-        ensures found { AreChecked self.now.last pager.old → IfOk result
-            (FindsAfter self.now pager.old.store (Aims goal.now) (Some region.now)) }
-        ensures small { IfOk result
-            (λ found. IfSome found (λ found. found.1.first.number < 2 ^ 32)) }
-        ensures forgotten { IfErr result (IsForgotten pager.new) }
-        ensures effect { GoesDown (IsSought self.now pager.old.store (Aims goal.now)
-            (Some region.now)) self.now pager.old pager.new result }
+        ensures { FindsBehind (Aims goal.now) self.now (Some region.now) pager.old pager.new
+            result }
     {
         let leaf = leaf_of(pager, self.root, self.levels, self.last, &region.first)?;
         match look(pager, self.last, &leaf, &region.first, goal)? {
@@ -385,8 +339,8 @@ pub fn region_at(last: u128, entry: Entry, next: Option<Key>) -> Region
     }
 }
 
-// The greatest address that a key before this one can have, or else the last of all.
-fn end_at(last: u128, next: &Option<Key>) -> u128
+/// The greatest address that a key before this one can have, or else the last of all.
+pub fn end_at(last: u128, next: &Option<Key>) -> u128
     ensures { result ≡ end_before last next.now }
 {
     match next {

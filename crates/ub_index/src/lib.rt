@@ -51,6 +51,11 @@
 //!    would not begin later then, OutOfRegion of the root is told: so each walk ends, and none comes to a first key twice.
 //!  - Who looks at all pages asks for them one by one (`entries`): each is checked in full, held or not.
 //!
+//! STRETCHES. What an entry of any level names, the keys from its own up to where the next one begins, is a *stretch* (`stretch`): at
+//! level 0 a region. Who looks for regions in an order of their own begins with the whole index as one stretch, and opens stretches one
+//! by one: the page of one is brought and checked in full, and the parts of it that meet some boxes are handed over, each a stretch of
+//! the level below.
+//!
 //! CHANGES of an index are made in the crate above (`ub_index_change`). It goes down with what this crate shows of its own way: a
 //! place, and that of a root (`Place`, `root_place`); and a page that is brought and checked in full (`bring_fitting`, `bring_root`).
 //!
@@ -60,9 +65,10 @@
 //! an address, or boxes.
 //!
 //! DEFINITIONS (specs). What an index is: `Index`, and what contracts see of one: `View`; where its regions stand: `Spans`. Which
-//! page is taken: `Fitting`; what is known of the pages that are held: `Held`. The way to a key: `Way`; a page that is brought,
-//! and the steps down: `Bringing`, `Descending`; what searches answer, and why they are refused: `Searching`; `Opening`. What an
-//! index is to those who keep regions on other pages of its store, which grows: `Standing`. `Laws`.
+//! page is taken: `Fitting`; what is known of the pages that are held: `Held`. The way to a key: `Way`; a page that is brought, and
+//! the steps down: `Bringing`, `Descending`; what searches answer, and why they are refused: `Searching`; what a stretch is, and
+//! its parts: `Stretches`; `Opening`. What an index is to those who keep regions on other pages of its store, which grows:
+//! `Standing`. `Laws`.
 //!
 //! What belongs here is the way through several pages. How one page is spelled and searched (`ub_page`), and how pages are kept
 //! (`ub_store`), stands below; how the pages of an index change (`ub_index_change`), and which pages are a table's, above. The
@@ -77,8 +83,10 @@ mod goal;
 pub mod index;
 pub mod law;
 mod opening;
+pub mod stretch;
 
 pub use descent::{Place, bring_fitting, bring_root, root_place};
 pub use entries::entries_at;
 pub use fault::IndexFault;
 pub use index::{Index, region_at};
+pub use stretch::{Stretch, StretchSink};

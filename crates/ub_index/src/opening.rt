@@ -1,12 +1,8 @@
 // Opening an index that stands on a store, and making one of a single region.
-ghost use Rattle.std.specs.Prelude.{◌≡◌, ◌≤◌, ◌<◌, IfOk, IfErr, OnOk};
-ghost use Rattle.ub_index.specs.Descending.{IsForgotten};
-ghost use Rattle.ub_index.specs.Held.{KeepsChecked};
-ghost use Rattle.ub_index.specs.Opening.{HoldsRoot, IsAlone, IsPassing, IsRootFault, IsRooted, Opens, root_page};
+ghost use Rattle.std.specs.Prelude.{◌≤◌};
+ghost use Rattle.ub_index.specs.Opening.{CreatesIndex, OpensIndex};
 ghost use Rattle.ub_index.specs.View.{index_view};
 ghost use Rattle.ub_page.specs.declared.header.TheConstants.{MAX_LEVEL};
-ghost use Rattle.ub_store.specs.Facts.{IsHonest, WritesAt, page_count};
-ghost use Rattle.ub_store.specs.View.{SameTrace};
 
 use crate::descent::{bring_root, root_place};
 use crate::fault::IndexFault;
@@ -30,14 +26,7 @@ impl Index {
         requires some { 1 ≤ root }
         requires low { 1 ≤ levels }
         requires high { levels ≤ MAX_LEVEL }
-        ensures index { IfOk result (λ index. index ≡ index_view root levels last) }
-        ensures held { IfOk result (λ index. HoldsRoot index pager.new) }
-        ensures rooted { IsHonest pager.old.store
-            → IfOk result (λ index. IsRooted index pager.old.store) }
-        ensures exact { IsHonest pager.old.store
-            → IsRooted (index_view root levels last) pager.old.store → IfErr result IsPassing }
-        ensures forgotten { IfErr result (IsForgotten pager.new) }
-        ensures effect { Opens (index_view root levels last) pager.old pager.new result }
+        ensures { OpensIndex (index_view root levels last) pager.old pager.new result }
     {
         bring_root(pager, last, levels, root)?;
         Ok(Index::new(root, levels, last))
@@ -53,14 +42,7 @@ impl Index {
         last: u128,
     ) -> Result<Index, StoreFault>
         requires { 1 ≤ root }
-        ensures index { IfOk result (λ index. index ≡ index_view root 1 last) }
-        ensures stands { IsHonest pager.old.store → 1 ≤ root → 1 ≤ page
-            → IfOk result (λ index. IsAlone index page pager.new.store) }
-        ensures trace { SameTrace pager.old pager.new }
-        ensures there { OnOk result (root < page_count pager.old.store) }
-        ensures checked { 1 ≤ page → KeepsChecked last pager.old pager.new }
-        ensures refused { IfErr result (IsRootFault root pager.old.store) }
-        ensures effect { WritesAt root (root_page page) pager.old.store pager.new.store result }
+        ensures { CreatesIndex root page last pager.old pager.new result }
     {
         let mut draft = Draft::new();
         write_index(&[root_place(page).entry], 1, &mut draft);

@@ -3,10 +3,10 @@
 use Rattle.std.specs.Prelude.{◌≡◌, ◌≢◌, ◌≤◌, ◌<◌, ◌+◌, ◌++◌, ◌⊎◌, ℕ, zero, suc, IsTrue, List, [], ◌∷◌, Option, Some, None, Result, IfOk, IfErr, length, take, drop, slice_get}
 use Rattle.std.specs.List.{AllByRecursion}
 use Rattle.ub_index_change.specs.Changed.{BeginFrom}
+use Rattle.ub_index.specs.Descending.{IsForgotten}
 use Rattle.ub_index.specs.Fitting.{FallsTo}
-use Rattle.ub_index.specs.Held.{KeepsChecked, NoneMoreButIndex}
 use Rattle.ub_index.specs.Index.{first_or, entries_of, AscendTo, IsIndexPage, NamesFitting}
-use Rattle.ub_index.specs.Searching.{store_after}
+use Rattle.ub_index.specs.Searching.{ReadsIndex}
 use Rattle.ub_index_change.specs.FullWay.{EndsFull}
 use Rattle.ub_index.specs.Way.{StopsAt}
 use Rattle.ub_index.specs.declared.fault.IndexFault.{IndexFault}
@@ -134,15 +134,19 @@ IsTurnFault last old key level entry end next (Store store.BadSize) =
 IsTurnFault last old key level entry end next (Page n fault) = IsHonest old → StopsAt last old.pages key level entry end n (Some fault)
 IsTurnFault last old key level entry end next Full = ⊥
 
--- a change that is prepared with this result, from an entry of this level on: with the device's fault the store has one failed
--- read more, and else nothing has changed but the pages that the pager holds, each of which was checked, if they were before; none
--- that it holds more is that of a region, but each one of an index
-pub record Prepares {A : Type 0} (last level : ℕ) (key : Key) (entry : Entry) (end : Option Key) (next : ℕ) (old new : PagerView)
-    (result : Result A IndexFault) : Type 0 where
-  pub same : new ≡ record old { store = store_after result old.store; cached = new.cached }
-  pub checked : KeepsChecked last old new
-  pub more : NoneMoreButIndex last old.cached new.cached
-  pub faults : IfErr result (IsTurnFault last old.store key level entry end next)
+-- a change that is prepared with this result, from an entry of this level on
+abbrev pub Prepares : {A : Type 0} → ℕ → ℕ → Key → Entry → Option Key → ℕ → PagerView → PagerView → Result A IndexFault → Type 0
+Prepares last level key entry end next old new result = ReadsIndex last (IsTurnFault last old.store key level entry end next) old new result
+
+-- an entry of this level was to be turned, over the pages that were spelled before and those that are then, and this was answered
+pub record TurnsAt (last level : ℕ) (key : Key) (added : Option Entry) (entry : Entry) (end : Option Key) (from to : Spelled) (old new : PagerView)
+    (result : Result Told IndexFault) : Type 0 where
+  pub turned : IsHonest old.store → IfOk result (Turns last old.store.pages key added level entry end from to)
+  pub few : IfOk result (λ _. (from.next ≤ to.next) × (to.next ≤ from.next + level))
+  pub narrow : added ≡ None → NeedsNoGrowth result
+  pub still : added ≡ None → IfOk result (λ _. to.next ≡ from.next)
+  pub forgotten : IfErr result (IsForgotten new)
+  pub effect : Prepares last level key entry end from.next old new result
 
 -- this number is none of those that are new from one on up to another
 abbrev pub IsNoNew : ℕ → ℕ → ℕ → Type 0

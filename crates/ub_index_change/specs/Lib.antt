@@ -6,3 +6,4 @@ pub mod Preparing
 pub mod Lowering
 pub mod Making
 pub mod Filling
+pub mod Calls

@@ -1,12 +1,11 @@
 -- A root that names one page alone gives way to it.
-use Rattle.std.specs.Prelude.{◌≡◌, ◌≤◌, ◌==◌, ◌⊎◌, if◌then◌else◌, ℕ, zero, suc, IsTrue, List, [], ◌∷◌, Option, Some, None, Result, IfErr, length}
+use Rattle.std.specs.Prelude.{◌≡◌, ◌≤◌, ◌==◌, ◌⊎◌, if◌then◌else◌, ℕ, zero, suc, IsTrue, List, [], ◌∷◌, Option, Some, None, Result, length}
 use Rattle.ub_index_change.specs.Changing.{IsNoGrowth, Stand, StayBut, so_far}
 use Rattle.ub_index.specs.Fitting.{IsNotTaken}
-use Rattle.ub_index.specs.Held.{KeepsChecked, NoneMoreButIndex}
 use Rattle.ub_index.specs.Index.{entries_of, page_in, top}
 use Rattle.ub_index_change.specs.Preparing.{ChangeView, IsChangeFault, IsPrepared}
 use Rattle.ub_index.specs.View.{pages_of_index, IndexView}
-use Rattle.ub_index.specs.Searching.{store_after}
+use Rattle.ub_index.specs.Searching.{ReadsIndex}
 use Rattle.ub_index.specs.declared.fault.IndexFault.{IndexFault}
 use Rattle.ub_index.specs.declared.fault.IndexFault.TheVariants.{Full, Page, Store}
 use Rattle.ub_index_change.specs.declared.sheet.Sheet.{Sheet}
@@ -77,14 +76,9 @@ IsLowerFault last old change (Store store.BadSize) = ⊥
 IsLowerFault last old change (Page n fault) = IsHonest old → IsRootRefused last old.pages change n (Some fault)
 IsLowerFault last old change Full = ⊥
 
--- a call with this result that reads roots: with the device's fault the store has one failed read more, and else nothing has
--- changed but the pages that the pager holds, each of which was checked, if they were before; none that it holds more is that of
--- a region, but each one of an index
-pub record ReadsRoots {A : Type 0} (last : ℕ) (change : ChangeView) (old new : PagerView) (result : Result A IndexFault) : Type 0 where
-  pub same : new ≡ record old { store = store_after result old.store; cached = new.cached }
-  pub checked : KeepsChecked last old new
-  pub more : NoneMoreButIndex last old.cached new.cached
-  pub faults : IfErr result (IsLowerFault last old.store change)
+-- a call with this result that reads roots
+abbrev pub ReadsRoots : {A : Type 0} → ℕ → ChangeView → PagerView → PagerView → Result A IndexFault → Type 0
+ReadsRoots last change old new result = ReadsIndex last (IsLowerFault last old.store change) old new result
 
 -- the change by which the region's entry to which the key falls goes
 abbrev pub IsDropped : IndexView → StoreFacts → Key → ChangeView → Type 0
@@ -109,8 +103,6 @@ IsDropFault index old key fault =
     × (IsHonest old → IsPrepared index old key None (page_count old) (so_far [] (page_count old)) first)
     × IsLowerFault index.last old first fault))
 
-pub record PreparesDrop {A : Type 0} (index : IndexView) (key : Key) (old new : PagerView) (result : Result A IndexFault) : Type 0 where
-  pub same : new ≡ record old { store = store_after result old.store; cached = new.cached }
-  pub checked : KeepsChecked index.last old new
-  pub more : NoneMoreButIndex index.last old.cached new.cached
-  pub faults : IfErr result (IsDropFault index old.store key)
+-- a removal that is prepared with this result
+abbrev pub PreparesDrop : {A : Type 0} → IndexView → Key → PagerView → PagerView → Result A IndexFault → Type 0
+PreparesDrop index key old new result = ReadsIndex index.last (IsDropFault index old.store key) old new result

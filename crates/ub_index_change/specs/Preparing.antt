@@ -1,12 +1,12 @@
 -- A change of an index that is prepared: what it spells, and what the index is once that stands.
-use Rattle.std.specs.Prelude.{◌≡◌, ◌≤◌, ◌<◌, ◌+◌, ◌++◌, ◌⊎◌, ℕ, nat_eq, IsTrue, List, [], ◌∷◌, Option, Some, None, IfSome, Result, IfErr}
+use Rattle.std.specs.Prelude.{◌≡◌, ◌≤◌, ◌<◌, ◌+◌, ◌^◌, ◌++◌, ◌⊎◌, ℕ, nat_eq, IsTrue, List, [], ◌∷◌, Option, Some, None, IfSome, Result, IfErr, IfOk}
 use Rattle.std.specs.List.{IsDistinct}
 use Rattle.ub_index_change.specs.FullWay.{EndsFull, IsFullWay}
-use Rattle.ub_index_change.specs.Changing.{AreOnce, IsNoNew, IsUnspelled, Spelled, Stand, StayBut, Turns, sheet_of, so_far}
+use Rattle.ub_index_change.specs.Changing.{AreOnce, IsNoGrowth, IsNoNew, IsUnspelled, Spelled, Stand, StayBut, Turns, sheet_of, so_far}
+use Rattle.ub_index.specs.Descending.{IsForgotten}
 use Rattle.ub_index.specs.Standing.{IsOutside}
-use Rattle.ub_index.specs.Held.{KeepsChecked, NoneMoreButIndex}
 use Rattle.ub_index.specs.Index.{IsUnder, pages_under, top, under}
-use Rattle.ub_index.specs.Searching.{store_after}
+use Rattle.ub_index.specs.Searching.{ReadsIndex}
 use Rattle.ub_index.specs.View.{IndexView, Stops, pages_of_index}
 use Rattle.ub_index.specs.declared.fault.IndexFault.{IndexFault}
 use Rattle.ub_index.specs.declared.fault.IndexFault.TheVariants.{Full, Page, Store}
@@ -142,12 +142,17 @@ IsChangeFault index old key added from (Page n fault) =
 IsChangeFault index old key added from Full =
     (index.levels ≡ MAX_LEVEL) × (IsHonest old → HasFullWay index old key × (from.next + MAX_LEVEL ≤ MAX_PAGES))
 
--- a change that is prepared with this result: with the device's fault the store has one failed read more, and else nothing has
--- changed but the pages that the pager holds, each of which was checked, if they were before; none that it holds more is that of
--- a region, but each one of an index
-pub record PreparesAll {A : Type 0} (index : IndexView) (key : Key) (added : Option Entry) (from : Spelled) (old new : PagerView)
-    (result : Result A IndexFault) : Type 0 where
-  pub same : new ≡ record old { store = store_after result old.store; cached = new.cached }
-  pub checked : KeepsChecked index.last old new
-  pub more : NoneMoreButIndex index.last old.cached new.cached
-  pub faults : IfErr result (IsChangeFault index old.store key added from)
+-- a change that is prepared with this result
+abbrev pub PreparesAll : {A : Type 0} → IndexView → Key → Option Entry → Spelled → PagerView → PagerView → Result A IndexFault → Type 0
+PreparesAll index key added from old new result = ReadsIndex index.last (IsChangeFault index old.store key added from) old new result
+
+-- a change was to be prepared, where some pages may be spelled already, and this was answered; the index is one that there can be
+pub record PreparesFrom (index : IndexView) (key : Key) (added : Option Entry) (start : ℕ) (from : Spelled) (old new : PagerView)
+    (result : Result ChangeView IndexFault) : Type 0 where
+  pub bounds : (index.last < 2 ^ 128) × (index.levels ≤ MAX_LEVEL) × (1 ≤ index.levels) × (1 ≤ index.root)
+  pub made : IsHonest old.store → IfOk result (IsPrepared index old.store key added start from)
+  pub few : IfOk result (TakesFew start from.next (index.levels + 1))
+  pub narrow : added ≡ None → IfErr result IsNoGrowth
+  pub forgotten : IfErr result (IsForgotten new)
+  pub still : added ≡ None → IfOk result (λ c. c.next ≡ from.next)
+  pub effect : PreparesAll index key added from old new result

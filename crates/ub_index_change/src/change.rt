@@ -1,14 +1,12 @@
 // A change of an index that is prepared, and not yet made.
-ghost use Rattle.std.specs.Prelude.{◌≡◌, ◌≤◌, ◌<◌, ◌+◌, ◌-◌, ◌⊎◌, [], None, IfOk, IfErr, IfSome, OnOk};
-ghost use Rattle.ub_store.specs.Writing.{Grows, put_store};
+ghost use Rattle.std.specs.Prelude.{◌≡◌, ◌≤◌, ◌<◌, ◌+◌, ◌-◌, ◌⊎◌, None, IfOk, IfErr, IfSome};
+ghost use Rattle.ub_index_change.specs.Calls.{GrowsBy};
 ghost use Rattle.ub_index_change.specs.Changing.{AreBelow, IsAtMostOne, IsNoGrowth};
 ghost use Rattle.ub_index.specs.Descending.{IsForgotten, Steps};
 ghost use Rattle.ub_index.specs.Index.{top};
 ghost use Rattle.ub_index_change.specs.Lowering.{LowersTo, ReadsRoots, entries_then, sole_page, spelled_page, unless_first};
 ghost use Rattle.ub_page.specs.Index.{node_on};
-ghost use Rattle.ub_store.specs.Facts.{IsHonest, page_count};
-ghost use Rattle.ub_store.specs.View.{SameTrace};
-ghost use Rattle.ub_index.specs.Standing.{IsGrowFault};
+ghost use Rattle.ub_store.specs.Facts.{IsHonest};
 ghost use Rattle.ub_index_change.specs.Preparing.{Settles, IsSettleFault, TakesFew};
 ghost use Rattle.ub_index_change.specs.declared.told.Told.TheVariants.{Gone, Two};
 ghost use Rattle.ub_page.specs.declared.header.TheConstants.{MAX_LEVEL};
@@ -54,9 +52,7 @@ impl Change {
         start: u32,
         sheets: Sheets,
     ) -> Result<Change, IndexFault>
-        requires low { 1 ≤ levels }
-        requires high { levels ≤ MAX_LEVEL }
-        requires some { 1 ≤ root }
+        requires root { (1 ≤ root) × (1 ≤ levels) × (levels ≤ MAX_LEVEL) }
         requires more { IsAtMostOne told ⊎ (1 ≤ sheets.next) }
         requires left { ¬ (told ≡ Gone) }
         ensures settled { IfOk result (Settles root levels told start sheets) }
@@ -104,14 +100,7 @@ impl Change {
     /// BadSize where it would have more than 4294967295 pages, Memory where memory was refused. Each page that the store had is
     /// as it was; after a fault it may have got some.
     pub fn grow<S: PageStore>(&self, pager: &mut Pager<S>) -> Result<(), StoreFault>
-        ensures trace { SameTrace pager.old pager.new }
-        ensures cached { pager.new.cached ≡ pager.old.cached }
-        ensures grown { OnOk result (page_count pager.new.store
-            ≡ page_count pager.old.store + (self.now.next - self.now.start)) }
-        ensures grows { Grows pager.old.store pager.new.store }
-        ensures same { pager.new.store ≡ put_store result pager.old.store pager.new.store }
-        ensures refused { IfErr result (IsGrowFault (self.now.next - self.now.start)
-            pager.old.store) }
+        ensures { GrowsBy (self.now.next - self.now.start) pager.old pager.new result }
     {
         extend_by(pager, self.sheets.next().saturating_sub(self.start))
     }

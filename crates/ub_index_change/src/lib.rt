@@ -29,7 +29,7 @@
 //! DEFINITIONS (specs). What each page on the way becomes, and what the flat list of entries: `Changed`; what is spelled, and why
 //! it is refused: `Changing`; how many of the pages on a way are full: `FullWay`; a change that is prepared, and which index it
 //! makes: `Preparing`; a root that gives way: `Lowering`; a change that is made: `Making`; how full an index is that has only
-//! grown: `Filling`. `Laws`.
+//! grown: `Filling`. What each call promises: `Calls`. `Laws`.
 //!
 //! What belongs here is what becomes of several pages at once. What an index is, and the way down it (`ub_index`), how one page
 //! is spelled (`ub_page`), and how pages are kept (`ub_store`), stands below; in which order the pages of a table go out, above.

@@ -1,11 +1,11 @@
 // How a change is made in a store.
-ghost use Rattle.std.specs.Prelude.{◌≡◌, ◌+◌, ℕ, IfErr, OnErr, OnOk};
-ghost use Rattle.ub_store.specs.Writing.{Grows, put_store};
+ghost use Rattle.std.specs.Prelude.{◌≡◌, ℕ, IfErr, OnOk};
+ghost use Rattle.ub_index_change.specs.Calls.{Commits, GrowsBy};
+ghost use Rattle.ub_store.specs.Writing.{put_store};
 ghost use Rattle.ub_index_change.specs.Changing.{AreBelow, AreIndexPages, AreOnce, Stand};
 ghost use Rattle.ub_index.specs.Held.{KeepsChecked};
-ghost use Rattle.ub_index.specs.Standing.{IsGrowFault};
 ghost use Rattle.ub_index_change.specs.Making.{IsPutFault, PutsSheets};
-ghost use Rattle.ub_store.specs.Facts.{IsHonest, page_count};
+ghost use Rattle.ub_store.specs.Facts.{IsHonest};
 ghost use Rattle.ub_store.specs.View.{SameTrace};
 
 use crate::change::Change;
@@ -15,12 +15,7 @@ use ub_store::{PageStore, Pager, StoreFault};
 
 /// Gives the store so many pages more.
 pub fn extend_by<S: PageStore>(pager: &mut Pager<S>, by: u32) -> Result<(), StoreFault>
-    ensures trace { SameTrace pager.old pager.new }
-    ensures cached { pager.new.cached ≡ pager.old.cached }
-    ensures grown { OnOk result (page_count pager.new.store ≡ page_count pager.old.store + by) }
-    ensures grows { Grows pager.old.store pager.new.store }
-    ensures same { pager.new.store ≡ put_store result pager.old.store pager.new.store }
-    ensures refused { IfErr result (IsGrowFault by pager.old.store) }
+    ensures { GrowsBy by pager.old pager.new result }
 {
     let mut left = by;
     while left > 0 {
@@ -38,20 +33,7 @@ pub fn commit<S: PageStore>(
     pager: &mut Pager<S>,
     change: &Change,
 ) -> Result<(), StoreFault>
-    ensures now { OnOk result (index.new ≡ record index.old {
-      root = change.now.root;
-      levels = change.now.levels;
-    }) }
-    ensures left { OnErr result (index.new ≡ index.old) }
-    ensures trace { SameTrace pager.old pager.new }
-    ensures stand { AreOnce change.now.sheets → IsHonest pager.old.store
-        → OnOk result (Stand pager.new.store.pages change.now.sheets) }
-    ensures kept { PutsSheets change.now.sheets pager.old.store pager.new.store }
-    ensures checked { AreIndexPages index.old.last change.now.sheets
-        → KeepsChecked index.old.last pager.old pager.new }
-    ensures same { pager.new.store ≡ put_store result pager.old.store pager.new.store }
-    ensures refused { IfErr result
-        (IsPutFault change.now.next change.now.sheets pager.old.store) }
+    ensures { Commits change.now index.old index.new pager.old pager.new result }
 {
     put_all(pager, change.sheets())?;
     let (root, levels) = change.root();

@@ -1,15 +1,8 @@
 // How a change of an index is prepared: what it spells, and which page is the root from then on. Nothing is written.
-ghost use Rattle.std.specs.Prelude.{◌≡◌, ◌≤◌, ◌<◌, ◌+◌, ◌^◌, ◌⊎◌, ℕ, [], ◌∷◌, None, Some, IfOk, IfErr};
-ghost use Rattle.ub_index_change.specs.Changed.{Replaces};
-ghost use Rattle.ub_index_change.specs.Changing.{AreIndexPages, IsNoGrowth, so_far};
-ghost use Rattle.ub_index_change.specs.Filling.{KeepsFilled};
-ghost use Rattle.ub_index_change.specs.Lowering.{IsDropped, MakesLow, PreparesDrop};
-ghost use Rattle.ub_index_change.specs.Preparing.{IsPrepared, MakesIndex, IsWithinRegion, PreparesAll, TakesFew, TakesNeeded, added_at};
-ghost use Rattle.ub_index.specs.Descending.{IsForgotten};
-ghost use Rattle.ub_index.specs.View.{IsReachedOnce, IsIndexOn, IsRegionAt, Leads, entries_in, entry_at};
-ghost use Rattle.ub_page.specs.declared.header.TheConstants.{MAX_LEVEL};
-ghost use Rattle.ub_store.specs.Facts.{IsHonest, page_count};
-ghost use Rattle.ub_table.specs.Keys.{IsBefore, origin};
+ghost use Rattle.std.specs.Prelude.{◌≡◌, ◌≤◌, ◌⊎◌, None};
+ghost use Rattle.ub_index_change.specs.Calls.{PreparesAddition, PreparesRemoval};
+ghost use Rattle.ub_index_change.specs.Preparing.{PreparesFrom};
+ghost use Rattle.ub_store.specs.Facts.{page_count};
 
 use crate::change::Change;
 use crate::sheets::Sheets;
@@ -36,34 +29,7 @@ pub fn prepare_add<S: PageStore>(
     region: &Region,
     first: &Key,
 ) -> Result<Change, IndexFault>
-    ensures made { IsHonest pager.old.store → IfOk result (IsPrepared index.now pager.old.store
-        region.now.first (Some (added_at first.now pager.old.store))
-        (page_count pager.old.store) (so_far [] (page_count pager.old.store + 1))) }
-    ensures few { IfOk result (TakesFew (page_count pager.old.store)
-        (page_count pager.old.store + 1) (index.now.levels + 1)) }
-    ensures takes { IsHonest pager.old.store → IfOk result
-        (TakesNeeded index.now pager.old.store region.now.first) }
-    ensures pages { IsHonest pager.old.store
-        → Leads index.now pager.old.store region.now.first region.now
-        → IsWithinRegion index.now.last region.now.first region.now.next first.now
-        → IfOk result (λ c. AreIndexPages index.now.last c.sheets) }
-    ensures ready { (i : ℕ) → IsIndexOn index.now pager.old.store
-        → IsReachedOnce index.now pager.old.store
-        → IsRegionAt (entries_in index.now pager.old.store) i region.now
-        → IsWithinRegion index.now.last region.now.first region.now.next first.now
-        → IfOk result (λ c. MakesIndex index.now pager.old.store
-        (page_count pager.old.store + 1) c (Replaces (entry_at region.now)
-        (entry_at region.now ∷ added_at first.now pager.old.store ∷ [])
-        (entries_in index.now pager.old.store))) }
-    ensures fills { (i : ℕ) → IsIndexOn index.now pager.old.store
-        → IsReachedOnce index.now pager.old.store
-        → IsRegionAt (entries_in index.now pager.old.store) i region.now
-        → IsWithinRegion index.now.last region.now.first region.now.next first.now
-        → IfOk result (KeepsFilled index.now pager.old.store) }
-    ensures forgotten { IfErr result (IsForgotten pager.new) }
-    ensures effect { PreparesAll index.now region.now.first
-        (Some (added_at first.now pager.old.store)) (so_far [] (page_count pager.old.store + 1))
-        pager.old pager.new result }
+    ensures { PreparesAddition index.now region.now first.now pager.old pager.new result }
 {
     let start = pager.pages();
     let mut sheets = Sheets::new(alloc, start);
@@ -89,24 +55,7 @@ pub fn prepare_drop<S: PageStore>(
     pager: &mut Pager<S>,
     region: &Region,
 ) -> Result<Change, IndexFault>
-    ensures made { IsHonest pager.old.store → IfOk result
-        (IsDropped index.now pager.old.store region.now.first) }
-    ensures pages { IsHonest pager.old.store
-        → IfOk result (λ c. AreIndexPages index.now.last c.sheets) }
-    ensures ready { (i : ℕ) → IsIndexOn index.now pager.old.store
-        → IsReachedOnce index.now pager.old.store
-        → IsRegionAt (entries_in index.now pager.old.store) i region.now
-        → IsBefore origin region.now.first
-        → IfOk result (λ c. MakesIndex index.now pager.old.store (page_count pager.old.store) c
-        (Replaces (entry_at region.now) [] (entries_in index.now pager.old.store))) }
-    ensures low { (i : ℕ) → IsIndexOn index.now pager.old.store
-        → IsReachedOnce index.now pager.old.store
-        → IsRegionAt (entries_in index.now pager.old.store) i region.now
-        → IsBefore origin region.now.first
-        → IfOk result (λ c. (c.next ≡ c.start) × MakesLow index.now pager.old.store c) }
-    ensures next { IfOk result (λ c. c.next ≡ page_count pager.old.store) }
-    ensures forgotten { IfErr result (IsForgotten pager.new) }
-    ensures effect { PreparesDrop index.now region.now.first pager.old pager.new result }
+    ensures { PreparesRemoval index.now region.now pager.old pager.new result }
 {
     let start = pager.pages();
     let aim = Aim {
@@ -130,15 +79,7 @@ fn prepare<S: PageStore>(
 ) -> Result<Change, IndexFault>
     requires more { (aim.now.added ≡ None) ⊎ (1 ≤ sheets.next) }
     requires there { page_count pager.old.store ≤ sheets.next }
-    ensures bounds { (index.now.last < 2 ^ 128) × (index.now.levels ≤ MAX_LEVEL)
-        × (1 ≤ index.now.levels) × (1 ≤ index.now.root) }
-    ensures made { IsHonest pager.old.store → IfOk result
-        (IsPrepared index.now pager.old.store aim.now.key aim.now.added start sheets) }
-    ensures few { IfOk result (TakesFew start sheets.next (index.now.levels + 1)) }
-    ensures narrow { aim.now.added ≡ None → IfErr result IsNoGrowth }
-    ensures forgotten { IfErr result (IsForgotten pager.new) }
-    ensures still { aim.now.added ≡ None → IfOk result (λ c. c.next ≡ sheets.next) }
-    ensures effect { PreparesAll index.now aim.now.key aim.now.added sheets pager.old pager.new
+    ensures { PreparesFrom index.now aim.now.key aim.now.added start sheets pager.old pager.new
         result }
 {
     let (root, levels) = index.root();

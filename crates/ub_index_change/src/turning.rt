@@ -1,6 +1,6 @@
 // How a change goes down an index, and back up: what each page on the way becomes.
-ghost use Rattle.std.specs.Prelude.{◌≡◌, ◌+◌, ◌<◌, ◌≤◌, ℕ, [], None, IfErr, IfOk, OnOk, length, take, drop};
-ghost use Rattle.ub_index_change.specs.Changing.{NeedsNoGrowth, OpensTo, Prepares, Turns};
+ghost use Rattle.std.specs.Prelude.{◌≡◌, ◌+◌, ◌<◌, ◌≤◌, IfErr, IfOk, OnOk, length, take, drop};
+ghost use Rattle.ub_index_change.specs.Changing.{OpensTo, TurnsAt};
 ghost use Rattle.ub_index.specs.Descending.{IsForgotten, Steps};
 ghost use Rattle.ub_index.specs.Fitting.{FallsTo};
 ghost use Rattle.ub_index.specs.Index.{first_or};
@@ -47,16 +47,8 @@ pub fn turn<S: PageStore>(
 ) -> Result<Told, IndexFault>
     requires high { level ≤ MAX_LEVEL }
     requires there { page_count pager.old.store ≤ sheets.old.next }
-    ensures turned { IsHonest pager.old.store → IfOk result (Turns last pager.old.store.pages
-        aim.now.key aim.now.added level place.now.entry place.now.next sheets.old sheets.new) }
-    ensures few { IfOk result (λ _. (sheets.old.next ≤ sheets.new.next)
-        × (sheets.new.next ≤ sheets.old.next + level)) }
-    ensures narrow { aim.now.added ≡ None → NeedsNoGrowth result }
-    ensures still { aim.now.added ≡ None
-        → IfOk result (λ _. sheets.new.next ≡ sheets.old.next) }
-    ensures forgotten { IfErr result (IsForgotten pager.new) }
-    ensures effect { Prepares last level aim.now.key place.now.entry place.now.next
-        sheets.old.next pager.old pager.new result }
+    ensures { TurnsAt last level aim.now.key aim.now.added place.now.entry place.now.next
+        sheets.old sheets.new pager.old pager.new result }
 {
     if level == 0 {
         return Ok(with_added(aim.added, &place.entry));
