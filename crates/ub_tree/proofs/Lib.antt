@@ -46,4 +46,6 @@ pub mod UpgradedFacts
 pub mod WellFacts
 pub mod CheckFacts
 pub mod Example
+pub mod StretchFacts
+pub mod StretchParts
 pub mod Laws

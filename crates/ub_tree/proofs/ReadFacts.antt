@@ -104,7 +104,7 @@ reads_by (Ok x) e a b c is h reads = absurd is
 reads_by {T = T} (Err f) e a b c is h reads = rw is (reads_then {T = T} (Err e) a b c h (record { same = reads.same; faults = reads.faults }))
 
 -- the fault of a call of the tree handed on
-given_of : (t : TreeView) (e : TreeFault) → IsReadFault t e → IsGiven t (fault_of_tree e)
+pub given_of : (t : TreeView) (e : TreeFault) → IsReadFault t e → IsGiven t (fault_of_tree e)
 given_of t e h = search rules
 
 counted_of : (T : Type 0) (e : TreeFault) (n : ℕ) → counted {A = T} (Err (fault_of_tree e)) n ≡ raised_by e n

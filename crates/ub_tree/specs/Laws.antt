@@ -1,10 +1,11 @@
 -- The laws of a tree. Each law is what the function of its name in
 -- `law` ensures, and is proved in proofs/Laws.antt. That an insertion and a removal keep what regions are is a law of
 -- `ub_region`.
-use Rattle.std.specs.Prelude.{◌≡◌, ◌≤◌, ◌<◌, ◌↔◌, ℕ, List, Option, Some, None, Contains, slice_get}
+use Rattle.std.specs.Prelude.{◌≡◌, ◌+◌, ◌≤◌, ◌<◌, ◌↔◌, ◌∷◌, [], ℕ, List, Option, Some, None, Contains, flat_map, length, slice_get}
 use Rattle.std.specs.List.{AllByRecursion}
 use Rattle.ub_bigmin.specs.Box.{Corners, HoldsAny}
 use Rattle.ub_index.specs.Way.{HoldsKey}
+use Rattle.ub_page.specs.declared.entries.TheConstants.{MAX_ENTRIES}
 use Rattle.ub_region.specs.Those.{AreThose}
 use Rattle.ub_table.specs.Keys.{IsBefore}
 use Rattle.ub_table.specs.Region.{RegionRows, key_of}
@@ -18,8 +19,9 @@ use Rattle.ub_tree.specs.Grown.{IsOnlyGrown}
 use Rattle.ub_tree.specs.Opened.{IsOpened}
 use Rattle.ub_tree.specs.Spans.{First, IsLater, Meets, Region}
 use Rattle.ub_tree.specs.Stored.{AreSoundPages}
+use Rattle.ub_tree.specs.Stretches.{ArePartsOf, IsStretchOf, MeetsAny, Stretch, whole_of, within}
 use Rattle.ub_tree.specs.Told.{AreAnswers, GivesNext, IsRegionOf}
-use Rattle.ub_tree.specs.View.{TreeView, IsSound, spans_of}
+use Rattle.ub_tree.specs.View.{TreeView, IsSound, level_count, spans_of}
 use Rattle.ub_tree.specs.declared.fault.TreeFault.{TreeFault}
 use Rattle.ub_zaddr.specs.Address.{last_address}
 
@@ -103,3 +105,78 @@ SoundTreesAreWell = (t : TreeView) → IsSound t → IsWell t
 abbrev pub FirstFaultIsOne : Type 0
 FirstFaultIsOne = (t : TreeView) (one other : TreeFault) → t.inner.index.last ≡ last_address t.schema.dims
     → IsFirstFault t one → IsFirstFault t other → one ≡ other
+
+-- ---- stretches
+
+-- the whole of any tree is a stretch that it tells of
+abbrev pub WholeIsTold : Type 0
+WholeIsTold = (t : TreeView) → IsStretchOf t (whole_of t)
+
+-- a stretch that any tree tells of holds its first key, begins with that one's address, and is of no higher level than the whole
+abbrev pub StretchesBegin : Type 0
+StretchesBegin = (t : TreeView) (stretch : Stretch) → IsStretchOf t stretch
+    → HoldsKey stretch.span.first stretch.span.first stretch.span.next × (stretch.span.from ≡ stretch.span.first.z) × (stretch.level ≤ level_count t)
+
+-- over any tree, a stretch of level 0 that it tells of is a region that it tells of
+abbrev pub LowestAreRegions : Type 0
+LowestAreRegions = (t : TreeView) (stretch : Stretch) → IsStretchOf t stretch → stretch.level ≡ 0 → IsRegionOf t stretch.span
+
+-- over any tree, the parts that it gives of a stretch that it tells of are stretches that it tells of, of the level below, and meet the boxes;
+-- there are at most as many as entries on a page
+abbrev pub PartsAreTold : Type 0
+PartsAreTold = (t : TreeView) (boxes : List Corners) (stretch : Stretch) (parts : List Stretch) → IsStretchOf t stretch
+    → ArePartsOf t boxes stretch parts
+    → AllByRecursion (λ part. IsStretchOf t part × (stretch.level ≡ part.level + 1) × MeetsAny boxes part) parts × (length parts ≤ MAX_ENTRIES)
+
+-- over any tree, and of any stretch, they are of the level below, and at most as many as entries on a page
+abbrev pub PartsAreBelow : Type 0
+PartsAreBelow = (t : TreeView) (boxes : List Corners) (stretch : Stretch) (parts : List Stretch) → 1 ≤ stretch.level → ArePartsOf t boxes stretch parts
+    → AllByRecursion (λ part. stretch.level ≡ part.level + 1) parts × (length parts ≤ MAX_ENTRIES)
+
+-- over any tree, of two parts each key of the later one comes after each key of the earlier one: so they ascend, and share no key
+abbrev pub PartsAscend : Type 0
+PartsAscend = (t : TreeView) (boxes : List Corners) (stretch : Stretch) (parts : List Stretch) (i j : ℕ) (a b : Stretch)
+    → ArePartsOf t boxes stretch parts → i < j → slice_get parts i ≡ Some a → slice_get parts j ≡ Some b
+    → (one other : Key) → HoldsKey one a.span.first a.span.next → HoldsKey other b.span.first b.span.next → IsBefore one other
+
+-- over any tree, each key of a part is one of the stretch
+abbrev pub PartsLieWithin : Type 0
+PartsLieWithin = (t : TreeView) (boxes : List Corners) (stretch : Stretch) (parts : List Stretch) → ArePartsOf t boxes stretch parts
+    → AllByRecursion (λ part. (key : Key) → HoldsKey key part.span.first part.span.next → HoldsKey key stretch.span.first stretch.span.next) parts
+
+-- over any tree, each address of a part is one of the stretch
+abbrev pub PartsLieIn : Type 0
+PartsLieIn = (t : TreeView) (boxes : List Corners) (stretch : Stretch) (parts : List Stretch) → IsStretchOf t stretch → ArePartsOf t boxes stretch parts
+    → AllByRecursion (λ part. (z : ℕ) → LiesIn part.span z → LiesIn stretch.span z) parts
+
+-- over any tree, each key of the space that the stretch holds, and whose address is in the boxes, is held by one of the parts: none is passed
+-- over
+abbrev pub PartsHold : Type 0
+PartsHold = (t : TreeView) (boxes : List Corners) (stretch : Stretch) (parts : List Stretch) (key : Key) → IsStretchOf t stretch
+    → ArePartsOf t boxes stretch parts → HoldsAny boxes key.z → key.z ≤ (whole_of t).span.to → HoldsKey key stretch.span.first stretch.span.next
+    → (part : Stretch) × Contains parts part × HoldsKey key part.span.first part.span.next
+
+-- each region of a sound tree is within the whole
+abbrev pub AllAreWithin : Type 0
+AllAreWithin = (t : TreeView) → IsSound t → within (whole_of t) (spans_of t) ≡ spans_of t
+
+-- within a stretch of level 0 of a sound tree is one region: itself
+abbrev pub LowestHoldOne : Type 0
+LowestHoldOne = (t : TreeView) (stretch : Stretch) → IsSound t → IsStretchOf t stretch → stretch.level ≡ 0
+    → within stretch (spans_of t) ≡ stretch.span ∷ []
+
+-- of a sound tree the regions within a stretch that meet the boxes are those that do within its parts, one part after the other
+abbrev pub PartsCover : Type 0
+PartsCover = (t : TreeView) (boxes : List Corners) (stretch : Stretch) (parts : List Stretch) (met : List Region) → IsSound t → IsStretchOf t stretch
+    → ArePartsOf t boxes stretch parts
+    → AreThose (Meets boxes) (within stretch (spans_of t)) met ↔ AreThose (Meets boxes) (flat_map (λ part. within part (spans_of t)) parts) met
+
+-- of a sound tree an address lies in a stretch just where it lies in some region within it
+abbrev pub StretchIsItsRegions : Type 0
+StretchIsItsRegions = (t : TreeView) (stretch : Stretch) (z : ℕ) → IsSound t → IsStretchOf t stretch
+    → LiesIn stretch.span z ↔ ((region : Region) × Contains (within stretch (spans_of t)) region × LiesIn region z)
+
+-- so some region meets the boxes within a stretch that does
+abbrev pub SomeRegionMeets : Type 0
+SomeRegionMeets = (t : TreeView) (boxes : List Corners) (stretch : Stretch) → IsSound t → IsStretchOf t stretch → MeetsAny boxes stretch
+    → (region : Region) × Contains (within stretch (spans_of t)) region × Meets boxes region

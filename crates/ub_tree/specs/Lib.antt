@@ -8,6 +8,7 @@ pub mod Told
 pub mod Effects
 pub mod Reading
 pub mod Handing
+pub mod Stretches
 pub mod Calls
 pub mod Faults
 pub mod Tree

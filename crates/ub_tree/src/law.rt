@@ -1,4 +1,4 @@
-ghost use Rattle.ub_tree.specs.Laws.{SpansAscend, PagesDiffer, SpansCoverTheSpace, RowsLieInSpans, RegionsAreTold, NextIsTheFirst, NextIsLater, AnswersAreThoseThatMeet, AnswersAreRegionsThatMeet, AnswersAscend, AnswersCover, GrownIsNotFull, WellPagesAreSound, SoundTreesAreWell, FirstFaultIsOne};
+ghost use Rattle.ub_tree.specs.Laws.{SpansAscend, PagesDiffer, SpansCoverTheSpace, RowsLieInSpans, RegionsAreTold, NextIsTheFirst, NextIsLater, AnswersAreThoseThatMeet, AnswersAreRegionsThatMeet, AnswersAscend, AnswersCover, GrownIsNotFull, WellPagesAreSound, SoundTreesAreWell, FirstFaultIsOne, WholeIsTold, StretchesBegin, LowestAreRegions, PartsAreTold, PartsAreBelow, PartsAscend, PartsLieWithin, PartsLieIn, PartsHold, AllAreWithin, LowestHoldOne, PartsCover, StretchIsItsRegions, SomeRegionMeets};
 
 // Each function here does nothing, and its clauses are laws of the definitions in specs/. So the laws are proved, and are read
 // beside the code.
@@ -44,4 +44,38 @@ pub fn checks_of_trees()
 /// The index of a sound tree into which rows were only put, and none taken out, isn't full.
 pub fn grown_is_not_full()
     ensures { GrownIsNotFull }
+{}
+
+/// The whole of any tree is a stretch that it tells of. Each such stretch holds its first key, and is of no higher level than the whole. One
+/// of level 0 is a region that the tree tells of.
+pub fn stretches_are_told()
+    ensures whole_is_told { WholeIsTold }
+    ensures stretches_begin { StretchesBegin }
+    ensures lowest_are_regions { LowestAreRegions }
+{}
+
+/// Over any tree, the parts that opening gives of a stretch that the tree tells of are again such stretches, of the level below, and meet
+/// the boxes. Each key of a part is one of the stretch, and comes before each key of a later part.
+pub fn parts_are_told()
+    ensures parts_are_told { PartsAreTold }
+    ensures parts_are_below { PartsAreBelow }
+    ensures parts_ascend { PartsAscend }
+    ensures parts_lie_within { PartsLieWithin }
+{}
+
+/// Over any tree, each address of a part lies in the stretch, and each key of the stretch whose address is in the boxes is held by a part.
+pub fn parts_leave_none_out()
+    ensures parts_lie_in { PartsLieIn }
+    ensures parts_hold { PartsHold }
+{}
+
+/// Each region of a sound tree is within the whole; within a stretch of level 0 is itself alone; and of those within a stretch that is opened
+/// the ones that meet the boxes are those that do within its parts, one part after the other. An address lies in a stretch just where it
+/// lies in a region within it: so some region within it meets the boxes where it does.
+pub fn stretches_of_sound_trees()
+    ensures all_are_within { AllAreWithin }
+    ensures lowest_hold_one { LowestHoldOne }
+    ensures parts_cover { PartsCover }
+    ensures stretch_is_its_regions { StretchIsItsRegions }
+    ensures some_region_meets { SomeRegionMeets }
 {}
