@@ -27,45 +27,45 @@ begun_err e old new begins = ap (λ (t : TreeView). t.trace) begins.same
 
 -- ---- one that hasn't failed was asked for more
 
-pub record Came {A : Type 0} (s new_s : SweepView) (old new : TreeView) (found : Option A) : Type 0 where
+pub record Came {A : Type 0} (p : PlanView) (s new_s : SweepView) (old new : TreeView) (found : Option A) : Type 0 where
   pub works : IsAtWork new new_s
-  pub comes : ComesOn s new_s old new found
+  pub comes : ComesOn p s new_s old new found
   pub notes : NotesPages old new (Ok found)
   pub effect : ReadsTree old new (Ok found)
 
 pub came : {A : Type 0} (Next : List Row → List Row → List Event → List Event → Type 0) (rows : A → List Row) (plan : PlanView) (found : Option A) (s new_s : SweepView) (old new : TreeView) → IsAtWork old s
-    → Gives Next rows plan s new_s old new (Ok found) → FailsOnce s new_s old new (Ok found) → Came s new_s old new found
+    → Gives Next rows plan s new_s old new (Ok found) → FailsOnce s new_s old new (Ok found) → Came plan s new_s old new found
 came Next rows plan found s new_s old new works gives once = record {
-  works = (once.works, gives.effect.regions works.1);
-  comes = comes_on rows plan found s new_s old new gives.effect gives.answers;
-  notes = sweeps_notes found found s new_s old new works.1 gives.effect;
+  works = (once.works, gives.effect.stretches works.1);
+  comes = comes_on rows plan found s new_s old new works.1 gives.effect gives.answers;
+  notes = sweeps_notes plan found found s new_s old new works.1 gives.effect;
   effect = record { same = gives.effect.same; faults = tt };
 }
 
 -- or for all that is left
-pub record CameToAll (s : SweepView) (old new : TreeView) : Type 0 where
-  pub comes : ComesToAll s old new
+pub record CameToAll (p : PlanView) (s : SweepView) (old new : TreeView) : Type 0 where
+  pub comes : ComesToAll p s old new
   pub notes : NotesPages {A = Unit {0}} old new (Ok tt)
   pub effect : ReadsTree {A = Unit {0}} old new (Ok tt)
 
 pub came_to_all : {K : Type 0} (HasTaken : K → List Row → K → Type 0) (plan : PlanView) (s new_s : SweepView) (old new : TreeView) (sink new_sink : K) → IsAtWork old s
-    → HandsAll HasTaken plan s new_s old new sink new_sink (Ok tt) → CameToAll s old new
+    → HandsAll HasTaken plan s new_s old new sink new_sink (Ok tt) → CameToAll plan s old new
 came_to_all HasTaken plan s new_s old new sink new_sink works hands = record {
-  comes = comes_to_all s new_s old new hands.effect hands.left;
-  notes = sweeps_notes tt tt s new_s old new works.1 hands.effect;
+  comes = comes_to_all plan s new_s old new works.1 hands.effect hands.left;
+  notes = sweeps_notes plan tt tt s new_s old new works.1 hands.effect;
   effect = record { same = hands.effect.same; faults = tt };
 }
 
 -- and a fault ended that
-pub record Broke (A : Type 0) (s : SweepView) (old new : TreeView) (fault : ReadFault) : Type 0 where
-  pub breaks : BreaksOff s old new
+pub record Broke (A : Type 0) (p : PlanView) (s : SweepView) (old new : TreeView) (fault : ReadFault) : Type 0 where
+  pub breaks : BreaksOff p s old new
   pub notes : NotesPages {A = A} old new (Err fault)
   pub effect : ReadsTree {A = A} old new (Err fault)
 
-pub broke : (A : Type 0) (e : SweepFault) (fault : ReadFault) (s new_s : SweepView) (old new : TreeView) → fault ≡ as_read e → IsAtWork old s → Sweeps {A = A} s new_s old new (Err e)
-    → Broke A s old new fault
-broke A e fault s new_s old new is works sweeps = subst (λ (f : ReadFault). Broke A s old new f) (sym is) (record {
-  breaks = breaks_off (Err e) s new_s old new sweeps;
-  notes = broken_notes (Err (as_read e)) (λ x. x ≡ as_read e) e s new_s old new refl sweeps;
-  effect = sweeps_reads (Err (as_read e)) e s new_s old new refl works.0 works.1 sweeps;
+pub broke : (A : Type 0) (plan : PlanView) (e : SweepFault) (fault : ReadFault) (s new_s : SweepView) (old new : TreeView) → fault ≡ as_read e → IsAtWork old s
+    → Sweeps {A = A} plan s new_s old new (Err e) → Broke A plan s old new fault
+broke A plan e fault s new_s old new is works sweeps = subst (λ (f : ReadFault). Broke A plan s old new f) (sym is) (record {
+  breaks = breaks_off plan (Err e) s new_s old new works.1 sweeps;
+  notes = broken_notes plan (Err (as_read e)) (λ x. x ≡ as_read e) e s new_s old new refl sweeps;
+  effect = sweeps_reads plan (Err (as_read e)) e s new_s old new refl works.0 works.1 sweeps;
 })

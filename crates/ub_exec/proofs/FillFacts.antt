@@ -1,12 +1,12 @@
 -- The rows of a sweep that was begun, put in one after the other until the limit is filled or none is left.
 use Rattle.std.proofs.Common.{◌≡◌, ◌<◌, ◌≤◌, ◌++◌, ◌∷◌, inr, ℕ, Bool, List, [], Option, Some, None, Result, Ok, Err, IfOk, IfSome, ◌∙◌, length, map, refl, sym, ap, subst}
-use Rattle.std.proofs.lemmas.List.{append-nil, length-map}
+use Rattle.std.proofs.lemmas.List.{length-map}
 use Rattle.std.specs.List.{AllByRecursion}
 use Rattle.std.specs.Prelude.{OnErr, OnOk}
 use Rattle.std.specs.Result.{IsErrAnd}
 use Rattle.ub_answer.specs.Shaped.{IsShaped}
 use Rattle.ub_exec.proofs.BreakFacts.{swept_after, swept_before}
-use Rattle.ub_exec.proofs.ComeFacts.{BreaksOff, ComesOn, HasComeOn, HasComeOn-more, IsAtWork, swept_broken, swept_first, swept_full, swept_whole}
+use Rattle.ub_exec.proofs.ComeFacts.{BreaksOff, ComesOn, HasComeOn, HasComeOn-begun, HasComeOn-more, IsAtWork, IsBegunOver, swept_broken, swept_first, swept_full, swept_whole}
 use Rattle.ub_exec.proofs.NotedFacts.{is_swept, notes_none, notes_ok, notes_then, swept_err}
 use Rattle.ub_exec.proofs.SweptFacts.{HasSwept, HasSwept-none, HasSwept-more, begun_fetches, few_more, few_none, noted_more, wide_more, ended_fetched, ended_answered, filled_fetched, filled_answered, swept_kind}
 use Rattle.ub_exec.specs.Answers.{IsAnswer, IsReady, IsSwept, begun}
@@ -18,7 +18,6 @@ use Rattle.ub_planning.specs.Visits.{Event}
 use Rattle.ub_query.specs.Cells.{row_cell}
 use Rattle.ub_query.specs.declared.cell.Cell.{Cell}
 use Rattle.ub_table.specs.declared.row.Row.{Row}
-use Rattle.ub_tetris.specs.Awaited.{AreMetAlong}
 use Rattle.ub_tetris.specs.Sweep.{HasBegun, HasBroken, HasStepped, IsStarted, IsSweepOf, IsSweeping, SweepView, rows_left}
 use Rattle.ub_tetris.specs.Sweep as sweep
 use Rattle.ub_tree.proofs.Laws.{Keeps, Keeps-by, Keeps-more, Keeps-none}
@@ -41,8 +40,8 @@ pub HasFilled-none : (p : PlanView) (t : TreeView) (s : SweepView) (cells : List
 HasFilled-none p t s cells begins none = record {
   kept = Keeps-none t;
   few = few_none p.asked.limit cells none;
-  works = (begins.started.working, begins.started.regions);
-  come_on = record { first = s.awaited; met = begins.met; come = []; parts = refl; taken = tt; trace_is = sym (append-nil t.trace.pages) };
+  works = (begins.started.working, begins.started.stretches);
+  come_on = HasComeOn-begun p t s begins.met;
   notes = notes_none (Ok tt) t t refl;
   fetches = begun_fetches t t begins.fresh;
   wide = subst (λ (rows : List (List Cell)). AllByRecursion (λ cells. length cells ≡ length p.asked.items) rows) (sym none) tt;
@@ -79,8 +78,8 @@ module _ (p : PlanView) (start now : TreeView) (first s : SweepView) (cells : Li
         (swept_before p start now new s cells plain so_far.kept so (ap (λ (t : TreeView). t.placed) reads.same) (noted_more (Err fault) start now new so_far.fetches notes) left
         (breaks so.given so.rest so.fetched so.unread so.sweeping))
 
-    pub swept_asking : (fault : ReadFault) → BreaksOff s now new → ReadsSwept p start new (λ (rows : List (List Cell)). length rows) (Err fault)
-    swept_asking fault broken dim is_descending of = inr (swept_broken p start now s so_far.come_on dim is_descending of new broken)
+    pub swept_asking : (fault : ReadFault) → BreaksOff p s now new → ReadsSwept p start new (λ (rows : List (List Cell)). length rows) (Err fault)
+    swept_asking fault broken dim is_descending of = inr (swept_broken p start now s so_far.kept.traced so_far.come_on new broken dim is_descending of)
 
     pub notes_broken : {A : Type 0} (fault : ReadFault) → NotesPages {A = Option Row} now new (Err fault) → NotesPages {A = A} start new (Err fault)
     notes_broken fault notes =
@@ -104,7 +103,7 @@ module _ (p : PlanView) (start now : TreeView) (first s : SweepView) (cells : Li
       notes_after x = notes_then {A = Unit {0}} tt (Ok x) start now new so_far.kept.traced so_far.notes (notes_ok found x now new notes)
 
       module _ (steps : (given rest : List Row) (fetched unread : List Event) → IsSweeping p now s given rest fetched unread → HasStepped p new new_s given rest fetched unread found)
-          (comes : ComesOn s new_s now new found) where
+          (comes : ComesOn p s new_s now new found) where
         -- it has none left
         pub fills_ended : found ≡ None → Fills p start new first cells
         fills_ended none = record {
@@ -157,12 +156,12 @@ module _ (p : PlanView) (start now : TreeView) (first s : SweepView) (cells : Li
           }
 
           pub comes_down : rows_left new_s < rows_left s
-          comes_down = let with_row : ComesOn s new_s now new (Some row) = subst (ComesOn s new_s now new) some comes in with_row.fewer
+          comes_down = let with_row : ComesOn p s new_s now new (Some row) = subst (ComesOn p s new_s now new) some comes in with_row.fewer
 
 -- ---- a sweep that was begun, and its rows put in
 
 module _ (p : PlanView) (old mid : TreeView) (s : SweepView) (is : mid ≡ begun old) where
-  pub is_begun : IsStarted mid s → ((dim : ℕ) (is_descending : Bool) → IsSweepOf old.schema p dim is_descending → AreMetAlong p.covering.boxes dim is_descending mid s.awaited) → IsBegun p mid s
+  pub is_begun : IsStarted mid s → IsBegunOver p old mid s → IsBegun p mid s
   is_begun started met = record {
     fresh = is ∙ ap begun (sym is);
     started = started;

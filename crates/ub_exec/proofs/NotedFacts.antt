@@ -12,10 +12,12 @@ use Rattle.ub_planning.specs.declared.planned.Kind.{Kind}
 use Rattle.ub_planning.specs.declared.planned.Kind.TheVariants.{Empty, Scan, Sweep}
 use Rattle.ub_query.proofs.Laws.{all_weaker}
 use Rattle.ub_table.specs.Region.{RegionRows}
+use Rattle.ub_tetris.proofs.Laws.{all_told as all_below}
+use Rattle.ub_tetris.specs.Awaited.{AreStretchesOf, AwaitedRegion, AwaitedStretch, as_lowest, lowest}
 use Rattle.ub_tetris.specs.Effects.{Sweeps, fetches_then}
-use Rattle.ub_tetris.specs.Sweep.{AreItsRegions, AwaitedRegion, IsSweepOf, SweepView}
+use Rattle.ub_tetris.specs.Sweep.{AreItsStretches, IsSweepOf, SweepView}
 use Rattle.ub_tetris.specs.declared.fault.SweepFault.{SweepFault}
-use Rattle.ub_tree.proofs.Laws.{IsTraced, answers_ended, first_more, left_after, left_less, next_is_later, traced_gives, traced_told}
+use Rattle.ub_tree.proofs.Laws.{IsTraced, answers_ended, first_more, left_after, left_less, lowest_are_regions, next_is_later, traced_gives, traced_told}
 use Rattle.ub_store.specs.View.{Trace}
 use Rattle.ub_tree.specs.Effects.{HasNoted, IsTakenIn}
 use Rattle.ub_tree.specs.Handing.{AreMetBy}
@@ -264,29 +266,30 @@ swept_err rows (Err e) P p t new is first = first
 
 -- ---- what a sweep notes
 
--- the tree tells of those that it comes to
-come_there : (t : TreeView) (come rest : List AwaitedRegion) → AllByRecursion (λ a. IsRegionOf t a.region) (come ++ rest) → AllByRecursion (λ a. IsRegionOf t a.region) come
-come_there t [] rest all = tt
-come_there t (a ∷ come) rest all = (all.0, come_there t come rest all.1)
+-- a region that it comes to is one that the tree tells of
+come_there : (t : TreeView) (come : List AwaitedRegion) (ahead : List AwaitedStretch) → AreStretchesOf t (lowest come ++ ahead) → AllByRecursion (λ a. IsRegionOf t a.region) come
+come_there t [] ahead told = tt
+come_there t (a ∷ come) ahead told = (lowest_are_regions t (as_lowest a).stretch told.0 refl, come_there t come ahead told.1)
 
 swept_each : (t : TreeView) (come : List AwaitedRegion) → AllByRecursion (λ a. IsRegionOf t a.region) come → AllByRecursion (λ a. IsIn t a.region) come
     → AllByRecursion (IsRead t) (map (λ (a : AwaitedRegion). a.region.page) come)
 swept_each t [] there taken = tt
 swept_each t (a ∷ come) there taken = ((a.region, there.0, refl, taken.0), swept_each t come there.1 taken.1)
 
-pub sweeps_notes : {A B : Type 0} (x : A) (y : B) (s new_s : SweepView) (old new : TreeView) → AreItsRegions old s → Sweeps s new_s old new (Ok x) → NotesPages old new (Ok y)
-sweeps_notes x y s new_s old new regions sweeps = record {
+pub sweeps_notes : {A B : Type 0} (plan : PlanView) (x : A) (y : B) (s new_s : SweepView) (old new : TreeView) → AreItsStretches old s → Sweeps plan s new_s old new (Ok x) → NotesPages old new (Ok y)
+sweeps_notes plan x y s new_s old new told sweeps = record {
   noted = sweeps.noted;
   trace_is = sweeps.trace_is;
   fetches_are = sweeps.fetches_are;
   read = subst (λ (pages : List ℕ). AllByRecursion (IsRead old) pages) (sym sweeps.taken.0)
-      (swept_each old sweeps.come (come_there old sweeps.come new_s.awaited (subst (λ (those : List AwaitedRegion). AllByRecursion (λ a. IsRegionOf old a.region) those) sweeps.left regions)) sweeps.taken.1);
+      (swept_each old sweeps.come
+      (come_there old sweeps.come sweeps.ahead (all_below old plan.covering.boxes s.awaited (lowest sweeps.come ++ sweeps.ahead) told sweeps.left.below)) sweeps.taken.1);
 }
 
-pub broken_notes : {A B : Type 0} (r : Result A ReadFault) (P : ReadFault → Type 0) (e : SweepFault) (s new_s : SweepView) (old new : TreeView) → IsErrAnd r P → Sweeps {A = B} s new_s old new (Err e)
-    → NotesPages old new r
-broken_notes (Ok x) P e s new_s old new is sweeps = absurd is
-broken_notes (Err f) P e s new_s old new is sweeps = record {
+pub broken_notes : {A B : Type 0} (plan : PlanView) (r : Result A ReadFault) (P : ReadFault → Type 0) (e : SweepFault) (s new_s : SweepView) (old new : TreeView) → IsErrAnd r P
+    → Sweeps {A = B} plan s new_s old new (Err e) → NotesPages old new r
+broken_notes plan (Ok x) P e s new_s old new is sweeps = absurd is
+broken_notes plan (Err f) P e s new_s old new is sweeps = record {
   noted = sweeps.noted;
   trace_is = sweeps.trace_is;
   fetches_are = sweeps.fetches_are;

@@ -1,17 +1,19 @@
 -- What carrying out a plan reads of any tree, also of one that isn't sound: which pages are noted, and that each was taken in.
-use Rattle.std.specs.Prelude.{◌≡◌, ◌≢◌, ◌≤◌, ◌++◌, ◌∷◌, ◌⊎◌, [], ℕ, Bool, List, Option, Some, None, Result, Ok, Err, OnOk, length, map, take}
+use Rattle.std.specs.Prelude.{◌≡◌, ◌≢◌, ◌≤◌, ◌++◌, ◌∷◌, ◌⊎◌, [], ℕ, Bool, List, Option, Some, None, Result, Ok, Err, OnOk, length, map}
 use Rattle.std.specs.List.{AllByRecursion}
-use Rattle.ub_bigmin.specs.Box.{Corners}
+use Rattle.ub_bigmin.specs.Box.{Corners, HoldsAny}
 use Rattle.ub_exec.specs.Answers.{IsSwept}
 use Rattle.ub_planning.specs.Plan.{PlanView}
 use Rattle.ub_table.specs.Region.{RegionRows}
+use Rattle.ub_table.specs.declared.row.Key.{Key}
 use Rattle.ub_table.specs.declared.row.Row.{Row}
-use Rattle.ub_tetris.specs.Awaited.{AreMetAlong}
-use Rattle.ub_tetris.specs.Effects.{fetches_then}
-use Rattle.ub_tetris.specs.Sweep.{AwaitedRegion, IsSweepOf}
+use Rattle.ub_tetris.specs.Awaited.{AreInOrder, AreStretchesOf, AreValued, AwaitedRegion, AwaitedStretch, lowest, times_held}
+use Rattle.ub_tetris.specs.Effects.{AreAsked, fetches_then}
+use Rattle.ub_tetris.specs.Sweep.{IsSweepOf}
 use Rattle.ub_tree.specs.Effects.{HasNoted, IsTakenIn}
 use Rattle.ub_tree.specs.Handing.{AreMetBy}
 use Rattle.ub_tree.specs.Spans.{Region}
+use Rattle.ub_tree.specs.Stretches.{whole_of}
 use Rattle.ub_tree.specs.Told.{GivesNext, IsRegionOf}
 use Rattle.ub_tree.specs.View.{TreeView, KeepsTrace}
 use Rattle.ub_tree.specs.declared.read_fault.ReadFault.{ReadFault}
@@ -58,26 +60,38 @@ abbrev pub IsFilled : Option ℕ → ℕ → Type 0
 IsFilled None given = ⊥
 IsFilled (Some most) given = most ≤ given
 
--- the same in the order of a sweep, from which so many rows came: the first regions were taken in, and no others; these are all, or
--- the rows are as many as the limit says
+-- the regions to which a sweep of any tree has come, in this order, and the stretches that it awaits still. The tree tells of each, and each
+-- has its event value, so that it meets the boxes. No two of them hold one key, and each key of the space whose address is in the boxes is
+-- held by one: so no region was passed over, and none was come to twice. To none was come while another was awaited that is earlier by event
+-- value along the sweep, or, where these are equal, by first key
+pub record HasSweptTo (boxes : List Corners) (dim : ℕ) (is_descending : Bool) (t : TreeView) (come : List AwaitedRegion) (left : List AwaitedStretch) : Type 0 where
+  pub told : AreStretchesOf t (lowest come ++ left)
+  pub valued : AreValued boxes dim is_descending (lowest come ++ left)
+  pub apart : (key : Key) → times_held key (lowest come ++ left) ≤ 1
+  pub all : (key : Key) → HoldsAny boxes key.z → key.z ≤ (whole_of t).span.to → 1 ≤ times_held key (lowest come ++ left)
+  pub ordered : AreInOrder is_descending come left
+
+-- a sweep from which so many rows came: the regions to which it has come were taken in, and their pages were noted, in this order, and no
+-- others; it awaits nothing still, or the rows are as many as the limit says
 pub record HasSweptSome (boxes : List Corners) (dim : ℕ) (is_descending : Bool) (limit : Option ℕ) (old new : TreeView) (rows : ℕ) : Type 0 where
-  pub awaited : List AwaitedRegion
-  pub all : AreMetAlong boxes dim is_descending old awaited
   pub come : List AwaitedRegion
-  pub left : List AwaitedRegion
-  pub parts : awaited ≡ come ++ left
+  pub left : List AwaitedStretch
+  pub swept : HasSweptTo boxes dim is_descending old come left
   pub taken : AllByRecursion (λ a. IsIn old a.region) come
   pub trace_is : new.trace.pages ≡ old.trace.pages ++ map (λ a. a.region.page) come
   pub ended : (left ≡ []) ⊎ IsFilled limit rows
 
--- where a fault ended it: the pages of the first regions were noted, each once and in their order, and no others
+-- where a fault ended it: the pages of the regions to which it has come were noted, each once and in this order, and no others; that of the
+-- last one alone may be missing
 pub record HasSweptFirst (boxes : List Corners) (dim : ℕ) (is_descending : Bool) (old new : TreeView) : Type 0 where
-  pub awaited : List AwaitedRegion
-  pub all : AreMetAlong boxes dim is_descending old awaited
-  pub count : ℕ
-  pub trace_is : new.trace.pages ≡ old.trace.pages ++ map (λ a. a.region.page) (take count awaited)
+  pub come : List AwaitedRegion
+  pub left : List AwaitedStretch
+  pub swept : HasSweptTo boxes dim is_descending old come left
+  pub noted : List ℕ
+  pub once : AreAsked come noted
+  pub trace_is : new.trace.pages ≡ old.trace.pages ++ noted
 
--- what a sweep reads where it answers, and where a fault ends it, which may come before it knows all regions: then no page is noted
+-- what a sweep reads where it answers, and where a fault ends it, which may come before it is begun: then no page is noted
 abbrev pub HasSweptBy : {A : Type 0} → List Corners → ℕ → Bool → Option ℕ → TreeView → TreeView → (A → ℕ) → Result A ReadFault → Type 0
 HasSweptBy boxes dim is_descending limit old new rows (Ok answer) = HasSweptSome boxes dim is_descending limit old new (rows answer)
 HasSweptBy boxes dim is_descending limit old new rows (Err fault) = KeepsTrace old new ⊎ HasSweptFirst boxes dim is_descending old new
@@ -89,7 +103,7 @@ ReadsSwept p old new rows result = (dim : ℕ) (is_descending : Bool) → IsSwee
 
 -- a plan was carried out over any tree, and so many rows came of it: pages were noted, and where it answers, a scan passed over no
 -- region, unless the query asks for no row, and a sweep none before it had all rows that the limit asks for, without a limit none
--- at all; where a fault ends a sweep, the pages are those of the first regions
+-- at all; where a fault ends a sweep, the pages are those of the first regions that it came to
 pub record CarriesOut {A : Type 0} (p : PlanView) (old new : TreeView) (rows : A → ℕ) (result : Result A ReadFault) : Type 0 where
   pub notes : NotesPages old new result
   pub scans : ¬ IsSwept p.kind → p.asked.limit ≢ Some 0 → OnOk result (HasReadAll p.covering.boxes old new)

@@ -5,17 +5,17 @@ use Rattle.ub_exec.specs.Answers.{IsAnswer, begun}
 use Rattle.ub_exec.specs.Visits.{HasFetched}
 use Rattle.ub_planning.specs.Plan.{PlanView}
 use Rattle.ub_query.specs.declared.cell.Cell.{Cell}
-use Rattle.ub_tetris.specs.Awaited.{AreMetAlong}
+use Rattle.ub_tetris.specs.Awaited.{IsWholeAwaited}
 use Rattle.ub_tetris.specs.Sweep.{HasBegun, IsStarted, IsSweepOf, SweepView}
 use Rattle.ub_tree.specs.View.{TreeView}
 
--- it was begun by the plan, over any tree: no page stands in the trace, and it awaits all regions that the tree tells of for
--- the plan's boxes
+-- it was begun by the plan, over any tree: no page stands in the trace, and along the plan's dimension it awaits the whole tree, or nothing
+-- where no address of the space is in the plan's boxes
 pub record IsBegun (p : PlanView) (t : TreeView) (s : SweepView) : Type 0 where
   pub fresh : t ≡ begun t
   pub started : IsStarted t s
   pub met : (dim : ℕ) (is_descending : Bool) → IsSweepOf t.schema p dim is_descending
-      → AreMetAlong p.covering.boxes dim is_descending t s.awaited
+      → (s.dim ≡ dim) × (s.is_descending ≡ is_descending) × IsWholeAwaited p.covering.boxes dim is_descending t s.awaited
 
 -- the rows of a sweep that was begun were put in, until the limit was filled or none was left: each has as many cells as the
 -- query has items, and they are no more than its limit. Over a sound tree they are what the query means, and the regions that

@@ -1,114 +1,135 @@
--- A sweep begins: the trace begins anew, and the regions that it awaits are found.
-use Rattle.std.proofs.Common.{◌≡◌, ◌<◌, ◌∙◌, ◌∷◌, ℕ, Bool, true, false, List, [], All, Option, Some, Result, Ok, Err, length, refl, sym, ap, subst}
+-- A sweep begins: the trace begins anew, and the whole tree is awaited.
+use Rattle.std.proofs.Common.{◌≡◌, ◌≢◌, ◌<◌, ◌∙◌, ◌∷◌, ℕ, Bool, true, false, List, [], All, Option, Some, None, Result, Ok, Err, length, refl, sym, ap, subst}
 use Rattle.std.proofs.lemmas.Bool.{true≢false}
-use Rattle.std.specs.List.{AllByRecursion}
 use Rattle.std.specs.Prelude.{IsTrue}
 use Rattle.std.specs.Result.{IsErrAnd}
-use Rattle.ub_bigmin.specs.Box.{Corners}
+use Rattle.ub_bigmin.specs.Box.{Corners, IsValueInSpan}
+use Rattle.ub_planning.proofs.Laws.{plans_have_visits}
 use Rattle.ub_planning.specs.Plan.{PlanView, plan_of}
+use Rattle.ub_planning.specs.Visits.{AreEvents, AreSweptVisits, AreVisitsBy, Event, Span}
+use Rattle.ub_planning.specs.declared.planned.Kind.{Kind}
 use Rattle.ub_planning.specs.declared.planned.Kind.TheVariants.{Sweep}
-use Rattle.ub_query.proofs.Laws.{all_permutation}
+use Rattle.ub_region.specs.Regions.{AreRegions}
+use Rattle.ub_store.specs.View.{emptied}
+use Rattle.ub_table.specs.Region.{RegionRows}
 use Rattle.ub_table.specs.declared.schema.Schema.{Schema}
-use Rattle.ub_tetris.proofs.BegunFacts.{begun}
+use Rattle.ub_tetris.proofs.AheadFacts.{ahead_begun}
 use Rattle.ub_tetris.proofs.BoxFacts.{have_dimension}
-use Rattle.ub_tetris.proofs.QueueFacts.{met_along}
-use Rattle.ub_tetris.proofs.SpanFacts.{met_there, of_regions}
-use Rattle.ub_tetris.specs.Awaited.{AreMetAlong}
-use Rattle.ub_tetris.specs.Effects.{Begins, of_read}
-use Rattle.ub_tetris.specs.Sweep.{AwaitedRegion, HasBegun, IsStarted, IsSweepOf, IsSwept, SweepView}
+use Rattle.ub_tetris.proofs.MachineFacts.{begins}
+use Rattle.ub_tetris.proofs.StretchFacts.{whole_is_told}
+use Rattle.ub_tetris.specs.Awaited.{AreStretchesOf, AwaitedStretch, IsFirstOn, IsWholeAwaited, awaited_at}
+use Rattle.ub_tetris.specs.Effects.{Begins}
+use Rattle.ub_tetris.specs.Sweep.{HasBegun, IsStarted, IsSweepOf, IsSwept, SweepView}
 use Rattle.ub_tetris.specs.declared.course.Course.{Course}
-use Rattle.ub_tetris.specs.declared.event.Awaited.{Awaited}
 use Rattle.ub_tetris.specs.declared.fault.SweepFault.{SweepFault}
 use Rattle.ub_tetris.specs.declared.fault.SweepFault.TheVariants as sweep
-use Rattle.ub_tetris.specs.inner.Events.{AreQueued, regions_awaited}
-use Rattle.ub_tetris.specs.inner.Turns.{awaited_of, begun_view}
-use Rattle.ub_tree.proofs.Laws.{Keeps-by, begun_traced, given_before, unchanged_traced, walk_given}
-use Rattle.ub_tree.specs.Reading.{IsGiven, SearchesTree, counted}
-use Rattle.ub_store.specs.View.{emptied}
-use Rattle.ub_tree.specs.Told.{IsRegionOf}
-use Rattle.ub_tree.specs.View.{TreeView}
+use Rattle.ub_tetris.specs.inner.Events.{Ahead, AwaitsWhole, ahead_on}
+use Rattle.ub_tetris.specs.inner.Turns.{begun_view}
+use Rattle.ub_tree.proofs.Laws.{Keeps-by, begun_traced}
+use Rattle.ub_tree.specs.Stretches.{Stretch, whole_of}
+use Rattle.ub_tree.specs.View.{IsSound, TreeView, regions}
 use Rattle.ub_tree.specs.declared.fault.TreeFault.TheVariants.{Failed as HasFailed}
-use Rattle.ub_tree.specs.declared.read_fault.ReadFault.{ReadFault}
-use Rattle.ub_tree.specs.declared.read_fault.ReadFault.TheVariants as read
 
--- a search after the trace began anew, whose fault is handed on
-pub begins_by : {T U : Type 0} (r : Result T SweepFault) (e : ReadFault) (boxes : List Corners) (old mid new : TreeView) → IsErrAnd r (λ x. x ≡ of_read e) → mid ≡ record old { trace = emptied old.trace }
-    → SearchesTree {A = U} boxes mid new (Err e) → Begins old new r
-begins_by (Ok x) e boxes old mid new is began searches = absurd is
-begins_by {T = T} (Err f) e boxes old mid new is began searches =
-    rw is (begins e same (given_before old mid e (begun_traced old mid began) (walk_given boxes mid e searches.faults)))
-  where
-    same : new ≡ record old { store = record old.store { failed_reads = counted {A = T} (Err e) old.store.failed_reads }; trace = emptied old.trace }
-    same = searches.same ∙ ap (λ (t : TreeView). record t { store = record t.store { failed_reads = counted {A = T} (Err e) t.store.failed_reads } }) began
+-- ---- the events of a sweep
 
-    begins : (e : ReadFault) → new ≡ record old { store = record old.store { failed_reads = counted {A = T} (Err e) old.store.failed_reads }; trace = emptied old.trace } → IsGiven old e
-        → Begins {A = T} old new (Err (of_read e))
-    begins read.Memory same fault = record { same = same; faults = tt }
-    begins (read.Tree of_tree) same fault = record { same = same; faults = fault }
+events_swept : (group : List ℕ) (schema : Schema) (plan : PlanView) (dim : ℕ) (down : Bool) (regions : List RegionRows) (visits : List Span) → AreSweptVisits group schema plan dim down regions visits
+    → (events : List Event) × AreEvents schema plan.covering.boxes dim down regions events
+events_swept [] schema plan dim down regions visits are = (are.events, are.events_are)
+events_swept (column ∷ group) schema plan dim down regions visits are = (are.events, are.events_are)
 
-ours : (t : TreeView) (awaited : List Awaited) → AllByRecursion (λ a. IsRegionOf t a.region) awaited
-    → AllByRecursion (λ (a : AwaitedRegion). IsRegionOf t a.region) (awaited_of awaited)
-ours t [] all = tt
-ours t (a ∷ awaited) all = (all.0, ours t awaited all.1)
+events_there : (schema : Schema) (plan : PlanView) (dim : ℕ) (down : Bool) (next : ℕ) (regions : List RegionRows) → plan ≡ plan_of schema plan.asked → plan.kind ≡ Sweep dim down
+    → AreRegions schema next regions → (events : List Event) × AreEvents schema plan.covering.boxes dim down regions events
+events_there schema plan dim down next regions planned kind are =
+    let (visits, those) = plans_have_visits schema plan.asked next regions are in
+    let of_plan : AreVisitsBy plan.kind schema plan regions visits = subst (λ (p : PlanView). AreVisitsBy p.kind schema p regions visits) (sym planned) those in
+    events_swept plan.asked.group schema plan dim down regions visits (subst (λ (k : Kind). AreVisitsBy k schema plan regions visits) kind of_plan)
 
-pub started_by : (mid new : TreeView) (boxes : List Corners) (course : Course) (awaited : List Awaited) (view : SweepView) → new ≡ mid → AreQueued boxes course mid awaited
-    → view ≡ begun_view course awaited → IsStarted new view
-started_by mid new boxes course awaited view same queued is =
-    subst (λ (v : SweepView). IsStarted new v) (sym is) (subst (λ (t : TreeView). IsStarted t (begun_view course awaited)) (sym same) (record {
-      none = refl;
-      working = refl;
-      regions = ours mid awaited (all_permutation (λ a. IsRegionOf mid a.region) queued.met awaited queued.same
-          (of_regions (IsRegionOf mid) queued.met (met_there boxes mid (regions_awaited queued.met) queued.met_are.met)));
-    }))
+-- ---- a sweep that was begun
 
 same_course : (course : Course) (dim : ℕ) (is_descending : Bool) (found : Option Course) → found ≡ Some course → found ≡ Some (record { dim = dim; is_descending = is_descending })
     → course ≡ record { dim = dim; is_descending = is_descending }
 same_course course dim is_descending found is also = cc
 
-pub begun_by : (t mid new : TreeView) (plan : PlanView) (course : Course) (awaited : List Awaited) (view : SweepView) (found : Option Course) (boxes : List Corners)
-    → mid ≡ record t { trace = emptied t.trace } → new ≡ mid → found ≡ Some course
-    → ((dim : ℕ) (is_descending : Bool) → plan.kind ≡ Sweep dim is_descending → All (λ b. dim < length b.lo) plan.covering.boxes
-    → found ≡ Some (record { dim = dim; is_descending = is_descending }))
-    → boxes ≡ plan.covering.boxes → AreQueued boxes course mid awaited → view ≡ begun_view course awaited
-    → (dim : ℕ) (is_descending : Bool) → IsSwept t plan dim is_descending → HasBegun plan new view
-begun_by t mid new plan course awaited view found boxes began same is some of_plan queued seen dim is_descending swept =
-    let told = some dim is_descending swept.kind (have_dimension t.schema plan dim is_descending swept.planned swept.kind) in
-    let on : course ≡ record { dim = dim; is_descending = is_descending } = same_course course dim is_descending found is told in
-    let of_mid : IsSwept mid plan course.dim course.is_descending = record {
-      sound = (Keeps-by t mid (begun_traced t mid began)).sound swept.sound;
-      planned = swept.planned ∙ ap (λ (s : Schema). plan_of s plan.asked) (sym (ap (λ (v : TreeView). v.schema) began));
-      kind = swept.kind ∙ ap (λ (c : Course). Sweep c.dim c.is_descending) (sym on);
-    } in
-    subst (λ (v : SweepView). HasBegun plan new v) (sym seen)
-    (begun mid new plan course awaited of_mid (unchanged_traced mid new same) (ap (λ (v : TreeView). v.trace.pages) same ∙ ap (λ (v : TreeView). v.trace.pages) began)
-    (subst (λ (bs : List Corners). AreQueued bs course mid awaited) of_plan queued))
+begun_at : (new : TreeView) (plan : PlanView) (dim : ℕ) (down : Bool) (value : Option ℕ) → IsSwept new plan dim down → new.trace.pages ≡ []
+    → IsFirstOn down (IsValueInSpan plan.covering.boxes (whole_of new).span.from (whole_of new).span.to dim) value
+    → HasBegun plan new (record { dim = dim; is_descending = down; held = []; awaited = awaited_at (whole_of new) value; is_failed = false })
+begun_at new plan dim down value swept none first =
+    let (events, are) = events_there new.schema plan dim down new.next (regions new) swept.planned swept.kind swept.sound.regions_are in
+    let (rest, under_way) = begins new.schema plan dim down new.next (regions new) events (record { planned = swept.planned; kind = swept.kind; are = swept.sound.regions_are }) are in
+    record {
+      rest = rest;
+      unread = events;
+      sweeping = record {
+        working = refl;
+        swept = swept;
+        under_way = under_way;
+        values = tt;
+        noted = record { placed = []; there = tt; regions_are = refl; trace_is = none };
+        awaited = ahead_begun new swept.sound plan.covering.boxes dim down events are value (awaited_at (whole_of new) value) first refl;
+      };
+    }
 
--- over any tree it awaits the regions that the tree tells of
-pub met_by : (t mid new : TreeView) (plan : PlanView) (course : Course) (awaited : List Awaited) (view : SweepView) (found : Option Course) (boxes : List Corners)
-    → new ≡ mid → found ≡ Some course
-    → ((dim : ℕ) (is_descending : Bool) → plan.kind ≡ Sweep dim is_descending → All (λ b. dim < length b.lo) plan.covering.boxes
-    → found ≡ Some (record { dim = dim; is_descending = is_descending }))
-    → boxes ≡ plan.covering.boxes → AreQueued boxes course mid awaited → view ≡ begun_view course awaited
-    → (dim : ℕ) (is_descending : Bool) → IsSweepOf t.schema plan dim is_descending → AreMetAlong plan.covering.boxes dim is_descending new view.awaited
-met_by t mid new plan course awaited view found boxes same is some of_plan queued seen dim is_descending (planned, kind) =
-    let told = some dim is_descending kind (have_dimension t.schema plan dim is_descending planned kind) in
-    let on : course ≡ record { dim = dim; is_descending = is_descending } = same_course course dim is_descending found is told in
-    subst (λ (v : SweepView). AreMetAlong plan.covering.boxes dim is_descending new v.awaited) (sym seen)
-    (subst (λ (v : TreeView). AreMetAlong plan.covering.boxes dim is_descending v (awaited_of awaited)) (sym same)
-    (subst (λ (c : Course). AreMetAlong plan.covering.boxes c.dim c.is_descending mid (awaited_of awaited)) on
-    (met_along mid plan.covering.boxes course awaited (subst (λ (bs : List Corners). AreQueued bs course mid awaited) of_plan queued))))
+module _ (t new : TreeView) (plan : PlanView) (course : Course) (whole : Stretch) (ahead : Ahead) (view : SweepView) (found : Option Course) (boxes : List Corners)
+    (began : new ≡ record t { trace = emptied t.trace }) (is_whole : whole ≡ whole_of new) (awaits : AwaitsWhole boxes course whole ahead) (seen : view ≡ begun_view ahead) where
+  view_is : view ≡ record { dim = course.dim; is_descending = course.is_descending; held = []; awaited = awaited_at (whole_of new) awaits.value; is_failed = false }
+  view_is = seen ∙ ap begun_view awaits.is ∙ ap (λ (s : Stretch). begun_view (ahead_on course (awaited_at s awaits.value))) is_whole
+
+  first_is : IsFirstOn course.is_descending (IsValueInSpan boxes (whole_of new).span.from (whole_of new).span.to course.dim) awaits.value
+  first_is = subst (λ (s : Stretch). IsFirstOn course.is_descending (IsValueInSpan boxes s.span.from s.span.to course.dim) awaits.value) is_whole awaits.first
+
+  pub started_by : IsStarted new view
+  started_by = subst (λ (v : SweepView). IsStarted new v) (sym view_is) (record { none = refl; working = refl; stretches = told awaits.value })
+    where
+      told : (value : Option ℕ) → AreStretchesOf new (awaited_at (whole_of new) value)
+      told None = tt
+      told (Some v) = (whole_is_told new, tt)
+
+  module _ (some : found ≡ Some course)
+      (of_plan : (dim : ℕ) (is_descending : Bool) → plan.kind ≡ Sweep dim is_descending → All (λ b. dim < length b.lo) plan.covering.boxes → found ≡ Some (record { dim = dim; is_descending = is_descending }))
+      (boxes_are : boxes ≡ plan.covering.boxes) (dim : ℕ) (is_descending : Bool) where
+    on_course : plan ≡ plan_of t.schema plan.asked → plan.kind ≡ Sweep dim is_descending → course ≡ record { dim = dim; is_descending = is_descending }
+    on_course planned kind = same_course course dim is_descending found some (of_plan dim is_descending kind (have_dimension t.schema plan dim is_descending planned kind))
+
+    first_on : (on : course ≡ record { dim = dim; is_descending = is_descending }) → IsFirstOn is_descending (IsValueInSpan plan.covering.boxes (whole_of new).span.from (whole_of new).span.to dim) awaits.value
+    first_on on =
+        subst (λ (c : Course). IsFirstOn c.is_descending (IsValueInSpan plan.covering.boxes (whole_of new).span.from (whole_of new).span.to c.dim) awaits.value) on
+        (subst (λ (bs : List Corners). IsFirstOn course.is_descending (IsValueInSpan bs (whole_of new).span.from (whole_of new).span.to course.dim) awaits.value) boxes_are first_is)
+
+    view_on : (on : course ≡ record { dim = dim; is_descending = is_descending })
+        → view ≡ record { dim = dim; is_descending = is_descending; held = []; awaited = awaited_at (whole_of new) awaits.value; is_failed = false }
+    view_on on =
+        view_is ∙ ap (λ (c : Course). record { dim = c.dim; is_descending = c.is_descending; held = []; awaited = awaited_at (whole_of new) awaits.value; is_failed = false }) on
+
+    pub begun_by : IsSwept t plan dim is_descending → HasBegun plan new view
+    begun_by swept =
+        let on = on_course swept.planned swept.kind in
+        let of_new : IsSwept new plan dim is_descending = record {
+          sound = (Keeps-by t new (begun_traced t new began)).sound swept.sound;
+          planned = swept.planned ∙ ap (λ (s : Schema). plan_of s plan.asked) (sym (ap (λ (v : TreeView). v.schema) began));
+          kind = swept.kind;
+        } in
+        subst (λ (v : SweepView). HasBegun plan new v) (sym (view_on on))
+        (begun_at new plan dim is_descending awaits.value of_new (ap (λ (v : TreeView). v.trace.pages) began) (first_on on))
+
+    -- over any tree it awaits the whole
+    pub met_by : IsSweepOf t.schema plan dim is_descending
+        → (view.dim ≡ dim) × (view.is_descending ≡ is_descending) × IsWholeAwaited plan.covering.boxes dim is_descending new view.awaited
+    met_by (planned, kind) =
+        let on = on_course planned kind in
+        subst (λ (v : SweepView). (v.dim ≡ dim) × (v.is_descending ≡ is_descending) × IsWholeAwaited plan.covering.boxes dim is_descending new v.awaited) (sym (view_on on))
+        (refl, refl, record { value = awaits.value; first = first_on on; is = refl })
 
 -- ---- where it is no sweep
 
-none_begun : (t : TreeView) (course : Course) (queue : List Awaited) (view : SweepView) → queue ≡ [] → view ≡ begun_view course queue → view ≡ begun_view course []
-none_begun t course queue view none is = is ∙ ap (begun_view course) none
+none_begun : (course : Course) (ahead : Ahead) (view : SweepView) → ahead ≡ ahead_on course [] → view ≡ begun_view ahead → view ≡ begun_view (ahead_on course [])
+none_begun course ahead view none is = is ∙ ap begun_view none
 
-module _ (t : TreeView) (course : Course) (queue : List Awaited) (view : SweepView) (none : queue ≡ []) (is : view ≡ begun_view course queue) where
+module _ (t : TreeView) (course : Course) (ahead : Ahead) (view : SweepView) (none : ahead ≡ ahead_on course []) (is : view ≡ begun_view ahead) where
   pub nothing_awaited : view.awaited ≡ []
-  nothing_awaited = ap (λ (v : SweepView). v.awaited) (none_begun t course queue view none is)
+  nothing_awaited = ap (λ (v : SweepView). v.awaited) (none_begun course ahead view none is)
 
   pub nothing_started : IsStarted t view
-  nothing_started = subst (λ (v : SweepView). IsStarted t v) (sym (none_begun t course queue view none is)) (record { none = refl; working = refl; regions = tt })
+  nothing_started = subst (λ (v : SweepView). IsStarted t v) (sym (none_begun course ahead view none is)) (record { none = refl; working = refl; stretches = tt })
 
 -- ---- a tree that hasn't failed
 
@@ -118,7 +139,9 @@ never_failed old mid has_failed began is not_failed failed = absurd (true≢fals
 -- one that has refuses
 pub failed_begins : {T : Type 0} (old mid : TreeView) (has_failed : Bool) → mid ≡ record old { trace = emptied old.trace } → has_failed ≡ mid.is_failed → has_failed ≡ true
     → Begins {A = T} old mid (Err (sweep.Tree HasFailed))
-failed_begins old mid has_failed began is failed = record {
-  same = began;
-  faults = (sym (ap (λ (v : TreeView). v.is_failed) began) ∙ sym is ∙ failed, λ x. cc);
-}
+failed_begins old mid has_failed began is failed = record { same = began; faults = sym (ap (λ (v : TreeView). v.is_failed) began) ∙ sym is ∙ failed }
+
+-- or memory was refused
+pub short_begins : {T : Type 0} (r : Result T SweepFault) (old mid : TreeView) → IsErrAnd r (λ x. x ≡ sweep.Memory) → mid ≡ record old { trace = emptied old.trace } → Begins old mid r
+short_begins (Ok x) old mid is began = absurd is
+short_begins (Err f) old mid is began = rw is (record { same = began; faults = tt })

@@ -1,5 +1,5 @@
 -- A sweep that is ended by a fault, and one that has come to its end.
-use Rattle.std.proofs.Common.{◌≡◌, ◌≤◌, ◌+◌, ◌∙◌, ◌++◌, ◌∷◌, ℕ, zero, suc, Bool, true, false, List, [], Option, Some, None, Result, Ok, Contains, drop, filter, length, map, slice_get, inl, inr, refl, sym, ap, subst, arith, append_assoc}
+use Rattle.std.proofs.Common.{◌≡◌, ◌∙◌, ◌++◌, ◌∷◌, ℕ, Bool, false, List, [], Option, Some, None, Result, Ok, Contains, filter, map, inl, inr, refl, sym, ap, subst, append_assoc}
 use Rattle.std.proofs.lemmas.List.Elements.{All-contains, Contains-append_right}
 use Rattle.std.proofs.lemmas.List.Sorted.{Contains-permutation, IsPermutation-refl, IsPermutation-sym}
 use Rattle.std.specs.List.{All, AllByRecursion}
@@ -10,19 +10,19 @@ use Rattle.ub_query.proofs.Laws.{contains_cases, contains_here, contains_later, 
 use Rattle.ub_query.specs.Groups.{is_selected}
 use Rattle.ub_store.specs.View.{Trace}
 use Rattle.ub_table.specs.declared.row.Row.{Row}
+use Rattle.ub_tetris.proofs.AheadFacts.{first_event}
 use Rattle.ub_tetris.proofs.ArrangeFacts.{all_of}
 use Rattle.ub_tetris.proofs.MachineFacts.{fetches, rest_past}
-use Rattle.ub_tetris.proofs.StepFacts.{drop_next, due_past, event_region, noted_more, sweep_over, view_still, waiting}
+use Rattle.ub_tetris.proofs.StepFacts.{due_past, event_region, noted_more, sweep_over, sweeping_taken}
+use Rattle.ub_tetris.specs.Awaited.{AwaitedRegion, AwaitedStretch}
 use Rattle.ub_tetris.specs.Effects.{Rests}
 use Rattle.ub_tetris.specs.Held.{HeldRow, rows_held}
 use Rattle.ub_tetris.specs.Machine.{IsRowAlong}
-use Rattle.ub_tetris.specs.Sweep.{AreAwaited, AreNoted, AwaitedRegion, HasBroken, IsSweeping, SweepView}
-use Rattle.ub_tetris.specs.declared.course.Course.{Course}
-use Rattle.ub_tetris.specs.declared.event.Awaited.{Awaited}
+use Rattle.ub_tetris.specs.Sweep.{AreNoted, HasBroken, IsSweeping, SweepView}
 use Rattle.ub_tetris.specs.declared.fault.SweepFault.{SweepFault}
 use Rattle.ub_tetris.specs.declared.state.State.{State}
 use Rattle.ub_tetris.specs.inner.Kept.{TakesFirst}
-use Rattle.ub_tetris.specs.inner.Turns.{HasAskedNext, IsDue, awaited_of, is_due_by, view_by, view_of}
+use Rattle.ub_tetris.specs.inner.Turns.{HasTakenNext, IsAskedFor, IsDue, IsNoneDue, view_by, view_of}
 use Rattle.ub_tree.specs.Placed.{Placed, entry_of}
 use Rattle.ub_tree.specs.Spans.{regions_of, Region}
 use Rattle.ub_tree.specs.View.{TreeView, regions, spans_of}
@@ -57,70 +57,66 @@ noted_still t new events noted placed trace = record {
   trace_is = trace ∙ noted.trace_is;
 }
 
-module _ (plan : PlanView) (t new : TreeView) (s : State) (given rest : List Row) (fetched read left unread : List Event) (of : IsSweeping plan t (view_of s) given rest (fetched ++ read) left) (parts : unread ≡ read ++ left) (placed : new.placed ≡ t.placed) where
-  broken_still : new.trace.pages ≡ t.trace.pages → HasBroken new (view_of s) rest fetched unread
+module _ (plan : PlanView) (t new : TreeView) (s : SweepView) (given rest : List Row) (fetched read left unread : List Event) (of : IsSweeping plan t s given rest (fetched ++ read) left) (parts : unread ≡ read ++ left) (placed : new.placed ≡ t.placed) where
+  broken_still : new.trace.pages ≡ t.trace.pages → HasBroken new s rest fetched unread
   broken_still trace = record {
     read = read;
     left = left;
     parts = parts;
-    reached = λ row more is. all_right (λ event. ¬ (IsRowAlong s.course.dim s.course.is_descending row event.value)) fetched read
-        (rest_past t.schema plan s.course.dim s.course.is_descending t.next (regions t) (rows_held s.held) given rest (fetched ++ read) left row
-        (sweep_over plan t (view_of s) given rest (fetched ++ read) left of) of.under_way (first_of rest more row is));
+    reached = λ row more is. all_right (λ event. ¬ (IsRowAlong s.dim s.is_descending row event.value)) fetched read
+        (rest_past t.schema plan s.dim s.is_descending t.next (regions t) (rows_held s.held) given rest (fetched ++ read) left row
+        (sweep_over plan t s given rest (fetched ++ read) left of) of.under_way (first_of rest more row is));
     noted = noted_still t new (fetched ++ read) of.noted placed trace;
   }
 
   -- the page of the next region was
-  broken_next : IsDue s true → (next : Awaited) → slice_get s.queue.items s.fetched ≡ Some next → new.trace.pages ≡ t.trace.pages ++ next.region.page ∷ [] → HasBroken new (view_of s) rest fetched unread
-  broken_next (first, is_first, due) next at trace =
-      let a : AwaitedRegion = record { value = next.value; region = next.region } in
-      let queued : awaited_of (drop s.fetched s.queue.items) ≡ a ∷ awaited_of (drop (s.fetched + 1) s.queue.items) = ap awaited_of (drop_next s.queue.items s.fetched next at) in
-      let (event, more, one, is_awaited, waits) = waiting t a (awaited_of (drop (s.fetched + 1) s.queue.items)) left (subst (λ (awaited : List AwaitedRegion). AreAwaited t awaited left) queued of.awaited) in
-      let under : IsSweeping plan t (view_of s) given rest (fetched ++ read) (event ∷ more) = subst (λ (events : List Event). IsSweeping plan t (view_of s) given rest (fetched ++ read) events) one of in
-      let (p, there, page, begins) = placed_of t next.region is_awaited.there in
-      let past : All (λ row. ¬ (IsRowAlong s.course.dim s.course.is_descending row event.value)) (rows_held s.held) =
-      subst (λ (v : ℕ). All (λ row. ¬ (IsRowAlong s.course.dim s.course.is_descending row v)) (rows_held s.held)) is_awaited.value
-      (due_past plan t s given rest (fetched ++ read) left first next of is_first (due ∙ ap (λ (o : Option Awaited). is_due_by s.course o first) at)) in
-      let over = sweep_over plan t (view_of s) given rest (fetched ++ read) (event ∷ more) under in
+  broken_next : (s_then : SweepView) (next : AwaitedStretch) → HasTakenNext s s_then next → next.stretch.level ≡ 0 → IsDue s next.value → new.trace.pages ≡ t.trace.pages ++ next.stretch.span.page ∷ []
+      → HasBroken new s rest fetched unread
+  broken_next s_then next taken lowest due trace =
+      let a : AwaitedRegion = record { value = next.value; region = next.stretch.span } in
+      let (event, more, one, is_awaited, is_ahead) =
+      first_event t of.swept.sound plan.covering.boxes s.dim s.is_descending (fetched ++ read) left of.under_way.events next s_then.awaited
+      (sweeping_taken plan t s s_then next given rest (fetched ++ read) left of taken) lowest taken.first in
+      let under : IsSweeping plan t s given rest (fetched ++ read) (event ∷ more) = subst (λ (events : List Event). IsSweeping plan t s given rest (fetched ++ read) events) one of in
+      let (p, there, page, begins) = placed_of t next.stretch.span is_awaited.there in
+      let past : All (λ row. ¬ (IsRowAlong s.dim s.is_descending row event.value)) (rows_held s.held) =
+      subst (λ (v : ℕ). All (λ row. ¬ (IsRowAlong s.dim s.is_descending row v)) (rows_held s.held)) is_awaited.value
+      (due_past plan t s given rest (fetched ++ read) left next.value of due) in
+      let over = sweep_over plan t s given rest (fetched ++ read) (event ∷ more) under in
       let whole : (fetched ++ read) ++ event ∷ [] ≡ fetched ++ (read ++ event ∷ []) = append_assoc fetched read (event ∷ []) in
-      let then = fetches t.schema plan s.course.dim s.course.is_descending t.next (regions t) (rows_held s.held) (rows_held s.held ++ filter (is_selected t.schema plan.asked.filter) event.span.region.rows)
+      let then = fetches t.schema plan s.dim s.is_descending t.next (regions t) (rows_held s.held) (rows_held s.held ++ filter (is_selected t.schema plan.asked.filter) event.span.region.rows)
       given rest (fetched ++ read) event more over under.under_way past (IsPermutation-refl (rows_held s.held ++ filter (is_selected t.schema plan.asked.filter) event.span.region.rows)) in
       record {
         read = read ++ event ∷ [];
         left = more;
         parts = parts ∙ ap (λ (events : List Event). read ++ events) one ∙ sym (append_assoc read (event ∷ []) more);
-        reached = λ row rows is. all_right (λ event. ¬ (IsRowAlong s.course.dim s.course.is_descending row event.value)) fetched (read ++ event ∷ [])
-            (subst (λ (events : List Event). All (λ event. ¬ (IsRowAlong s.course.dim s.course.is_descending row event.value)) events) whole
-            (rest_past t.schema plan s.course.dim s.course.is_descending t.next (regions t) _ given rest ((fetched ++ read) ++ event ∷ []) more row over then (first_of rest rows row is)));
+        reached = λ row rows is. all_right (λ event. ¬ (IsRowAlong s.dim s.is_descending row event.value)) fetched (read ++ event ∷ [])
+            (subst (λ (events : List Event). All (λ event. ¬ (IsRowAlong s.dim s.is_descending row event.value)) events) whole
+            (rest_past t.schema plan s.dim s.is_descending t.next (regions t) _ given rest ((fetched ++ read) ++ event ∷ []) more row over then (first_of rest rows row is)));
         noted = subst (λ (events : List Event). AreNoted new events) whole
             (noted_more t new (fetched ++ read) event p under.noted placed there
-            (event_region plan t (view_of s) given rest (fetched ++ read) more event a p under is_awaited there begins)
+            (event_region plan t s given rest (fetched ++ read) more event a p under is_awaited there begins)
             (trace ∙ ap (λ (number : ℕ). t.trace.pages ++ number ∷ []) (sym page)));
       }
 
-  pub broken_by : IsDue s true → HasAskedNext t new s → HasBroken new (view_of s) rest fetched unread
-  broken_by due asked = elim asked.noted [
+  pub broken_by : (s_then : SweepView) (next : AwaitedStretch) → HasTakenNext s s_then next → IsDue s next.value → IsAskedFor t new next → HasBroken new s rest fetched unread
+  broken_by s_then next taken due asked = elim asked [
     | inl kept ↦ broken_still (ap (λ (t : Trace). t.pages) kept)
-    | inr noted ↦ broken_next due asked.next asked.at noted.pages_are
+    | inr noted ↦ broken_next s_then next taken noted.0 due noted.1.pages_are
   ]
 
 -- of the sweep it says where it goes, and no more
-pub broken_for : (t : TreeView) (s other : State) (rest : List Row) (fetched unread : List Event) → s.course ≡ other.course
-    → HasBroken t (view_of s) rest fetched unread → HasBroken t (view_of other) rest fetched unread
-broken_for t s other rest fetched unread same broken = record {
+pub broken_for : (t : TreeView) (s other : SweepView) (rest : List Row) (fetched unread : List Event) → (s.dim ≡ other.dim) × (s.is_descending ≡ other.is_descending)
+    → HasBroken t s rest fetched unread → HasBroken t other rest fetched unread
+broken_for t s other rest fetched unread (dim_is, down_is) broken = record {
   read = broken.read;
   left = broken.left;
   parts = broken.parts;
-  reached = λ row more is. subst (λ (course : Course). All (λ event. ¬ (IsRowAlong course.dim course.is_descending row event.value)) broken.read) same (broken.reached row more is);
+  reached = λ row more is. rw (← dim_is, ← down_is) (broken.reached row more is);
   noted = broken.noted;
 }
 
 -- ---- after the end
-
--- none is awaited after the last
-pub past_queue : (queue : List Awaited) (k : ℕ) → awaited_of (drop k queue) ≡ [] → length queue ≤ k
-past_queue [] k none = omega arith
-past_queue (a ∷ queue) zero none = cc
-past_queue (a ∷ queue) (suc k) none = let fewer = past_queue queue k none in omega arith
 
 none_taken : (held left : List HeldRow) (row : Option Row) → held ≡ [] → TakesFirst held left row → (row ≡ None) × (left ≡ [])
 none_taken held left None empty takes = (refl, takes.1)
@@ -129,28 +125,21 @@ none_taken held left (Some row) empty (first, same, is, least) =
     (Contains-permutation (first ∷ left) held first (IsPermutation-sym held (first ∷ left) same) (contains_here first left))))
 
 -- and then nothing is taken
-pub rests_by : (t : TreeView) (s new_s : State) (row : Option Row) → s.held ≡ [] → TakesFirst s.held new_s.held row
-    → (new_s.course ≡ s.course) × (new_s.queue ≡ s.queue) × (new_s.fetched ≡ s.fetched) → Rests (view_of s) (view_of new_s) t t (Ok row)
+pub rests_by : (t : TreeView) (s new_s : SweepView) (row : Option Row) → s.held ≡ [] → TakesFirst s.held new_s.held row → new_s ≡ record s { held = new_s.held } → Rests s new_s t t (Ok row)
 rests_by t s new_s row empty takes kept =
     let (none, left) = none_taken s.held new_s.held row empty takes in
     record {
       none = ap (λ (o : Option Row). Ok o) none;
-      sweep_is = sym (view_still s new_s kept) ∙ ap (λ (held : List HeldRow). record (view_of s) { held = held }) (left ∙ sym empty);
+      sweep_is = kept ∙ ap (λ (held : List HeldRow). record s { held = held }) (left ∙ sym empty);
       tree_is = refl;
     }
 
--- where no row is left to take, no region is awaited
-pub none_awaited : (s : State) (left : List HeldRow) (row : Option Row) → IsDue s false → TakesFirst s.held left row → row ≡ None → awaited_of (drop s.fetched s.queue.items) ≡ []
+-- where no row is left to take, no stretch is awaited
+pub none_awaited : (s : SweepView) (left : List HeldRow) (row : Option Row) → IsNoneDue s → TakesFirst s.held left row → row ≡ None → s.awaited ≡ []
 none_awaited s left (Some row) due takes none = cc
-none_awaited s left None (Some first, is_first, due) takes none =
+none_awaited s left None (inl empty) takes none = empty
+none_awaited s left None (inr (next, there, first, other, is_first, past)) takes none =
     absurd (contains_none is_first.0 (subst (λ (held : List HeldRow). Contains held is_first.0) takes.0 is_first.1))
-none_awaited s left None (None, is_first, due) takes none = past s.queue.items s.fetched due
-  where
-    past : (queue : List Awaited) (k : ℕ) → false ≡ is_due_by s.course (slice_get queue k) None → awaited_of (drop k queue) ≡ []
-    past [] zero due = refl
-    past [] (suc k) due = refl
-    past (a ∷ queue) zero due = cc
-    past (a ∷ queue) (suc k) due = past queue k due
 
 -- ---- what contracts see of a sweep that hasn't failed
 

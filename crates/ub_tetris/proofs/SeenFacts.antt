@@ -28,7 +28,7 @@ Gives-failed Next rows plan s t failed = record {
   broken = λ given rest fetched unread of. never_swept plan t s given rest fetched unread failed of;
   rests = λ working none empty. never_works s.is_failed failed working;
   answers = tt;
-  effect = Sweeps-failed s t failed;
+  effect = Sweeps-failed plan s t failed;
 }
 
 pub HandsAll-failed : {K : Type 0} (HasTaken : K → List Row → K → Type 0) (plan : PlanView) (s : SweepView) (t : TreeView) (sink : K) → IsTrue s.is_failed
@@ -37,7 +37,7 @@ HandsAll-failed HasTaken plan s t sink failed = record {
   rows = tt;
   broken = λ given rest fetched unread of. never_swept plan t s given rest fetched unread failed of;
   left = tt;
-  effect = Sweeps-failed s t failed;
+  effect = Sweeps-failed plan s t failed;
 }
 
 -- ---- one that hadn't
@@ -55,7 +55,7 @@ module _ (s new_s : State) (view : SweepView) (has_failed : Bool) (same : view �
         (gives.rests refl (ap (λ (v : SweepView). v.awaited) (sym same) ∙ none) (ap (λ (v : SweepView). v.held) (sym same) ∙ empty));
     answers = ok_seen r s new_s view has_failed same is (λ v found. HasAnswered plan old view v (option_map rows found))
         (subst (λ (v : SweepView). IfOk r (λ found. HasAnswered plan old v (view_of new_s) (option_map rows found))) (sym same) gives.answers);
-    effect = sweeps_seen r s new_s view has_failed same is old new gives.effect;
+    effect = sweeps_seen r s new_s view has_failed same is plan old new gives.effect;
   }
 
   pub row_seen : (r : Result (Option Row) SweepFault) (answer : Result (Option Row) ReadFault) → r ≡ of_reading answer → has_failed ≡ is_err r
@@ -88,5 +88,5 @@ module _ (s new_s : State) (view : SweepView) (has_failed : Bool) (same : view �
             × ((given rest : List Row) (fetched unread : List Event) → IsSweeping plan old v given rest fetched unread → HasHandedOver plan new fetched unread rows)))) (sym same) hands.rows);
         broken = λ given rest fetched unread of. hands.broken given rest fetched unread (subst (λ (v : SweepView). IsSweeping plan old v given rest fetched unread) same of);
         left = left_seen r s new_s view has_failed same is hands.left;
-        effect = sweeps_seen r s new_s view has_failed same is old new hands.effect;
+        effect = sweeps_seen r s new_s view has_failed same is plan old new hands.effect;
       }

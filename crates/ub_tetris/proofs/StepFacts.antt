@@ -23,6 +23,8 @@ use Rattle.ub_table.specs.declared.row.Key.{Key}
 use Rattle.ub_table.specs.declared.row.Row.{Row}
 use Rattle.ub_table.specs.declared.schema.Schema.{Schema}
 use Rattle.ub_tetris.proofs.AlongFacts.{IsUpTo, along_before, along_up_to, led_asks, led_plan, keys_of, up_to_along}
+use Rattle.ub_tetris.proofs.AheadFacts.{ahead_after, ahead_opened, ahead_same, first_event, first_up_to_event, none_ahead}
+use Rattle.ub_tetris.proofs.BoxFacts.{have_dimension}
 use Rattle.ub_tetris.proofs.ArrangeFacts.{all_of, rising_two}
 use Rattle.ub_planning.proofs.Laws.{is_past_of, past_is}
 use Rattle.ub_tetris.proofs.MachineFacts.{IsBeforeNext, IsSweepOver, ends, fetches, gives}
@@ -31,13 +33,13 @@ use Rattle.ub_tetris.proofs.ReachFacts.{event_span}
 use Rattle.ub_tetris.proofs.SortedFacts.{keys_rise}
 use Rattle.ub_tetris.specs.Held.{AreHeldBy, HeldRow, held_row, rows_held, values_by}
 use Rattle.ub_tetris.specs.Machine.{IsRowAlong, IsUnderWay, regions_at}
-use Rattle.ub_tetris.specs.Sweep.{AreAwaited, AreNoted, AwaitedRegion, HasEnded, HasGiven, HasStepped, IsAwaited, IsSweeping, SweepView}
-use Rattle.ub_tetris.specs.declared.event.Awaited.{Awaited}
-use Rattle.ub_tetris.specs.declared.state.State.{State}
+use Rattle.ub_tetris.specs.Awaited.{AwaitedRegion, AwaitedStretch, HaveDimension, stretches_of}
+use Rattle.ub_tetris.specs.Sweep.{AreAhead, AreNoted, HasEnded, HasGiven, HasStepped, IsAwaited, IsSweeping, SweepView}
 use Rattle.ub_tetris.specs.inner.Kept.{HoldsAlso, IsFirstAmong, IsFirstOf, IsHeldBefore, TakesFirst}
-use Rattle.ub_tetris.specs.inner.Turns.{HasFetchedNext, IsDue, IsOnward, awaited_of, is_due_by, view_of}
+use Rattle.ub_tetris.specs.inner.Turns.{HasComeTo, HasFetched, HasOpened, HasTakenNext, IsDue, IsNoneDue}
 use Rattle.ub_tree.proofs.Laws.{IsTraced, Keeps-by}
 use Rattle.ub_tree.specs.Placed.{Placed}
+use Rattle.ub_tree.specs.Stretches.{ArePartsOf}
 use Rattle.ub_tree.specs.View.{TreeView, regions}
 use Rattle.ub_zaddr.specs.Address.{last_address}
 
@@ -73,15 +75,6 @@ held_by_more : (schema : Schema) (keys : List SortKey) (held : List HeldRow) (ro
 held_by_more schema keys [] [] all = tt
 held_by_more schema keys [] (row ∷ rows) all = (refl, held_by_more schema keys [] rows tt)
 held_by_more schema keys (h ∷ held) rows all = (all.0, held_by_more schema keys held rows all.1)
-
--- ---- the tree after a region was read
-
-pub awaited_after : (t : TreeView) (trace : Trace) (awaited : List AwaitedRegion) (events : List Event) → AreAwaited t awaited events
-    → AreAwaited (record t { trace = trace }) awaited events
-awaited_after t trace [] events are = are
-awaited_after t trace (a ∷ awaited) [] are = are
-awaited_after t trace (a ∷ awaited) (event ∷ events) are =
-    (record { there = are.0.there; first = are.0.first; value = are.0.value }, awaited_after t trace awaited events are.1)
 
 all_pushed : {E : Type 0} (P : E → Type 0) (xs : List E) (x : E) → AllByRecursion P xs → P x → AllByRecursion P (xs ++ x ∷ [])
 all_pushed P [] x all is = (is, tt)
@@ -139,16 +132,16 @@ chosen_of plan t s given rest fetched unread choice p of there =
     ∙ chosen_are_selected choice t.schema plan.asked t.next (regions t) p.region.rows (led_asks t.schema plan s.dim s.is_descending of.swept.planned of.swept.kind) of.swept.sound.regions_are
     (λ row here. rows_among (regions t) p.region row (contains_map (λ (p : Placed). p.region) t.placed p there) here)
 
-module _ (plan : PlanView) (t : TreeView) (s : SweepView) (held_then : List HeldRow) (given rest : List Row) (fetched : List Event) (a : AwaitedRegion) (more : List AwaitedRegion) (trace : Trace) (p : Placed) where
+module _ (plan : PlanView) (t : TreeView) (s : SweepView) (held_then : List HeldRow) (given rest : List Row) (fetched : List Event) (a : AwaitedRegion) (more : List AwaitedStretch) (trace : Trace) (p : Placed) where
   abbrev after : TreeView
   after = record t { trace = trace }
 
-  fetched_next : (event : Event) (left : List Event) → IsSweeping plan t s given rest fetched (event ∷ left) → IsAwaited t a event → AreAwaited t more left
+  fetched_next : (event : Event) (left : List Event) → IsSweeping plan t s given rest fetched (event ∷ left) → IsAwaited t a event → AreAhead t plan.covering.boxes s.dim s.is_descending more left
       → All (λ row. ¬ (IsRowAlong s.dim s.is_descending row a.value)) (rows_held s.held)
       → trace.pages ≡ t.trace.pages ++ a.region.page ∷ [] → Contains t.placed p → p.page ≡ a.region.page → p.region.first ≡ a.region.first
       → HoldsAlso t.schema (keys_of plan.asked) (filter (is_selected t.schema plan.asked.filter) p.region.rows) s.held held_then
       → IsSweeping plan after (record s { held = held_then; awaited = more }) given rest (fetched ++ event ∷ []) left
-  fetched_next event left of is_awaited are_awaited past noted there page first holds =
+  fetched_next event left of is_awaited are_ahead past noted there page first holds =
       let chosen : List Row = filter (is_selected t.schema plan.asked.filter) p.region.rows in
       let same : p.region ≡ event.span.region = event_region plan t s given rest fetched left event a p of is_awaited there first in
       let rows : rows_held (s.held ++ map (held_row t.schema (keys_of plan.asked)) chosen) ≡ rows_held s.held ++ chosen =
@@ -165,10 +158,8 @@ module _ (plan : PlanView) (t : TreeView) (s : SweepView) (held_then : List Held
         values = all_permutation (λ (h : HeldRow). h.values ≡ values_by t.schema (keys_of plan.asked) h.row) (s.held ++ map (held_row t.schema (keys_of plan.asked)) chosen) held_then holds
             (held_by_more t.schema (keys_of plan.asked) s.held chosen of.values);
         noted = noted_more t after fetched event p of.noted refl there same (noted ∙ ap (λ (number : ℕ). t.trace.pages ++ number ∷ []) (sym page));
-        awaited = awaited_after t trace more left are_awaited;
+        awaited = ahead_after t plan.covering.boxes s.dim s.is_descending after more left refl are_ahead;
       }
-
--- ---- the state of a sweep
 
 -- the row that is the first of those held, by a search and by its removal
 pub entry_past : (plan : PlanView) (t : TreeView) (s : SweepView) (given rest : List Row) (fetched unread : List Event) (h f : HeldRow) → IsSweeping plan t s given rest fetched unread
@@ -179,100 +170,129 @@ entry_past plan t s given rest fetched unread h f of here there none along =
     (all_at (λ (h : HeldRow). h.values ≡ values_by t.schema (keys_of plan.asked) h.row) s.held f of.values there)
     (along_before t.schema plan.asked s.dim s.is_descending h.row f.row (led_plan t.schema plan s.dim s.is_descending of.swept.planned of.swept.kind) along))
 
--- where the next region is due, no held row lies before its value
-pub due_past : (plan : PlanView) (t : TreeView) (s : State) (given rest : List Row) (fetched unread : List Event) (first : Option Row) (a : Awaited) → IsSweeping plan t (view_of s) given rest fetched unread
-    → IsFirstOf s.held first → true ≡ is_due_by s.course (Some a) first → All (λ row. ¬ (IsRowAlong s.course.dim s.course.is_descending row a.value)) (rows_held s.held)
-due_past plan t s given rest fetched unread None a of none due =
-    subst (λ (held : List HeldRow). All (λ row. ¬ (IsRowAlong s.course.dim s.course.is_descending row a.value)) (rows_held held)) (sym none)
-    (All-nil (λ (row : Row). ¬ (IsRowAlong s.course.dim s.course.is_descending row a.value)))
-due_past plan t s given rest fetched unread (Some row) a of (f, there, is, first) due =
-    let not_past : IsUpTo s.course.is_descending a.value (slice_index row.dims s.course.dim) =
-    λ along. true≢false (due ∙ ap not (is_past_of s.course.is_descending (slice_index row.dims s.course.dim) a.value along)) in
-    all_of (λ (row : Row). ¬ (IsRowAlong s.course.dim s.course.is_descending row a.value)) (rows_held s.held)
+-- where a stretch is due, no held row lies before its value
+pub due_past : (plan : PlanView) (t : TreeView) (s : SweepView) (given rest : List Row) (fetched unread : List Event) (value : ℕ) → IsSweeping plan t s given rest fetched unread
+    → IsDue s value → All (λ row. ¬ (IsRowAlong s.dim s.is_descending row value)) (rows_held s.held)
+due_past plan t s given rest fetched unread value of (None, none, due) =
+    subst (λ (held : List HeldRow). All (λ row. ¬ (IsRowAlong s.dim s.is_descending row value)) (rows_held held)) (sym none)
+    (All-nil (λ (row : Row). ¬ (IsRowAlong s.dim s.is_descending row value)))
+due_past plan t s given rest fetched unread value of (Some row, (f, there, is, first), due) =
+    let not_past : IsUpTo s.is_descending value (slice_index row.dims s.dim) =
+    λ along. true≢false (due ∙ ap not (is_past_of s.is_descending (slice_index row.dims s.dim) value along)) in
+    all_of (λ (row : Row). ¬ (IsRowAlong s.dim s.is_descending row value)) (rows_held s.held)
     (λ other c along.
     let (h, here, same) = contains_from_map (λ (h : HeldRow). h.row) s.held other c in
-    let up_to = entry_past plan t (view_of s) given rest fetched unread h f of here there (all_at (λ (other : HeldRow). ¬ (IsHeldBefore other f)) s.held h first here) in
-    up_to (subst (λ (r : Row). IsAlong s.course.is_descending (slice_index r.dims s.course.dim) (slice_index f.row.dims s.course.dim)) (sym same)
-    (subst (λ (r : Row). IsAlong s.course.is_descending (slice_index other.dims s.course.dim) (slice_index r.dims s.course.dim)) (sym is)
-    (along_up_to s.course.is_descending (slice_index other.dims s.course.dim) a.value (slice_index row.dims s.course.dim) along not_past))))
+    let up_to = entry_past plan t s given rest fetched unread h f of here there (all_at (λ (other : HeldRow). ¬ (IsHeldBefore other f)) s.held h first here) in
+    up_to (subst (λ (r : Row). IsAlong s.is_descending (slice_index r.dims s.dim) (slice_index f.row.dims s.dim)) (sym same)
+    (subst (λ (r : Row). IsAlong s.is_descending (slice_index other.dims s.dim) (slice_index r.dims s.dim)) (sym is)
+    (along_up_to s.is_descending (slice_index other.dims s.dim) value (slice_index row.dims s.dim) along not_past))))
 
-not_false : (b : Bool) → not b ≡ false → b ≡ true
-not_false true h = refl
-not_false false h = absurd (true≢false h)
-
--- where it isn't due, the row that is taken lies before its value
-not_due_before : (plan : PlanView) (t : TreeView) (s : State) (left : List HeldRow) (given rest : List Row) (fetched unread : List Event) (first : Option Row) (a : Awaited) (row : Row)
-    → IsSweeping plan t (view_of s) given rest fetched unread → IsFirstOf s.held first → false ≡ is_due_by s.course (Some a) first → TakesFirst s.held left (Some row)
-    → IsRowAlong s.course.dim s.course.is_descending row a.value
-not_due_before plan t s left given rest fetched unread None a row of none due takes = absurd (true≢false (sym due))
-not_due_before plan t s left given rest fetched unread (Some other) a row of (f, there, is, first) due (g, same, is_row, least) =
-    let past : is_past s.course.is_descending (slice_index other.dims s.course.dim) a.value ≡ true = not_false (is_past s.course.is_descending (slice_index other.dims s.course.dim) a.value) (sym due) in
-    let along : IsAlong s.course.is_descending (slice_index f.row.dims s.course.dim) a.value =
-    subst (λ (r : Row). IsAlong s.course.is_descending (slice_index r.dims s.course.dim) a.value) (sym is) (past_is s.course.is_descending (slice_index other.dims s.course.dim) a.value past) in
+-- where the first of those held is before a value, so is the row that is taken
+taken_before : (plan : PlanView) (t : TreeView) (s : SweepView) (left : List HeldRow) (given rest : List Row) (fetched unread : List Event) (other row : Row) (value : ℕ)
+    → IsSweeping plan t s given rest fetched unread → IsFirstOf s.held (Some other) → is_past s.is_descending (slice_index other.dims s.dim) value ≡ true → TakesFirst s.held left (Some row)
+    → IsRowAlong s.dim s.is_descending row value
+taken_before plan t s left given rest fetched unread other row value of (f, there, is, first) past (g, same, is_row, least) =
+    let along : IsAlong s.is_descending (slice_index f.row.dims s.dim) value =
+    subst (λ (r : Row). IsAlong s.is_descending (slice_index r.dims s.dim) value) (sym is) (past_is s.is_descending (slice_index other.dims s.dim) value past) in
     let taken : Contains s.held g = Contains-permutation (g ∷ left) s.held g (IsPermutation-sym s.held (g ∷ left) same) (contains_here g left) in
-    subst (λ (r : Row). IsRowAlong s.course.dim s.course.is_descending r a.value) is_row
+    subst (λ (r : Row). IsRowAlong s.dim s.is_descending r value) is_row
     (elim (contains_cases g left f (Contains-permutation s.held (g ∷ left) f same there)) [
-      | inl one ↦ subst (λ (h : HeldRow). IsAlong s.course.is_descending (slice_index h.row.dims s.course.dim) a.value) (sym one) along
-      | inr later ↦ up_to_along s.course.is_descending (slice_index g.row.dims s.course.dim) (slice_index f.row.dims s.course.dim) a.value
-          (entry_past plan t (view_of s) given rest fetched unread f g of there taken (all_at (λ (other : HeldRow). ¬ (IsHeldBefore other g)) left f least later)) along
+      | inl one ↦ subst (λ (h : HeldRow). IsAlong s.is_descending (slice_index h.row.dims s.dim) value) (sym one) along
+      | inr later ↦ up_to_along s.is_descending (slice_index g.row.dims s.dim) (slice_index f.row.dims s.dim) value
+          (entry_past plan t s given rest fetched unread f g of there taken (all_at (λ (other : HeldRow). ¬ (IsHeldBefore other g)) left f least later)) along
     ])
 
-pub drop_next : {E : Type 0} (xs : List E) (i : ℕ) (x : E) → slice_get xs i ≡ Some x → drop i xs ≡ x ∷ drop (i + 1) xs
-drop_next [] i x is = cc
-drop_next (y ∷ ys) zero x is = let same : y ≡ x = cc in ap (λ (z : _). z ∷ ys) same
-drop_next (y ∷ ys) (suc i) x is = rw add-one (rw add-one at (drop_next ys i x is))
+-- ---- a stretch is come to
 
-drop_past : {E : Type 0} (xs : List E) (i : ℕ) → slice_get xs i ≡ None → drop i xs ≡ []
-drop_past [] zero is = refl
-drop_past [] (suc i) is = refl
-drop_past (y ∷ ys) zero is = cc
-drop_past (y ∷ ys) (suc i) is = drop_past ys i is
+-- the first of those awaited was taken out, and is to be come to
+pub sweeping_taken : (plan : PlanView) (t : TreeView) (s s_then : SweepView) (next : AwaitedStretch) (given rest : List Row) (fetched unread : List Event) → IsSweeping plan t s given rest fetched unread
+    → HasTakenNext s s_then next → AreAhead t plan.covering.boxes s.dim s.is_descending (next ∷ s_then.awaited) unread
+sweeping_taken plan t s s_then next given rest fetched unread of taken = ahead_same t plan.covering.boxes s.dim s.is_descending s.awaited (next ∷ s_then.awaited) unread taken.parts of.awaited
 
--- ---- a state after a turn
+-- the boxes of its plan have its dimension
+dimension_there : (plan : PlanView) (t : TreeView) (s : SweepView) (given rest : List Row) (fetched unread : List Event) → IsSweeping plan t s given rest fetched unread → HaveDimension s.dim plan.covering.boxes
+dimension_there plan t s given rest fetched unread of = have_dimension t.schema plan s.dim s.is_descending of.swept.planned of.swept.kind
 
-view_onward : (s new_s : State) (a : Awaited) → slice_get s.queue.items s.fetched ≡ Some a → IsOnward s new_s
-    → record (view_of s) { held = new_s.held; awaited = awaited_of (drop (s.fetched + 1) s.queue.items) } ≡ view_of new_s
-view_onward s new_s a at (course, queue, fetched) = rw (course, queue, fetched) refl
+pub parts_given : (plan : PlanView) (t new : TreeView) (s new_s : SweepView) (next : AwaitedStretch) (opened : HasOpened plan t new s new_s next) → HaveDimension s.dim plan.covering.boxes
+    → ArePartsOf t plan.covering.boxes next.stretch (stretches_of opened.queued)
+parts_given plan t new s new_s next opened dims = elim opened.parts [
+  | inl parts ↦ parts
+  | inr none ↦ absurd (none.1 dims)
+]
 
-pub view_still : (s new_s : State) → (new_s.course ≡ s.course) × (new_s.queue ≡ s.queue) × (new_s.fetched ≡ s.fetched) → record (view_of s) { held = new_s.held } ≡ view_of new_s
-view_still s new_s (course, queue, fetched) = rw (course, queue, fetched) refl
+-- what came of it is still ahead
+still_ahead : (plan : PlanView) (t new : TreeView) (s s_then new_s : SweepView) (next : AwaitedStretch) (given rest : List Row) (fetched unread : List Event) → IsSweeping plan t s given rest fetched unread
+    → HasTakenNext s s_then next → HasOpened plan t new s_then new_s next → AreAhead new plan.covering.boxes s.dim s.is_descending new_s.awaited unread
+still_ahead plan t new s s_then new_s next given rest fetched unread of taken opened =
+    let dim_is : s_then.dim ≡ s.dim = ap (λ (v : SweepView). v.dim) taken.same in
+    let down_is : s_then.is_descending ≡ s.is_descending = ap (λ (v : SweepView). v.is_descending) taken.same in
+    subst (λ (v : TreeView). AreAhead v plan.covering.boxes s.dim s.is_descending new_s.awaited unread) (sym opened.same)
+    (ahead_opened t of.swept.sound plan.covering.boxes s.dim s.is_descending fetched unread of.under_way.events next s_then.awaited opened.queued new_s.awaited opened.now_are
+    (rw (← dim_is, ← down_is) opened.valued)
+    (parts_given plan t new s_then new_s next opened (rw dim_is (dimension_there plan t s given rest fetched unread of)))
+    (sweeping_taken plan t s s_then next given rest fetched unread of taken))
 
-pub waiting : (t : TreeView) (a : AwaitedRegion) (more : List AwaitedRegion) (unread : List Event) → AreAwaited t (a ∷ more) unread
-    → (event : Event) × (left : List Event) × (unread ≡ event ∷ left) × IsAwaited t a event × AreAwaited t more left
-waiting t a more [] are = absurd are
-waiting t a more (event ∷ left) are = (event, left, refl, are.0, are.1)
+view_then : (s s_then new_s : SweepView) (next : AwaitedStretch) → HasTakenNext s s_then next → new_s ≡ record s_then { held = new_s.held; awaited = new_s.awaited }
+    → new_s ≡ record s { held = new_s.held; awaited = new_s.awaited }
+view_then s s_then new_s next taken is = is ∙ ap (λ (v : SweepView). record v { held = new_s.held; awaited = new_s.awaited }) taken.same
 
--- the next region was fetched
-pub fetch_step : (plan : PlanView) (t new : TreeView) (s new_s : State) (given rest : List Row) (fetched unread : List Event) → IsSweeping plan t (view_of s) given rest fetched unread
-    → IsDue s true → IsOnward s new_s → HasFetchedNext plan t new s new_s → IsTraced t new
-    → (event : Event) × (left : List Event) × (unread ≡ event ∷ left) × IsSweeping plan new (view_of new_s) given rest (fetched ++ event ∷ []) left
-fetch_step plan t new s new_s given rest fetched unread of (first, is_first, due) onward has traced =
-    let a : AwaitedRegion = record { value = has.read.next.value; region = has.read.next.region } in
-    let more = awaited_of (drop (s.fetched + 1) s.queue.items) in
-    let queued : awaited_of (drop s.fetched s.queue.items) ≡ a ∷ more = ap awaited_of (drop_next s.queue.items s.fetched has.read.next has.read.at) in
-    let (event, left, parts, is_awaited, are_awaited) = waiting t a more unread (subst (λ (awaited : List AwaitedRegion). AreAwaited t awaited unread) queued of.awaited) in
-    let (p, there, page, is) = has.read.stands of.swept.sound is_awaited.there in
-    let begins : p.region.first ≡ has.read.next.region.first = ap (λ (r : RegionRows). r.first) is ∙ has.read.first in
-    let holds = subst (λ (r : RegionRows). HoldsAlso t.schema (keys_of plan.asked) (filter (is_chosen has.choice t.schema plan) r.rows) s.held new_s.held) (sym is) has.rows in
-    let past = due_past plan t s given rest fetched unread first has.read.next of is_first (due ∙ ap (λ (o : Option Awaited). is_due_by s.course o first) has.read.at) in
-    let selected = subst (λ (rows : List Row). HoldsAlso t.schema (keys_of plan.asked) rows s.held new_s.held) (chosen_of plan t (view_of s) given rest fetched unread has.choice p of there) holds in
-    let next = fetched_next plan t (view_of s) new_s.held given rest fetched a more new.trace p event left
-    (subst (λ (events : List Event). IsSweeping plan t (view_of s) given rest fetched events) parts of) is_awaited are_awaited past has.read.noted.pages_are there page begins selected in (
-      event,
-      left,
-      parts,
-      subst (λ (tree : TreeView). IsSweeping plan tree (view_of new_s) given rest (fetched ++ event ∷ []) left) (sym traced)
-          (subst (λ (v : SweepView). IsSweeping plan (record t { trace = new.trace }) v given rest (fetched ++ event ∷ []) left) (view_onward s new_s has.read.next has.read.at onward) next),
-    )
+held_then_is : (s s_then : SweepView) (next : AwaitedStretch) → HasTakenNext s s_then next → s_then.held ≡ s.held
+held_then_is s s_then next taken = ap (λ (v : SweepView). v.held) taken.same
+
+module _ (plan : PlanView) (t new : TreeView) (s s_then new_s : SweepView) (next : AwaitedStretch) (rows given rest : List Row) (fetched unread : List Event) (of : IsSweeping plan t s given rest fetched unread)
+    (taken : HasTakenNext s s_then next) (come : HasComeTo plan t new s_then new_s next rows) where
+  view_is : new_s ≡ record s { held = new_s.held; awaited = new_s.awaited }
+  view_is = view_then s s_then new_s next taken come.view_is
+
+  opened_step : HasOpened plan t new s_then new_s next → IsSweeping plan new new_s given rest fetched unread
+  opened_step opened =
+      let held_is : new_s.held ≡ s.held = opened.held ∙ held_then_is s s_then next taken in
+      let at_t : IsSweeping plan t (record s { held = new_s.held; awaited = new_s.awaited }) given rest fetched unread = record {
+        working = of.working;
+        swept = of.swept;
+        under_way = subst (λ (held : List HeldRow). IsUnderWay t.schema plan s.dim s.is_descending (regions t) (rows_held held) given rest fetched unread) (sym held_is) of.under_way;
+        values = subst (λ (held : List HeldRow). AreHeldBy t.schema (keys_of plan.asked) held) (sym held_is) of.values;
+        noted = of.noted;
+        awaited = subst (λ (v : TreeView). AreAhead v plan.covering.boxes s.dim s.is_descending new_s.awaited unread) opened.same
+            (still_ahead plan t new s s_then new_s next given rest fetched unread of taken opened);
+      } in
+      subst (λ (v : TreeView). IsSweeping plan v new_s given rest fetched unread) (sym opened.same)
+      (subst (λ (v : SweepView). IsSweeping plan t v given rest fetched unread) (sym view_is) at_t)
+
+  fetched_step : IsDue s next.value → new_s.awaited ≡ s_then.awaited → HasFetched plan t new next rows → HoldsAlso t.schema (keys_of plan.asked) rows s_then.held new_s.held
+      → (event : Event) × (left : List Event) × (unread ≡ event ∷ left) × IsSweeping plan new new_s given rest (fetched ++ event ∷ []) left
+  fetched_step due still has holds =
+      let a : AwaitedRegion = record { value = next.value; region = next.stretch.span } in
+      let (event, left, parts, is_awaited, is_ahead) =
+      first_event t of.swept.sound plan.covering.boxes s.dim s.is_descending fetched unread of.under_way.events next s_then.awaited
+      (sweeping_taken plan t s s_then next given rest fetched unread of taken) has.read.lowest taken.first in
+      let (p, there, page, is) = has.read.stands of.swept.sound is_awaited.there in
+      let begins : p.region.first ≡ next.stretch.span.first = ap (λ (r : RegionRows). r.first) is ∙ has.read.first in
+      let chosen : rows ≡ filter (is_selected t.schema plan.asked.filter) p.region.rows =
+      has.rows_are ∙ ap (λ (r : RegionRows). filter (is_chosen has.choice t.schema plan) r.rows) (sym is) ∙ chosen_of plan t s given rest fetched unread has.choice p of there in
+      let from : HoldsAlso t.schema (keys_of plan.asked) rows s.held new_s.held =
+      subst (λ (held : List HeldRow). HoldsAlso t.schema (keys_of plan.asked) rows held new_s.held) (held_then_is s s_then next taken) holds in
+      let selected = subst (λ (rs : List Row). HoldsAlso t.schema (keys_of plan.asked) rs s.held new_s.held) chosen from in
+      let after = fetched_next plan t s new_s.held given rest fetched a s_then.awaited new.trace p event left
+      (subst (λ (events : List Event). IsSweeping plan t s given rest fetched events) parts of) is_awaited is_ahead
+      (due_past plan t s given rest fetched unread next.value of due) has.read.noted.pages_are there page begins selected in (
+        event,
+        left,
+        parts,
+        subst (λ (tree : TreeView). IsSweeping plan tree new_s given rest (fetched ++ event ∷ []) left) (sym has.read.same)
+            (subst (λ (v : SweepView). IsSweeping plan (record t { trace = new.trace }) v given rest (fetched ++ event ∷ []) left)
+            (sym (view_is ∙ ap (λ (those : List AwaitedStretch). record s { held = new_s.held; awaited = those }) still)) after),
+      )
+
+  -- no region was fetched, or the next one
+  pub come_step : IsDue s next.value → HoldsAlso t.schema (keys_of plan.asked) rows s_then.held new_s.held
+      → (read left : List Event) × (unread ≡ read ++ left) × IsSweeping plan new new_s given rest (fetched ++ read) left
+  come_step due holds = elim come.how [
+    | inl opened ↦ ([], unread, refl, subst (λ (events : List Event). IsSweeping plan new new_s given rest events unread) (sym (append-nil fetched)) (opened_step opened.0))
+    | inr has ↦ let (event, left, parts, next_step) = fetched_step due has.0 has.1 holds in (event ∷ [], left, parts, next_step)
+  ]
 
 -- ---- a row is taken
-
-before_next : (t : TreeView) (dim : ℕ) (is_descending : Bool) (row : Row) (awaited : List AwaitedRegion) (unread : List Event) → AreAwaited t awaited unread
-    → ((a : AwaitedRegion) (more : List AwaitedRegion) → awaited ≡ a ∷ more → IsRowAlong dim is_descending row a.value) → IsBeforeNext dim is_descending row unread
-before_next t dim is_descending row [] [] are before = tt
-before_next t dim is_descending row [] (event ∷ unread) are before = cc
-before_next t dim is_descending row (a ∷ more) [] are before = tt
-before_next t dim is_descending row (a ∷ more) (event ∷ unread) are before = subst (λ (v : ℕ). IsRowAlong dim is_descending row v) are.0.value (before a more refl)
 
 all_at_rest : (keys : List SortKey) (schema : Schema) (g : HeldRow) (left : List HeldRow) → AreHeldBy schema keys (g ∷ left) → IsFirstAmong g left
     → All (λ other. ¬ (IsRowBefore schema keys other g.row)) (rows_held left)
@@ -318,9 +338,6 @@ taken plan t s left given rest fetched unread row of takes before =
       sweeping = subst (λ (events : List Event). IsSweeping plan t (record s { held = left }) (given ++ row ∷ []) more events unread) (sym none) sweeping;
     }
 
-none_left : (t : TreeView) (unread : List Event) → AreAwaited t [] unread → unread ≡ []
-none_left t unread are = are
-
 -- nothing is held and nothing awaited
 ended : (plan : PlanView) (t : TreeView) (s : SweepView) (given rest : List Row) (fetched : List Event) → IsSweeping plan t s given rest fetched [] → s.held ≡ []
     → HasEnded plan t s given rest fetched []
@@ -333,51 +350,33 @@ ended plan t s given rest fetched of none =
           (subst (λ (rows : List Row). IsSweeping plan t s given rows fetched []) all_given of);
     }
 
-pub none_waiting : (t : TreeView) (unread : List Event) (awaited : List AwaitedRegion) → AreAwaited t awaited unread → awaited ≡ [] → unread ≡ []
-none_waiting t unread awaited are none = none_left t unread (subst (λ (awaited : List AwaitedRegion). AreAwaited t awaited unread) none are)
-
 not_empty : {E : Type 0} (xs : List E) (x : E) → Contains xs x → xs ≡ [] → ⊥
 not_empty xs x there none = contains_none x (subst (λ (ys : List _). Contains ys x) none there)
 
-due_or_ended : (t : TreeView) (s : State) (unread : List Event) (first : Option Row) (o : Option Awaited) → AreAwaited t (awaited_of (drop s.fetched s.queue.items)) unread → IsFirstOf s.held first → s.held ≡ []
-    → slice_get s.queue.items s.fetched ≡ o → false ≡ is_due_by s.course o first → unread ≡ []
-due_or_ended t s unread first None are is_first none at due = none_waiting t unread (awaited_of (drop s.fetched s.queue.items)) are (ap awaited_of (drop_past s.queue.items s.fetched at))
-due_or_ended t s unread None (Some a) are is_first none at due = absurd (true≢false (sym due))
-due_or_ended t s unread (Some row) (Some a) are is_first none at due = absurd (not_empty s.held is_first.0 is_first.1 none)
+-- the row that is taken lies before the first event that is left
+before_next : (plan : PlanView) (t : TreeView) (s : SweepView) (left : List HeldRow) (given rest : List Row) (fetched unread : List Event) (row : Row) → IsSweeping plan t s given rest fetched unread
+    → IsNoneDue s → TakesFirst s.held left (Some row) → IsBeforeNext s.dim s.is_descending row unread
+before_next plan t s left given rest fetched [] row of none takes = tt
+before_next plan t s left given rest fetched (event ∷ unread) row of (inl none) takes =
+    let bad : event ∷ unread ≡ [] = none_ahead t plan.covering.boxes s.dim s.is_descending s.awaited (event ∷ unread) none of.awaited in absurd cc
+before_next plan t s left given rest fetched (event ∷ unread) row of (inr (next, there, first, other, is_first, past)) takes =
+    along_up_to s.is_descending (slice_index row.dims s.dim) next.value event.value (taken_before plan t s left given rest fetched (event ∷ unread) other row next.value of is_first past takes)
+    (first_up_to_event t of.swept.sound plan.covering.boxes s.dim s.is_descending fetched (event ∷ unread) of.under_way.events next s.awaited event of.awaited first (contains_here event unread))
 
-value_at : (xs ys : List AwaitedRegion) (a b : AwaitedRegion) (more : List AwaitedRegion) → xs ≡ a ∷ ys → xs ≡ b ∷ more → a.value ≡ b.value
-value_at xs ys a b more left right = let same : a ∷ ys ≡ b ∷ more = sym left ∙ right in let first : a ≡ b = cc in ap (λ (r : AwaitedRegion). r.value) first
-
-next_before : (plan : PlanView) (t : TreeView) (s : State) (left : List HeldRow) (given rest : List Row) (fetched unread : List Event) (first : Option Row) (row : Row) (o : Option Awaited)
-    → IsSweeping plan t (view_of s) given rest fetched unread → IsFirstOf s.held first → TakesFirst s.held left (Some row)
-    → slice_get s.queue.items s.fetched ≡ o → false ≡ is_due_by s.course o first
-    → (a : AwaitedRegion) (more : List AwaitedRegion) → awaited_of (drop s.fetched s.queue.items) ≡ a ∷ more → IsRowAlong s.course.dim s.course.is_descending row a.value
-next_before plan t s left given rest fetched unread first row None of is_first takes at due a more is =
-    let none : [] ≡ a ∷ more = sym (ap awaited_of (drop_past s.queue.items s.fetched at)) ∙ is in absurd cc
-next_before plan t s left given rest fetched unread first row (Some b) of is_first takes at due a more is =
-    subst (λ (v : ℕ). IsRowAlong s.course.dim s.course.is_descending row v)
-    (value_at (awaited_of (drop s.fetched s.queue.items)) (awaited_of (drop (s.fetched + 1) s.queue.items)) (record { value = b.value; region = b.region }) a more
-    (ap awaited_of (drop_next s.queue.items s.fetched b at)) is)
-    (not_due_before plan t s left given rest fetched unread first b row of is_first due takes)
-
-took : (plan : PlanView) (t : TreeView) (s : State) (left : List HeldRow) (given rest : List Row) (fetched unread : List Event) (row : Option Row) → IsSweeping plan t (view_of s) given rest fetched unread
-    → IsDue s false → TakesFirst s.held left row → HasStepped plan t (record (view_of s) { held = left }) given rest fetched unread row
-took plan t s left given rest fetched unread (Some row) of (first, is_first, due) takes =
-    taken plan t (view_of s) left given rest fetched unread row of takes
-    (before_next t s.course.dim s.course.is_descending row (awaited_of (drop s.fetched s.queue.items)) unread of.awaited
-    (next_before plan t s left given rest fetched unread first row (slice_get s.queue.items s.fetched) of is_first takes refl due))
-took plan t s left given rest fetched unread None of (first, is_first, due) (none, still) =
-    let no_more : unread ≡ [] = due_or_ended t s unread first (slice_get s.queue.items s.fetched) of.awaited is_first none refl due in
-    subst (λ (events : List Event). HasEnded plan t (record (view_of s) { held = left }) given rest fetched events) (sym no_more)
-    (subst (λ (held : List HeldRow). HasEnded plan t (record (view_of s) { held = held }) given rest fetched []) (none ∙ sym still)
-    (ended plan t (view_of s) given rest fetched (subst (λ (events : List Event). IsSweeping plan t (view_of s) given rest fetched events) no_more of) none))
-
--- no region is due, and the first of those held was taken
-pub last_step : (plan : PlanView) (t : TreeView) (s new_s : State) (given rest : List Row) (fetched unread : List Event) (row : Option Row) → IsSweeping plan t (view_of s) given rest fetched unread
-    → IsDue s false → TakesFirst s.held new_s.held row → (new_s.course ≡ s.course) × (new_s.queue ≡ s.queue) × (new_s.fetched ≡ s.fetched)
-    → HasStepped plan t (view_of new_s) given rest fetched unread row
-last_step plan t s new_s given rest fetched unread row of due takes still =
-    subst (λ (v : SweepView). HasStepped plan t v given rest fetched unread row) (view_still s new_s still) (took plan t s new_s.held given rest fetched unread row of due takes)
+-- no stretch is due, and the first of those held was taken
+pub last_step : (plan : PlanView) (t : TreeView) (s new_s : SweepView) (given rest : List Row) (fetched unread : List Event) (row : Option Row) → IsSweeping plan t s given rest fetched unread
+    → IsNoneDue s → TakesFirst s.held new_s.held row → new_s ≡ record s { held = new_s.held } → HasStepped plan t new_s given rest fetched unread row
+last_step plan t s new_s given rest fetched unread row of none takes same =
+    subst (λ (v : SweepView). HasStepped plan t v given rest fetched unread row) (sym same) (took row none takes)
+  where
+    took : (row : Option Row) → IsNoneDue s → TakesFirst s.held new_s.held row → HasStepped plan t (record s { held = new_s.held }) given rest fetched unread row
+    took (Some row) none takes = taken plan t s new_s.held given rest fetched unread row of takes (before_next plan t s new_s.held given rest fetched unread row of none takes)
+    took None (inl none) (empty, still) =
+        let no_more : unread ≡ [] = none_ahead t plan.covering.boxes s.dim s.is_descending s.awaited unread none of.awaited in
+        subst (λ (events : List Event). HasEnded plan t (record s { held = new_s.held }) given rest fetched events) (sym no_more)
+        (subst (λ (held : List HeldRow). HasEnded plan t (record s { held = held }) given rest fetched []) (empty ∙ sym still)
+        (ended plan t s given rest fetched (subst (λ (events : List Event). IsSweeping plan t s given rest fetched events) no_more of) empty))
+    took None (inr (next, there, first, other, is_first, past)) (empty, still) = absurd (not_empty s.held is_first.0 is_first.1 empty)
 
 -- a step after some regions were fetched is one from before them
 pub chain_step : (plan : PlanView) (t : TreeView) (s : SweepView) (given rest : List Row) (fetched read left unread : List Event) (row : Option Row) → unread ≡ read ++ left

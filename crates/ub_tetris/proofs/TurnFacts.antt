@@ -73,19 +73,22 @@ module _ {T : Type 0} (r : Result T SweepFault) (s new_s : State) (view : SweepV
       once (Ok x) = record { fails = tt; works = refl; stays = λ failed. absurd (true≢false (sym failed ∙ ap (λ (v : SweepView). v.is_failed) same)) }
       once (Err e) = record { fails = refl; works = tt; stays = λ failed. absurd (true≢false (sym failed ∙ ap (λ (v : SweepView). v.is_failed) same)) }
 
-  pub sweeps_seen : (old new : TreeView) → Sweeps (view_of s) (view_of new_s) old new r → Sweeps view (view_by new_s has_failed) old new r
-  sweeps_seen old new swept =
-      subst (λ (v : SweepView). Sweeps v (view_by new_s has_failed) old new r) (sym same)
+  pub sweeps_seen : (plan : PlanView) (old new : TreeView) → Sweeps plan (view_of s) (view_of new_s) old new r → Sweeps plan view (view_by new_s has_failed) old new r
+  sweeps_seen plan old new swept =
+      subst (λ (v : SweepView). Sweeps plan v (view_by new_s has_failed) old new r) (sym same)
       (record {
         noted = swept.noted;
         same = swept.same;
         trace_is = swept.trace_is;
         fetches_are = swept.fetches_are;
         come = swept.come;
+        ahead = swept.ahead;
         left = swept.left;
+        ordered = swept.ordered;
+        still = swept.still;
         once = swept.once;
         taken = swept.taken;
         refused = swept.refused;
         faults = swept.faults;
-        regions = swept.regions;
+        stretches = swept.stretches;
       })

@@ -18,7 +18,7 @@ use Rattle.ub_tetris.proofs.ArrangeFacts.{all_of, rising_left, rising_right}
 use Rattle.ub_tetris.proofs.BrokenFacts.{all_right}
 use Rattle.ub_tetris.proofs.MachineFacts.{IsBeforeNext, given_up_to, held_in_rest, held_or_unread}
 use Rattle.ub_tetris.proofs.NumberFacts.{asked-chain}
-use Rattle.ub_tetris.proofs.StepFacts.{entry_past, sweep_over, taken_next, view_still}
+use Rattle.ub_tetris.proofs.StepFacts.{entry_past, sweep_over, taken_next}
 use Rattle.ub_tetris.proofs.FoundFacts.{gives_then, takes_rows}
 use Rattle.ub_tetris.proofs.StepsFacts.{not_none, same_awaited}
 use Rattle.ub_tetris.specs.Effects.{HasAnswered, Rests}
@@ -26,9 +26,7 @@ use Rattle.ub_tetris.specs.Held.{HeldRow, rows_held}
 use Rattle.ub_tetris.specs.Machine.{IsRowAlong, IsRowPast}
 use Rattle.ub_tetris.specs.Sweep.{HasBroken, HasGiven, HasGivenValue, IsSweeping, SweepView, rows_left}
 use Rattle.ub_tetris.specs.declared.fault.SweepFault.{SweepFault}
-use Rattle.ub_tetris.specs.declared.state.State.{State}
 use Rattle.ub_tetris.specs.inner.Kept.{AreTakenAt, IsFirstElsewhere, IsFirstOf, IsHeldBefore, TakesFirst, TakesFirstAt, TakesValue}
-use Rattle.ub_tetris.specs.inner.Turns.{view_of}
 use Rattle.ub_tree.specs.View.{TreeView, regions}
 
 -- ---- what is taken out of those held
@@ -177,13 +175,12 @@ value_given plan t s left given rest fetched unread first others some step taken
       sweeping = sweeping;
     }
 
-pub value_step : (plan : PlanView) (t : TreeView) (s new_s : State) (given rest : List Row) (fetched unread : List Event) (first : Row) (rows : List Row) → plan.asked.group ≢ []
-    → HasGiven plan t (view_of s) given rest fetched unread first → TakesValue s.course.dim first s.held new_s.held rows
-    → (new_s.course ≡ s.course) × (new_s.queue ≡ s.queue) × (new_s.fetched ≡ s.fetched) → HasGivenValue plan t (view_of new_s) given rest fetched unread rows
+pub value_step : (plan : PlanView) (t : TreeView) (s new_s : SweepView) (given rest : List Row) (fetched unread : List Event) (first : Row) (rows : List Row) → plan.asked.group ≢ []
+    → HasGiven plan t s given rest fetched unread first → TakesValue s.dim first s.held new_s.held rows → new_s ≡ record s { held = new_s.held } → HasGivenValue plan t new_s given rest fetched unread rows
 value_step plan t s new_s given rest fetched unread first rows some step takes still =
-    subst (λ (rs : List Row). HasGivenValue plan t (view_of new_s) given rest fetched unread rs) (sym takes.rows_are)
-    (subst (λ (v : SweepView). HasGivenValue plan t v given rest fetched unread (first ∷ takes.others)) (view_still s new_s still)
-    (value_given plan t (view_of s) new_s.held given rest fetched unread first takes.others some step takes.taken takes.whole))
+    subst (λ (rs : List Row). HasGivenValue plan t new_s given rest fetched unread rs) (sym takes.rows_are)
+    (subst (λ (v : SweepView). HasGivenValue plan t v given rest fetched unread (first ∷ takes.others)) (sym still)
+    (value_given plan t s new_s.held given rest fetched unread first takes.others some step takes.taken takes.whole))
 
 -- ---- a step that is ended by a fault once the first row was given
 
@@ -219,27 +216,26 @@ never_rests o x s new_s t new is rests = let bad : Ok o ≡ Ok None = rests.none
 pub never_rests_on : {A X : Type 0} (e : SweepFault) (s new_s : SweepView) (t new : TreeView) → Rests {A = A} s new_s t new (Err e) → X
 never_rests_on e s new_s t new rests = let bad : Err e ≡ Ok None = rests.none in absurd cc
 
-fewer_left : (s new_s : State) → (new_s.course ≡ s.course) × (new_s.queue ≡ s.queue) × (new_s.fetched ≡ s.fetched) → length new_s.held ≤ length s.held
-    → rows_left (view_of new_s) ≤ rows_left (view_of s)
-fewer_left s new_s (course, queue, fetched) few = rw (queue, fetched) (omega arith)
+fewer_left : (s new_s : SweepView) → new_s ≡ record s { held = new_s.held } → length new_s.held ≤ length s.held → rows_left new_s ≤ rows_left s
+fewer_left s new_s same few =
+    let left : rows_left new_s ≡ rows_left (record s { held = new_s.held }) = ap rows_left same in
+    omega (arith, left, few)
 
 below : (a b c : ℕ) → a ≤ b → b < c → a < c
 below a b c h k = omega arith
 
-value_fewer : (s new_s : State) (first : Row) (rows : List Row) (most : ℕ) → TakesValue s.course.dim first s.held new_s.held rows
-    → (new_s.course ≡ s.course) × (new_s.queue ≡ s.queue) × (new_s.fetched ≡ s.fetched) → rows_left (view_of s) < most → rows_left (view_of new_s) < most
+value_fewer : (s new_s : SweepView) (first : Row) (rows : List Row) (most : ℕ) → TakesValue s.dim first s.held new_s.held rows → new_s ≡ record s { held = new_s.held } → rows_left s < most
+    → rows_left new_s < most
 value_fewer s new_s first rows most takes still fewer =
-    below (rows_left (view_of new_s)) (rows_left (view_of s)) most
-    (fewer_left s new_s still (taken_few s.course.dim (slice_index first.dims s.course.dim) takes.others s.held new_s.held takes.taken)) fewer
+    below (rows_left new_s) (rows_left s) most (fewer_left s new_s still (taken_few s.dim (slice_index first.dims s.dim) takes.others s.held new_s.held takes.taken)) fewer
 
 -- what it answers over any tree
-pub value_answers : (plan : PlanView) (t : TreeView) (s : SweepView) (mid new_s : State) (first : Row) (rows : List Row) → TakesValue mid.course.dim first mid.held new_s.held rows
-    → (new_s.course ≡ mid.course) × (new_s.queue ≡ mid.queue) × (new_s.fetched ≡ mid.fetched) → HasAnswered plan t s (view_of mid) (Some (first ∷ []))
-    → HasAnswered plan t s (view_of new_s) (Some rows)
+pub value_answers : (plan : PlanView) (t : TreeView) (s mid new_s : SweepView) (first : Row) (rows : List Row) → TakesValue mid.dim first mid.held new_s.held rows → new_s ≡ record mid { held = new_s.held }
+    → HasAnswered plan t s mid (Some (first ∷ [])) → HasAnswered plan t s new_s (Some rows)
 value_answers plan t s mid new_s first rows takes still (some, fewer, gives) =
-    subst (λ (rs : List Row). HasAnswered plan t s (view_of new_s) (Some rs)) (sym takes.rows_are) (
+    subst (λ (rs : List Row). HasAnswered plan t s new_s (Some rs)) (sym takes.rows_are) (
       not_none first takes.others,
       value_fewer mid new_s first rows (rows_left s) takes still fewer,
-      gives_then plan t s (view_of mid) (view_of new_s) (first ∷ []) takes.others (same_awaited mid new_s still)
-          (takes_rows mid.course.dim (slice_index first.dims mid.course.dim) takes.others mid.held new_s.held takes.taken) gives,
+      gives_then plan t s mid new_s (first ∷ []) takes.others (same_awaited mid new_s still)
+          (takes_rows mid.dim (slice_index first.dims mid.dim) takes.others mid.held new_s.held takes.taken) gives,
     )

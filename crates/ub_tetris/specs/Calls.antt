@@ -5,7 +5,7 @@ use Rattle.std.specs.Option.{option_map}
 use Rattle.ub_planning.specs.Plan.{PlanView}
 use Rattle.ub_planning.specs.Visits.{Event}
 use Rattle.ub_table.specs.declared.row.Row.{Row}
-use Rattle.ub_tetris.specs.Awaited.{AreMetAlong}
+use Rattle.ub_tetris.specs.Awaited.{IsWholeAwaited}
 use Rattle.ub_tetris.specs.Effects.{Begins, HasAnswered, HasFound, Rests, Sweeps}
 use Rattle.ub_tetris.specs.Sweep.{HandsOver, HasBegun, HasBroken, HasBrokenOff, HasHandedOver, HasStepped, HasSteppedValue, IsNoSweep, IsStarted, IsSweepOf, IsSweeping, IsSwept, SweepView}
 use Rattle.ub_tetris.specs.declared.fault.SweepFault.{SweepFault}
@@ -14,12 +14,12 @@ use Rattle.ub_tree.specs.View.{TreeView}
 use Rattle.ub_tree.specs.declared.fault.TreeFault.TheVariants.{Failed}
 
 -- a sweep was to be begun by a plan, and this was answered: over a sound tree, by a plan that is a sweep, no row was given and no region
--- fetched; over any tree which regions it awaits, that a tree which has failed is refused, and what is left
+-- fetched; over any tree that it awaits the whole, along the plan's dimension, that a tree which has failed is refused, and what is left
 pub record BeginsBy (plan : PlanView) (old new : TreeView) (result : Result SweepView SweepFault) : Type 0 where
   pub begun : (dim : ℕ) (is_descending : Bool) → IsSwept old plan dim is_descending → IfOk result (HasBegun plan new)
   pub started : IfOk result (IsStarted new)
   pub met : (dim : ℕ) (is_descending : Bool) → IsSweepOf old.schema plan dim is_descending → IfOk result
-      (λ s. AreMetAlong plan.covering.boxes dim is_descending new s.awaited)
+      (λ s. (s.dim ≡ dim) × (s.is_descending ≡ is_descending) × IsWholeAwaited plan.covering.boxes dim is_descending new s.awaited)
   pub other : IsNoSweep plan.kind → IfOk result (λ s. s.awaited ≡ [])
   pub failed : IsTrue old.is_failed → result ≡ Err (Tree Failed)
   pub effect : Begins old new result
@@ -33,7 +33,7 @@ pub record Gives {A : Type 0} (Next : List Row → List Row → List Event → L
       → OnErr result (HasBroken new s rest fetched unread)
   pub rests : s.is_failed ≡ false → s.awaited ≡ [] → s.held ≡ [] → Rests s new_s old new result
   pub answers : IfOk result (λ found. HasAnswered plan old s new_s (option_map rows found))
-  pub effect : Sweeps s new_s old new result
+  pub effect : Sweeps plan s new_s old new result
 
 -- it was asked for the next row
 abbrev pub GivesRow : PlanView → SweepView → SweepView → TreeView → TreeView → Result (Option Row) SweepFault → Type 0
@@ -58,4 +58,4 @@ pub record HandsAll {K : Type 0} (HasTaken : K → List Row → K → Type 0) (p
   pub broken : (given rest : List Row) (fetched unread : List Event) → IsSweeping plan old s given rest fetched unread
       → OnErr result (HasBrokenOff new fetched unread)
   pub left : OnOk result (new_s ≡ record s { awaited = [] })
-  pub effect : Sweeps s new_s old new result
+  pub effect : Sweeps plan s new_s old new result

@@ -2,6 +2,7 @@
 use Rattle.std.specs.Prelude.{◌≡◌, ◌≢◌, ◌<◌, ◌≤◌, ◌+◌, ◌++◌, [], ◌∷◌, ℕ, zero, suc, Bool, true, false, IsTrue, List, Option, Some, None, Result, Ok, Err, IfErr, OnOk, Contains, length, map, take}
 use Rattle.std.specs.List.{AllByRecursion, filter}
 use Rattle.std.specs.List.Sorted.{IsPermutation}
+use Rattle.ub_bigmin.specs.Box.{Corners}
 use Rattle.ub_filter.specs.Choice.{is_chosen}
 use Rattle.ub_filter.specs.declared.choice.Choice.{Choice}
 use Rattle.ub_planning.specs.Plan.{PlanView}
@@ -10,12 +11,15 @@ use Rattle.ub_store.specs.View.{emptied}
 use Rattle.ub_table.specs.Region.{RegionRows}
 use Rattle.ub_table.specs.declared.row.Row.{Row}
 use Rattle.ub_tetris.specs.Held.{rows_held}
-use Rattle.ub_tetris.specs.Sweep.{AwaitedRegion, SweepView, AreItsRegions, rows_left}
+use Rattle.ub_tetris.specs.Awaited.{AreInOrder, AreInPlaceOf, AreValued, AwaitedRegion, AwaitedStretch, IsBelow, lowest}
+use Rattle.ub_tetris.specs.Sweep.{SweepView, AreItsStretches, rows_left}
 use Rattle.ub_tetris.specs.declared.fault.SweepFault.{SweepFault}
 use Rattle.ub_tetris.specs.declared.fault.SweepFault.TheVariants.{Memory, Tree, Failed}
 use Rattle.ub_tree.specs.Effects.{IsSpanFault, IsTakenIn}
 use Rattle.ub_tree.specs.Reading.{IsGiven, read_store}
+use Rattle.ub_tree.specs.Stretches.{IsOpeningFault, Stretch}
 use Rattle.ub_tree.specs.View.{TreeView}
+use Rattle.ub_tree.specs.declared.fault.TreeFault.{TreeFault}
 use Rattle.ub_tree.specs.declared.fault.TreeFault.TheVariants.{Failed as has_failed, Memory as no_memory}
 use Rattle.ub_tree.specs.declared.read_fault.ReadFault.{ReadFault}
 use Rattle.ub_tree.specs.declared.read_fault.ReadFault.TheVariants as read
@@ -46,22 +50,33 @@ abbrev pub IsSweepFault : Bool → TreeView → SweepFault → Type 0
 IsSweepFault is_failed old Failed = IsTrue is_failed
 IsSweepFault is_failed old fault = IsGiven old (as_read fault)
 
--- a fault of the reading of a region that the sweep awaits, also where it isn't one of the tree
-abbrev pub IsAwaitedFault : SweepView → TreeView → SweepFault → Type 0
-IsAwaitedFault s old Memory = Unit {0}
-IsAwaitedFault s old (Tree fault) =
-    ((a : AwaitedRegion) × Contains s.awaited a × IsSpanFault a.region old fault) × (fault ≢ no_memory)
-IsAwaitedFault s old Failed = IsTrue s.is_failed
+-- a fault of the reading of a region, which is a stretch of level 0, or of the opening of any other one
+abbrev pub IsComingFault : ℕ → Stretch → TreeView → TreeFault → Type 0
+IsComingFault zero stretch old fault = IsSpanFault stretch.span old fault
+IsComingFault (suc level) stretch old fault = IsOpeningFault stretch old (read.Tree fault)
+
+-- such a fault of one of the stretches that the sweep awaits, or of a part of one, and so on, also where it isn't one of the tree
+abbrev pub IsAwaitedFault : List Corners → SweepView → TreeView → SweepFault → Type 0
+IsAwaitedFault boxes s old Memory = Unit {0}
+IsAwaitedFault boxes s old (Tree fault) =
+    ((stretch : Stretch) × IsBelow old boxes s.awaited stretch × IsComingFault stretch.level stretch old fault) × (fault ≢ no_memory)
+IsAwaitedFault boxes s old Failed = IsTrue s.is_failed
 
 -- a count of fetches after so many more
 abbrev pub fetches_then : ℕ → ℕ → ℕ
 fetches_then fetches zero = fetches
 fetches_then fetches (suc n) = raised fetches (suc n)
 
+-- why a sweep isn't begun: for want of memory, or the tree has failed
+abbrev pub IsBeginFault : TreeView → SweepFault → Type 0
+IsBeginFault old Memory = Unit {0}
+IsBeginFault old (Tree has_failed) = IsTrue old.is_failed
+IsBeginFault old fault = ⊥
+
 -- a sweep was begun: the trace is empty, and else the tree is as it was
 pub record Begins {A : Type 0} (old new : TreeView) (result : Result A SweepFault) : Type 0 where
-  pub same : new ≡ record old { store = read_store (as_reading result) old.store; trace = emptied old.trace }
-  pub faults : IfErr result (IsSweepFault false old)
+  pub same : new ≡ record old { trace = emptied old.trace }
+  pub faults : IfErr result (IsBeginFault old)
 
 -- these are the pages of these regions, each of which was taken in
 abbrev pub AreTakenIn : TreeView → List AwaitedRegion → List ℕ → Type 0
@@ -73,22 +88,26 @@ pub record AreAsked (come : List AwaitedRegion) (pages : List ℕ) : Type 0 wher
   pub first : pages ≡ map (λ a. a.region.page) (take (length pages) come)
   pub most : length come ≤ length pages + 1
 
--- a sweep read the tree and no more: pages were noted after those that stood in the trace, and the first of the regions awaited
--- are awaited no more; the pages are theirs, also where a fault ended it, and where it answers all of them are there, and each was
--- taken in. Over a tree that has those awaited it is refused as each call is that reads the tree, and the tree has those still
--- awaited.
-pub record Sweeps {A : Type 0} (s new_s : SweepView) (old new : TreeView) (result : Result A SweepFault) : Type 0 where
+-- a sweep read the tree and no more. Regions were come to, in the order of the sweep, and with the stretches that are ahead of it then they came in
+-- the place of those that it awaited before; where it answers it awaits these, in its dimension and direction. The pages of the regions were noted
+-- after those that stood in the trace, also where a fault ended it, and where it answers all of them are there, and each was taken in. Over a tree
+-- that tells of the stretches awaited it is refused as each call is that reads the tree, and the tree tells of those awaited then
+pub record Sweeps {A : Type 0} (plan : PlanView) (s new_s : SweepView) (old new : TreeView) (result : Result A SweepFault) : Type 0 where
   pub noted : List ℕ
   pub same : new ≡ record old { store = read_store (as_reading result) old.store; trace = new.trace }
   pub trace_is : new.trace.pages ≡ old.trace.pages ++ noted
   pub fetches_are : new.trace.fetches ≡ fetches_then old.trace.fetches (length noted)
   pub come : List AwaitedRegion
-  pub left : s.awaited ≡ come ++ new_s.awaited
+  pub ahead : List AwaitedStretch
+  pub left : AreInPlaceOf old plan.covering.boxes s.dim s.is_descending s.awaited (lowest come ++ ahead)
+  pub ordered : AreItsStretches old s → AreValued plan.covering.boxes s.dim s.is_descending s.awaited
+      → AreInOrder s.is_descending come ahead
+  pub still : OnOk result ((new_s.dim ≡ s.dim) × (new_s.is_descending ≡ s.is_descending) × (new_s.awaited ≡ ahead))
   pub once : AreAsked come noted
   pub taken : OnOk result (AreTakenIn old come noted)
-  pub refused : IfErr result (IsAwaitedFault s old)
-  pub faults : AreItsRegions old s → IfErr result (IsSweepFault s.is_failed old)
-  pub regions : AreItsRegions old s → AreItsRegions new new_s
+  pub refused : IfErr result (IsAwaitedFault plan.covering.boxes s old)
+  pub faults : AreItsStretches old s → IfErr result (IsSweepFault s.is_failed old)
+  pub stretches : AreItsStretches old s → OnOk result (AreItsStretches new new_s)
 
 -- after a fault a sweep has failed, and only then; one that has failed changes nothing and answers that
 pub record FailsOnce {A : Type 0} (s new_s : SweepView) (old new : TreeView) (result : Result A SweepFault) : Type 0 where
@@ -112,10 +131,10 @@ AreRowsOf plan t (a ∷ come) rows =
     (region : RegionRows) × IsTakenIn t a.region region × (choice : Choice) × (more : List Row)
     × (rows ≡ filter (is_chosen choice t.schema plan) region.rows ++ more) × AreRowsOf plan t come more
 
--- these rows came: those of the regions that were awaited and are no more
+-- these rows came: those of the regions that were come to
 pub record HasFound (plan : PlanView) (t : TreeView) (s new_s : SweepView) (rows : List Row) : Type 0 where
   pub come : List AwaitedRegion
-  pub left : s.awaited ≡ come ++ new_s.awaited
+  pub left : AreInPlaceOf t plan.covering.boxes s.dim s.is_descending s.awaited (lowest come ++ new_s.awaited)
   pub are : AreRowsOf plan t come rows
 
 -- these rows were given: the rows that were held and those that came are the rows given and the ones held now, each as often. So no
@@ -125,7 +144,7 @@ pub record GivesRows (plan : PlanView) (t : TreeView) (s new_s : SweepView) (giv
   pub found : HasFound plan t s new_s came
   pub kept : IsPermutation (rows_held s.held ++ came) (given ++ rows_held new_s.held)
 
--- what asking for rows answers over any tree: none only where no region is left and no row is held, and else one at least, with which
+-- what asking for rows answers over any tree: none only where no stretch is left and no row is held, and else one at least, with which
 -- there are fewer that can still be given
 abbrev pub HasAnswered : PlanView → TreeView → SweepView → SweepView → Option (List Row) → Type 0
 HasAnswered plan t s new_s None = (new_s.awaited ≡ []) × (new_s.held ≡ []) × GivesRows plan t s new_s []

@@ -1,12 +1,14 @@
 -- What contracts see of a sweep, and how it stands to its plan and to the tree over which it goes.
-use Rattle.std.specs.Prelude.{◌≡◌, ◌≢◌, ◌+◌, ◌*◌, ◌++◌, ◌∷◌, [], ℕ, Bool, false, List, Option, Some, None, length, map, slice_index, Contains}
+use Rattle.std.specs.Prelude.{◌≡◌, ◌≢◌, ◌≤◌, ◌+◌, ◌*◌, ◌++◌, ◌∷◌, [], ℕ, Bool, false, List, Option, Some, None, length, map, slice_index, Contains}
 use Rattle.std.specs.List.{All, AllByRecursion}
+use Rattle.ub_bigmin.specs.Box.{Corners}
 use Rattle.ub_planning.specs.Plan.{PlanView, plan_of}
 use Rattle.ub_planning.specs.Visits.{Event, IsAlong, selected_rows}
 use Rattle.ub_planning.specs.declared.planned.Kind.{Kind}
 use Rattle.ub_planning.specs.declared.planned.Kind.TheVariants.{Sweep}
 use Rattle.ub_query.specs.Lead.{swept_order}
 use Rattle.ub_table.specs.Table.{IsInOrder}
+use Rattle.ub_table.specs.declared.row.Key.{Key}
 use Rattle.ub_table.specs.declared.row.Row.{Row}
 use Rattle.ub_table.specs.declared.schema.Schema.{Schema}
 use Rattle.ub_table.specs.declared.schema.TheConstants.{MAX_ROWS}
@@ -14,26 +16,23 @@ use Rattle.ub_tetris.specs.Held.{HeldRow, AreHeldBy, rows_held}
 use Rattle.ub_tetris.specs.Machine.{IsUnderWay, IsRowAlong, IsRowPast, regions_at}
 use Rattle.ub_tree.specs.Placed.{Placed, regions_in}
 use Rattle.ub_tree.specs.View.{TreeView, IsSound, regions, spans_of}
-use Rattle.ub_tree.specs.Spans.{Region}
-use Rattle.ub_tree.specs.Told.{IsRegionOf}
+use Rattle.ub_tree.specs.Spans.{Meets, Region}
+pub use Rattle.ub_tetris.specs.Awaited.{AwaitedRegion, AwaitedStretch}
+use Rattle.ub_tetris.specs.Awaited.{AreStretchesOf, AreValued, most_regions, times_held}
 
--- a region that is not fetched yet, and its event value
-pub record AwaitedRegion : Type 0 where
-  pub value : ℕ
-  pub region : Region
-
--- a sweep: its dimension and direction; the rows that it holds; the regions not yet fetched; whether it has failed
+-- a sweep: its dimension and direction; the rows that it holds; the stretches to which it is to come, in whatever order; whether it has
+-- failed
 pub record SweepView : Type 0 where
   pub dim : ℕ
   pub is_descending : Bool
   pub held : List HeldRow
-  pub awaited : List AwaitedRegion
+  pub awaited : List AwaitedStretch
   pub is_failed : Bool
 
--- how many rows a sweep can still give at most: those that it holds, and those for which there is room on the pages of the
--- regions that it awaits
+-- more rows than this a sweep can't give: those that it holds, and those for which there is room on the pages of the regions that the
+-- stretches can have which it awaits
 abbrev pub rows_left : SweepView → ℕ
-rows_left s = length s.held + length s.awaited * MAX_ROWS
+rows_left s = length s.held + most_regions s.awaited * MAX_ROWS
 
 -- the plan is that of its query over a table of this schema: a sweep in this dimension and direction
 abbrev pub IsSweepOf : Schema → PlanView → ℕ → Bool → Type 0
@@ -56,17 +55,21 @@ pub record AreNoted (t : TreeView) (events : List Event) : Type 0 where
   pub regions_are : regions_in placed ≡ regions_at events
   pub trace_is : t.trace.pages ≡ map (λ p. p.page) placed
 
--- a region awaited is a region of the tree, and that of the event, with its value
+-- a region come to is a region of the tree, and that of the event, with its value
 pub record IsAwaited (t : TreeView) (awaited : AwaitedRegion) (event : Event) : Type 0 where
   pub there : Contains (spans_of t) awaited.region
   pub first : awaited.region.first ≡ event.span.region.first
   pub value : awaited.value ≡ event.value
 
--- those awaited are the regions of these events, in their order
-abbrev pub AreAwaited : TreeView → List AwaitedRegion → List Event → Type 0
-AreAwaited t [] events = events ≡ []
-AreAwaited t (awaited ∷ rest) [] = ⊥
-AreAwaited t (awaited ∷ rest) (event ∷ events) = IsAwaited t awaited event × AreAwaited t rest events
+-- the stretches awaited over a sound tree: the tree tells of each; each has its event value, the first along the sweep among those of the
+-- regions within it; no two hold one key; and the regions within them that meet the boxes are those of these events
+pub record AreAhead (t : TreeView) (boxes : List Corners) (dim : ℕ) (is_descending : Bool) (awaited : List AwaitedStretch) (events : List Event) : Type 0 where
+  pub told : AreStretchesOf t awaited
+  pub valued : AreValued boxes dim is_descending awaited
+  pub apart : (key : Key) → times_held key awaited ≤ 1
+  pub all : (region : Region) → Contains (spans_of t) region → Meets boxes region → 1 ≤ times_held region.first awaited
+      → (event : Event) × Contains events event × (event.span.region.first ≡ region.first)
+  pub those : (event : Event) → Contains events event → 1 ≤ times_held event.span.region.first awaited
 
 -- how a sweep that hasn't failed stands to its plan and its tree: these rows were given, and these are still to be given; the
 -- trace has the pages of the regions that were fetched, and these are not fetched yet
@@ -76,7 +79,7 @@ pub record IsSweeping (plan : PlanView) (t : TreeView) (s : SweepView) (given re
   pub under_way : IsUnderWay t.schema plan s.dim s.is_descending (regions t) (rows_held s.held) given rest fetched unread
   pub values : AreHeldBy t.schema (swept_order plan.asked.group plan.asked.order) s.held
   pub noted : AreNoted t fetched
-  pub awaited : AreAwaited t s.awaited unread
+  pub awaited : AreAhead t plan.covering.boxes s.dim s.is_descending s.awaited unread
 
 -- the next row was given: these regions were fetched for it, and those fetched are now just the ones whose event values aren't
 -- past it
@@ -154,12 +157,12 @@ pub record HasBegun (plan : PlanView) (t : TreeView) (s : SweepView) : Type 0 wh
   pub unread : List Event
   pub sweeping : IsSweeping plan t s [] rest [] unread
 
--- the regions that a sweep awaits are such as the tree tells of
-abbrev pub AreItsRegions : TreeView → SweepView → Type 0
-AreItsRegions t s = AllByRecursion (λ awaited. IsRegionOf t awaited.region) s.awaited
+-- the stretches that a sweep awaits are such as the tree tells of
+abbrev pub AreItsStretches : TreeView → SweepView → Type 0
+AreItsStretches t s = AreStretchesOf t s.awaited
 
--- a sweep that was begun over any tree: it holds nothing, hasn't failed, and awaits regions that the tree tells of
+-- a sweep that was begun over any tree: it holds nothing, hasn't failed, and awaits stretches that the tree tells of
 pub record IsStarted (t : TreeView) (s : SweepView) : Type 0 where
   pub none : s.held ≡ []
   pub working : s.is_failed ≡ false
-  pub regions : AreItsRegions t s
+  pub stretches : AreItsStretches t s

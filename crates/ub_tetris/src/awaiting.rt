@@ -1,71 +1,88 @@
-ghost use Rattle.std.specs.Prelude.{◌≡◌, ◌<◌, All, IfOk, length};
-ghost use Rattle.std.specs.List.Sorted.{IsPermutation, IsSorted};
-ghost use Rattle.ub_tetris.specs.inner.Events.{AreMet, AreQueued, HasMet, event_cmp};
-ghost use Rattle.ub_tree.specs.Reading.{SearchesTree};
+ghost use Rattle.std.specs.Prelude.{◌≡◌, ◌≤◌, ◌∷◌, [], OnErr, OnOk};
+ghost use Rattle.std.specs.List.Sorted.{IsPermutation};
+ghost use Rattle.ub_tetris.specs.inner.Events.{HasQueued, IsValueOfFirst, TakesNext, ahead_on, seen};
 
 use crate::course::Course;
-use crate::event::{Awaited, compare_events};
+use crate::event::Awaited;
 use std::alloc::{AllocError, Global};
+use std::collections::BinaryHeap;
+use std::marker::Model;
 use ub_bigmin::ZBox;
-use ub_store::PageStore;
-use ub_tree::{ReadFault, Region, RegionSink, Tree};
+use ub_tree::{Stretch, StretchSink};
 
-/// The regions that meet the boxes, each with its event value, in the order in which a sweep comes to them. Fetches none.
-pub fn await_regions<S: PageStore>(
-    alloc: Global,
-    tree: &mut Tree<S>,
-    boxes: &[ZBox],
-    course: Course,
-) -> Result<Vec<Awaited>, ReadFault>
-    requires { All (λ b. course.dim < length b.lo) boxes.now }
-    ensures queued { IfOk result (λ awaited. AreQueued boxes.now course tree.old awaited.items) }
-    ensures effect { SearchesTree boxes.now tree.old tree.new result }
-{
-    let mut awaited = meet(alloc, tree, boxes, course)?;
-    sort_events(&mut awaited, course.is_descending);
-    Ok(awaited)
-}
-
-// The same regions in the order of their first keys.
-fn meet<S: PageStore>(
-    alloc: Global,
-    tree: &mut Tree<S>,
-    boxes: &[ZBox],
-    course: Course,
-) -> Result<Vec<Awaited>, ReadFault>
-    requires { All (λ b. course.dim < length b.lo) boxes.now }
-    ensures met { IfOk result (λ awaited. AreMet boxes.now course tree.old awaited.items) }
-    ensures effect { SearchesTree boxes.now tree.old tree.new result }
-{
-    let mut met = MetRegions {
-        course,
-        awaited: Vec::new(alloc),
-    };
-    tree.for_each_meeting(boxes, &mut met)?;
-    Ok(met.awaited)
-}
-
-/// The regions that a sweep is to come to, each put in with its event value as the tree hands it over.
+/// The stretches to which a sweep is to come, of which the first is found at once: by event value along the sweep, and where
+/// these are equal, by first key.
 #[derive(Drop)]
-pub struct MetRegions {
+pub struct Awaiting {
     course: Course,
-    awaited: Vec<Awaited>,
+    heap: BinaryHeap<Awaited>,
 }
 
-impl RegionSink for MetRegions {
-    ghost Takes = { λ boxes start taken now. HasMet boxes start taken now };
+impl Model for Awaiting {
+    ghost use Rattle.std.specs.BinaryHeap.{heap_items};
+    ghost use Rattle.ub_tetris.specs.inner.Events.{Ahead, AreHeaped, ahead_on, awaited_of};
 
-    fn push(&mut self, boxes: &[ZBox], region: &Region) -> Result<(), AllocError> {
-        self.awaited
-            .push(Awaited::new(boxes, *region, self.course))?;
+    ghost Value = { Ahead };
+
+    ghost view = { λ a. ahead_on a.course (awaited_of (heap_items a.heap)) };
+
+    ghost invariant = { λ a. AreHeaped a.course (heap_items a.heap) };
+}
+
+impl Awaiting {
+    /// None are awaited. Takes no memory.
+    pub fn new(alloc: Global, course: Course) -> Awaiting
+        ensures { result ≡ ahead_on course [] }
+    {
+        Awaiting {
+            course,
+            heap: BinaryHeap::new(alloc),
+        }
+    }
+
+    /// Where the sweep goes.
+    pub fn course(&self) -> Course
+        ensures { self.now ≡ ahead_on result self.now.stretches }
+    {
+        self.course
+    }
+
+    /// The event value of the first of those awaited, if there is one.
+    pub fn first_value(&self) -> Option<u32>
+        ensures { IsValueOfFirst self.now result }
+    {
+        let first = self.heap.peek()?;
+        Some(first.value)
+    }
+
+    /// Takes the first of those awaited, if there is one.
+    pub fn take_first(&mut self) -> Option<Awaited>
+        ensures { TakesNext self.old self.new result }
+    {
+        let next = self.heap.pop()?;
+        Some(next)
+    }
+
+    /// Awaits one more. Refused memory leaves those awaited as they were.
+    pub fn put(&mut self, awaited: Awaited) -> Result<(), AllocError>
+        requires { awaited.is_descending ≡ self.old.is_descending }
+        ensures ok { OnOk result (IsPermutation (seen awaited ∷ self.old.stretches)
+            self.new.stretches) }
+        ensures course { self.new ≡ record self.old { stretches = self.new.stretches } }
+        ensures err { OnErr result (self.new ≡ self.old) }
+    {
+        self.heap.push(awaited)?;
         Ok(())
     }
 }
 
-// Puts regions into the order in which a sweep comes to them.
-fn sort_events(awaited: &mut Vec<Awaited>, is_descending: bool)
-    ensures same { IsPermutation awaited.old.items awaited.new.items }
-    ensures sorted { IsSorted (event_cmp is_descending) awaited.new.items }
-{
-    awaited.sort_unstable_by(|a, b| compare_events(is_descending, a, b));
+/// The sink of a stretch that is opened: its parts are awaited, each with its event value.
+impl StretchSink for Awaiting {
+    ghost Takes = { λ boxes start taken now. HasQueued boxes start taken now };
+
+    fn push(&mut self, boxes: &[ZBox], part: &Stretch) -> Result<(), AllocError> {
+        let course = self.course();
+        self.put(Awaited::new(boxes, *part, course))?;
+        Ok(())
+    }
 }

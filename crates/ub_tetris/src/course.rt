@@ -35,8 +35,8 @@ pub fn course_of(plan: &Plan) -> Option<Course>
     }
 }
 
-// Whether the boxes are of a space that has this dimension.
-fn have_dimension(boxes: &[ZBox], dim: usize) -> bool
+/// Whether the boxes are of a space that has this dimension.
+pub fn have_dimension(boxes: &[ZBox], dim: usize) -> bool
     ensures { IsTrue result ↔ All (λ b. dim < length b.lo) boxes.now }
 {
     for zbox in boxes {

@@ -59,8 +59,8 @@ fn item_value(schema: &Schema, row: &Row, item: Item) -> i64
     }
 }
 
-// A value by which lesser ones come first: where greater ones do, its complement, which turns the whole order round.
-fn turned(is_descending: bool, value: i64) -> i64
+/// A value by which lesser ones come first: where greater ones do, its complement, which turns the whole order round.
+pub fn turned(is_descending: bool, value: i64) -> i64
     ensures { result ≡ turned is_descending value }
 {
     if is_descending { -1 - value } else { value }

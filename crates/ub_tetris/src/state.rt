@@ -1,11 +1,17 @@
-ghost use Rattle.std.specs.Prelude.{◌≡◌, ◌<◌, length, OnOk};
+ghost use Rattle.std.specs.Prelude.{◌≡◌, ◌≤◌, [], List, length, OnOk};
+ghost use Rattle.ub_planning.specs.Plan.{PlanView};
+ghost use Rattle.ub_query.specs.Lead.{swept_order};
 ghost use Rattle.ub_query.specs.Posed.{IsPosed};
+ghost use Rattle.ub_table.specs.declared.row.Row.{Row};
 ghost use Rattle.ub_tetris.specs.Calls.{GivesRow, GivesValue, HandsAll};
 ghost use Rattle.ub_tetris.specs.Effects.{of_reading};
 ghost use Rattle.ub_tetris.specs.Sweep.{HandsOver};
-ghost use Rattle.ub_tetris.specs.inner.Turns.{AsksNext, HasFetchedNext, HasHandedNext, HasReadNext, IsDue, begun_view, view_of};
+ghost use Rattle.ub_tetris.specs.inner.Events.{seen};
+ghost use Rattle.ub_tetris.specs.inner.Kept.{HoldsAlso};
+ghost use Rattle.ub_tetris.specs.inner.Turns.{AsksNext, HasComeTo, HasRead, IsDueAs, TakesDue, begun_view, view_of};
 
-use crate::course::Course;
+use crate::awaiting::Awaiting;
+use crate::course::{Course, have_dimension};
 use crate::event::{Awaited, is_past};
 use crate::held::{HeldRows, coordinate};
 use std::alloc::Global;
@@ -20,25 +26,21 @@ use ub_tree::{ReadFault, Tree};
 /// How far a sweep has come.
 #[derive(Drop)]
 pub struct State {
-    course: Course,
     held: HeldRows,
-    // The regions that it comes to, in order, and how many of them were fetched.
-    queue: Vec<Awaited>,
-    fetched: usize,
+    // The stretches that it is to come to.
+    ahead: Awaiting,
     // The region fetched last; each takes its place, so that none moves.
     page: RegionPage,
 }
 
 impl State {
-    /// A sweep that awaits these regions, and reads each of them into this page.
-    pub fn new(alloc: Global, course: Course, queue: Vec<Awaited>, page: RegionPage) -> State
-        ensures { view_of result ≡ begun_view course queue.items }
+    /// A sweep that awaits these stretches, and reads each region into this page.
+    pub fn new(alloc: Global, ahead: Awaiting, page: RegionPage) -> State
+        ensures { view_of result ≡ begun_view ahead }
     {
         State {
-            course,
             held: HeldRows::new(alloc),
-            queue,
-            fetched: 0,
+            ahead,
             page,
         }
     }
@@ -61,8 +63,8 @@ impl State {
         ensures { GivesRow plan.now (view_of self.old) (view_of self.new) tree.old tree.new
             (of_reading result) }
     {
-        while self.is_due() {
-            self.fetch(tree, plan)?;
+        while let Some(next) = self.take_due() {
+            self.come_to(tree, plan, &next)?;
         }
         Ok(self.held.take_first())
     }
@@ -80,7 +82,8 @@ impl State {
         let Some(first) = self.step(tree, plan)? else {
             return Ok(None);
         };
-        let rows = self.held.take_value(first, self.course.dim)?;
+        let Course { dim, .. } = self.ahead.course();
+        let rows = self.held.take_value(first, dim)?;
         Ok(Some(rows))
     }
 
@@ -95,71 +98,119 @@ impl State {
         ensures { HandsAll (K.HasTaken tree.old.schema plan.now.asked) plan.now (view_of self.old)
             (view_of self.new) tree.old tree.new sink.old sink.new (of_reading result) }
     {
-        while self.fetched < self.queue.len() {
-            self.hand_next(tree, plan, sink)?;
+        while let Some(next) = self.ahead.take_first() {
+            self.hand_next(tree, plan, &next, sink)?;
         }
         Ok(())
     }
 
-    // Whether the next region can hold a row that isn't after the first of those held.
-    fn is_due(&self) -> bool
-        ensures { IsDue self.now result }
+    // Takes the first of those awaited, where it can hold a row that isn't after the first of those held.
+    fn take_due(&mut self) -> Option<Awaited>
+        ensures { TakesDue (view_of self.old) (view_of self.new) result }
     {
-        match (self.queue.get(self.fetched), self.held.first()) {
-            (None, _) => false,
-            (Some(_), None) => true,
-            (Some(awaited), Some(row)) => {
-                let last = coordinate(row, self.course.dim);
-                !is_past(self.course.is_descending, last, awaited.value)
-            }
+        let value = self.ahead.first_value()?;
+        if !self.is_due(value) {
+            return None;
+        }
+        self.ahead.take_first()
+    }
+
+    // Whether a stretch of this event value can hold a row that isn't after the first of those held.
+    fn is_due(&self, value: u32) -> bool
+        ensures { IsDueAs (view_of self.now) value result }
+    {
+        let Course { dim, is_descending } = self.ahead.course();
+        match self.held.first() {
+            Some(row) => !is_past(is_descending, coordinate(row, dim), value),
+            None => true,
         }
     }
 
-    // Fetches the next region, and holds its rows that are chosen.
-    fn fetch<S: PageStore>(&mut self, tree: &mut Tree<S>, plan: &Plan) -> Result<(), ReadFault>
-        requires posed { IsPosed (length tree.old.schema.columns) plan.now.asked }
-        requires some { self.old.fetched < length self.old.queue.items }
-        ensures next { AsksNext tree.old tree.new self.old self.new result }
-        ensures rows { OnOk result (HasFetchedNext plan.now tree.old tree.new self.old self.new) }
+    // Opens a stretch, or fetches a region and holds its rows that are chosen.
+    fn come_to<S: PageStore>(
+        &mut self,
+        tree: &mut Tree<S>,
+        plan: &Plan,
+        next: &Awaited,
+    ) -> Result<(), ReadFault>
+        requires { IsPosed (length tree.old.schema.columns) plan.now.asked }
+        ensures next { AsksNext plan.now tree.old tree.new (view_of self.old) (view_of self.new)
+            (seen next.now) result }
+        ensures rows { OnOk result ((rows : List Row)
+            × HasComeTo plan.now tree.old tree.new (view_of self.old) (view_of self.new)
+            (seen next.now) rows
+            × HoldsAlso tree.old.schema (swept_order plan.now.asked.group plan.now.asked.order)
+            rows self.old.held self.new.held) }
     {
-        self.read_next(tree)?;
+        if next.stretch.level > 0 {
+            return self.open(tree, plan, next);
+        }
+        self.read(tree, next)?;
         // Each call is given its plan, so the choice is made for that one.
         let choice = Choice::of(plan, tree.schema());
         push_chosen(&mut self.held, tree.schema(), plan, choice, &self.page)?;
         Ok(())
     }
 
-    // Fetches the next region, and hands a sink its rows that are chosen.
+    // Opens a stretch, or fetches a region and hands a sink its rows that are chosen.
     fn hand_next<S: PageStore, K: RowSink>(
         &mut self,
         tree: &mut Tree<S>,
         plan: &Plan,
+        next: &Awaited,
         sink: &mut K,
     ) -> Result<(), ReadFault>
-        requires posed { IsPosed (length tree.old.schema.columns) plan.now.asked }
-        requires some { self.old.fetched < length self.old.queue.items }
-        ensures next { AsksNext tree.old tree.new self.old self.new result }
+        requires { IsPosed (length tree.old.schema.columns) plan.now.asked }
+        ensures next { AsksNext plan.now tree.old tree.new (view_of self.old) (view_of self.new)
+            (seen next.now) result }
         ensures held { self.new.held ≡ self.old.held }
         ensures rows { OnOk result (HandsOver (K.HasTaken tree.old.schema plan.now.asked)
-            sink.old sink.new (HasHandedNext plan.now tree.old tree.new self.old)) }
+            sink.old sink.new (HasComeTo plan.now tree.old tree.new (view_of self.old)
+            (view_of self.new) (seen next.now))) }
     {
-        self.read_next(tree)?;
+        if next.stretch.level > 0 {
+            return self.open(tree, plan, next);
+        }
+        self.read(tree, next)?;
         let choice = Choice::of(plan, tree.schema());
         push_chosen(sink, tree.schema(), plan, choice, &self.page)?;
         Ok(())
     }
 
-    // Reads the next region.
-    fn read_next<S: PageStore>(&mut self, tree: &mut Tree<S>) -> Result<(), ReadFault>
-        requires { self.old.fetched < length self.old.queue.items }
-        ensures next { AsksNext tree.old tree.new self.old self.new result }
+    // Awaits the parts of a stretch that meet the plan's boxes. None do of a plan whose boxes lack the sweep's dimension, which
+    // isn't the one by which the sweep was begun.
+    fn open<S: PageStore>(
+        &mut self,
+        tree: &mut Tree<S>,
+        plan: &Plan,
+        next: &Awaited,
+    ) -> Result<(), ReadFault>
+        requires { 1 ≤ next.now.stretch.level }
+        ensures next { AsksNext plan.now tree.old tree.new (view_of self.old) (view_of self.new)
+            (seen next.now) result }
         ensures held { self.new.held ≡ self.old.held }
-        ensures dims { OnOk result (self.new.page.dims ≡ tree.old.schema.dims) }
-        ensures read { OnOk result (HasReadNext tree.old tree.new self.old self.new.page.region) }
+        ensures opened { OnOk result (HasComeTo plan.now tree.old tree.new (view_of self.old)
+            (view_of self.new) (seen next.now) []) }
     {
-        let region = self.queue[self.fetched].region;
-        self.fetched += 1;
-        tree.read_region(&region, &mut self.page)?;
+        let Course { dim, .. } = self.ahead.course();
+        if !have_dimension(plan.boxes(), dim) {
+            return Ok(());
+        }
+        tree.open_stretch(&next.stretch, plan.boxes(), &mut self.ahead)?;
+        Ok(())
+    }
+
+    // Reads a region.
+    fn read<S: PageStore>(&mut self, tree: &mut Tree<S>, next: &Awaited) -> Result<(), ReadFault>
+        requires { next.now.stretch.level ≡ 0 }
+        ensures next { (plan : PlanView) → AsksNext plan tree.old tree.new (view_of self.old)
+            (view_of self.new) (seen next.now) result }
+        ensures same { view_of self.new ≡ view_of self.old }
+        ensures dims { OnOk result (self.new.page.dims ≡ tree.old.schema.dims) }
+        ensures read { OnOk result (HasRead tree.old tree.new (seen next.now)
+            self.new.page.region) }
+    {
+        tree.read_region(&next.stretch.span, &mut self.page)?;
         Ok(())
     }
 }

@@ -1,16 +1,20 @@
-use crate::awaiting::await_regions;
+ghost use Rattle.std.specs.Prelude.{◌<◌, All, IfOk, length};
+ghost use Rattle.ub_tetris.specs.inner.Events.{AwaitsWhole};
+
+use crate::awaiting::Awaiting;
 use crate::course::{Course, NOWHERE, course_of};
-use crate::event::Awaited;
+use crate::event::{Awaited, first_value};
 use crate::fault::{SweepFault, settled};
 use crate::state::State;
-use std::alloc::Global;
+use std::alloc::{AllocError, Global};
 use std::marker::Model;
+use ub_bigmin::ZBox;
 use ub_page::RegionPage;
 use ub_planning::Plan;
 use ub_query::RowSink;
 use ub_store::PageStore;
 use ub_table::Row;
-use ub_tree::{Tree, TreeFault};
+use ub_tree::{Stretch, Tree, TreeFault};
 
 /// A sweep over the regions of a tree, by a plan.
 ///
@@ -38,10 +42,11 @@ impl Sweep {
     ghost use Rattle.ub_tetris.specs.Effects.{FailsOnce};
     ghost use Rattle.ub_tetris.specs.inner.Turns.{begun_view};
 
-    /// Begins a sweep by a plan. The trace begins anew; no region is fetched. Of a plan that is no sweep it comes to no region;
-    /// of a query's plan over the tree's schema that is one, to all regions that the tree tells of for its boxes, over any tree.
+    /// Begins a sweep by a plan. The trace begins anew, and no page is read, neither of a region nor of the index. Of a plan that
+    /// is no sweep it comes to no region; of a query's plan over the tree's schema that is one it awaits the whole tree, over any
+    /// tree, or nothing, where no address of the space lies in a box.
     ///
-    /// `Memory` where memory was refused; `Tree` where the tree refused, as it does where it has failed, whatever the plan.
+    /// `Memory` where memory was refused; `Tree` with Failed where the tree has failed, whatever the plan.
     pub fn new<S: PageStore>(
         alloc: Global,
         tree: &mut Tree<S>,
@@ -54,19 +59,19 @@ impl Sweep {
             return Err(SweepFault::Tree(TreeFault::Failed));
         }
         let Some(course) = course_of(plan) else {
-            let page = tree.empty_region();
-            return Ok(Sweep::over(alloc, NOWHERE, Vec::new(alloc), page));
+            let ahead = Awaiting::new(alloc, NOWHERE);
+            return Ok(Sweep::over(alloc, ahead, tree.empty_region()));
         };
-        let queue = await_regions(alloc, tree, plan.boxes(), course)?;
-        Ok(Sweep::over(alloc, course, queue, tree.empty_region()))
+        let ahead = await_whole(alloc, tree.whole(), plan.boxes(), course)?;
+        Ok(Sweep::over(alloc, ahead, tree.empty_region()))
     }
 
-    // A sweep that comes to these regions, and reads each of them into this page.
-    fn over(alloc: Global, course: Course, queue: Vec<Awaited>, page: RegionPage) -> Sweep
-        ensures { result ≡ begun_view course queue.items }
+    // A sweep that awaits these stretches, and reads each region into this page.
+    fn over(alloc: Global, ahead: Awaiting, page: RegionPage) -> Sweep
+        ensures { result ≡ begun_view ahead }
     {
         Sweep {
-            state: State::new(alloc, course, queue, page),
+            state: State::new(alloc, ahead, page),
             is_failed: false,
         }
     }
@@ -147,4 +152,26 @@ impl Sweep {
     {
         self.state.held()
     }
+}
+
+// Awaits the whole of a tree with its event value; nothing where it doesn't meet the boxes.
+fn await_whole(
+    alloc: Global,
+    whole: Stretch,
+    boxes: &[ZBox],
+    course: Course,
+) -> Result<Awaiting, AllocError>
+    requires { All (λ b. course.dim < length b.lo) boxes.now }
+    ensures { IfOk result (AwaitsWhole boxes.now course whole) }
+{
+    let mut ahead = Awaiting::new(alloc, course);
+    let Some(value) = first_value(boxes, &whole.span, course) else {
+        return Ok(ahead);
+    };
+    ahead.put(Awaited {
+        value,
+        is_descending: course.is_descending,
+        stretch: whole,
+    })?;
+    Ok(ahead)
 }

@@ -1,90 +1,118 @@
--- What the turns of a sweep do to its state: the next region is fetched, or the first row is taken.
-use Rattle.std.specs.Prelude.{◌≡◌, ◌≤◌, ◌+◌, ◌⊎◌, Bool, false, true, not, List, [], Option, Some, None, Result, map, drop, slice_get, slice_index}
+-- What the turns of a sweep do to it: the first of those awaited is opened or fetched, or the first row is taken.
+use Rattle.std.specs.Prelude.{◌≡◌, ◌≤◌, ◌<◌, ◌++◌, ◌∷◌, ◌⊎◌, ℕ, Bool, true, false, not, List, [], Option, Some, None, Result, slice_index}
 use Rattle.std.specs.List.{filter, Contains}
+use Rattle.std.specs.List.Sorted.{IsPermutation}
 use Rattle.ub_filter.specs.Choice.{is_chosen}
+use Rattle.ub_filter.specs.declared.choice.Choice.{Choice}
 use Rattle.ub_planning.specs.Plan.{PlanView}
 use Rattle.ub_planning.specs.Visits.{is_past}
-use Rattle.ub_filter.specs.declared.choice.Choice.{Choice}
-use Rattle.ub_query.specs.Lead.{swept_order}
 use Rattle.ub_table.specs.Region.{RegionRows}
 use Rattle.ub_table.specs.declared.row.Row.{Row}
+use Rattle.ub_tetris.specs.Awaited.{AreValued, AwaitedStretch, HaveDimension, most_regions, stretches_of}
 use Rattle.ub_tetris.specs.Effects.{Sweeps, of_reading}
-use Rattle.ub_tetris.specs.Sweep.{AwaitedRegion, SweepView, rows_left}
-use Rattle.ub_tetris.specs.declared.course.Course.{Course}
+use Rattle.ub_tetris.specs.Sweep.{SweepView}
 use Rattle.ub_tetris.specs.declared.event.Awaited.{Awaited}
 use Rattle.ub_tetris.specs.declared.state.State.{State}
-use Rattle.ub_tetris.specs.inner.Kept.{HoldsAlso, IsFirstOf}
+use Rattle.ub_tetris.specs.inner.Events.{Ahead, IsFirstAwaited, seen}
+use Rattle.ub_tetris.specs.inner.Kept.{IsFirstOf}
 use Rattle.ub_tree.specs.Calls.{StandsAt}
 use Rattle.ub_tree.specs.Effects.{HasNoted, IsTakenIn}
+use Rattle.ub_tree.specs.Stretches.{ArePartsOf}
 use Rattle.ub_tree.specs.View.{TreeView, IsSound, KeepsTrace, spans_of}
 use Rattle.ub_tree.specs.declared.read_fault.ReadFault.{ReadFault}
 
 -- what contracts see of a sweep in this state
-abbrev pub awaited_of : List Awaited → List AwaitedRegion
-awaited_of queue = map (λ a. record { value = a.value; region = a.region }) queue
-
 abbrev pub view_by : State → Bool → SweepView
 view_by s is_failed = record {
-  dim = s.course.dim;
-  is_descending = s.course.is_descending;
+  dim = s.ahead.dim;
+  is_descending = s.ahead.is_descending;
   held = s.held;
-  awaited = awaited_of (drop s.fetched s.queue.items);
+  awaited = s.ahead.stretches;
   is_failed = is_failed;
 }
 
 abbrev pub view_of : State → SweepView
 view_of s = view_by s false
 
--- that of a sweep which has come to none of these regions yet
-abbrev pub begun_view : Course → List Awaited → SweepView
-begun_view course queue = record { dim = course.dim; is_descending = course.is_descending; held = []; awaited = awaited_of queue; is_failed = false }
+-- that of a sweep which holds nothing yet
+abbrev pub begun_view : Ahead → SweepView
+begun_view ahead = record { dim = ahead.dim; is_descending = ahead.is_descending; held = []; awaited = ahead.stretches; is_failed = false }
 
--- a region is due while none is held, and while its event value isn't past the first of those held
-abbrev pub is_due_by : Course → Option Awaited → Option Row → Bool
-is_due_by course None first = false
-is_due_by course (Some awaited) None = true
-is_due_by course (Some awaited) (Some row) = not (is_past course.is_descending (slice_index row.dims course.dim) awaited.value)
+-- ---- which is next
 
-abbrev pub IsDue : State → Bool → Type 0
-IsDue s due = (first : Option Row) × IsFirstOf s.held first × (due ≡ is_due_by s.course (slice_get s.queue.items s.fetched) first)
+-- a stretch of this event value is due while no row is held, and while it isn't past the first of those held
+abbrev pub is_due_by : SweepView → ℕ → Option Row → Bool
+is_due_by s value None = true
+is_due_by s value (Some row) = not (is_past s.is_descending (slice_index row.dims s.dim) value)
 
--- one region more is behind
-abbrev pub IsOnward : State → State → Type 0
-IsOnward old new = (new.course ≡ old.course) × (new.queue ≡ old.queue) × (new.fetched ≡ old.fetched + 1)
+abbrev pub IsDueAs : SweepView → ℕ → Bool → Type 0
+IsDueAs s value due = (first : Option Row) × IsFirstOf s.held first × (due ≡ is_due_by s value first)
 
--- the region at the sweep's place was asked for: its page was noted, or the tree refused before
-pub record HasAskedNext (t new : TreeView) (s : State) : Type 0 where
-  pub next : Awaited
-  pub at : slice_get s.queue.items s.fetched ≡ Some next
-  pub noted : KeepsTrace t new ⊎ HasNoted next.region.page t new
+abbrev pub IsDue : SweepView → ℕ → Type 0
+IsDue s value = IsDueAs s value true
 
--- it is behind then, whatever was answered, and the tree was read and no more
-pub record AsksNext {A : Type 0} (t new : TreeView) (s new_s : State) (result : Result A ReadFault) : Type 0 where
-  pub onward : IsOnward s new_s
-  pub asked : HasAskedNext t new s
-  pub effect : Sweeps (view_of s) (view_of new_s) t new (of_reading result)
+-- none is awaited, or the first of those awaited is past the first of those held
+abbrev pub IsNoneDue : SweepView → Type 0
+IsNoneDue s =
+    (s.awaited ≡ [])
+    ⊎ ((next : AwaitedStretch) × Contains s.awaited next × IsFirstAwaited s.is_descending next s.awaited
+    × (row : Row) × IsFirstOf s.held (Some row) × (is_past s.is_descending (slice_index row.dims s.dim) next.value ≡ true))
 
--- the region at the sweep's place was read: this is it
-pub record HasReadNext (t new : TreeView) (s : State) (region : RegionRows) : Type 0 where
-  pub next : Awaited
-  pub at : slice_get s.queue.items s.fetched ≡ Some next
+-- this one was taken out of those awaited, the first of them
+pub record HasTakenNext (s new_s : SweepView) (next : AwaitedStretch) : Type 0 where
+  pub same : new_s ≡ record s { awaited = new_s.awaited }
+  pub parts : IsPermutation s.awaited (next ∷ new_s.awaited)
+  pub first : IsFirstAwaited s.is_descending next new_s.awaited
+
+-- it was where it is due; else nothing was
+abbrev pub TakesDue : SweepView → SweepView → Option Awaited → Type 0
+TakesDue s new_s None = (new_s ≡ s) × IsNoneDue s
+TakesDue s new_s (Some next) = HasTakenNext s new_s (seen next) × IsDue s next.value
+
+-- ---- what comes of it
+
+-- a sweep that awaits this one too
+abbrev pub with_next : SweepView → AwaitedStretch → SweepView
+with_next s next = record s { awaited = next ∷ s.awaited }
+
+-- the page of a region was noted, or the tree refused before; of a stretch that was to be opened none was
+abbrev pub IsAskedFor : TreeView → TreeView → AwaitedStretch → Type 0
+IsAskedFor t new next = KeepsTrace t new ⊎ ((next.stretch.level ≡ 0) × HasNoted next.stretch.span.page t new)
+
+-- it was asked for, the first of those awaited, and the tree was read and no more
+pub record AsksNext {A : Type 0} (plan : PlanView) (t new : TreeView) (s new_s : SweepView) (next : AwaitedStretch) (result : Result A ReadFault) : Type 0 where
+  pub asked : IsAskedFor t new next
+  pub effect : IsFirstAwaited s.is_descending next s.awaited → Sweeps plan (with_next s next) new_s t new (of_reading result)
+
+-- the region was read: this is it
+pub record HasRead (t new : TreeView) (next : AwaitedStretch) (region : RegionRows) : Type 0 where
+  pub lowest : next.stretch.level ≡ 0
   pub same : new ≡ record t { trace = new.trace }
-  pub noted : HasNoted next.region.page t new
-  pub first : region.first ≡ next.region.first
-  pub taken : IsTakenIn t next.region region
-  pub stands : IsSound t → Contains (spans_of t) next.region → StandsAt t.placed next.region.page region
+  pub noted : HasNoted next.stretch.span.page t new
+  pub first : region.first ≡ next.stretch.span.first
+  pub taken : IsTakenIn t next.stretch.span region
+  pub stands : IsSound t → Contains (spans_of t) next.stretch.span → StandsAt t.placed next.stretch.span.page region
 
 -- these are its rows that are chosen
-pub record HasHandedNext (plan : PlanView) (t new : TreeView) (s : State) (rows : List Row) : Type 0 where
+pub record HasFetched (plan : PlanView) (t new : TreeView) (next : AwaitedStretch) (rows : List Row) : Type 0 where
   pub region : RegionRows
-  pub read : HasReadNext t new s region
+  pub read : HasRead t new next region
   pub choice : Choice
   pub rows_are : rows ≡ filter (is_chosen choice t.schema plan) region.rows
 
--- the region at the sweep's place was fetched, and its rows that are chosen are held too; there are no more rows to give than before
-pub record HasFetchedNext (plan : PlanView) (t new : TreeView) (s new_s : State) : Type 0 where
-  pub region : RegionRows
-  pub read : HasReadNext t new s region
-  pub choice : Choice
-  pub rows : HoldsAlso t.schema (swept_order plan.asked.group plan.asked.order) (filter (is_chosen choice t.schema plan) region.rows) s.held new_s.held
-  pub few : rows_left (view_of new_s) ≤ rows_left (view_of s)
+-- these stretches came in its place, each with its event value: its parts that meet the plan's boxes; or none, where these lack the dimension
+pub record HasOpened (plan : PlanView) (t new : TreeView) (s new_s : SweepView) (next : AwaitedStretch) : Type 0 where
+  pub upper : 1 ≤ next.stretch.level
+  pub same : new ≡ t
+  pub held : new_s.held ≡ s.held
+  pub queued : List AwaitedStretch
+  pub now_are : IsPermutation (s.awaited ++ queued) new_s.awaited
+  pub valued : AreValued plan.covering.boxes s.dim s.is_descending queued
+  pub parts : ArePartsOf t plan.covering.boxes next.stretch (stretches_of queued)
+      ⊎ ((queued ≡ []) × ¬ (HaveDimension s.dim plan.covering.boxes))
+
+-- it was come to, and these rows came
+pub record HasComeTo (plan : PlanView) (t new : TreeView) (s new_s : SweepView) (next : AwaitedStretch) (rows : List Row) : Type 0 where
+  pub view_is : new_s ≡ record s { held = new_s.held; awaited = new_s.awaited }
+  pub how : (HasOpened plan t new s new_s next × (rows ≡ [])) ⊎ ((new_s.awaited ≡ s.awaited) × HasFetched plan t new next rows)
+  pub fewer : most_regions new_s.awaited < most_regions (next ∷ s.awaited)

@@ -57,8 +57,8 @@ returns-in_err-hand_over g c =
     let sweep = c.in_ok-sweep.sweep in
     let began = c.in_ok-sweep.ensures in
     let begins = begun_ok sweep start mid began.effect in
-    let works : IsAtWork mid sweep = (began.started.working, began.started.regions) in
-    let stop = broke _ _ _ sweep c.hand_over.new.self mid new refl works c.in_err-hand_over.ensures.hands.effect in
+    let works : IsAtWork mid sweep = (began.started.working, began.started.stretches) in
+    let stop = broke _ plan _ _ sweep c.hand_over.new.self mid new refl works c.in_err-hand_over.ensures.hands.effect in
     let kept = Keeps-by start mid (begun_traced start mid begins) in
     let is = c.from_residual-in_err-hand_over.ensures.1 in
     record {
@@ -71,7 +71,9 @@ returns-in_err-hand_over g c =
           (c.in_err-hand_over.ensures.hands.broken [] has.rest [] has.unread has.sweeping));
       shaped = no_answer c.from_residual-in_err-hand_over.result _ _ is;
       swept = swept_err (λ (rows : List (List Cell)). length rows) c.from_residual-in_err-hand_over.result _ plan (begun start) new is
-          (λ dim is_descending of. inr (swept_broken plan (begun start) mid sweep (HasComeOn-none plan start mid sweep begins began.met) dim is_descending of new stop.breaks));
+          (λ dim is_descending of.
+          inr (swept_broken plan (begun start) mid sweep (traced_begun start mid (begun_traced start mid begins)) (HasComeOn-none plan start mid sweep begins began.met) new stop.breaks
+          dim is_descending of));
       notes = notes_err c.from_residual-in_err-hand_over.result _ (Err _) (begun start) new is (notes_as (Err _) (begun start) mid new begins stop.notes);
       effect = reads_by c.from_residual-in_err-hand_over.result _ start mid new is (begun_traced start mid begins) stop.effect;
     }
@@ -86,7 +88,7 @@ returns-in_err-finish g c =
     let sweep = c.in_ok-sweep.sweep in
     let began = c.in_ok-sweep.ensures in
     let begins = begun_ok sweep start mid began.effect in
-    let works : IsAtWork mid sweep = (began.started.working, began.started.regions) in
+    let works : IsAtWork mid sweep = (began.started.working, began.started.stretches) in
     let all = came_to_all _ plan sweep c.hand_over.new.self mid new c.new-gathering.result c.hand_over.new.sink works c.in_ok-hand_over.ensures.hands in
     let kept = Keeps-by start mid (begun_traced start mid begins) in
     let kept_then = Keeps-more _ _ _ kept (Keeps-by mid new all.effect.same) in
@@ -119,7 +121,7 @@ returns g c =
     let sweep = c.in_ok-sweep.sweep in
     let began = c.in_ok-sweep.ensures in
     let begins = begun_ok sweep start mid began.effect in
-    let works : IsAtWork mid sweep = (began.started.working, began.started.regions) in
+    let works : IsAtWork mid sweep = (began.started.working, began.started.stretches) in
     let all = came_to_all _ plan sweep c.hand_over.new.self mid new c.new-gathering.result c.hand_over.new.sink works c.in_ok-hand_over.ensures.hands in
     let kept = Keeps-by start mid (begun_traced start mid begins) in
     let kept_on = Keeps-by mid new all.effect.same in

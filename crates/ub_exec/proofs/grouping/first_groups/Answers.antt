@@ -26,7 +26,7 @@ loop-query-init g c =
     let is = begun_ok sweep start mid c.in_ok-sweep.ensures.effect in
     record {
       kept = Keeps-by start mid (begun_traced start mid is);
-      works = (c.in_ok-sweep.ensures.started.working, c.in_ok-sweep.ensures.started.regions);
+      works = (c.in_ok-sweep.ensures.started.working, c.in_ok-sweep.ensures.started.stretches);
       notes = notes_none (Ok tt) (begun start) mid (unchanged_trace (begun start) mid is);
       fetches = begun_fetches start mid is;
       shaped = shaped_none c.args.plan.now.asked c.none-groups.result c.none-groups.ensures;
@@ -153,7 +153,7 @@ returns-in_err-rows g c =
     let t = c.loop-query.tree in
     let new = c.next_value.new.tree in
     let is = c.from_residual-in_err-rows.ensures.1 in
-    let stop = broke _ _ _ c.loop-query.sweep c.next_value.new.self t new refl inv.works c.in_err-rows.ensures.gives.effect in
+    let stop = broke _ plan _ _ c.loop-query.sweep c.next_value.new.self t new refl inv.works c.in_err-rows.ensures.gives.effect in
     let left = left_is (asked c.query-query.result.now) plan.asked c.len.result c.loop-query.groups c.query-query.ensures c.len.ensures (c.is_filled.ensures.left c.loop-query-test.true) in
     record {
       done = λ ready of. answers_err c.from_residual-in_err-rows.result _ plan start (begun start) new (λ cells. cells) is
@@ -161,7 +161,8 @@ returns-in_err-rows g c =
           new c.next_value.new.self (noted_more (Err _) start t new inv.fetches stop.notes) (ap (λ (t : TreeView). t.placed) stop.effect.same) c.in_err-rows.ensures.gives.broken);
       shaped = no_answer c.from_residual-in_err-rows.result _ _ is;
       swept = swept_err (λ (rows : List (List Cell)). length rows) c.from_residual-in_err-rows.result _ plan (begun start) new is
-          (λ dim is_descending of. inr (swept_broken plan (begun start) t c.loop-query.sweep inv.come_on dim is_descending of new stop.breaks));
+          (λ dim is_descending of.
+          inr (swept_broken plan (begun start) t c.loop-query.sweep (traced_begun start t inv.kept.traced) inv.come_on new stop.breaks dim is_descending of));
       notes = notes_err c.from_residual-in_err-rows.result _ (Err _) (begun start) new is
           (notes_then {A = Unit {0}} tt (Err _) (begun start) t new (traced_begun start t inv.kept.traced) inv.notes stop.notes);
       effect = reads_by c.from_residual-in_err-rows.result _ start t new is inv.kept.traced stop.effect;

@@ -94,21 +94,21 @@ returns-in-Ok-None-clause-effect g c =
 
 pub returns-in-Err-clause-broken : goal.returns-in-Err-clause-broken
 returns-in-Err-clause-broken g c =
-    let stop = broke _ c.in-Err.fault c.from.result c.loop-query.sweep c.next.new.self c.loop-query.tree c.next.new.tree c.from.ensures c.loop-query.invariant.filled.works c.in-Err.ensures.gives.effect in
+    let stop = broke _ c.args.plan.now c.in-Err.fault c.from.result c.loop-query.sweep c.next.new.self c.loop-query.tree c.next.new.tree c.from.ensures c.loop-query.invariant.filled.works c.in-Err.ensures.gives.effect in
     broken_asking c.args.plan.now c.args.tree.now c.loop-query.tree c.args.sweep.now c.loop-query.sweep c.loop-query.rows c.requires.begun.fresh c.loop-query.invariant.filled
     (left_is (asked c.query-query.result.now) c.args.plan.now.asked c.len.result c.loop-query.rows c.query-query.ensures c.len.ensures (c.is_filled.ensures.left c.loop-query-test.true))
     c.next.new.tree c.next.new.self c.from.result stop.notes stop.effect c.in-Err.ensures.gives.broken
 
 pub returns-in-Err-clause-notes : goal.returns-in-Err-clause-notes
 returns-in-Err-clause-notes g c =
-    let stop = broke _ c.in-Err.fault c.from.result c.loop-query.sweep c.next.new.self c.loop-query.tree c.next.new.tree c.from.ensures c.loop-query.invariant.filled.works c.in-Err.ensures.gives.effect in
+    let stop = broke _ c.args.plan.now c.in-Err.fault c.from.result c.loop-query.sweep c.next.new.self c.loop-query.tree c.next.new.tree c.from.ensures c.loop-query.invariant.filled.works c.in-Err.ensures.gives.effect in
     notes_broken c.args.plan.now c.args.tree.now c.loop-query.tree c.args.sweep.now c.loop-query.sweep c.loop-query.rows c.requires.begun.fresh c.loop-query.invariant.filled
     (left_is (asked c.query-query.result.now) c.args.plan.now.asked c.len.result c.loop-query.rows c.query-query.ensures c.len.ensures (c.is_filled.ensures.left c.loop-query-test.true))
     c.next.new.tree c.next.new.self c.from.result stop.notes
 
 pub returns-in-Err-clause-effect : goal.returns-in-Err-clause-effect
 returns-in-Err-clause-effect g c =
-    let stop = broke _ c.in-Err.fault c.from.result c.loop-query.sweep c.next.new.self c.loop-query.tree c.next.new.tree c.from.ensures c.loop-query.invariant.filled.works c.in-Err.ensures.gives.effect in
+    let stop = broke _ c.args.plan.now c.in-Err.fault c.from.result c.loop-query.sweep c.next.new.self c.loop-query.tree c.next.new.tree c.from.ensures c.loop-query.invariant.filled.works c.in-Err.ensures.gives.effect in
     reads_by (Err c.from.result) c.from.result c.args.tree.now c.loop-query.tree c.next.new.tree refl c.loop-query.invariant.filled.kept.traced stop.effect
 
 pub returns-clause-fills : goal.returns-clause-fills
@@ -164,7 +164,7 @@ returns-in-Ok-None-clause-swept g c =
 
 pub returns-in-Err-clause-swept : goal.returns-in-Err-clause-swept
 returns-in-Err-clause-swept g c =
-    let stop = broke _ c.in-Err.fault c.from.result c.loop-query.sweep c.next.new.self c.loop-query.tree c.next.new.tree c.from.ensures c.loop-query.invariant.filled.works c.in-Err.ensures.gives.effect in
+    let stop = broke _ c.args.plan.now c.in-Err.fault c.from.result c.loop-query.sweep c.next.new.self c.loop-query.tree c.next.new.tree c.from.ensures c.loop-query.invariant.filled.works c.in-Err.ensures.gives.effect in
     swept_asking c.args.plan.now c.args.tree.now c.loop-query.tree c.args.sweep.now c.loop-query.sweep c.loop-query.rows c.requires.begun.fresh c.loop-query.invariant.filled
     (left_is (asked c.query-query.result.now) c.args.plan.now.asked c.len.result c.loop-query.rows c.query-query.ensures c.len.ensures (c.is_filled.ensures.left c.loop-query-test.true))
     c.next.new.tree c.next.new.self c.from.result stop.breaks

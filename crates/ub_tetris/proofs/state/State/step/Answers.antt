@@ -1,60 +1,58 @@
-use Rattle.std.proofs.Common.{Bool, Err, ap, refl, subst}
-use Rattle.ub_tetris.proofs.EffectFacts.{sweeps_then, swept_as, swept_with}
-use Rattle.ub_tetris.proofs.FetchFacts.{due_within}
-use Rattle.ub_tetris.proofs.StepsFacts.{Fetches-more, Fetches-none, end_unbroken, fewer, step_answers, step_broken, step_ends, step_rests, same_schema}
+use Rattle.std.proofs.Common.{ap, subst}
+use Rattle.ub_tetris.proofs.EffectFacts.{swept_as, swept_with}
+use Rattle.ub_tetris.proofs.FetchFacts.{fewer_left}
+use Rattle.ub_tetris.proofs.StepsFacts.{Fetches-more, Fetches-none, awaits_still, end_unbroken, first_then, placed_asked, step_answers, step_broken, step_effect, step_ends, step_rests}
+use Rattle.ub_tetris.proofs.TurnFacts.{as_err}
 use Rattle.ub_tetris.specs.Calls.{GivesRow}
-use Rattle.ub_tetris.specs.inner.Turns.{IsDue, view_of}
-use Rattle.ub_tree.specs.View.{TreeView}
-use Rattle.ub_tetris.proofs.TurnFacts.{as_err, posed_still}
+use Rattle.ub_tetris.specs.Sweep.{SweepView}
+use Rattle.ub_tetris.specs.inner.Events.{seen}
+use Rattle.ub_tetris.specs.inner.Kept.{TakesFirst}
+use Rattle.ub_tetris.specs.inner.Turns.{view_of}
 use Rattle.ub_tetris.proofs.state.State.step.Goals as goal
 
-pub loop-self-init : goal.loop-self-init
-loop-self-init g c = Fetches-none c.args.plan.now c.args.tree.now c.args.self.now
+pub loop-next-init : goal.loop-next-init
+loop-next-init g c = Fetches-none c.args.plan.now c.args.tree.now c.args.self.now
 
-pub fetch-requires-clause-some : goal.fetch-requires-clause-some
-fetch-requires-clause-some g c = due_within c.loop-self.self (subst (λ (due : Bool). IsDue c.loop-self.self due) c.loop-self-test.true c.is_due.ensures)
+pub loop-next-smaller : goal.loop-next-smaller
+loop-next-smaller g c =
+    let (rows, come, holds) = c.in_ok-come_to.ensures.rows in
+    fewer_left c.args.plan.now c.loop-next.tree c.come_to.new.tree (view_of c.loop-next.self) (view_of c.take_due.new.self) (view_of c.come_to.new.self) (seen c.in-Some.next) rows c.in-Some.ensures.0 come
 
-pub loop-self-smaller : goal.loop-self-smaller
-loop-self-smaller g c =
-    fewer c.loop-self.self.queue.items c.fetch.new.self.queue.items c.loop-self.self.fetched c.fetch.new.self.fetched (ap (λ (queue : _). queue.items) c.in_ok-fetch.ensures.next.onward.1)
-    c.in_ok-fetch.ensures.next.onward.2 (due_within c.loop-self.self (subst (λ (due : Bool). IsDue c.loop-self.self due) c.loop-self-test.true c.is_due.ensures))
+pub loop-next-preserved : goal.loop-next-preserved
+loop-next-preserved g c =
+    let (rows, come, holds) = c.in_ok-come_to.ensures.rows in
+    Fetches-more c.args.plan.now c.args.tree.now c.loop-next.tree c.args.self.now c.loop-next.self c.loop-next.invariant c.take_due.new.self (seen c.in-Some.next) c.in-Some.ensures.0 c.in-Some.ensures.1
+    c.come_to.new.tree c.come_to.new.self rows come holds c.in_ok-come_to.ensures.next
 
-pub loop-self-preserved : goal.loop-self-preserved
-loop-self-preserved g c =
-    Fetches-more c.args.plan.now c.args.tree.now c.loop-self.tree c.args.self.now c.loop-self.self c.loop-self.invariant c.fetch.new.tree c.fetch.new.self
-    (subst (λ (due : Bool). IsDue c.loop-self.self due) c.loop-self-test.true c.is_due.ensures) c.in_ok-fetch.ensures.next.onward
-    c.in_ok-fetch.ensures.rows c.in_ok-fetch.ensures.next.effect
-
-pub returns-in_err-fetch : goal.returns-in_err-fetch
-returns-in_err-fetch g c =
+pub returns-in_err-come_to : goal.returns-in_err-come_to
+returns-in_err-come_to g c =
     let plan = c.args.plan.now in
     let t = c.args.tree.now in
-    let due = subst (λ (due : Bool). IsDue c.loop-self.self due) c.loop-self-test.true c.is_due.ensures in
-    let asks = c.in_err-fetch.ensures.next in
-    as_err c.from_residual.result _ c.from_residual.ensures.1 (λ q. GivesRow plan (view_of c.args.self.now) (view_of c.fetch.new.self) t c.fetch.new.tree q) (record {
+    let inv = c.loop-next.invariant in
+    let asks = c.in_err-come_to.ensures.next in
+    as_err c.from_residual.result _ c.from_residual.ensures.1 (λ q. GivesRow plan (view_of c.args.self.now) (view_of c.come_to.new.self) t c.come_to.new.tree q) (record {
       next = λ given rest fetched unread of. tt;
-      broken = step_broken plan t c.loop-self.tree c.args.self.now c.loop-self.self c.loop-self.invariant c.fetch.new.tree due asks.asked (ap (λ (v : TreeView). v.placed) asks.effect.same);
-      rests = λ working none empty. end_unbroken plan t c.loop-self.tree c.args.self.now c.loop-self.self c.loop-self.invariant due none;
+      broken = step_broken plan t c.loop-next.tree c.args.self.now c.loop-next.self inv c.take_due.new.self (seen c.in-Some.next) c.in-Some.ensures.0 c.in-Some.ensures.1 c.come_to.new.tree asks.asked
+          (placed_asked c.loop-next.tree c.come_to.new.tree plan (view_of c.take_due.new.self) (view_of c.come_to.new.self) (seen c.in-Some.next) _ (first_then (view_of c.loop-next.self) (view_of c.take_due.new.self) (seen c.in-Some.next) c.in-Some.ensures.0) asks);
+      rests = λ working none empty. end_unbroken plan t c.loop-next.tree c.args.self.now c.loop-next.self inv c.take_due.new.self (seen c.in-Some.next) c.in-Some.ensures.0 c.in-Some.ensures.1 none;
       answers = tt;
-      effect = swept_as _ (view_of c.args.self.now) (view_of c.fetch.new.self) t c.fetch.new.tree
-          (sweeps_then tt (Err _) (view_of c.args.self.now) (view_of c.loop-self.self) (view_of c.fetch.new.self) t c.loop-self.tree c.fetch.new.tree refl c.loop-self.invariant.effect asks.effect);
+      effect = swept_as plan _ (view_of c.args.self.now) (view_of c.come_to.new.self) (view_of c.come_to.new.self) t c.come_to.new.tree
+          (step_effect plan t c.loop-next.tree c.args.self.now c.loop-next.self inv c.take_due.new.self (seen c.in-Some.next) c.in-Some.ensures.0 c.in-Some.ensures.1 c.come_to.new.tree c.come_to.new.self _ asks);
     })
 
 pub returns : goal.returns
 returns g c =
     let plan = c.args.plan.now in
     let t = c.args.tree.now in
-    let due = subst (λ (due : Bool). IsDue c.loop-self.self due) c.loop-self-test.false c.is_due.ensures in
-    let now = record c.loop-self.self { held = c.take_first.new.self } in
+    let inv = c.loop-next.invariant in
+    let (same, none) = c.in_default.ensures in
+    let now = record c.take_due.new.self { held = c.take_first.new.self } in
+    let kept = ap (λ (v : SweepView). record v { held = c.take_first.new.self }) same in
+    let takes = subst (λ (v : SweepView). TakesFirst v.held c.take_first.new.self c.take_first.result) same c.take_first.ensures in
     record {
-      next = step_ends plan t c.loop-self.tree c.args.self.now c.loop-self.self c.loop-self.invariant now c.take_first.result due c.take_first.ensures (refl, refl, refl);
+      next = step_ends plan t c.loop-next.tree c.args.self.now c.loop-next.self inv now c.take_first.result none takes kept;
       broken = λ given rest fetched unread of. tt;
-      rests = λ working none empty. step_rests plan t c.loop-self.tree c.args.self.now c.loop-self.self c.loop-self.invariant now c.take_first.result c.take_first.ensures (refl, refl, refl) none empty;
-      answers = step_answers plan t c.loop-self.tree c.args.self.now c.loop-self.self c.loop-self.invariant now c.take_first.result due c.take_first.ensures (refl, refl, refl);
-      effect = swept_with tt (view_of c.args.self.now) (view_of c.loop-self.self) (view_of now) t c.loop-self.tree refl c.loop-self.invariant.effect c.take_first.result;
+      rests = λ working nothing empty. step_rests plan t c.loop-next.tree c.args.self.now c.loop-next.self inv now c.take_first.result takes kept nothing empty;
+      answers = step_answers plan t c.loop-next.tree c.args.self.now c.loop-next.self inv now c.take_first.result none takes kept;
+      effect = swept_with plan tt (view_of c.args.self.now) (view_of c.loop-next.self) (view_of now) t c.loop-next.tree (awaits_still (view_of c.loop-next.self) (view_of now) kept) inv.effect c.take_first.result;
     }
-
-pub fetch-requires-clause-posed : goal.fetch-requires-clause-posed
-fetch-requires-clause-posed g c =
-    posed_still c.loop-self.tree.schema c.args.tree.now.schema c.args.plan.now.asked
-    (same_schema c.args.plan.now c.args.tree.now c.loop-self.tree c.args.self.now c.loop-self.self c.loop-self.invariant) c.requires

@@ -1,9 +1,10 @@
-use Rattle.std.proofs.Common.{◌-◌, length}
 use Rattle.ub_tetris.proofs.StepsFacts.{Fetches}
+use Rattle.ub_tetris.specs.Awaited.{most_regions}
+use Rattle.ub_tetris.specs.inner.Turns.{view_of}
 use Rattle.ub_tetris.proofs.state.State.step.Given as goal
 
-abbrev pub invariant-loop-self : goal.invariant-loop-self
-invariant-loop-self g l = Fetches l.plan l.initial.tree l.tree l.initial.self l.self
+abbrev pub invariant-loop-next : goal.invariant-loop-next
+invariant-loop-next g l = Fetches l.plan l.initial.tree l.tree l.initial.self l.self
 
-abbrev pub decreases-loop-self : goal.decreases-loop-self
-decreases-loop-self g l = length l.self.queue.items - l.self.fetched
+abbrev pub decreases-loop-next : goal.decreases-loop-next
+decreases-loop-next g l = most_regions (view_of l.self).awaited
