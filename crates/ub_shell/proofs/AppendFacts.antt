@@ -203,10 +203,6 @@ appended_lasts table source text old mid now out out_now status read lasts = λ 
 -- ---- a table file lent it
 
 module _ (table text : List ℕ) (out out_now : OutFacts) (status : Status) where
-  pub store_same : (store : StoreFacts) (files : FilesFacts) (was now : FolderClock) → Runs IsSameFolder files was now
-      → Runs (IsSameBut table (HoldsMore store text out out_now status)) files was now
-  store_same store files was now runs = runs_same table (HoldsMore store text out out_now status) files was now runs
-
   pub text_safely : (store : StoreFacts) (old mid : FilesFacts) (was then now : FolderClock) → IsLent old table store → (IsTrue old.honest → IsTrue mid.honest)
       → Runs IsSameFolder old was then → Runs (IsSameBut table (HoldsMore store text out out_now status)) mid then now
       → Runs (IsSameBut table (HoldsText table text old out out_now status)) old was now

@@ -1,36 +1,48 @@
--- What checking a table file leaves of files, step by step.
-use Rattle.std.proofs.Common.{◌≡◌, ◌⊎◌, ◌∙◌, ℕ, false, List, Result, Ok, Err, IfOk, inl, inr, ap, subst, sym}
-use Rattle.std.specs.Prelude.{IfErr, OnOk}
-use Rattle.ub_script.specs.Output.{OutFacts}
-use Rattle.ub_shell.specs.Checked.{IsChecked, IsIll, IsIllFault, IsWellStore, PassesSound}
+-- What checking a table file tells, step by step.
+use Rattle.std.proofs.Common.{◌≡◌, ◌⊎◌, ◌∙◌, ℕ, List, Result, Ok, Err, IfOk, inl, inr, ap, subst, sym}
+use Rattle.std.specs.Prelude.{IfErr, IsOkAnd, OnOk}
+use Rattle.ub_shell.specs.Checked.{IsCountOf, IsIllFault, PassesSound}
 use Rattle.ub_shell.specs.Commands.{IsTreeOf, loaded_line}
-use Rattle.ub_shell.specs.Ending.{Tells}
-use Rattle.ub_shell.specs.Status.{tree_fault_status, tree_fault_text}
 use Rattle.ub_shell.specs.declared.making.Counts.{Counts}
-use Rattle.ub_shell.specs.declared.status.Status.{Status}
-use Rattle.ub_shell.specs.declared.status.Status.TheVariants.{Done}
-use Rattle.ub_store.specs.Facts.{StoreFacts, IsHonest}
-use Rattle.ub_tree.specs.Checking.{IsCheckFault, IsWell}
-use Rattle.ub_tree.specs.Effects.{read_store}
-use Rattle.ub_tree.specs.Opened.{IsPassing}
-use Rattle.ub_tree.specs.View.{TreeView, IsSound, region_count}
+use Rattle.ub_shell.specs.inner.Checking.{ChecksTree, TellsCounts}
+use Rattle.ub_store.specs.Facts.{StoreFacts}
+use Rattle.ub_tree.specs.Opened.{IsOpenFault}
+use Rattle.ub_tree.specs.View.{TreeView}
 use Rattle.ub_tree.specs.declared.fault.TreeFault.{TreeFault}
+use Rattle.ub_tree.specs.declared.fault.TreeFault.TheVariants.{Memory}
 
 -- ---- an opened tree that was checked
 
-module _ (from : StoreFacts) (t : TreeView) (of : IsTreeOf from t) where
-  pub tree_well : (r : Result Counts TreeFault) → (IsHonest t.store → OnOk r (IsWell t)) → IfOk r (λ c. (c.rows ≡ t.rows) × (c.regions ≡ region_count t))
-      → IfOk r (λ c. IsWellStore from c.rows c.regions)
-  tree_well (Ok counts) well is = record { tree = t; tree_is = of; well = well; rows_are = is.0; regions_are = is.1 }
-  tree_well (Err fault) well is = tt
+module _ {T : Type 0} (items : T → List ℕ) (from : StoreFacts) (t : TreeView) (of : IsTreeOf from t) (counted : Result Counts TreeFault) (checks : ChecksTree t counted) where
+  pub tree_text : (r : Result T TreeFault) → TellsCounts items counted r → IfOk r (λ text. IsCountOf from (items text))
+  tree_text (Ok text) told = counts_of counted checks told
+    where
+      counts_of : (q : Result Counts TreeFault) → ChecksTree t q → TellsCounts items q (Ok text) → IsCountOf from (items text)
+      counts_of (Ok c) checks is = record {
+        tree = t;
+        tree_is = of;
+        well = checks.well;
+        text_is = is ∙ ap (λ (n : ℕ). loaded_line n c.regions) checks.counts.0 ∙ ap (λ (n : ℕ). loaded_line t.rows n) checks.counts.1;
+      }
+      counts_of (Err fault) checks is = absurd is
+  tree_text (Err fault) told = tt
 
-  pub tree_ill : (r : Result Counts TreeFault) → IfErr r (IsCheckFault t) → (IsHonest t.store → IsWell t → IfErr r IsPassing) → IfErr r (IsIllFault from)
-  tree_ill (Ok counts) is exact = tt
-  tree_ill (Err fault) is exact = inr (record { tree = t; tree_is = of; is = is; exact = exact })
+  pub tree_ill : (r : Result T TreeFault) → TellsCounts items counted r → IfErr r (λ fault. IsIllFault from fault × PassesSound from fault)
+  tree_ill (Ok text) told = tt
+  tree_ill (Err fault) (inl memory) =
+      (inl (subst (λ (f : TreeFault). IsOpenFault from f) (sym memory) tt), λ schema placed next honest pages. inl memory)
+  tree_ill (Err fault) (inr is) =
+      let stopped : ChecksTree t (Err fault) = subst (λ (q : Result Counts TreeFault). ChecksTree t q) is checks in (
+        inr (record { tree = t; tree_is = of; is = stopped.refused; exact = stopped.exact }),
+        λ schema placed next honest pages. stopped.sound (of.sound schema placed next honest pages).0,
+      )
 
-  pub tree_passes : (r : Result Counts TreeFault) → (IsSound t → IfErr r IsPassing) → IfErr r (PassesSound from)
-  tree_passes (Ok counts) sound = tt
-  tree_passes (Err fault) sound = λ schema placed next honest pages. sound (of.sound schema placed next honest pages).0
+-- what was counted is told
+pub counts_told : {T : Type 0} (items : T → List ℕ) (counted : Result Counts TreeFault) (counts : Counts) (line : List ℕ) (r : Result T TreeFault) → counted ≡ Ok counts
+    → line ≡ loaded_line counts.rows counts.regions → IfOk r (λ text. items text ≡ line) → IfErr r (λ fault. fault ≡ Memory) → TellsCounts items counted r
+counts_told items counted counts line (Ok text) is line_is told refused =
+    subst (λ (q : Result Counts TreeFault). IsOkAnd q (λ c. items text ≡ loaded_line c.rows c.regions)) (sym is) (told ∙ line_is)
+counts_told items counted counts line (Err fault) is line_is told refused = inl refused
 
 -- ---- how a check of a tree has ended
 
@@ -56,42 +68,3 @@ counted_counts r counts told rows regions (inl (a, of, is)) h k =
     subst (λ (q : Result Counts TreeFault). IfOk q (λ c. (c.rows ≡ rows) × (c.regions ≡ regions))) (sym is) (h, k)
 counted_counts r counts told rows regions (inr (fault, of, is)) h k =
     subst (λ (q : Result Counts TreeFault). IfOk q (λ c. (c.rows ≡ rows) × (c.regions ≡ regions))) (sym is) tt
-
-counted_same : {A : Type 0} (r : Result A TreeFault) (counts : Counts) (told : Result Counts TreeFault) (store : StoreFacts) → IsCounted r counts told
-    → read_store r store ≡ read_store told store
-counted_same {A} r counts told store (inl (a, of, is)) =
-    ap (λ (q : Result A TreeFault). read_store q store) of ∙ ap (λ (q : Result Counts TreeFault). read_store q store) (sym is)
-counted_same {A} r counts told store (inr (fault, of, is)) =
-    ap (λ (q : Result A TreeFault). read_store q store) of ∙ ap (λ (q : Result Counts TreeFault). read_store q store) (sym is)
-
-pub counted_left : {A : Type 0} (r : Result A TreeFault) (counts : Counts) (told : Result Counts TreeFault) (t now : TreeView) (left : StoreFacts) → IsCounted r counts told
-    → now ≡ record t { store = read_store r t.store } → left ≡ now.store → left ≡ read_store told t.store
-counted_left r counts told t now left is same kept = kept ∙ ap (λ (v : TreeView). v.store) same ∙ counted_same r counts told t.store is
-
--- the tree is as it was opened, but for its store's failed reads
-pub still_open : (t now : TreeView) (store : StoreFacts) → now ≡ record t { store = store } → t.is_changed ≡ false → t.is_failed ≡ false
-    → (now.is_changed ≡ false) × (now.is_failed ≡ false)
-still_open t now store same unchanged working =
-    (ap (λ (v : TreeView). v.is_changed) same ∙ unchanged, ap (λ (v : TreeView). v.is_failed) same ∙ working)
-
--- ---- what was told
-
-pub told_counts : (r : Result Counts TreeFault) (counts : Counts) (from : StoreFacts) (bytes : List ℕ) (out out_now : OutFacts) (status : Status) → r ≡ Ok counts
-    → IfOk r (λ c. IsWellStore from c.rows c.regions) → bytes ≡ loaded_line counts.rows counts.regions → Tells out out_now bytes Done status
-    → IsChecked from out out_now status
-told_counts r counts from bytes out out_now status is well same tells = record {
-  rows = counts.rows;
-  regions = counts.regions;
-  is = subst (λ (q : Result Counts TreeFault). IfOk q (λ c. IsWellStore from c.rows c.regions)) is well;
-  tells = subst (λ (b : List ℕ). Tells out out_now b Done status) same tells;
-}
-
-pub told_ill : (r : Result Counts TreeFault) (fault : TreeFault) (from : StoreFacts) (out out_now : OutFacts) (status : Status) → r ≡ Err fault
-    → IfErr r (IsIllFault from) → IfErr r (PassesSound from) → Tells out out_now (tree_fault_text fault) (tree_fault_status fault) status
-    → IsIll from out out_now status
-told_ill r fault from out out_now status is ill passing tells = record {
-  fault = fault;
-  is = subst (λ (q : Result Counts TreeFault). IfErr q (IsIllFault from)) is ill;
-  passing = subst (λ (q : Result Counts TreeFault). IfErr q (PassesSound from)) is passing;
-  tells = tells;
-}

@@ -75,10 +75,6 @@ pub left_safely : (path script : List ℕ) (store left : StoreFacts) (old : File
 left_safely path script store left old was now out out_now status run runs =
     runs_as path (HoldsLeft store script out out_now status) (λ held. IsOk run.ran.closing × HasPages held left.pages) old was now (λ held holds. (left, run, holds.0, holds.1)) runs
 
-pub left_same : (path script : List ℕ) (store : StoreFacts) (old : FilesFacts) (was now : FolderClock) (out out_now : OutFacts) (status : Status) → Runs IsSameFolder old was now
-    → Runs (IsSameBut path (HoldsLeft store script out out_now status)) old was now
-left_same path script store old was now out out_now status runs = runs_same path (HoldsLeft store script out out_now status) old was now runs
-
 -- a table file was opened, and a script run on its store
 pub asked_safely : (path script : List ℕ) (store : StoreFacts) (old mid : FilesFacts) (was then now : FolderClock) (out out_now : OutFacts) (status : Status) → IsLent old path store
     → (IsTrue old.honest → IsTrue mid.honest) → Runs IsSameFolder old was then → Runs (IsSameBut path (HoldsLeft store script out out_now status)) mid then now

@@ -5,12 +5,7 @@ use Rattle.std.proofs.lemmas.List.FromFn.{map-range_with_len_more}
 use Rattle.std.specs.List.{flat_map, range_with_len}
 use Rattle.std.specs.Prelude.{IfErr, IsErrAnd, OnOk}
 use Rattle.ub_page.specs.declared.header.Header.{Header}
-use Rattle.ub_script.specs.Output.{OutFacts}
-use Rattle.ub_shell.specs.Described.{Description, count_lines, levels_word, number_line, option_text, options_line, IsDescribeFault, IsUndescribed, IsDescribed, IsOldFault, IsOldText, IsTextOf, described, described_old, description_text, fact_line, of_old_format}
-use Rattle.ub_shell.specs.Ending.{Tells}
-use Rattle.ub_shell.specs.Status.{tree_fault_status, tree_fault_text}
-use Rattle.ub_shell.specs.declared.status.Status.{Status}
-use Rattle.ub_shell.specs.declared.status.Status.TheVariants.{Done}
+use Rattle.ub_shell.specs.Described.{Description, count_lines, levels_word, number_line, option_text, options_line, IsDescribeFault, IsOldFault, IsOldText, IsTextOf, PassesRooted, described, described_old, description_text, fact_line, of_old_format}
 use Rattle.ub_store.specs.Facts.{StoreFacts, IsHonest}
 use Rattle.ub_store.specs.declared.fault.StoreFault.TheVariants as store
 use Rattle.ub_table.specs.declared.schema.Schema.{Schema}
@@ -122,17 +117,6 @@ old_told (Ok text) items from left fault kept is told =
     (described_old told.0, inr (told.0, subst (λ (s : StoreFacts). HasOldHeader s told.0) same told.1, refl), told.2)
 old_told (Err refused) items from left fault kept is told = tt
 
--- it was written
-pub told_well : {T : Type 0} (r : Result T TreeFault) (items : T → List ℕ) (text : T) (from : StoreFacts) (bytes : List ℕ) (out out_now : OutFacts) (status : Status) → r ≡ Ok text
-    → IfOk r (λ t. IsTextOf from (items t)) → bytes ≡ items text → Tells out out_now bytes Done status → IsDescribed from out out_now status
-told_well r items text from bytes out out_now status is told same tells =
-    let of_text : IsTextOf from (items text) = subst (λ q. IfOk q (λ t. IsTextOf from (items t))) is told in
-    record {
-      description = of_text.0;
-      is = of_text.1;
-      tells = subst (λ (b : List ℕ). Tells out out_now b Done status) (same ∙ of_text.2) tells;
-    }
-
 -- where memory is refused the store is as it was
 pub memory_left : {T : Type 0} (r : Result T TreeFault) (from : StoreFacts) → IsErrAnd r (λ fault. fault ≡ Memory) → from ≡ read_store r from
 memory_left (Ok text) from is = absurd is
@@ -146,40 +130,25 @@ no_memory (Err fault) from is = (Old store.Memory, tt, is)
 -- ---- why a store tells nothing
 
 -- a tree was opened in it, and memory was refused
-pub tree_refused : {T : Type 0} (r : Result T TreeFault) (from : StoreFacts) → IfErr r (λ fault. fault ≡ Memory) → IfErr r (IsDescribeFault from)
+pub tree_refused : {T : Type 0} (r : Result T TreeFault) (from : StoreFacts) → IfErr r (λ fault. fault ≡ Memory)
+    → IfErr r (λ fault. IsDescribeFault from fault × PassesRooted from fault)
 tree_refused (Ok text) from is = tt
-tree_refused (Err fault) from is = inl ((λ old. let memory = is in let other = old in cc), subst (λ (f : TreeFault). IsOpenFault from f) (sym is) tt)
-
-pub tree_passing : {T : Type 0} (r : Result T TreeFault) → IfErr r (λ fault. fault ≡ Memory) → IfErr r IsPassing
-tree_passing (Ok text) is = tt
-tree_passing (Err fault) is = inl is
-
-pub tree_left : {T : Type 0} (r : Result T TreeFault) (from left : StoreFacts) (t : TreeView) → IfErr r (λ fault. fault ≡ Memory) → t.store ≡ from → left ≡ t.store → left ≡ read_store r from
-tree_left {T} (Ok text) from left t is of same = same ∙ of
-tree_left {T} (Err fault) from left t is of same = same ∙ of ∙ ap (λ (f : TreeFault). read_store {A = T} (Err f) from) (sym is)
+tree_refused (Err fault) from is = (
+  inl ((λ old. let memory = is in let other = old in cc), subst (λ (f : TreeFault). IsOpenFault from f) (sym is) tt),
+  λ header honest rooted. inl is,
+)
 
 -- its header is one of an older version, and can't be read
 pub old_refused : {T : Type 0} (r : Result T TreeFault) (from left : StoreFacts) (fault : TreeFault) → left ≡ from → fault ≡ of_old_format → IsOpenFault from fault
-    → IfErr r (IsOldFault left) → IfErr r (IsDescribeFault from)
-old_refused (Ok text) from left fault same is refused told = tt
-old_refused (Err e) from left fault same is refused told =
-    inr (subst (λ (f : TreeFault). IsOpenFault from f) is refused, subst (λ (s : StoreFacts). IsOldFault s e) same told)
-
-pub old_left : {T : Type 0} (r : Result T TreeFault) (from left now : StoreFacts) → left ≡ from → now ≡ read_store r left → now ≡ read_store r from
-old_left r from left now same kept = kept ∙ ap (λ (s : StoreFacts). read_store r s) same
+    → ((header : Header) → IsHonest from → IsRooted from.pages header → ⊥) → IfErr r (IsOldFault left)
+    → IfErr r (λ fault. IsDescribeFault from fault × PassesRooted from fault)
+old_refused (Ok text) from left fault same is refused never told = tt
+old_refused (Err e) from left fault same is refused never told = (
+  inr (subst (λ (f : TreeFault). IsOpenFault from f) is refused, subst (λ (s : StoreFacts). IsOldFault s e) same told),
+  λ header honest rooted. absurd (never header honest rooted),
+)
 
 -- a table that can be opened isn't of an older version
 pub never_old : {X : Type 0} (fault : TreeFault) → fault ≡ of_old_format → IsPassing fault → X
 never_old fault is (inl memory) = cc
 never_old fault is (inr device) = cc
-
--- and why was written
-pub told_fault : {T : Type 0} (r : Result T TreeFault) (fault : TreeFault) (from : StoreFacts) (out out_now : OutFacts) (status : Status) → r ≡ Err fault
-    → IfErr r (IsDescribeFault from) → ((header : Header) → IsHonest from → IsRooted from.pages header → IfErr r IsPassing)
-    → Tells out out_now (tree_fault_text fault) (tree_fault_status fault) status → IsUndescribed from out out_now status
-told_fault {T} r fault from out out_now status is refused passing tells = record {
-  fault = fault;
-  is = subst (λ (q : Result T TreeFault). IfErr q (IsDescribeFault from)) is refused;
-  passing = λ header honest rooted. subst (λ (q : Result T TreeFault). IfErr q IsPassing) is (passing header honest rooted);
-  tells = tells;
-}

@@ -1,7 +1,7 @@
 -- What the commands that read and write files leave of them, step by step.
 use Rattle.std.proofs.lemmas.Bool.{cases_Bool, false≢true}
 use Rattle.std.specs.Prelude.{IfErr, IfOk, IsErrAnd, IsErrOf, IsTrue}
-use Rattle.std.proofs.Common.{◌≡◌, ◌⊎◌, ◌↔◌, ◌∙◌, ◌≤◌, ℕ, zero, suc, Bool, List, [], Some, codes, Result, Ok, Err, inl, inr, ap, arith, false, true, refl, subst, sym}
+use Rattle.std.proofs.Common.{◌≡◌, ◌⊎◌, ◌↔◌, ◌∙◌, ◌≤◌, ℕ, zero, suc, Bool, List, [], Some, Result, Ok, Err, inl, inr, ap, arith, false, true, refl, subst, sym}
 use Rattle.ub_script.specs.Faults.{counted}
 use Rattle.ub_script.specs.Output.{OutFacts, out_facts}
 use Rattle.ub_script.specs.Script.{HasChangeWord, OnlyAsks}
@@ -21,36 +21,17 @@ use Rattle.ub_tree.specs.declared.fault.TreeFault.{TreeFault}
 use Rattle.ub_tree.specs.declared.fault.TreeFault.TheVariants as tree
 use Rattle.ub_table.specs.declared.axes.Axes.{Axes}
 use Rattle.ub_table.specs.declared.schema.Schema.{Schema}
-use Rattle.ub_words.specs.Asked.{AreLines, IsAskedBy}
-use Rattle.ub_words.specs.CommandLine.{AsksHelp, AsksNothing}
-use Rattle.ub_words.specs.declared.given.AppendWords.{AppendWords}
-use Rattle.ub_words.specs.declared.given.CheckWords.{CheckWords}
-use Rattle.ub_words.specs.declared.given.DescribeWords.{DescribeWords}
-use Rattle.ub_words.specs.declared.given.LoadWords.{LoadWords}
-use Rattle.ub_words.specs.declared.given.NextWords.{NextWords}
-use Rattle.ub_words.specs.declared.given.QueryWords.{QueryWords}
-use Rattle.ub_words.specs.declared.given.RunWords.{RunWords}
-use Rattle.ub_words.specs.declared.given.TryWords.{TryWords}
-use Rattle.ub_words.specs.declared.given.UpgradeWords.{UpgradeWords}
+use Rattle.ub_words.specs.Asked.{IsAskedBy}
 use Rattle.ub_words.specs.declared.words.Asked.{Asked}
-use Rattle.ub_words.specs.declared.words.Asked.TheVariants as asked
-use Rattle.ub_shell.specs.Commands.{HasRead, HasRunTree, IsKept, IsUnopened, IsUnread, IsUnready, IsWeighed, LoadsFile, OpensFor, RunsFile, RunsScript, TellsRan, TriesFiles, axes_asked, status_after}
+use Rattle.ub_shell.specs.Commands.{HasRead, HasRunTree, IsKept, IsUnopened, IsUnread, IsUnready, IsWeighed, OpensFor, RunsScript, TellsRan, status_after}
 use Rattle.ub_files.specs.declared.fault.OpenFault.{OpenFault}
 use Rattle.ub_files.specs.declared.fault.OpenFault.TheVariants as opening
-use Rattle.ub_shell.specs.Appended.{AppendsFile}
-use Rattle.ub_shell.specs.Checked.{ChecksFile}
-use Rattle.ub_shell.specs.Described.{DescribesFile}
 use Rattle.ub_shell.specs.Ending.{Tells}
 use Rattle.ub_files.specs.Files.{FilesFacts, ChangesFile, IsText, KeepsFile, IsTorn, OpensFile, ReadsFile}
-use Rattle.ub_next.specs.Next.{IsNextAnswer, answer_text}
 use Rattle.ub_shell.specs.Queried.{IsShown, QueriesFile}
-use Rattle.ub_shell.specs.Ran.{HasEnded, HasEndedAlone}
-use Rattle.ub_shell.specs.Upgrading.{UpgradesFile}
-use Rattle.ub_shell.specs.Status.{answer_status, open_fault_status, open_fault_text, store_fault_status, store_fault_text}
-use Rattle.ub_next.specs.declared.next.Neighbours.{Neighbours}
-use Rattle.ub_next.specs.declared.next.NextFault.{NextFault}
+use Rattle.ub_shell.specs.Ran.{Does, HasEnded}
+use Rattle.ub_shell.specs.Status.{open_fault_status, open_fault_text, store_fault_status, store_fault_text}
 use Rattle.ub_shell.specs.declared.status.Status.{Status}
-use Rattle.ub_shell.specs.declared.status.Status.TheVariants.{Done, CommandLine, Memory}
 
 -- ---- files
 
@@ -224,92 +205,15 @@ queried table statements old new before after text failed of_run out out_now not
 
 -- ---- what the words ask for
 
--- a command that writes to one output alone leaves the other one as it was
-pub ended_alone : (words : List (List ℕ)) (old new : FilesFacts) (out out_now notes : OutFacts) (status : Status) → HasEndedAlone words old new out out_now status
-    → HasEnded words old new out out_now notes notes status
-ended_alone words old new out out_now notes status ended = inr (refl, ended)
-
-pub query_ends : (words : List (List ℕ)) (a : Asked) (q : QueryWords) (old new : FilesFacts) (out out_now notes notes_now : OutFacts) (status : Status) → a ≡ asked.Query q
-    → IsAskedBy words a → QueriesFile q.table.now q.statements.now old new out out_now notes notes_now status
-    → HasEnded words old new out out_now notes notes_now status
-query_ends words a q old new out out_now notes notes_now status is by queries =
-    inl (record { table = q.table.now; statements = q.statements.now; asks = rw is at by; queries = queries })
-
-pub load_ends : (words : List (List ℕ)) (a : Asked) (l : LoadWords) (old new : FilesFacts) (out out_now : OutFacts) (status : Status) → a ≡ asked.Load l
-    → IsAskedBy words a → LoadsFile l.source.path.now l.table.now l.source.name.now (axes_asked l.source) l.source.page_rows old new out out_now status
-    → HasEndedAlone words old new out out_now status
-load_ends words a l old new out out_now status is by loads = inl (record {
-  source = l.source.path.now;
-  table = l.table.now;
-  name = l.source.name.now;
-  axes = axes_asked l.source;
-  page_rows = l.source.page_rows;
-  asks = rw is at by;
-  loads = loads;
+-- it was done
+pub ends_as : (words : List (List ℕ)) (a b : Asked) (old new : FilesFacts) (out out_now notes notes_now : OutFacts) (status : Status) → a ≡ b → IsAskedBy words a
+    → Does b old new out out_now notes notes_now status → HasEnded words old new out out_now notes notes_now status
+ends_as words a b old new out out_now notes notes_now status is by does = inl (record {
+  asked = a;
+  asks = by;
+  does = subst (λ (x : Asked). Does x old new out out_now notes notes_now status) (sym is) does;
 })
 
-pub run_ends : (words : List (List ℕ)) (a : Asked) (r : RunWords) (old new : FilesFacts) (out out_now : OutFacts) (status : Status) → a ≡ asked.Run r
-    → IsAskedBy words a → RunsFile r.table.now r.script.now old new out out_now status → HasEndedAlone words old new out out_now status
-run_ends words a r old new out out_now status is by runs =
-    inr (inl (record { table = r.table.now; script = r.script.now; asks = rw is at by; runs = runs }))
-
-pub try_ends : (words : List (List ℕ)) (a : Asked) (t : TryWords) (old new : FilesFacts) (out out_now : OutFacts) (status : Status) → a ≡ asked.Try t
-    → IsAskedBy words a → TriesFiles t.source.path.now t.script.now t.source.name.now (axes_asked t.source) t.source.page_rows old new out out_now status
-    → HasEndedAlone words old new out out_now status
-try_ends words a t old new out out_now status is by tries = inr (inr (inl (record {
-  source = t.source.path.now;
-  script = t.script.now;
-  name = t.source.name.now;
-  axes = axes_asked t.source;
-  page_rows = t.source.page_rows;
-  asks = rw is at by;
-  tries = tries;
-})))
-
-pub append_ends : (words : List (List ℕ)) (a : Asked) (r : AppendWords) (old new : FilesFacts) (out out_now : OutFacts) (status : Status) → a ≡ asked.Append r
-    → IsAskedBy words a → AppendsFile r.table.now r.data.now old new out out_now status → HasEndedAlone words old new out out_now status
-append_ends words a r old new out out_now status is by appends =
-    inr (inr (inr (inr (inr (inr (inr (inr (inr (inl (record { table = r.table.now; source = r.data.now; asks = rw is at by; appends = appends }))))))))))
-
-pub upgrade_ends : (words : List (List ℕ)) (a : Asked) (u : UpgradeWords) (old new : FilesFacts) (out out_now : OutFacts) (status : Status) → a ≡ asked.Upgrade u
-    → IsAskedBy words a → UpgradesFile u.old.now u.new.now old new out out_now status → HasEndedAlone words old new out out_now status
-upgrade_ends words a u old new out out_now status is by upgrades =
-    inr (inr (inr (inl (record { source = u.old.now; table = u.new.now; asks = rw is at by; upgrades = upgrades }))))
-
-pub describe_ends : (words : List (List ℕ)) (a : Asked) (d : DescribeWords) (old new : FilesFacts) (out out_now : OutFacts) (status : Status) → a ≡ asked.Describe d
-    → IsAskedBy words a → DescribesFile d.table.now old new out out_now status → HasEndedAlone words old new out out_now status
-describe_ends words a d old new out out_now status is by describes =
-    inr (inr (inr (inr (inl (record { table = d.table.now; asks = rw is at by; describes = describes })))))
-
-pub check_ends : (words : List (List ℕ)) (a : Asked) (k : CheckWords) (old new : FilesFacts) (out out_now : OutFacts) (status : Status) → a ≡ asked.Check k
-    → IsAskedBy words a → ChecksFile k.table.now old new out out_now status → HasEndedAlone words old new out out_now status
-check_ends words a k old new out out_now status is by checks =
-    inr (inr (inr (inr (inr (inl (record { table = k.table.now; asks = rw is at by; checks = checks }))))))
-
-pub next_ends : (words : List (List ℕ)) (a : Asked) (n : NextWords) (files : FilesFacts) (out out_now : OutFacts) (status : Status) (answer : Result Neighbours NextFault)
-    → a ≡ asked.Next n → IsAskedBy words a → IsNextAnswer n.low.now n.high.now n.address.now answer
-    → Tells out out_now (answer_text answer) (answer_status answer) status → HasEndedAlone words files files out out_now status
-next_ends words a n files out out_now status answer is by answers told = inr (inr (inr (inr (inr (inr (inl (record {
-  lo = n.low.now;
-  hi = n.high.now;
-  z = n.address.now;
-  answer = answer;
-  asks = rw is at by;
-  answers = answers;
-  tells = told;
-  files = refl;
-})))))))
-
-pub help_ends : (words : List (List ℕ)) (files : FilesFacts) (out out_now : OutFacts) (text bytes : List ℕ) (status : Status) → AsksHelp words × AreLines text → bytes ≡ text
-    → Tells out out_now bytes Done status → HasEndedAlone words files files out out_now status
-help_ends words files out out_now text bytes status by same told =
-    inr (inr (inr (inr (inr (inr (inr (inl (record { asks = by.0; text = text; lines = by.1; tells = rw same at told; files = refl }))))))))
-
-pub wrong_ends : (words : List (List ℕ)) (files : FilesFacts) (out out_now : OutFacts) (text bytes : List ℕ) (status : Status) → AsksNothing words × AreLines text → bytes ≡ text
-    → Tells out out_now bytes CommandLine status → HasEndedAlone words files files out out_now status
-wrong_ends words files out out_now text bytes status by same told =
-    inr (inr (inr (inr (inr (inr (inr (inr (inl (record { asks = by.0; text = text; lines = by.1; tells = rw same at told; files = refl })))))))))
-
-pub memory_ends : (words : List (List ℕ)) (files : FilesFacts) (out out_now : OutFacts) (status : Status) → Tells out out_now (codes "! Memory\n") Memory status
-    → HasEndedAlone words files files out out_now status
-memory_ends words files out out_now status told = inr (inr (inr (inr (inr (inr (inr (inr (inr (inr (record { tells = told; files = refl }))))))))))
+-- a text that is this one was told
+pub tells_as : (bytes text : List ℕ) (out out_now : OutFacts) (wanted status : Status) → bytes ≡ text → Tells out out_now bytes wanted status → Tells out out_now text wanted status
+tells_as bytes text out out_now wanted status same told = rw same at told

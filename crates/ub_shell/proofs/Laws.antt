@@ -10,21 +10,25 @@ use Rattle.ub_store.specs.declared.fault.StoreFault.TheVariants as store
 use Rattle.ub_files.specs.Files.{standard_input, FilesFacts, HasPages, Held, IsEmpty, IsStored, IsTorn, MakesFile, ReadsFile, absent, bytes, pages, torn, untold}
 use Rattle.ub_files.specs.declared.fault.OpenFault.{OpenFault}
 use Rattle.ub_files.specs.declared.fault.OpenFault.TheVariants as opening
-use Rattle.ub_words.proofs.Laws.{no_help_taken}
-use Rattle.ub_words.specs.CommandLine.{AsksHelp, AsksHelpAlone, AsksNext, AsksNothing}
+use Rattle.ub_words.proofs.Laws.{help_is_help, nothing_asked}
+use Rattle.ub_words.specs.Asked.{IsAskedBy}
+use Rattle.ub_words.specs.CommandLine.{AsksHelp, AsksNothing, AsksQuery}
+use Rattle.ub_words.specs.Laws.{IsHelp}
+use Rattle.ub_words.specs.declared.words.Asked.{Asked}
+use Rattle.ub_words.specs.declared.words.Asked.TheVariants.{Help, Query, Wrong}
 use Rattle.ub_shell.specs.Commands.{IsKept, IsUnlent, IsUnopened, IsUnready, MakesTable, OpensFor, RunsFile, RunsScript, TellsMade, loaded_line}
 use Rattle.ub_shell.proofs.KeptFacts.{says_done, store_not_done, tree_not_done}
 use Rattle.ub_shell.proofs.LeftFacts.{full_stays, run_leaves, run_stays, where_ok}
 use Rattle.ub_shell.specs.Laws.{AreBothInput, AskingLeavesTheTable, AskingQueriesLeaveTheTable, AskingRunsLeaveTheTable, CheckedTablesAreRunAsSound, CheckedTablesAreSound, CheckingLeavesTheTable, CrashesLeaveATable, DescribingLeavesTheTable, FailedQueriesLoseNothing, FailedRunsLoseNothing, FailedScriptsLoseNothing, FullTablesAreLeft, IsClosedTable, IsHeldStill, IsHeldTable, IsOldIfTold, IsOldTable, IsRunOfTable, IsScriptOfTable, IsSoundTable, KeptQueriesLast, KeptRunsLast, KeptScriptsLast, LoadsLoseNoTable, OldTablesAreNotLost, OnlyHelpIsWritten, OnlyQueriesNote, OnlySoundTablesAreUpgraded, SaysKept, SoundTablesPass, TellsBadJournal, TellsPassing, UnchangedTablesAreLeft, UpgradedTablesAreTheSame, UpgradesLoseNoTable, UpgradingLeavesTheOldTable, WhatWasDoneStands, WrongWordsAreTold, row_count}
 use Rattle.ub_shell.proofs.AppendFacts.{appended_sound}
 use Rattle.ub_shell.specs.Appended.{HoldsAppended}
-use Rattle.ub_shell.specs.Checked.{ChecksFile, IsChecked}
+use Rattle.ub_shell.specs.Asking.{ChecksFile, IsAnswered}
 use Rattle.ub_shell.specs.Crashes.{HoldsAsked, HoldsRun}
 use Rattle.ub_shell.specs.Ending.{Tells}
 use Rattle.ub_shell.proofs.UpgradeFacts.{some_page}
 use Rattle.ub_shell.specs.Status.{open_fault_status, open_fault_text, store_fault_status, store_fault_text, tree_fault_status, tree_fault_text}
 use Rattle.ub_shell.specs.Queried.{IsShown}
-use Rattle.ub_shell.specs.Ran.{HasEndedAlone, HasHelped, HasNoMemory, HasRefused}
+use Rattle.ub_shell.specs.Ran.{Does, HasHelped, HasRefused}
 use Rattle.ub_shell.specs.Upgrading.{IsFileAnew}
 use Rattle.ub_shell.specs.declared.status.Status.{Status}
 use Rattle.ub_shell.specs.declared.status.Status.TheVariants as ended
@@ -42,52 +46,49 @@ use Rattle.ub_tree.specs.Old.{AreOldPages}
 use Rattle.ub_tree.specs.Opened.{IsPassing}
 use Rattle.ub_tree.specs.Placed.{Placed, regions_in}
 use Rattle.ub_tree.specs.Stored.{AreSoundPages}
+use Rattle.ub_tree.specs.View.{region_count}
+use Rattle.ub_words.specs.declared.given.TableCommand.TheVariants.{Check}
 use Rattle.ub_table.specs.Region.{RegionRows}
 
-no_next : (words : List (List ℕ)) (lo hi z : List ℕ) → AsksHelpAlone words → AsksNext words lo hi z → ⊥
-no_next words lo hi z alone (inl by_clap) = no_help_taken words by_clap.1.0 alone
-no_next words lo hi z alone (inr by_place) = by_place.2 alone
+-- ---- what the words ask for
 
-only_help : (words : List (List ℕ)) (old new : FilesFacts) (out out_now : OutFacts) (status : Status) → AsksHelpAlone words
-    → HasEndedAlone words old new out out_now status → HasHelped words old new out out_now status ⊎ HasNoMemory old new out out_now status
-only_help words old new out out_now status alone (inl load) = absurd (no_help_taken words load.asks.1.0 alone)
-only_help words old new out out_now status alone (inr (inl run)) = absurd (no_help_taken words run.asks.1.0 alone)
-only_help words old new out out_now status alone (inr (inr (inl tried))) = absurd (no_help_taken words tried.asks.1.0 alone)
-only_help words old new out out_now status alone (inr (inr (inr (inl upgrade)))) = absurd (no_help_taken words upgrade.asks.1.0 alone)
-only_help words old new out out_now status alone (inr (inr (inr (inr (inl described))))) = absurd (no_help_taken words described.asks.1.0 alone)
-only_help words old new out out_now status alone (inr (inr (inr (inr (inr (inl check)))))) = absurd (no_help_taken words check.asks.1.0 alone)
-only_help words old new out out_now status alone (inr (inr (inr (inr (inr (inr (inl next))))))) = absurd (no_next words _ _ _ alone next.asks)
-only_help words old new out out_now status alone (inr (inr (inr (inr (inr (inr (inr (inl help)))))))) = inl help
-only_help words old new out out_now status alone (inr (inr (inr (inr (inr (inr (inr (inr (inl wrong))))))))) = absurd (wrong.asks.no_help alone)
-only_help words old new out out_now status alone (inr (inr (inr (inr (inr (inr (inr (inr (inr (inl append)))))))))) = absurd (no_help_taken words append.asks.1.0 alone)
-only_help words old new out out_now status alone (inr (inr (inr (inr (inr (inr (inr (inr (inr (inr memory)))))))))) = inr memory
+-- the help was asked for, and was told
+helped : (words : List (List ℕ)) (a : Asked) (old new : FilesFacts) (out out_now notes notes_now : OutFacts) (status : Status) → IsHelp a → IsAskedBy words a
+    → Does a old new out out_now notes notes_now status → (notes_now ≡ notes) × HasHelped words old new out out_now status
+helped words (Help text) old new out out_now notes notes_now status is by does =
+    (does.0, record { asks = by.0; text = text.items; lines = by.1; tells = does.1.0; files = does.1.1 })
+helped words a old new out out_now notes notes_now status is by does = absurd is
 
 pub only_help_is_written : OnlyHelpIsWritten
-only_help_is_written words old new out out_now notes notes_now status alone (inl query) = absurd (no_help_taken words query.asks.1.0 alone)
-only_help_is_written words old new out out_now notes notes_now status alone (inr (same, ended)) = (same, only_help words old new out out_now status alone ended)
+only_help_is_written words old new out out_now notes notes_now status alone (inl done) =
+    let told = helped words done.asked old new out out_now notes notes_now status (help_is_help words done.asked alone done.asks) done.asks done.does in
+    (told.0, inl told.1)
+only_help_is_written words old new out out_now notes notes_now status alone (inr memory) = (memory.0, inr memory.1)
 
-wrong_told : (words : List (List ℕ)) (old new : FilesFacts) (out out_now : OutFacts) (status : Status) → AsksNothing words → ¬ (AsksHelp words)
-    → HasEndedAlone words old new out out_now status → HasRefused words old new out out_now status ⊎ HasNoMemory old new out out_now status
-wrong_told words old new out out_now status nothing no_help (inl load) = absurd (nothing.no_load _ _ _ _ _ _ load.asks)
-wrong_told words old new out out_now status nothing no_help (inr (inl run)) = absurd (nothing.no_run _ _ run.asks)
-wrong_told words old new out out_now status nothing no_help (inr (inr (inl tried))) = absurd (nothing.no_try _ _ _ _ _ _ tried.asks)
-wrong_told words old new out out_now status nothing no_help (inr (inr (inr (inl upgrade)))) = absurd (nothing.no_upgrade _ _ upgrade.asks)
-wrong_told words old new out out_now status nothing no_help (inr (inr (inr (inr (inl described))))) = absurd (nothing.no_describe _ described.asks)
-wrong_told words old new out out_now status nothing no_help (inr (inr (inr (inr (inr (inl check)))))) = absurd (nothing.no_check _ check.asks)
-wrong_told words old new out out_now status nothing no_help (inr (inr (inr (inr (inr (inr (inl next))))))) = absurd (nothing.no_next _ _ _ next.asks)
-wrong_told words old new out out_now status nothing no_help (inr (inr (inr (inr (inr (inr (inr (inl help)))))))) = absurd (no_help help.asks)
-wrong_told words old new out out_now status nothing no_help (inr (inr (inr (inr (inr (inr (inr (inr (inl wrong))))))))) = inl wrong
-wrong_told words old new out out_now status nothing no_help (inr (inr (inr (inr (inr (inr (inr (inr (inr (inl append)))))))))) = absurd (nothing.no_append _ _ append.asks)
-wrong_told words old new out out_now status nothing no_help (inr (inr (inr (inr (inr (inr (inr (inr (inr (inr memory)))))))))) = inr memory
+-- nothing was asked for, nor the help, and that was told
+refused : (words : List (List ℕ)) (a : Asked) (old new : FilesFacts) (out out_now notes notes_now : OutFacts) (status : Status) → AsksNothing words → ¬ (AsksHelp words)
+    → IsAskedBy words a → Does a old new out out_now notes notes_now status → (notes_now ≡ notes) × HasRefused words old new out out_now status
+refused words (Help text) old new out out_now notes notes_now status nothing no_help by does = absurd (no_help by.0)
+refused words (Wrong text) old new out out_now notes notes_now status nothing no_help by does =
+    (does.0, record { asks = by.0; text = text.items; lines = by.1; tells = does.1.0; files = does.1.1 })
+refused words a old new out out_now notes notes_now status nothing no_help by does = absurd (nothing_asked words a nothing by)
 
 pub wrong_words_are_told : WrongWordsAreTold
-wrong_words_are_told words old new out out_now notes notes_now status nothing no_help (inl query) = absurd (nothing.no_query _ _ query.asks)
-wrong_words_are_told words old new out out_now notes notes_now status nothing no_help (inr (same, ended)) =
-    (same, wrong_told words old new out out_now status nothing no_help ended)
+wrong_words_are_told words old new out out_now notes notes_now status nothing no_help (inl done) =
+    let told = refused words done.asked old new out out_now notes notes_now status nothing no_help done.asks done.does in
+    (told.0, inl told.1)
+wrong_words_are_told words old new out out_now notes notes_now status nothing no_help (inr memory) = (memory.0, inr memory.1)
+
+-- no query was asked for
+quiet : (words : List (List ℕ)) (a : Asked) (old new : FilesFacts) (out out_now notes notes_now : OutFacts) (status : Status)
+    → ((table statements : List ℕ) → ¬ (AsksQuery words table statements)) → IsAskedBy words a → Does a old new out out_now notes notes_now status → notes_now ≡ notes
+quiet words (Query a) old new out out_now notes notes_now status no_query by does = absurd (no_query _ _ by)
+quiet words a old new out out_now notes notes_now status no_query by does = does.0
 
 pub only_queries_note : OnlyQueriesNote
-only_queries_note words old new out out_now notes notes_now status no_query (inl query) = absurd (no_query _ _ query.asks)
-only_queries_note words old new out out_now notes notes_now status no_query (inr (same, ended)) = same
+only_queries_note words old new out out_now notes notes_now status no_query (inl done) =
+    quiet words done.asked old new out out_now notes notes_now status no_query done.asks done.does
+only_queries_note words old new out out_now notes notes_now status no_query (inr memory) = memory.0
 
 -- ---- a table file on which a script was run
 
@@ -346,7 +347,7 @@ sound_table (bytes text) from schema placed next stored sound = absurd stored
 sound_table torn from schema placed next stored sound = absurd stored
 
 -- a store that was checked, with nothing wrong
-well_store : {out out_now : OutFacts} {status : Status} (from : StoreFacts) → IsHonest from → (well : IsChecked from out out_now status)
+well_store : {out out_now : OutFacts} {status : Status} (from : StoreFacts) → IsHonest from → (well : IsAnswered Check from out out_now status)
     → AreSoundPages from.pages well.is.tree.schema well.is.tree.placed well.is.tree.next
 well_store from honest well =
     let opened = well.is.tree_is.opened in
@@ -356,7 +357,7 @@ well_store from honest well =
 pub checked_tables_are_sound : CheckedTablesAreSound
 checked_tables_are_sound table old new out out_now honest (inr unopened) =
     absurd (store_not_done unopened.fault (told_done _ _ _ _ unopened.tells))
-checked_tables_are_sound table old new out out_now honest (inl told) = elim told.checks [
+checked_tables_are_sound table old new out out_now honest (inl told) = elim told.ended [
   | inl well ↦
       let t = well.is.tree in
       let sound = well_store told.store (told.lent.lent.honest honest) well in
@@ -438,13 +439,15 @@ sound_tables_pass table old new out out_now status schema placed next honest hel
 sound_tables_pass table old new out out_now status schema placed next honest held (inl told) =
     let from_honest = told.lent.lent.honest honest in
     let here = held_pages schema placed next (old.holds table) told.store told.lent.stored held in
-    elim told.checks [
+    elim told.ended [
       | inl well ↦
           let (sound, of_schema, of_placed, of_next) = well.is.tree_is.sound schema placed next from_honest here in
-          let rows = well.is.rows_are ∙ sound.rows_are ∙ ap (λ (p : List Placed). row_count p) of_placed in
-          let regions = well.is.regions_are ∙ sound.count_is ∙ ap (λ (p : List Placed). length p) of_placed in
-          inl (same_line out out_now status well.rows well.regions _ _ rows regions well.tells)
-      | inr ill ↦ inr (passing_told out out_now status ill.fault (ill.passing schema placed next from_honest here) ill.tells)
+          let t = well.is.tree in
+          let rows = sound.rows_are ∙ ap (λ (p : List Placed). row_count p) of_placed in
+          let regions = sound.count_is ∙ ap (λ (p : List Placed). length p) of_placed in
+          inl (same_line out out_now status t.rows (region_count t) _ _ rows regions
+          (subst (λ (text : List ℕ). Tells out out_now text Done status) well.is.text_is well.tells))
+      | inr ill ↦ inr (passing_told out out_now status ill.fault (ill.is.1 schema placed next from_honest here) ill.tells)
     ]
 
 -- ---- a script that is run on a table that was checked
@@ -453,7 +456,7 @@ sound_tables_pass table old new out out_now status schema placed next honest hel
 checked_held : (table : List ℕ) (old new : FilesFacts) (out out_now : OutFacts) → IsTrue old.honest → ChecksFile table old new out out_now Done → new.holds table ≢ untold
     → (schema : Schema) × (placed : List Placed) × (next : ℕ) × IsHeldTable (new.holds table) schema placed next
 checked_held table old new out out_now honest (inr unopened) told = absurd (store_not_done unopened.fault (told_done _ _ _ _ unopened.tells))
-checked_held table old new out out_now honest (inl check) told = elim check.checks [
+checked_held table old new out out_now honest (inl check) told = elim check.ended [
   | inl well ↦
       let t = well.is.tree in
       let sound = well_store check.store (check.lent.lent.honest honest) well in

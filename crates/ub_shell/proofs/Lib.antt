@@ -6,10 +6,12 @@ pub mod CrashFacts
 pub mod KeptFacts
 pub mod LastFacts
 pub mod AppendFacts
+pub mod OpenFacts
 pub mod LeftFacts
 pub mod UpgradeFacts
 pub mod DescribeFacts
 pub mod CheckFacts
+pub mod AskFacts
 pub mod Laws
 pub mod AppendLaws
 pub mod ShortFacts

@@ -28,7 +28,7 @@ use Rattle.ub_shell.proofs.LeftFacts.{after_answers, run_leaves, where_ok}
 use Rattle.ub_shell.specs.Commands.{Closes, IsAskedOf, IsKept, IsKeptRun, IsRunOf, IsUnlent, IsUnopened, IsUnread, IsUnready, IsUntold, IsWeighed, OpensFor, RunsFile, RunsScript, TellsClosed, TellsRan, both_ended, status_after}
 use Rattle.ub_shell.specs.Ending.{Tells}
 use Rattle.ub_shell.specs.Laws.{AreBothInput, HasStopped}
-use Rattle.ub_shell.specs.Ran.{HasEnded, HasEndedAlone, HasNoMemory}
+use Rattle.ub_shell.specs.Ran.{Does, HasEnded, HasNoMemory}
 use Rattle.ub_shell.specs.Short.{AreFirstTexts, AreStanding, EndsRight, HasFailed, HasReadScript, IsLeftAt, IsPlaceLine, KeepsShortPromise, Lends, RunsRight, WritesSome, fault_lines}
 use Rattle.ub_shell.specs.Status.{open_fault_status, open_fault_text, status_code, store_fault_status, store_fault_text, summary_status, tree_fault_status, tree_fault_text}
 use Rattle.ub_shell.specs.declared.status.Status.{Status}
@@ -44,7 +44,11 @@ use Rattle.ub_tree.specs.Stored.{AreSoundPages}
 use Rattle.ub_tree.specs.View.{TreeView, IsSound}
 use Rattle.ub_tree.specs.declared.fault.TreeFault.{TreeFault}
 use Rattle.ub_tree.specs.declared.fault.TreeFault.TheVariants as tree
-use Rattle.ub_words.specs.CommandLine.{AsksHelp, AsksNext, AsksRun, IsRunGiven}
+use Rattle.ub_words.proofs.AskFacts.{apart}
+use Rattle.ub_words.specs.Asked.{IsAskedBy}
+use Rattle.ub_words.specs.CommandLine.{AsksHelp, AsksNext, AsksRun, IsRunGiven, table_name}
+use Rattle.ub_words.specs.declared.words.Asked.{Asked}
+use Rattle.ub_words.specs.declared.words.Asked.TheVariants.{Help, Next, Run, Table, Wrong}
 
 -- ---- the words
 
@@ -87,26 +91,21 @@ module _ (words : List (List ℕ)) (table script : List ℕ) (old new : FilesFac
   never_help (inl help) = rw ours.1.0 at help
   never_help (inr version) = rw ours.1.0 at version
 
-  ran_alone : HasEndedAlone words old new out out_now status → RunsFile table script old new out out_now status ⊎ HasNoMemory old new out out_now status
-  ran_alone (inl load) = absurd (clash (codes "run") (codes "load") ours.0 load.asks.0 (sym ours.1.1 ∙ load.asks.1.1) refl)
-  ran_alone (inr (inl ran)) =
-      let same = same_run words ran.table ran.script table script ran.asks ours in
-      inl (subst (λ (s : List ℕ). RunsFile table s old new out out_now status) same.1
-      (subst (λ (t : List ℕ). RunsFile t ran.script old new out out_now status) same.0 ran.runs))
-  ran_alone (inr (inr (inl tried))) = absurd (clash (codes "run") (codes "try") ours.0 tried.asks.0 (sym ours.1.1 ∙ tried.asks.1.1) refl)
-  ran_alone (inr (inr (inr (inl upgrade)))) = absurd (clash (codes "run") (codes "upgrade") ours.0 upgrade.asks.0 (sym ours.1.1 ∙ upgrade.asks.1.1) refl)
-  ran_alone (inr (inr (inr (inr (inl described))))) = absurd (clash (codes "run") (codes "describe") ours.0 described.asks.0 (sym ours.1.1 ∙ described.asks.1.1) refl)
-  ran_alone (inr (inr (inr (inr (inr (inl check)))))) = absurd (clash (codes "run") (codes "check") ours.0 check.asks.0 (sym ours.1.1 ∙ check.asks.1.1) refl)
-  ran_alone (inr (inr (inr (inr (inr (inr (inl next))))))) = absurd (never_next next.lo next.hi next.z next.asks)
-  ran_alone (inr (inr (inr (inr (inr (inr (inr (inl help)))))))) = absurd (never_help help.asks)
-  ran_alone (inr (inr (inr (inr (inr (inr (inr (inr (inl wrong))))))))) = absurd (wrong.asks.no_run table script ours)
-  ran_alone (inr (inr (inr (inr (inr (inr (inr (inr (inr (inl append)))))))))) = absurd (clash (codes "run") (codes "append") ours.0 append.asks.0 (sym ours.1.1 ∙ append.asks.1.1) refl)
-  ran_alone (inr (inr (inr (inr (inr (inr (inr (inr (inr (inr memory)))))))))) = inr memory
+  ran_as : (a : Asked) (notes notes_now : OutFacts) → IsAskedBy words a → Does a old new out out_now notes notes_now status → RunsFile table script old new out out_now status
+  ran_as (Run r) notes notes_now by does =
+      let same = same_run words r.table.now r.script.now table script by ours in
+      subst (λ (s : List ℕ). RunsFile table s old new out out_now status) same.1
+      (subst (λ (t : List ℕ). RunsFile t r.script.now old new out out_now status) same.0 does.1)
+  ran_as (Table t) notes notes_now by does = absurd (clash (codes "run") (table_name t.command) ours.0 by.0 (sym ours.1.1 ∙ by.1.1) (apart t.command).2)
+  ran_as (Next n) notes notes_now by does = absurd (never_next _ _ _ by)
+  ran_as (Help text) notes notes_now by does = absurd (never_help by.0)
+  ran_as (Wrong text) notes notes_now by does = absurd (by.0.no_run table script ours)
+  ran_as a notes notes_now by does = absurd (clash (codes "run") _ ours.0 by.0 (sym ours.1.1 ∙ by.1.1) refl)
 
   ran_or_memory : (notes notes_now : OutFacts) → HasEnded words old new out out_now notes notes_now status
       → RunsFile table script old new out out_now status ⊎ HasNoMemory old new out out_now status
-  ran_or_memory notes notes_now (inl query) = absurd (clash (codes "run") (codes "query") ours.0 query.asks.0 (sym ours.1.1 ∙ query.asks.1.1) refl)
-  ran_or_memory notes notes_now (inr (same, ended)) = ran_alone ended
+  ran_or_memory notes notes_now (inl done) = inl (ran_as done.asked notes notes_now done.asks done.does)
+  ran_or_memory notes notes_now (inr memory) = inr memory.1
 
 -- ---- the paths but for the table's
 

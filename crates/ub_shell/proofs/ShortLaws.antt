@@ -53,7 +53,7 @@ checked_tables_stand table old new out out_now status honest (inl check) =
     let from_honest = check.lent.lent.honest honest in (
       check.store.pages,
       lends_stored (old.holds table) check.store.pages check.lent.stored,
-      (λ done. elim check.checks [
+      (λ done. elim check.ended [
         | inl well ↦
             let opened = well.is.tree_is.opened in
             let there : IsHonest well.is.tree.store = subst (λ (s : StoreFacts). IsHonest s) (sym opened.store_is) from_honest in
@@ -63,14 +63,14 @@ checked_tables_stand table old new out out_now status honest (inl check) =
         | inr ill ↦ absurd (tree_not_done ill.fault (told_done out out_now _ _
             (subst (λ (s : Status). Tells out out_now (tree_fault_text ill.fault) (tree_fault_status ill.fault) s) done ill.tells)))
       ]),
-      (λ s stands. elim check.checks [
+      (λ s stands. elim check.ended [
         | inl well ↦ elim (told_either out out_now _ Done status well.tells) [
           | inl done ↦ inl done
           | inr failed ↦ inr (inl failed)
         ]
         | inr ill ↦
             let (placed, sound, regions_are, is) = stands in
-            inr (passing_says out out_now status (passing_told out out_now status ill.fault (ill.passing s.table.schema placed s.next from_honest sound) ill.tells))
+            inr (passing_says out out_now status (passing_told out out_now status ill.fault (ill.is.1 s.table.schema placed s.next from_honest sound) ill.tells))
       ]),
     )
 

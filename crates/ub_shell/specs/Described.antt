@@ -1,17 +1,10 @@
 -- What a table file tells by its header, as `ubq describe` writes it; and what is told where it can't be opened.
 use Rattle.std.specs.Prelude.{◌≡◌, ◌≢◌, ◌⊎◌, ◌==◌, ◌++◌, ℕ, nat_lt, if◌then◌else◌, List, [], codes, decimal, length}
 use Rattle.std.specs.List.{flat_map, range_with_len, slice_index_or}
-use Rattle.ub_files.specs.Files.{FilesFacts, IsLent}
 use Rattle.ub_page.specs.declared.header.Header.{Header}
 use Rattle.ub_page.specs.declared.header.OldHeader.{OldHeader}
 use Rattle.ub_page.specs.declared.header.TheConstants.{VERSION}
-use Rattle.ub_script.specs.Output.{OutFacts}
-use Rattle.ub_shell.specs.Commands.{IsUnopened}
-use Rattle.ub_shell.specs.Ending.{Tells}
-use Rattle.ub_shell.specs.Status.{tree_fault_status, tree_fault_text}
 use Rattle.ub_shell.specs.declared.description.Numbers.{Numbers}
-use Rattle.ub_shell.specs.declared.status.Status.{Status}
-use Rattle.ub_shell.specs.declared.status.Status.TheVariants.{Done}
 use Rattle.ub_store.specs.Facts.{StoreFacts, IsHonest}
 use Rattle.ub_table.specs.Value.{is_signed}
 use Rattle.ub_table.specs.declared.fault.PageFault.TheVariants.{OldFormat}
@@ -138,30 +131,6 @@ IsDescribeFault store fault =
     ((fault ≢ of_old_format) × IsOpenFault store fault)
     ⊎ (IsOpenFault store of_old_format × IsOldFault store fault)
 
--- a store told this, which was written
-pub record IsDescribed (store : StoreFacts) (out out_now : OutFacts) (status : Status) : Type 0 where
-  pub description : Description
-  pub is : IsToldBy store description
-  pub tells : Tells out out_now (description_text description) Done status
-
--- it told nothing, and why was written; where a table can be opened, that was for want of memory, or as the store failed
-pub record IsUndescribed (store : StoreFacts) (out out_now : OutFacts) (status : Status) : Type 0 where
-  pub fault : TreeFault
-  pub is : IsDescribeFault store fault
-  pub passing : (header : Header) → IsHonest store → IsRooted store.pages header → IsPassing fault
-  pub tells : Tells out out_now (tree_fault_text fault) (tree_fault_status fault) status
-
--- what a store tells was written, or why it tells nothing
-abbrev pub DescribesStore : StoreFacts → OutFacts → OutFacts → Status → Type 0
-DescribesStore store out out_now status = IsDescribed store out out_now status ⊎ IsUndescribed store out out_now status
-
--- that is so of the store in the table file, and the files are as they were
-pub record IsDescriptionOf (table : List ℕ) (old new : FilesFacts) (out out_now : OutFacts) (status : Status) : Type 0 where
-  pub store : StoreFacts
-  pub lent : IsLent old table store
-  pub files : new ≡ old
-  pub describes : DescribesStore store out out_now status
-
--- what the table file of this path tells was written, or why it tells nothing
-abbrev pub DescribesFile : List ℕ → FilesFacts → FilesFacts → OutFacts → OutFacts → Status → Type 0
-DescribesFile table old new out out_now status = IsDescriptionOf table old new out out_now status ⊎ IsUnopened table old new out out_now status
+-- a table that can be opened tells nothing for want of memory alone, or as the store failed
+abbrev pub PassesRooted : StoreFacts → TreeFault → Type 0
+PassesRooted store fault = (header : Header) → IsHonest store → IsRooted store.pages header → IsPassing fault

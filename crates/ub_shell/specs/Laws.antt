@@ -29,9 +29,8 @@ use Rattle.ub_files.specs.Clock.{Folder}
 use Rattle.ub_files.specs.Files.{FilesFacts, HasPages, Held, IsEmpty, IsLent, IsText, pages, standard_input, untold}
 use Rattle.ub_shell.specs.Commands.{HasRead, IsKept, IsKeptRun, IsRunOn, IsWeighed, LoadsFile, OpensFor, RunsFile, RunsScript, loaded_line}
 use Rattle.ub_shell.specs.Appended.{AppendsFile}
-use Rattle.ub_shell.specs.Checked.{ChecksFile}
+use Rattle.ub_shell.specs.Asking.{ChecksFile, DescribesFile}
 use Rattle.ub_shell.specs.Crashes.{HasLoaded, HasUpgraded, HoldsQueried, HoldsRun, IsBeforeOrAfter}
-use Rattle.ub_shell.specs.Described.{DescribesFile}
 use Rattle.ub_shell.specs.Ending.{Tells}
 use Rattle.ub_shell.specs.Queried.{IsShown, QueriesFile}
 use Rattle.ub_shell.specs.Ran.{HasEnded, HasHelped, HasNoMemory, HasRefused}

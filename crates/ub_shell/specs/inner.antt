@@ -1,1 +1,3 @@
 pub mod Appending
+pub mod Checking
+pub mod Running

@@ -1,18 +1,17 @@
 ghost use Rattle.std.specs.Prelude.{◌≡◌, ◌<◌, length};
 ghost use Rattle.std.specs.List.{All};
 ghost use Rattle.ub_files.specs.Clock.{Endures, IsSameBut, Runs};
-ghost use Rattle.ub_shell.specs.Appended.{appended_line, AppendLasts, AppendsFile, AppendsSafely, AppendsStore, AppendsText, HasRows};
+ghost use Rattle.ub_shell.specs.Appended.{appended_line, AppendLasts, AppendsFile, AppendsSafely, AppendsText, HasRows};
 ghost use Rattle.ub_shell.specs.Crashes.{SaysAllDone};
-ghost use Rattle.ub_shell.specs.inner.Appending.{AppendsRows, AppendsTree, HoldsCount, HoldsMore, HoldsPut, HoldsRows, HoldsText, KeepsCount};
+ghost use Rattle.ub_shell.specs.inner.Appending.{AppendsRows, AppendsTree, HoldsCount, HoldsPut, HoldsRows, HoldsText, KeepsCount};
 ghost use Rattle.ub_table.specs.Region.{measures_of};
 ghost use Rattle.ub_tree.specs.Change.{Suits};
 
 use crate::closing::{close_table, leave_table};
 use crate::line::{Line, twice_numbered_line};
 use crate::making::is_same;
-use crate::status::{
-    Status, tell, tell_line, tell_load_fault, tell_open_fault, tell_store_fault, tell_tree_fault,
-};
+use crate::opening::open_table;
+use crate::status::{Status, tell, tell_line, tell_load_fault, tell_store_fault, tell_tree_fault};
 use std::alloc::Global;
 use ub_files::Files;
 use ub_load::read_rows;
@@ -67,36 +66,9 @@ fn append_text<F: Files, W: Out>(
         → Endures path.now (HoldsText path.now text.now (F.facts files.old)
         (W.facts out.old) (W.facts out.new) result) (F.facts files.old) (F.clock files.new) }
 {
-    match files.change(path) {
-        Ok(store) => append_store(alloc, files, path, store, text, out),
-        Err(fault) => tell_open_fault(fault, out),
-    }
-}
-
-// Appends the rows of a text to the table in the store of a table file, and keeps the store, or puts it back.
-fn append_store<F: Files, W: Out>(
-    alloc: Global,
-    files: &mut F,
-    path: &str,
-    store: F::Store,
-    text: &[u8],
-    out: &mut W,
-) -> Status
-    ensures appends { AppendsStore path.now text.now (F.Store.facts store)
-        (F.facts files.old) (F.facts files.new) (W.facts out.old) (W.facts out.new) result }
-    ensures crash { Runs (IsSameBut path.now (HoldsMore (F.Store.facts store) text.now
-        (W.facts out.old) (W.facts out.new) result))
-        (F.facts files.old) (F.clock files.old) (F.clock files.new) }
-    ensures lasts { HasRows text.now → SaysAllDone result
-        → Endures path.now (HoldsMore (F.Store.facts store) text.now
-        (W.facts out.old) (W.facts out.new) result) (F.facts files.old) (F.clock files.new) }
-{
-    match Tree::open(alloc, store) {
+    match open_table(alloc, files, path, true, out) {
         Ok(tree) => append_tree(alloc, files, path, tree, text, out),
-        Err(refused) => {
-            files.put_back(path, refused.store);
-            tell_tree_fault(refused.fault, out)
-        }
+        Err(status) => status,
     }
 }
 

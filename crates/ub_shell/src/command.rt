@@ -6,8 +6,7 @@ ghost use Rattle.ub_shell.specs.Status.{status_code};
 ghost use Rattle.ub_shell.specs.declared.status.Status.{Status};
 
 use crate::appending::append_file;
-use crate::checking::check_file;
-use crate::describing::describe_file;
+use crate::asking::ask_file;
 use crate::loading::load_file;
 use crate::next::tell_next;
 use crate::querying::query_file;
@@ -86,8 +85,7 @@ fn run_words<F: Files, W: Out, N: Out>(
         Ok(Asked::Append(asked)) => append_file(alloc, files, asked, out),
         Ok(Asked::Try(asked)) => try_files(alloc, files, asked, out),
         Ok(Asked::Upgrade(asked)) => upgrade_file(alloc, files, asked, out),
-        Ok(Asked::Describe(asked)) => describe_file(alloc, files, asked, out),
-        Ok(Asked::Check(asked)) => check_file(alloc, files, asked, out),
+        Ok(Asked::Table(asked)) => ask_file(alloc, files, asked, out),
         Ok(Asked::Next(asked)) => tell_next(alloc, asked.low, asked.high, asked.address, out),
         Ok(Asked::Help(text)) => tell(out, text.as_slice(), Status::Done),
         Ok(Asked::Wrong(text)) => tell(out, text.as_slice(), Status::CommandLine),

@@ -1,70 +1,22 @@
 ghost use Rattle.std.specs.Prelude.{◌≡◌, ◌↔◌, false, IsTrue, IfOk, IfErr};
-ghost use Rattle.ub_files.specs.Clock.{IsSameFolder, Runs};
-ghost use Rattle.ub_page.specs.declared.header.Header as spec;
-ghost use Rattle.ub_shell.specs.Described.{description_text, described, described_old, of_old_format, DescribesFile, DescribesStore, IsDescribeFault, IsOldFault, IsOldText, IsTextOf};
-ghost use Rattle.ub_store.specs.Facts.{IsHonest};
+ghost use Rattle.ub_shell.specs.Described.{description_text, described, described_old, of_old_format, IsDescribeFault, IsOldFault, IsOldText, IsTextOf, PassesRooted};
 ghost use Rattle.ub_tree.specs.Effects.{read_store};
-ghost use Rattle.ub_tree.specs.Opened.{IsPassing, IsRooted};
 
 use crate::description::{Numbers, text_of};
-use crate::status::{Status, tell, tell_store_fault, tell_tree_fault};
 use std::alloc::{AllocError, Global};
-use ub_files::Files;
 use ub_page::OldHeader;
 use ub_page::header::VERSION;
-use ub_script::Out;
 use ub_store::{PageStore, new_page};
 use ub_table::PageFault;
 use ub_tree::{Tree, TreeFault};
 use ub_upgrade::read_head;
-use ub_words::DescribeWords;
 
-/// Opens a table file, writes what its header tells, and puts it back as it was. Where its table is of an older version, its header is
-/// read as one of that version, and no other page is. A fault is told on a line, as `run` tells one of the opening.
-pub fn describe_file<F: Files, W: Out>(
-    alloc: Global,
-    files: &mut F,
-    asked: DescribeWords<'_>,
-    out: &mut W,
-) -> Status
-    ensures describes { DescribesFile asked.entry.table.now (F.facts files.old) (F.facts files.new)
-        (W.facts out.old) (W.facts out.new) result }
-    ensures crash { Runs IsSameFolder (F.facts files.old) (F.clock files.old) (F.clock files.new) }
-{
-    match files.open(asked.table) {
-        Ok(store) => describe_store(alloc, files, asked.table, store, out),
-        Err(fault) => tell_store_fault(fault, out),
-    }
-}
-
-// Writes what the store of a table file tells, and puts the store back.
-fn describe_store<F: Files, W: Out>(
-    alloc: Global,
-    files: &mut F,
-    path: &str,
-    store: F::Store,
-    out: &mut W,
-) -> Status
-    ensures files { F.facts files.new ≡ F.facts files.old }
-    ensures describes { DescribesStore (F.Store.facts store)
-        (W.facts out.old) (W.facts out.new) result }
-    ensures crash { Runs IsSameFolder (F.facts files.old) (F.clock files.old) (F.clock files.new) }
-{
-    let (left, told) = told_by(alloc, store);
-    files.put_back(path, left);
-    match told {
-        Ok(text) => tell(out, text.as_slice(), Status::Done),
-        Err(fault) => tell_tree_fault(fault, out),
-    }
-}
-
-// The text of what a store tells, and the store as it is left.
-fn told_by<S: PageStore>(alloc: Global, store: S) -> (S, Result<Vec<u8>, TreeFault>)
+/// The text of what a table tells by its header, and the store as it is left. Where the table is of an older version, its header is
+/// read as one of that version, and no other page is.
+pub(crate) fn told_by<S: PageStore>(alloc: Global, store: S) -> (S, Result<Vec<u8>, TreeFault>)
     ensures text { IfOk result.1 (λ text. IsTextOf (S.facts store) text.items) }
-    ensures refused { IfErr result.1 (IsDescribeFault (S.facts store)) }
-    ensures passing { (header : spec.Header) → IsHonest (S.facts store)
-        → IsRooted (S.facts store).pages header → IfErr result.1 IsPassing }
-    ensures left { S.facts result.0 ≡ read_store result.1 (S.facts store) }
+    ensures refused { IfErr result.1 (λ fault.
+        IsDescribeFault (S.facts store) fault × PassesRooted (S.facts store) fault) }
 {
     match Tree::open(alloc, store) {
         Ok(tree) => told_by_tree(alloc, tree),
@@ -84,7 +36,6 @@ fn told_by_tree<S: PageStore>(alloc: Global, tree: Tree<S>) -> (S, Result<Vec<u8
     requires working { tree.is_failed ≡ false }
     ensures text { IfOk result.1 (λ text. text.items ≡ description_text (described tree)) }
     ensures refused { IfErr result.1 (λ fault. fault ≡ TreeFault.Memory) }
-    ensures left { S.facts result.0 ≡ tree.store }
 {
     let text = tree_text(alloc, &tree);
     match tree.close() {

@@ -1,15 +1,14 @@
-ghost use Rattle.std.specs.Prelude.{◌≡◌, ◌⊎◌, Ok, Err, IsOk, IsTrue, true, false};
-ghost use Rattle.ub_files.specs.Clock.{Endures, IsSameBut, Lasts, Runs};
-ghost use Rattle.ub_files.specs.Files.{HasPages};
+ghost use Rattle.std.specs.Prelude.{◌≡◌, ◌⊎◌, Ok, Err, IsTrue};
+ghost use Rattle.ub_files.specs.Clock.{Endures, IsSameBut, Runs};
 ghost use Rattle.ub_script.specs.Script.{HasChangeWord};
-ghost use Rattle.ub_shell.specs.Commands.{AsksStore, HasRunTree, IsAskedOf, IsKept, IsUnlent, RunsFile, RunsScript, TellsClosed, TellsRan, both_ended, status_after};
-ghost use Rattle.ub_shell.specs.Crashes.{HoldsAsked, HoldsLeft, RunLasts, RunsSafely, SaysAllDone};
-ghost use Rattle.ub_store.specs.Facts.{StoreFacts};
+ghost use Rattle.ub_shell.specs.Commands.{IsAskedOf, IsUnlent, RunsFile, RunsScript, TellsClosed, TellsRan, status_after};
+ghost use Rattle.ub_shell.specs.Crashes.{HoldsAsked, RunLasts, RunsSafely, SaysAllDone};
+ghost use Rattle.ub_shell.specs.inner.Running.{RunsTree};
 
 use crate::closing::close_table;
+use crate::opening::open_table;
 use crate::status::{
-    Status, summary_status, tell_load_fault, tell_memory, tell_open_fault, tell_store_fault,
-    tell_tree_fault,
+    Status, summary_status, tell_load_fault, tell_memory, tell_store_fault, tell_tree_fault,
 };
 use std::alloc::Global;
 use ub_files::Files;
@@ -63,85 +62,32 @@ pub fn run_script<F: Files, W: Out>(
     let Ok(script) = Script::read(alloc, script) else {
         return tell_memory(out);
     };
-    if script.may_change() {
-        change_table(alloc, files, path, &script, out)
-    } else {
-        ask_table(alloc, files, path, &script, out)
-    }
+    run_on(alloc, files, path, script.may_change(), &script, out)
 }
 
-// Runs a script that may change the table on a table file.
-fn change_table<F: Files, W: Out>(
-    alloc: Global,
-    files: &mut F,
-    path: &str,
-    script: &Script<'_>,
-    out: &mut W,
-) -> Status
-    ensures runs { IsAskedOf true path.now script.now
-        (F.facts files.old) (F.facts files.new) (W.facts out.old) (W.facts out.new) result
-        ⊎ IsUnlent true path.now
-        (F.facts files.old) (F.facts files.new) (W.facts out.old) (W.facts out.new) result }
-    ensures crash { Runs (IsSameBut path.now (HoldsAsked path.now script.now (F.facts files.old)
-        (W.facts out.old) (W.facts out.new) result))
-        (F.facts files.old) (F.clock files.old) (F.clock files.new) }
-    ensures lasts { SaysAllDone result
-        → Endures path.now (HoldsAsked path.now script.now (F.facts files.old)
-        (W.facts out.old) (W.facts out.new) result) (F.facts files.old) (F.clock files.new) }
-{
-    match files.change(path) {
-        Ok(store) => run_store(alloc, files, path, true, store, script, out),
-        Err(fault) => tell_open_fault(fault, out),
-    }
-}
-
-// Runs a script that only asks on a table file.
-fn ask_table<F: Files, W: Out>(
-    alloc: Global,
-    files: &mut F,
-    path: &str,
-    script: &Script<'_>,
-    out: &mut W,
-) -> Status
-    ensures runs { IsAskedOf false path.now script.now
-        (F.facts files.old) (F.facts files.new) (W.facts out.old) (W.facts out.new) result
-        ⊎ IsUnlent false path.now
-        (F.facts files.old) (F.facts files.new) (W.facts out.old) (W.facts out.new) result }
-    ensures crash { Runs (IsSameBut path.now (HoldsAsked path.now script.now (F.facts files.old)
-        (W.facts out.old) (W.facts out.new) result))
-        (F.facts files.old) (F.clock files.old) (F.clock files.new) }
-{
-    match files.open(path) {
-        Ok(store) => run_store(alloc, files, path, false, store, script, out),
-        Err(fault) => tell_store_fault(fault, out),
-    }
-}
-
-// Runs a script on the table in the store of a table file, and keeps the store, or puts it back.
-fn run_store<F: Files, W: Out>(
+// Runs a script on a table file, which is opened so.
+fn run_on<F: Files, W: Out>(
     alloc: Global,
     files: &mut F,
     path: &str,
     changes: bool,
-    store: F::Store,
     script: &Script<'_>,
     out: &mut W,
 ) -> Status
-    ensures asks { AsksStore changes path.now script.now (F.Store.facts store)
+    ensures runs { IsAskedOf changes path.now script.now
+        (F.facts files.old) (F.facts files.new) (W.facts out.old) (W.facts out.new) result
+        ⊎ IsUnlent changes path.now
         (F.facts files.old) (F.facts files.new) (W.facts out.old) (W.facts out.new) result }
-    ensures crash { Runs (IsSameBut path.now (HoldsLeft (F.Store.facts store) script.now
+    ensures crash { Runs (IsSameBut path.now (HoldsAsked path.now script.now (F.facts files.old)
         (W.facts out.old) (W.facts out.new) result))
         (F.facts files.old) (F.clock files.old) (F.clock files.new) }
     ensures lasts { IsTrue changes → SaysAllDone result
-        → Endures path.now (HoldsLeft (F.Store.facts store) script.now
+        → Endures path.now (HoldsAsked path.now script.now (F.facts files.old)
         (W.facts out.old) (W.facts out.new) result) (F.facts files.old) (F.clock files.new) }
 {
-    match Tree::open(alloc, store) {
+    match open_table(alloc, files, path, changes, out) {
         Ok(tree) => run_tree(alloc, files, path, changes, tree, script, out),
-        Err(refused) => {
-            files.put_back(path, refused.store);
-            tell_tree_fault(refused.fault, out)
-        }
+        Err(status) => status,
     }
 }
 
@@ -155,14 +101,8 @@ fn run_tree<F: Files, W: Out>(
     script: &Script<'_>,
     out: &mut W,
 ) -> Status
-    ensures { (left : StoreFacts)
-        × (ran : HasRunTree tree script.now left (W.facts out.old) (W.facts out.new) result)
-        × IsKept changes path.now left.pages ran.closing ran.keeping
-        (F.facts files.old) (F.facts files.new)
-        × Runs (IsSameBut path.now (λ held. IsOk ran.closing × HasPages held left.pages))
-        (F.facts files.old) (F.clock files.old) (F.clock files.new)
-        × (IsTrue changes → IsOk (both_ended ran.closing ran.keeping)
-        → Lasts path.now left.pages (F.facts files.old) (F.clock files.new)) }
+    ensures { RunsTree changes path.now script.now tree (F.facts files.old) (F.facts files.new)
+        (F.clock files.old) (F.clock files.new) (W.facts out.old) (W.facts out.new) result }
 {
     let ran = script.run(alloc, &mut tree, out);
     let closed = close_table(files, path, changes, tree);

@@ -5,13 +5,15 @@ use Rattle.std.specs.Str.{bytes_eq}
 use Rattle.std.proofs.lemmas.Bool.{false≢true}
 use Rattle.std.proofs.lemmas.Slice.Eq.{bytes_eq-Decides}
 use Rattle.std.specs.Prelude.{option_map}
-use Rattle.clap.specs.Words.{App, HasKind, HasMatchesOf, IsAmong, Row, fault_of, is_simple, is_simple_and_free, subcommand_of, subcommand_rows_of}
+use Rattle.clap.specs.Words.{App, HasKind, HasMatchesOf, IsAmong, Row, fault_of, is_simple, is_simple_and_free, new_app, subcommand_of, subcommand_rows_of}
 use Rattle.clap.specs.declared.error.Error.{Error}
 use Rattle.clap.specs.declared.parser.matches.ArgMatches.{ArgMatches}
 use Rattle.clap.specs.declared.error.kind.ErrorKind.{ErrorKind}
 use Rattle.clap.specs.declared.error.kind.ErrorKind.TheVariants as kind
 use Rattle.clap.proofs.OnLiterals.{clap_on_literals}
-use Rattle.ub_words.specs.CommandLine.{AreNextWords, AsksHelpAlone, AsksNothing, IsAppendGiven, IsCheckGiven, IsDescribeGiven, IsLoadGiven, IsNextGiven, IsQueryGiven, IsRunGiven, IsTaken, IsTryGiven, IsUpgradeGiven, standard_input, ubq_app}
+use Rattle.ub_words.specs.CommandLine.{AreNextWords, AsksHelpAlone, AsksNothing, IsAppendGiven, IsLoadGiven, IsNextGiven, IsQueryGiven, IsRunGiven, IsTableGiven, IsTaken, IsTryGiven, IsUpgradeGiven, standard_input, table_name, ubq_app}
+use Rattle.ub_words.specs.declared.given.TableCommand.{TableCommand}
+use Rattle.ub_words.specs.declared.given.TableCommand.TheVariants.{Describe}
 
 -- the program's command line is one whose matches `clap` tells
 pub ubq_is_simple : is_simple ubq_app ≡ true
@@ -21,6 +23,12 @@ ubq_is_simple = refl
 pub ubq_is_free : is_simple_and_free ubq_app ≡ true
 unfolding clap_on_literals ubq_app
 ubq_is_free = refl
+
+-- before its commands are added
+abbrev pub bare_app : App
+bare_app = record (new_app (codes "ubq")) {
+  top = record (new_app (codes "ubq")).top { has_version = true; subcommand_required = true };
+}
 
 -- what is found is one thing
 abbrev both : List ℕ → List Row → Option (List ℕ × List Row)
@@ -51,7 +59,16 @@ no_help_refused words k among no_help no_version (inr version) = no_version (onl
 pub differ : (name other : List ℕ) → name ≡ other → bytes_eq name other ≡ false → ⊥
 differ name other e unlike = false≢true (sym unlike ∙ (bytes_eq-Decides name other).1 e)
 
--- words by which a command was found ask for nothing, if it is none of the nine, or what was given for it is not enough
+-- another command's name is none of a command whose words are a table file alone
+abbrev pub IsApart : List ℕ → TableCommand → Type 0
+IsApart name command = bytes_eq name (table_name command) ≡ false
+
+pub apart : (command : TableCommand) → IsApart (codes "try") command × IsApart (codes "load") command × IsApart (codes "run") command × IsApart (codes "query") command
+    × IsApart (codes "append") command × IsApart (codes "upgrade") command × IsApart (codes "next") command
+apart Describe = (refl, refl, refl, refl, refl, refl, refl)
+apart command = (refl, refl, refl, refl, refl, refl, refl)
+
+-- words by which a command was found ask for nothing, if it is none of these, or what was given for it is not enough
 pub nothing_by : (words : List (List ℕ)) (name : List ℕ) (rows : List Row) → IsTaken words (both name rows)
     → (name ≡ codes "try" → (source script table : List ℕ) (dims page_rows signed : ℕ) → IsTryGiven rows source script table dims page_rows signed
     → (source ≡ standard_input) × (script ≡ standard_input))
@@ -60,10 +77,9 @@ pub nothing_by : (words : List (List ℕ)) (name : List ℕ) (rows : List Row) �
     → (name ≡ codes "query" → (table statements : List ℕ) → ¬ (IsQueryGiven rows table statements))
     → (name ≡ codes "append" → (table source : List ℕ) → ¬ (IsAppendGiven rows table source))
     → (name ≡ codes "upgrade" → (old new : List ℕ) → ¬ (IsUpgradeGiven rows old new))
-    → (name ≡ codes "describe" → (table : List ℕ) → ¬ (IsDescribeGiven rows table))
-    → (name ≡ codes "check" → (table : List ℕ) → ¬ (IsCheckGiven rows table))
+    → ((command : TableCommand) → name ≡ table_name command → (table : List ℕ) → ¬ (IsTableGiven rows table))
     → (name ≡ codes "next" → (lo hi z : List ℕ) → ¬ (IsNextGiven rows lo hi z)) → AsksNothing words
-nothing_by words name rows taken by_try by_load by_run by_query by_append by_upgrade by_describe by_check by_next = record {
+nothing_by words name rows taken by_try by_load by_run by_query by_append by_upgrade by_table by_next = record {
   no_try = λ source script table dims page_rows signed asks.
       let same = same_found _ _ _ _ (sym taken.1 ∙ asks.1.1) in
       asks.3 (by_try same.0 source script table dims page_rows signed (subst (λ (r : List Row). IsTryGiven r source script table dims page_rows signed) (sym same.1) asks.2));
@@ -82,12 +98,9 @@ nothing_by words name rows taken by_try by_load by_run by_query by_append by_upg
   no_upgrade = λ old new asks.
       let same = same_found _ _ _ _ (sym taken.1 ∙ asks.1.1) in
       by_upgrade same.0 old new (subst (λ (r : List Row). IsUpgradeGiven r old new) (sym same.1) asks.2);
-  no_describe = λ table asks.
+  no_table = λ command table asks.
       let same = same_found _ _ _ _ (sym taken.1 ∙ asks.1.1) in
-      by_describe same.0 table (subst (λ (r : List Row). IsDescribeGiven r table) (sym same.1) asks.2);
-  no_check = λ table asks.
-      let same = same_found _ _ _ _ (sym taken.1 ∙ asks.1.1) in
-      by_check same.0 table (subst (λ (r : List Row). IsCheckGiven r table) (sym same.1) asks.2);
+      by_table command same.0 table (subst (λ (r : List Row). IsTableGiven r table) (sym same.1) asks.2);
   no_next = λ lo hi z asks. elim asks [
     | inl by_clap ↦
         let same = same_found _ _ _ _ (sym taken.1 ∙ by_clap.1.1) in
@@ -103,55 +116,50 @@ pub nothing_by_try : (words : List (List ℕ)) (rows : List Row) → IsTaken wor
     → (source ≡ standard_input) × (script ≡ standard_input)) → AsksNothing words
 nothing_by_try words rows taken none =
     nothing_by words (codes "try") rows taken (λ e. none) (λ e. absurd (differ _ _ e refl)) (λ e. absurd (differ _ _ e refl)) (λ e. absurd (differ _ _ e refl))
-    (λ e. absurd (differ _ _ e refl)) (λ e. absurd (differ _ _ e refl)) (λ e. absurd (differ _ _ e refl)) (λ e. absurd (differ _ _ e refl)) (λ e. absurd (differ _ _ e refl))
+    (λ e. absurd (differ _ _ e refl)) (λ e. absurd (differ _ _ e refl)) (λ command e. absurd (differ _ _ e (apart command).0)) (λ e. absurd (differ _ _ e refl))
 
 pub nothing_by_load : (words : List (List ℕ)) (rows : List Row) → IsTaken words (both (codes "load") rows)
     → ((source table name : List ℕ) (dims page_rows signed : ℕ) → ¬ (IsLoadGiven rows source table name dims page_rows signed)) → AsksNothing words
 nothing_by_load words rows taken none =
     nothing_by words (codes "load") rows taken (λ e. absurd (differ _ _ e refl)) (λ e. none) (λ e. absurd (differ _ _ e refl)) (λ e. absurd (differ _ _ e refl))
-    (λ e. absurd (differ _ _ e refl)) (λ e. absurd (differ _ _ e refl)) (λ e. absurd (differ _ _ e refl)) (λ e. absurd (differ _ _ e refl)) (λ e. absurd (differ _ _ e refl))
+    (λ e. absurd (differ _ _ e refl)) (λ e. absurd (differ _ _ e refl)) (λ command e. absurd (differ _ _ e (apart command).1)) (λ e. absurd (differ _ _ e refl))
 
 pub nothing_by_run : (words : List (List ℕ)) (rows : List Row) → IsTaken words (both (codes "run") rows)
     → ((table script : List ℕ) → ¬ (IsRunGiven rows table script)) → AsksNothing words
 nothing_by_run words rows taken none =
     nothing_by words (codes "run") rows taken (λ e. absurd (differ _ _ e refl)) (λ e. absurd (differ _ _ e refl)) (λ e. none) (λ e. absurd (differ _ _ e refl))
-    (λ e. absurd (differ _ _ e refl)) (λ e. absurd (differ _ _ e refl)) (λ e. absurd (differ _ _ e refl)) (λ e. absurd (differ _ _ e refl)) (λ e. absurd (differ _ _ e refl))
+    (λ e. absurd (differ _ _ e refl)) (λ e. absurd (differ _ _ e refl)) (λ command e. absurd (differ _ _ e (apart command).2)) (λ e. absurd (differ _ _ e refl))
 
 pub nothing_by_query : (words : List (List ℕ)) (rows : List Row) → IsTaken words (both (codes "query") rows)
     → ((table statements : List ℕ) → ¬ (IsQueryGiven rows table statements)) → AsksNothing words
 nothing_by_query words rows taken none =
     nothing_by words (codes "query") rows taken (λ e. absurd (differ _ _ e refl)) (λ e. absurd (differ _ _ e refl)) (λ e. absurd (differ _ _ e refl)) (λ e. none)
-    (λ e. absurd (differ _ _ e refl)) (λ e. absurd (differ _ _ e refl)) (λ e. absurd (differ _ _ e refl)) (λ e. absurd (differ _ _ e refl)) (λ e. absurd (differ _ _ e refl))
+    (λ e. absurd (differ _ _ e refl)) (λ e. absurd (differ _ _ e refl)) (λ command e. absurd (differ _ _ e (apart command).3)) (λ e. absurd (differ _ _ e refl))
 
 pub nothing_by_append : (words : List (List ℕ)) (rows : List Row) → IsTaken words (both (codes "append") rows)
     → ((table source : List ℕ) → ¬ (IsAppendGiven rows table source)) → AsksNothing words
 nothing_by_append words rows taken none =
     nothing_by words (codes "append") rows taken (λ e. absurd (differ _ _ e refl)) (λ e. absurd (differ _ _ e refl)) (λ e. absurd (differ _ _ e refl)) (λ e. absurd (differ _ _ e refl))
-    (λ e. none) (λ e. absurd (differ _ _ e refl)) (λ e. absurd (differ _ _ e refl)) (λ e. absurd (differ _ _ e refl)) (λ e. absurd (differ _ _ e refl))
+    (λ e. none) (λ e. absurd (differ _ _ e refl)) (λ command e. absurd (differ _ _ e (apart command).4)) (λ e. absurd (differ _ _ e refl))
 
 pub nothing_by_upgrade : (words : List (List ℕ)) (rows : List Row) → IsTaken words (both (codes "upgrade") rows)
     → ((old new : List ℕ) → ¬ (IsUpgradeGiven rows old new)) → AsksNothing words
 nothing_by_upgrade words rows taken none =
     nothing_by words (codes "upgrade") rows taken (λ e. absurd (differ _ _ e refl)) (λ e. absurd (differ _ _ e refl)) (λ e. absurd (differ _ _ e refl)) (λ e. absurd (differ _ _ e refl))
-    (λ e. absurd (differ _ _ e refl)) (λ e. none) (λ e. absurd (differ _ _ e refl)) (λ e. absurd (differ _ _ e refl)) (λ e. absurd (differ _ _ e refl))
+    (λ e. absurd (differ _ _ e refl)) (λ e. none) (λ command e. absurd (differ _ _ e (apart command).5)) (λ e. absurd (differ _ _ e refl))
 
-pub nothing_by_describe : (words : List (List ℕ)) (rows : List Row) → IsTaken words (both (codes "describe") rows)
-    → ((table : List ℕ) → ¬ (IsDescribeGiven rows table)) → AsksNothing words
-nothing_by_describe words rows taken none =
-    nothing_by words (codes "describe") rows taken (λ e. absurd (differ _ _ e refl)) (λ e. absurd (differ _ _ e refl)) (λ e. absurd (differ _ _ e refl)) (λ e. absurd (differ _ _ e refl))
-    (λ e. absurd (differ _ _ e refl)) (λ e. absurd (differ _ _ e refl)) (λ e. none) (λ e. absurd (differ _ _ e refl)) (λ e. absurd (differ _ _ e refl))
-
-pub nothing_by_check : (words : List (List ℕ)) (rows : List Row) → IsTaken words (both (codes "check") rows)
-    → ((table : List ℕ) → ¬ (IsCheckGiven rows table)) → AsksNothing words
-nothing_by_check words rows taken none =
-    nothing_by words (codes "check") rows taken (λ e. absurd (differ _ _ e refl)) (λ e. absurd (differ _ _ e refl)) (λ e. absurd (differ _ _ e refl)) (λ e. absurd (differ _ _ e refl))
-    (λ e. absurd (differ _ _ e refl)) (λ e. absurd (differ _ _ e refl)) (λ e. absurd (differ _ _ e refl)) (λ e. none) (λ e. absurd (differ _ _ e refl))
+pub nothing_by_table : (words : List (List ℕ)) (command : TableCommand) (rows : List Row) → IsTaken words (both (table_name command) rows)
+    → ((table : List ℕ) → ¬ (IsTableGiven rows table)) → AsksNothing words
+nothing_by_table words command rows taken none =
+    let other = apart command in
+    nothing_by words (table_name command) rows taken (λ e. absurd (differ _ _ (sym e) other.0)) (λ e. absurd (differ _ _ (sym e) other.1)) (λ e. absurd (differ _ _ (sym e) other.2))
+    (λ e. absurd (differ _ _ (sym e) other.3)) (λ e. absurd (differ _ _ (sym e) other.4)) (λ e. absurd (differ _ _ (sym e) other.5)) (λ more e. none) (λ e. absurd (differ _ _ (sym e) other.6))
 
 pub nothing_by_next : (words : List (List ℕ)) (rows : List Row) → IsTaken words (both (codes "next") rows)
     → ((lo hi z : List ℕ) → ¬ (IsNextGiven rows lo hi z)) → AsksNothing words
 nothing_by_next words rows taken none =
     nothing_by words (codes "next") rows taken (λ e. absurd (differ _ _ e refl)) (λ e. absurd (differ _ _ e refl)) (λ e. absurd (differ _ _ e refl)) (λ e. absurd (differ _ _ e refl))
-    (λ e. absurd (differ _ _ e refl)) (λ e. absurd (differ _ _ e refl)) (λ e. absurd (differ _ _ e refl)) (λ e. absurd (differ _ _ e refl)) (λ e. none)
+    (λ e. absurd (differ _ _ e refl)) (λ e. absurd (differ _ _ e refl)) (λ command e. absurd (differ _ _ e (apart command).6)) (λ e. none)
 
 -- words by which no command was found
 pub nothing_by_none : (words : List (List ℕ)) (found : Option (List ℕ × List Row)) → None ≡ found → IsTaken words found → AsksNothing words
@@ -162,8 +170,7 @@ nothing_by_none words found is taken = record {
   no_query = λ table statements asks. let bad = is ∙ (sym taken.1 ∙ asks.1.1) in cc;
   no_append = λ table source asks. let bad = is ∙ (sym taken.1 ∙ asks.1.1) in cc;
   no_upgrade = λ old new asks. let bad = is ∙ (sym taken.1 ∙ asks.1.1) in cc;
-  no_describe = λ table asks. let bad = is ∙ (sym taken.1 ∙ asks.1.1) in cc;
-  no_check = λ table asks. let bad = is ∙ (sym taken.1 ∙ asks.1.1) in cc;
+  no_table = λ command table asks. let bad = is ∙ (sym taken.1 ∙ asks.1.1) in cc;
   no_next = λ lo hi z asks. elim asks [
     | inl by_clap ↦ let bad = is ∙ (sym taken.1 ∙ by_clap.1.1) in cc
     | inr by_place ↦ by_place.0 taken.0
@@ -180,8 +187,7 @@ nothing_by_refusal words refused no_help none = record {
   no_query = λ table statements asks. refused asks.1.0;
   no_append = λ table source asks. refused asks.1.0;
   no_upgrade = λ old new asks. refused asks.1.0;
-  no_describe = λ table asks. refused asks.1.0;
-  no_check = λ table asks. refused asks.1.0;
+  no_table = λ command table asks. refused asks.1.0;
   no_next = λ lo hi z asks. elim asks [
     | inl by_clap ↦ refused by_clap.1.0
     | inr by_place ↦ none lo hi z by_place.1

@@ -5,10 +5,13 @@ use Rattle.std.specs.Str.{bytes_eq}
 use Rattle.clap.specs.Words.{IsAmong, Row, fault_of}
 use Rattle.clap.specs.declared.error.kind.ErrorKind.{ErrorKind}
 use Rattle.clap.specs.declared.error.kind.ErrorKind.TheVariants as kind
-use Rattle.ub_words.specs.CommandLine.{AsksAppend, AsksCheck, AsksDescribe, AsksHelp, AsksLoad, AsksNext, AsksQuery, AsksRun, AsksTry, AsksUpgrade, IsAppendGiven, IsCheckGiven, IsDataGiven, IsDescribeGiven, IsLoadGiven, IsNextGiven, IsQueryGiven, IsRunGiven, IsTaken, IsTryGiven, IsUpgradeGiven, ubq_app}
+use Rattle.ub_words.specs.CommandLine.{AsksAppend, AsksHelp, AsksLoad, AsksNext, AsksNothing, AsksQuery, AsksRun, AsksTable, AsksTry, AsksUpgrade, IsAppendGiven, IsDataGiven, IsLoadGiven, IsNextGiven, IsQueryGiven, IsRunGiven, IsTableGiven, IsTaken, IsTryGiven, IsUpgradeGiven, table_name, ubq_app}
+use Rattle.ub_words.specs.Asked.{IsAskedBy}
 use Rattle.ub_words.specs.Laws.{HelpIsHelp, OneThingIsAsked}
-use Rattle.ub_words.specs.declared.words.Asked.TheVariants.{Try, Load, Run, Query, Append, Upgrade, Describe, Check, Next, Help, Wrong}
-use Rattle.ub_words.proofs.AskFacts.{differ, one_text, same_found}
+use Rattle.ub_words.specs.declared.given.TableCommand.{TableCommand}
+use Rattle.ub_words.specs.declared.words.Asked.{Asked}
+use Rattle.ub_words.specs.declared.words.Asked.TheVariants.{Try, Load, Run, Query, Append, Upgrade, Table, Next, Help, Wrong}
+use Rattle.ub_words.proofs.AskFacts.{apart, differ, one_text, same_found}
 use Rattle.ub_words.proofs.GivenFacts.{number_only}
 pub use Rattle.ub_words.proofs.AskFacts.{no_help_taken}
 
@@ -64,17 +67,11 @@ same_upgrade words o n u v a b =
     let given = subst (λ (r : List Row). IsUpgradeGiven r o n) rows a.2 in
     (one_text _ o u given.old_is b.2.old_is, one_text _ n v given.new_is b.2.new_is)
 
-same_describe : (words : List (List ℕ)) (t u : List ℕ) → AsksDescribe words t → AsksDescribe words u → t ≡ u
-same_describe words t u a b =
-    let rows = (same_found _ _ a.0 b.0 (sym a.1.1 ∙ b.1.1)).1 in
-    let given = subst (λ (r : List Row). IsDescribeGiven r t) rows a.2 in
-    one_text _ t u given b.2
-
-same_check : (words : List (List ℕ)) (t u : List ℕ) → AsksCheck words t → AsksCheck words u → t ≡ u
-same_check words t u a b =
-    let rows = (same_found _ _ a.0 b.0 (sym a.1.1 ∙ b.1.1)).1 in
-    let given = subst (λ (r : List Row). IsCheckGiven r t) rows a.2 in
-    one_text _ t u given b.2
+same_table : (words : List (List ℕ)) (c d : TableCommand) (t u : List ℕ) → AsksTable words c t → AsksTable words d u → (table_name c ≡ table_name d) × (t ≡ u)
+same_table words c d t u a b =
+    let same = same_found _ _ a.0 b.0 (sym a.1.1 ∙ b.1.1) in
+    let given = subst (λ (r : List Row). IsTableGiven r t) same.1 a.2 in
+    (same.0, one_text _ t u given b.2)
 
 -- `clap` finds this command
 abbrev Names : List (List ℕ) → List ℕ → Type 0
@@ -88,9 +85,18 @@ one_name words name other a b = (same_found _ _ a.0 b.0 (sym a.1.1 ∙ b.1.1)).0
 clash : (words : List (List ℕ)) (name other : List ℕ) → Names words name → Names words other → bytes_eq name other ≡ false → ⊥
 clash words name other a b unlike = differ name other (one_name words name other a b) unlike
 
+not_table : (words : List (List ℕ)) (name : List ℕ) (command : TableCommand) (table : List ℕ) → Names words name → AsksTable words command table
+    → bytes_eq name (table_name command) ≡ false → ⊥
+not_table words name command table a b unlike = clash words name (table_name command) a (b.0, b.1) unlike
+
 not_next : (words : List (List ℕ)) (name l h z : List ℕ) → Names words name → AsksNext words l h z → bytes_eq name (codes "next") ≡ false → ⊥
 not_next words name l h z a (inl by_clap) unlike = clash words name (codes "next") a (by_clap.0, by_clap.1) unlike
 not_next words name l h z a (inr by_place) unlike = by_place.0 a.1.0
+
+-- three words after `next`, and a command on a table file
+next_apart : (words : List (List ℕ)) (l h z : List ℕ) (command : TableCommand) (table : List ℕ) → AsksNext words l h z → AsksTable words command table → ⊥
+next_apart words l h z command table (inl by_clap) asks = not_table words (codes "next") command table (by_clap.0, by_clap.1) asks (apart command).6
+next_apart words l h z command table (inr by_place) asks = by_place.0 asks.1.0
 
 no_kind : (words : List (List ℕ)) → fault_of ubq_app words ≡ [] → (k : ErrorKind) → IsAmong k (fault_of ubq_app words) → ⊥
 no_kind words none k among = subst (λ kinds. IsAmong k kinds) none among
@@ -111,139 +117,65 @@ same_next words l h z m i y (inl a) (inr b) = absurd (b.0 a.1.0)
 same_next words l h z m i y (inr a) (inl b) = absurd (a.0 b.1.0)
 same_next words l h z m i y (inr a) (inr b) = same_place l h z m i y a.1.0 b.1.0 words a.1.1 b.1.1
 
+-- this is no command: the help, or what is told of words that ask for nothing
+abbrev pub IsNoCommand : Asked → Type 0
+IsNoCommand (Help text) = Unit {0}
+IsNoCommand (Wrong text) = Unit {0}
+IsNoCommand a = ⊥
+
+-- words that ask for nothing ask for no command
+pub nothing_asked : (words : List (List ℕ)) (a : Asked) → AsksNothing words → IsAskedBy words a → IsNoCommand a
+nothing_asked words (Try a) nothing is = absurd (nothing.no_try _ _ _ _ _ _ is)
+nothing_asked words (Load a) nothing is = absurd (nothing.no_load _ _ _ _ _ _ is)
+nothing_asked words (Run a) nothing is = absurd (nothing.no_run _ _ is)
+nothing_asked words (Query a) nothing is = absurd (nothing.no_query _ _ is)
+nothing_asked words (Append a) nothing is = absurd (nothing.no_append _ _ is)
+nothing_asked words (Upgrade a) nothing is = absurd (nothing.no_upgrade _ _ is)
+nothing_asked words (Table a) nothing is = absurd (nothing.no_table a.command a.table.now is)
+nothing_asked words (Next a) nothing is = absurd (nothing.no_next _ _ _ is)
+nothing_asked words a nothing is = tt
+
 pub one_thing_is_asked : OneThingIsAsked
 one_thing_is_asked words (Try a) (Try b) is same = same_try words _ _ _ _ _ _ _ _ _ _ _ _ is same
-one_thing_is_asked words (Try a) (Load b) is same = absurd (clash words _ _ (is.0, is.1) (same.0, same.1) refl)
-one_thing_is_asked words (Try a) (Run b) is same = absurd (clash words _ _ (is.0, is.1) (same.0, same.1) refl)
-one_thing_is_asked words (Try a) (Query b) is same = absurd (clash words _ _ (is.0, is.1) (same.0, same.1) refl)
-one_thing_is_asked words (Try a) (Append b) is same = absurd (clash words _ _ (is.0, is.1) (same.0, same.1) refl)
-one_thing_is_asked words (Try a) (Upgrade b) is same = absurd (clash words _ _ (is.0, is.1) (same.0, same.1) refl)
-one_thing_is_asked words (Try a) (Describe b) is same = absurd (clash words _ _ (is.0, is.1) (same.0, same.1) refl)
-one_thing_is_asked words (Try a) (Check b) is same = absurd (clash words _ _ (is.0, is.1) (same.0, same.1) refl)
-one_thing_is_asked words (Try a) (Next b) is same = absurd (not_next words _ _ _ _ (is.0, is.1) same refl)
-one_thing_is_asked words (Try a) (Help b) is same = absurd (no_help words _ (is.0, is.1) same.0)
-one_thing_is_asked words (Try a) (Wrong b) is same = absurd (same.0.no_try _ _ _ _ _ _ is)
 one_thing_is_asked words (Load a) (Load b) is same = same_load words _ _ _ _ _ _ _ _ _ _ _ _ is same
-one_thing_is_asked words (Load a) (Try b) is same = absurd (clash words _ _ (is.0, is.1) (same.0, same.1) refl)
-one_thing_is_asked words (Load a) (Run b) is same = absurd (clash words _ _ (is.0, is.1) (same.0, same.1) refl)
-one_thing_is_asked words (Load a) (Query b) is same = absurd (clash words _ _ (is.0, is.1) (same.0, same.1) refl)
-one_thing_is_asked words (Load a) (Append b) is same = absurd (clash words _ _ (is.0, is.1) (same.0, same.1) refl)
-one_thing_is_asked words (Load a) (Upgrade b) is same = absurd (clash words _ _ (is.0, is.1) (same.0, same.1) refl)
-one_thing_is_asked words (Load a) (Describe b) is same = absurd (clash words _ _ (is.0, is.1) (same.0, same.1) refl)
-one_thing_is_asked words (Load a) (Check b) is same = absurd (clash words _ _ (is.0, is.1) (same.0, same.1) refl)
-one_thing_is_asked words (Load a) (Next b) is same = absurd (not_next words _ _ _ _ (is.0, is.1) same refl)
-one_thing_is_asked words (Load a) (Help b) is same = absurd (no_help words _ (is.0, is.1) same.0)
-one_thing_is_asked words (Load a) (Wrong b) is same = absurd (same.0.no_load _ _ _ _ _ _ is)
 one_thing_is_asked words (Run a) (Run b) is same = same_run words _ _ _ _ is same
-one_thing_is_asked words (Run a) (Try b) is same = absurd (clash words _ _ (is.0, is.1) (same.0, same.1) refl)
-one_thing_is_asked words (Run a) (Load b) is same = absurd (clash words _ _ (is.0, is.1) (same.0, same.1) refl)
-one_thing_is_asked words (Run a) (Query b) is same = absurd (clash words _ _ (is.0, is.1) (same.0, same.1) refl)
-one_thing_is_asked words (Run a) (Append b) is same = absurd (clash words _ _ (is.0, is.1) (same.0, same.1) refl)
-one_thing_is_asked words (Run a) (Upgrade b) is same = absurd (clash words _ _ (is.0, is.1) (same.0, same.1) refl)
-one_thing_is_asked words (Run a) (Describe b) is same = absurd (clash words _ _ (is.0, is.1) (same.0, same.1) refl)
-one_thing_is_asked words (Run a) (Check b) is same = absurd (clash words _ _ (is.0, is.1) (same.0, same.1) refl)
-one_thing_is_asked words (Run a) (Next b) is same = absurd (not_next words _ _ _ _ (is.0, is.1) same refl)
-one_thing_is_asked words (Run a) (Help b) is same = absurd (no_help words _ (is.0, is.1) same.0)
-one_thing_is_asked words (Run a) (Wrong b) is same = absurd (same.0.no_run _ _ is)
 one_thing_is_asked words (Query a) (Query b) is same = same_query words _ _ _ _ is same
-one_thing_is_asked words (Query a) (Try b) is same = absurd (clash words _ _ (is.0, is.1) (same.0, same.1) refl)
-one_thing_is_asked words (Query a) (Load b) is same = absurd (clash words _ _ (is.0, is.1) (same.0, same.1) refl)
-one_thing_is_asked words (Query a) (Run b) is same = absurd (clash words _ _ (is.0, is.1) (same.0, same.1) refl)
-one_thing_is_asked words (Query a) (Append b) is same = absurd (clash words _ _ (is.0, is.1) (same.0, same.1) refl)
-one_thing_is_asked words (Query a) (Upgrade b) is same = absurd (clash words _ _ (is.0, is.1) (same.0, same.1) refl)
-one_thing_is_asked words (Query a) (Describe b) is same = absurd (clash words _ _ (is.0, is.1) (same.0, same.1) refl)
-one_thing_is_asked words (Query a) (Check b) is same = absurd (clash words _ _ (is.0, is.1) (same.0, same.1) refl)
-one_thing_is_asked words (Query a) (Next b) is same = absurd (not_next words _ _ _ _ (is.0, is.1) same refl)
-one_thing_is_asked words (Query a) (Help b) is same = absurd (no_help words _ (is.0, is.1) same.0)
-one_thing_is_asked words (Query a) (Wrong b) is same = absurd (same.0.no_query _ _ is)
 one_thing_is_asked words (Append a) (Append b) is same = same_append words _ _ _ _ is same
-one_thing_is_asked words (Append a) (Try b) is same = absurd (clash words _ _ (is.0, is.1) (same.0, same.1) refl)
-one_thing_is_asked words (Append a) (Load b) is same = absurd (clash words _ _ (is.0, is.1) (same.0, same.1) refl)
-one_thing_is_asked words (Append a) (Run b) is same = absurd (clash words _ _ (is.0, is.1) (same.0, same.1) refl)
-one_thing_is_asked words (Append a) (Query b) is same = absurd (clash words _ _ (is.0, is.1) (same.0, same.1) refl)
-one_thing_is_asked words (Append a) (Upgrade b) is same = absurd (clash words _ _ (is.0, is.1) (same.0, same.1) refl)
-one_thing_is_asked words (Append a) (Describe b) is same = absurd (clash words _ _ (is.0, is.1) (same.0, same.1) refl)
-one_thing_is_asked words (Append a) (Check b) is same = absurd (clash words _ _ (is.0, is.1) (same.0, same.1) refl)
-one_thing_is_asked words (Append a) (Next b) is same = absurd (not_next words _ _ _ _ (is.0, is.1) same refl)
-one_thing_is_asked words (Append a) (Help b) is same = absurd (no_help words _ (is.0, is.1) same.0)
-one_thing_is_asked words (Append a) (Wrong b) is same = absurd (same.0.no_append _ _ is)
 one_thing_is_asked words (Upgrade a) (Upgrade b) is same = same_upgrade words _ _ _ _ is same
-one_thing_is_asked words (Upgrade a) (Try b) is same = absurd (clash words _ _ (is.0, is.1) (same.0, same.1) refl)
-one_thing_is_asked words (Upgrade a) (Load b) is same = absurd (clash words _ _ (is.0, is.1) (same.0, same.1) refl)
-one_thing_is_asked words (Upgrade a) (Run b) is same = absurd (clash words _ _ (is.0, is.1) (same.0, same.1) refl)
-one_thing_is_asked words (Upgrade a) (Query b) is same = absurd (clash words _ _ (is.0, is.1) (same.0, same.1) refl)
-one_thing_is_asked words (Upgrade a) (Append b) is same = absurd (clash words _ _ (is.0, is.1) (same.0, same.1) refl)
-one_thing_is_asked words (Upgrade a) (Describe b) is same = absurd (clash words _ _ (is.0, is.1) (same.0, same.1) refl)
-one_thing_is_asked words (Upgrade a) (Check b) is same = absurd (clash words _ _ (is.0, is.1) (same.0, same.1) refl)
-one_thing_is_asked words (Upgrade a) (Next b) is same = absurd (not_next words _ _ _ _ (is.0, is.1) same refl)
-one_thing_is_asked words (Upgrade a) (Help b) is same = absurd (no_help words _ (is.0, is.1) same.0)
-one_thing_is_asked words (Upgrade a) (Wrong b) is same = absurd (same.0.no_upgrade _ _ is)
-one_thing_is_asked words (Describe a) (Describe b) is same = same_describe words _ _ is same
-one_thing_is_asked words (Describe a) (Try b) is same = absurd (clash words _ _ (is.0, is.1) (same.0, same.1) refl)
-one_thing_is_asked words (Describe a) (Load b) is same = absurd (clash words _ _ (is.0, is.1) (same.0, same.1) refl)
-one_thing_is_asked words (Describe a) (Run b) is same = absurd (clash words _ _ (is.0, is.1) (same.0, same.1) refl)
-one_thing_is_asked words (Describe a) (Query b) is same = absurd (clash words _ _ (is.0, is.1) (same.0, same.1) refl)
-one_thing_is_asked words (Describe a) (Append b) is same = absurd (clash words _ _ (is.0, is.1) (same.0, same.1) refl)
-one_thing_is_asked words (Describe a) (Upgrade b) is same = absurd (clash words _ _ (is.0, is.1) (same.0, same.1) refl)
-one_thing_is_asked words (Describe a) (Check b) is same = absurd (clash words _ _ (is.0, is.1) (same.0, same.1) refl)
-one_thing_is_asked words (Describe a) (Next b) is same = absurd (not_next words _ _ _ _ (is.0, is.1) same refl)
-one_thing_is_asked words (Describe a) (Help b) is same = absurd (no_help words _ (is.0, is.1) same.0)
-one_thing_is_asked words (Describe a) (Wrong b) is same = absurd (same.0.no_describe _ is)
-one_thing_is_asked words (Check a) (Check b) is same = same_check words _ _ is same
-one_thing_is_asked words (Check a) (Try b) is same = absurd (clash words _ _ (is.0, is.1) (same.0, same.1) refl)
-one_thing_is_asked words (Check a) (Load b) is same = absurd (clash words _ _ (is.0, is.1) (same.0, same.1) refl)
-one_thing_is_asked words (Check a) (Run b) is same = absurd (clash words _ _ (is.0, is.1) (same.0, same.1) refl)
-one_thing_is_asked words (Check a) (Query b) is same = absurd (clash words _ _ (is.0, is.1) (same.0, same.1) refl)
-one_thing_is_asked words (Check a) (Append b) is same = absurd (clash words _ _ (is.0, is.1) (same.0, same.1) refl)
-one_thing_is_asked words (Check a) (Upgrade b) is same = absurd (clash words _ _ (is.0, is.1) (same.0, same.1) refl)
-one_thing_is_asked words (Check a) (Describe b) is same = absurd (clash words _ _ (is.0, is.1) (same.0, same.1) refl)
-one_thing_is_asked words (Check a) (Next b) is same = absurd (not_next words _ _ _ _ (is.0, is.1) same refl)
-one_thing_is_asked words (Check a) (Help b) is same = absurd (no_help words _ (is.0, is.1) same.0)
-one_thing_is_asked words (Check a) (Wrong b) is same = absurd (same.0.no_check _ is)
+one_thing_is_asked words (Table a) (Table b) is same = same_table words a.command b.command a.table.now b.table.now is same
 one_thing_is_asked words (Next a) (Next b) is same = same_next words _ _ _ _ _ _ is same
-one_thing_is_asked words (Next a) (Try b) is same = absurd (not_next words _ _ _ _ (same.0, same.1) is refl)
-one_thing_is_asked words (Next a) (Load b) is same = absurd (not_next words _ _ _ _ (same.0, same.1) is refl)
-one_thing_is_asked words (Next a) (Run b) is same = absurd (not_next words _ _ _ _ (same.0, same.1) is refl)
-one_thing_is_asked words (Next a) (Query b) is same = absurd (not_next words _ _ _ _ (same.0, same.1) is refl)
-one_thing_is_asked words (Next a) (Append b) is same = absurd (not_next words _ _ _ _ (same.0, same.1) is refl)
-one_thing_is_asked words (Next a) (Upgrade b) is same = absurd (not_next words _ _ _ _ (same.0, same.1) is refl)
-one_thing_is_asked words (Next a) (Describe b) is same = absurd (not_next words _ _ _ _ (same.0, same.1) is refl)
-one_thing_is_asked words (Next a) (Check b) is same = absurd (not_next words _ _ _ _ (same.0, same.1) is refl)
+one_thing_is_asked words (Try a) (Table b) is same = absurd (not_table words _ b.command b.table.now (is.0, is.1) same (apart b.command).0)
+one_thing_is_asked words (Load a) (Table b) is same = absurd (not_table words _ b.command b.table.now (is.0, is.1) same (apart b.command).1)
+one_thing_is_asked words (Run a) (Table b) is same = absurd (not_table words _ b.command b.table.now (is.0, is.1) same (apart b.command).2)
+one_thing_is_asked words (Query a) (Table b) is same = absurd (not_table words _ b.command b.table.now (is.0, is.1) same (apart b.command).3)
+one_thing_is_asked words (Append a) (Table b) is same = absurd (not_table words _ b.command b.table.now (is.0, is.1) same (apart b.command).4)
+one_thing_is_asked words (Upgrade a) (Table b) is same = absurd (not_table words _ b.command b.table.now (is.0, is.1) same (apart b.command).5)
+one_thing_is_asked words (Next a) (Table b) is same = absurd (next_apart words _ _ _ b.command b.table.now is same)
+one_thing_is_asked words (Table a) (Try b) is same = absurd (not_table words _ a.command a.table.now (same.0, same.1) is (apart a.command).0)
+one_thing_is_asked words (Table a) (Load b) is same = absurd (not_table words _ a.command a.table.now (same.0, same.1) is (apart a.command).1)
+one_thing_is_asked words (Table a) (Run b) is same = absurd (not_table words _ a.command a.table.now (same.0, same.1) is (apart a.command).2)
+one_thing_is_asked words (Table a) (Query b) is same = absurd (not_table words _ a.command a.table.now (same.0, same.1) is (apart a.command).3)
+one_thing_is_asked words (Table a) (Append b) is same = absurd (not_table words _ a.command a.table.now (same.0, same.1) is (apart a.command).4)
+one_thing_is_asked words (Table a) (Upgrade b) is same = absurd (not_table words _ a.command a.table.now (same.0, same.1) is (apart a.command).5)
+one_thing_is_asked words (Table a) (Next b) is same = absurd (next_apart words _ _ _ a.command a.table.now same is)
 one_thing_is_asked words (Next a) (Help b) is same = tt
-one_thing_is_asked words (Next a) (Wrong b) is same = absurd (same.0.no_next _ _ _ is)
-one_thing_is_asked words (Help a) (Try b) is same = absurd (no_help words _ (same.0, same.1) is.0)
-one_thing_is_asked words (Help a) (Load b) is same = absurd (no_help words _ (same.0, same.1) is.0)
-one_thing_is_asked words (Help a) (Run b) is same = absurd (no_help words _ (same.0, same.1) is.0)
-one_thing_is_asked words (Help a) (Query b) is same = absurd (no_help words _ (same.0, same.1) is.0)
-one_thing_is_asked words (Help a) (Append b) is same = absurd (no_help words _ (same.0, same.1) is.0)
-one_thing_is_asked words (Help a) (Upgrade b) is same = absurd (no_help words _ (same.0, same.1) is.0)
-one_thing_is_asked words (Help a) (Describe b) is same = absurd (no_help words _ (same.0, same.1) is.0)
-one_thing_is_asked words (Help a) (Check b) is same = absurd (no_help words _ (same.0, same.1) is.0)
+one_thing_is_asked words (Next a) (Wrong b) is same = absurd (nothing_asked words (Next a) same.0 is)
+one_thing_is_asked words (Next a) b is same = absurd (not_next words _ _ _ _ (same.0, same.1) is refl)
 one_thing_is_asked words (Help a) (Next b) is same = tt
 one_thing_is_asked words (Help a) (Help b) is same = tt
 one_thing_is_asked words (Help a) (Wrong b) is same = tt
-one_thing_is_asked words (Wrong a) (Try b) is same = absurd (is.0.no_try _ _ _ _ _ _ same)
-one_thing_is_asked words (Wrong a) (Load b) is same = absurd (is.0.no_load _ _ _ _ _ _ same)
-one_thing_is_asked words (Wrong a) (Run b) is same = absurd (is.0.no_run _ _ same)
-one_thing_is_asked words (Wrong a) (Query b) is same = absurd (is.0.no_query _ _ same)
-one_thing_is_asked words (Wrong a) (Append b) is same = absurd (is.0.no_append _ _ same)
-one_thing_is_asked words (Wrong a) (Upgrade b) is same = absurd (is.0.no_upgrade _ _ same)
-one_thing_is_asked words (Wrong a) (Describe b) is same = absurd (is.0.no_describe _ same)
-one_thing_is_asked words (Wrong a) (Check b) is same = absurd (is.0.no_check _ same)
-one_thing_is_asked words (Wrong a) (Next b) is same = absurd (is.0.no_next _ _ _ same)
+one_thing_is_asked words (Help a) b is same = absurd (no_help words _ (same.0, same.1) is.0)
 one_thing_is_asked words (Wrong a) (Help b) is same = tt
 one_thing_is_asked words (Wrong a) (Wrong b) is same = tt
+one_thing_is_asked words (Wrong a) b is same = absurd (nothing_asked words b is.0 same)
+one_thing_is_asked words a (Next b) is same = absurd (not_next words _ _ _ _ (is.0, is.1) same refl)
+one_thing_is_asked words a (Help b) is same = absurd (no_help words _ (is.0, is.1) same.0)
+one_thing_is_asked words a (Wrong b) is same = absurd (nothing_asked words a same.0 is)
+one_thing_is_asked words a b is same = absurd (clash words _ _ (is.0, is.1) (same.0, same.1) refl)
 
 pub help_is_help : HelpIsHelp
-help_is_help words (Try a) alone is = absurd (no_help_taken words is.1.0 alone)
-help_is_help words (Load a) alone is = absurd (no_help_taken words is.1.0 alone)
-help_is_help words (Run a) alone is = absurd (no_help_taken words is.1.0 alone)
-help_is_help words (Query a) alone is = absurd (no_help_taken words is.1.0 alone)
-help_is_help words (Append a) alone is = absurd (no_help_taken words is.1.0 alone)
-help_is_help words (Upgrade a) alone is = absurd (no_help_taken words is.1.0 alone)
-help_is_help words (Describe a) alone is = absurd (no_help_taken words is.1.0 alone)
-help_is_help words (Check a) alone is = absurd (no_help_taken words is.1.0 alone)
 help_is_help words (Next a) alone (inl by_clap) = absurd (no_help_taken words by_clap.1.0 alone)
 help_is_help words (Next a) alone (inr by_place) = absurd (by_place.2 alone)
 help_is_help words (Help text) alone is = tt
 help_is_help words (Wrong text) alone is = absurd (is.0.no_help alone)
+help_is_help words a alone is = absurd (no_help_taken words is.1.0 alone)

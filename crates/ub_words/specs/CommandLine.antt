@@ -1,12 +1,14 @@
 -- What the program's command line asks for.
-use Rattle.std.specs.Prelude.{◌≡◌, ◌≢◌, ◌≤◌, ◌⊎◌, ℕ, true, false, List, [], ◌∷◌, Option, Some, codes, pos}
+use Rattle.std.specs.Prelude.{◌≡◌, ◌≢◌, ◌≤◌, ◌⊎◌, ℕ, true, false, List, [], ◌∷◌, Option, Some, codes, map, pos}
 use Rattle.std.specs.Str.Parse.{IsNumeral, digits_value, without_leading_plus}
-use Rattle.clap.specs.Words.{App, IsAmong, Row, Rule, fault_of, first_of, new_app, new_rule, one_of, app_of, rule_of, subcommand_of, with_rule, with_subcommand}
+use Rattle.clap.specs.Words.{App, IsAmong, Row, Rule, fault_of, first_of, new_app, new_rule, one_of, app_of, rule_of, subcommand_of, with_rule}
 use Rattle.clap.specs.declared.builder.Arg.{Arg}
 use Rattle.clap.specs.declared.builder.command.Command.{Command}
 use Rattle.clap.specs.declared.builder.command.Command.TheViews.{out-Command as fields_of}
 use Rattle.clap.specs.declared.builder.value_parser.ValueParser.TheVariants as parser
 use Rattle.clap.specs.declared.error.kind.ErrorKind.TheVariants as kind
+use Rattle.ub_words.specs.declared.given.TableCommand.{TableCommand}
+use Rattle.ub_words.specs.declared.given.TableCommand.TheVariants.{Check, Describe}
 
 -- ---- the command line as `clap` reads it
 
@@ -69,25 +71,17 @@ try_app = data_app (new_app (codes "try")) (word_rule (codes "SCRIPT"))
 abbrev pub upgrade_app : App
 upgrade_app = with_rule (with_rule (new_app (codes "upgrade")) (word_rule (codes "OLD"))) (word_rule (codes "NEW"))
 
--- `describe TABLE`
-abbrev pub describe_app : App
-describe_app = with_rule (new_app (codes "describe")) (word_rule (codes "TABLE"))
+-- a command whose words are a table file alone: `NAME TABLE`
+abbrev pub table_app : List ℕ → App
+table_app name = with_rule (new_app name) (word_rule (codes "TABLE"))
 
--- `check TABLE`
-abbrev pub check_app : App
-check_app = with_rule (new_app (codes "check")) (word_rule (codes "TABLE"))
-
--- the program before its commands are added: it has a version, and wants a command
-abbrev pub bare_app : App
-bare_app = record (new_app (codes "ubq")) {
-  top = record (new_app (codes "ubq")).top { has_version = true; subcommand_required = true };
-}
-
--- the whole command line
+-- the whole command line: it has a version, and wants one of these commands
 unfoldable pub ubq_app : App
-ubq_app =
-    with_subcommand (with_subcommand (with_subcommand (with_subcommand (with_subcommand (with_subcommand (with_subcommand (with_subcommand (with_subcommand bare_app
-    load_app.top) run_app.top) query_app.top) append_app.top) try_app.top) upgrade_app.top) describe_app.top) check_app.top) next_app.top
+ubq_app = record {
+  top = record (new_app (codes "ubq")).top { has_version = true; subcommand_required = true; is_leaf = false };
+  subs = map (λ (app : App). app.top) (load_app ∷ run_app ∷ query_app ∷ append_app ∷ try_app ∷ upgrade_app
+      ∷ table_app (codes "describe") ∷ table_app (codes "check") ∷ next_app ∷ []);
+}
 
 -- an argument that `clap` reads so, and that no subcommand shares
 abbrev pub IsArgFor : Rule → Arg → Type 0
@@ -151,13 +145,9 @@ pub record IsUpgradeGiven (rows : List Row) (old new : List ℕ) : Type 0 where
   pub old_is : first_of (codes "OLD") rows ≡ Some old
   pub new_is : first_of (codes "NEW") rows ≡ Some new
 
--- what was given for the command `describe`
-abbrev pub IsDescribeGiven : List Row → List ℕ → Type 0
-IsDescribeGiven rows table = first_of (codes "TABLE") rows ≡ Some table
-
--- what was given for the command `check`
-abbrev pub IsCheckGiven : List Row → List ℕ → Type 0
-IsCheckGiven rows table = first_of (codes "TABLE") rows ≡ Some table
+-- what was given for a command whose words are a table file alone
+abbrev pub IsTableGiven : List Row → List ℕ → Type 0
+IsTableGiven rows table = first_of (codes "TABLE") rows ≡ Some table
 
 -- what was given for the command `next`
 pub record IsNextGiven (rows : List Row) (lo hi z : List ℕ) : Type 0 where
@@ -201,13 +191,14 @@ AsksAppend words table source = (rows : List Row) × IsTaken words (Some (codes 
 abbrev pub AsksUpgrade : List (List ℕ) → List ℕ → List ℕ → Type 0
 AsksUpgrade words old new = (rows : List Row) × IsTaken words (Some (codes "upgrade", rows)) × IsUpgradeGiven rows old new
 
--- the words ask for what the header of this table file tells
-abbrev pub AsksDescribe : List (List ℕ) → List ℕ → Type 0
-AsksDescribe words table = (rows : List Row) × IsTaken words (Some (codes "describe", rows)) × IsDescribeGiven rows table
+-- the name of a command whose words are a table file alone
+abbrev pub table_name : TableCommand → List ℕ
+table_name Describe = codes "describe"
+table_name Check = codes "check"
 
--- the words ask whether the pages of this table file are sound
-abbrev pub AsksCheck : List (List ℕ) → List ℕ → Type 0
-AsksCheck words table = (rows : List Row) × IsTaken words (Some (codes "check", rows)) × IsCheckGiven rows table
+-- the words ask for such a command on this table file
+abbrev pub AsksTable : List (List ℕ) → TableCommand → List ℕ → Type 0
+AsksTable words command table = (rows : List Row) × IsTaken words (Some (table_name command, rows)) × IsTableGiven rows table
 
 -- the words ask for the help or the version, as `clap` may answer them
 abbrev pub AsksHelp : List (List ℕ) → Type 0
@@ -232,7 +223,6 @@ pub record AsksNothing (words : List (List ℕ)) : Type 0 where
   pub no_query : (table statements : List ℕ) → ¬ (AsksQuery words table statements)
   pub no_append : (table source : List ℕ) → ¬ (AsksAppend words table source)
   pub no_upgrade : (old new : List ℕ) → ¬ (AsksUpgrade words old new)
-  pub no_describe : (table : List ℕ) → ¬ (AsksDescribe words table)
-  pub no_check : (table : List ℕ) → ¬ (AsksCheck words table)
+  pub no_table : (command : TableCommand) (table : List ℕ) → ¬ (AsksTable words command table)
   pub no_next : (lo hi z : List ℕ) → ¬ (AsksNext words lo hi z)
   pub no_help : ¬ (AsksHelpAlone words)

@@ -1,10 +1,10 @@
 -- The laws of what words ask for. Each is what the function of its name in `law` ensures, and is proved in proofs/Laws.antt.
 use Rattle.std.specs.Prelude.{◌≡◌, ℕ, List}
 use Rattle.ub_words.specs.Asked.{IsAskedBy}
-use Rattle.ub_words.specs.CommandLine.{AsksHelpAlone}
+use Rattle.ub_words.specs.CommandLine.{AsksHelpAlone, table_name}
 use Rattle.ub_words.specs.declared.given.DataWords.{DataWords}
 use Rattle.ub_words.specs.declared.words.Asked.{Asked}
-use Rattle.ub_words.specs.declared.words.Asked.TheVariants.{Try, Load, Run, Query, Append, Upgrade, Describe, Check, Next, Help, Wrong}
+use Rattle.ub_words.specs.declared.words.Asked.TheVariants.{Try, Load, Run, Query, Append, Upgrade, Table, Next, Help, Wrong}
 
 -- these name one CSV file, and make a table of it in one way
 abbrev pub IsSameData : DataWords → DataWords → Type 0
@@ -19,8 +19,7 @@ AreAlike (Run a) (Run b) = (a.table.now ≡ b.table.now) × (a.script.now ≡ b.
 AreAlike (Query a) (Query b) = (a.table.now ≡ b.table.now) × (a.statements.now ≡ b.statements.now)
 AreAlike (Append a) (Append b) = (a.table.now ≡ b.table.now) × (a.data.now ≡ b.data.now)
 AreAlike (Upgrade a) (Upgrade b) = (a.old.now ≡ b.old.now) × (a.new.now ≡ b.new.now)
-AreAlike (Describe a) (Describe b) = a.table.now ≡ b.table.now
-AreAlike (Check a) (Check b) = a.table.now ≡ b.table.now
+AreAlike (Table a) (Table b) = (table_name a.command ≡ table_name b.command) × (a.table.now ≡ b.table.now)
 AreAlike (Next a) (Next b) = (a.low.now ≡ b.low.now) × (a.high.now ≡ b.high.now) × (a.address.now ≡ b.address.now)
 AreAlike (Next a) (Help text) = Unit {0}
 AreAlike (Help text) (Next b) = Unit {0}

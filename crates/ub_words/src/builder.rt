@@ -1,7 +1,7 @@
 ghost use Rattle.std.specs.Int.{int_max, int_min};
-ghost use Rattle.std.specs.Prelude.{IfOk, Some, pos};
+ghost use Rattle.std.specs.Prelude.{IfOk, Some, codes, pos};
 ghost use Rattle.clap.specs.Words.{App, Rule, new_app, signed_between, with_rule, with_subcommand};
-ghost use Rattle.ub_words.specs.CommandLine.{IsArgFor, IsCommandFor, append_app, check_app, data_app, describe_app, dims_rule, load_app, name_rule, next_app, option_rule, page_rows_rule, query_app, run_app, signed_rule, try_app, ubq_app, upgrade_app, word_rule};
+ghost use Rattle.ub_words.specs.CommandLine.{IsArgFor, IsCommandFor, append_app, data_app, dims_rule, load_app, name_rule, next_app, option_rule, page_rows_rule, query_app, run_app, signed_rule, table_app, try_app, ubq_app, upgrade_app, word_rule};
 
 use clap::{Arg, Command, value_parser};
 use std::alloc::{AllocError, Global};
@@ -490,24 +490,36 @@ fn upgrade_command<'a>(alloc: Global) -> Making<'a>
     with_word(alloc, command, "NEW", made)
 }
 
+// A command whose words are a table file alone, as `clap` reads it.
+fn table_command<'a>(
+    alloc: Global,
+    name: &'a str,
+    about: &'a str,
+    table: &'a str,
+    help: &'a str,
+) -> Making<'a>
+    ensures { IfOk result (IsCommandFor (table_app name.entry.now)) }
+{
+    let command = new_command(alloc, name, about, help);
+    with_word(alloc, Ok(command), "TABLE", table)
+}
+
 // The command `describe` as `clap` reads it.
 fn describe_command<'a>(alloc: Global) -> Making<'a>
-    ensures { IfOk result (IsCommandFor describe_app) }
+    ensures { IfOk result (IsCommandFor (table_app (codes "describe"))) }
 {
-    let table = "A table file, also one that an older ubq made; it is only read";
     let about = "Say what a table file holds, as its header tells it";
-    let command = new_command(alloc, "describe", about, DESCRIBE_HELP);
-    with_word(alloc, Ok(command), "TABLE", table)
+    let table = "A table file, also one that an older ubq made; it is only read";
+    table_command(alloc, "describe", about, table, DESCRIBE_HELP)
 }
 
 // The command `check` as `clap` reads it.
 fn check_command<'a>(alloc: Global) -> Making<'a>
-    ensures { IfOk result (IsCommandFor check_app) }
+    ensures { IfOk result (IsCommandFor (table_app (codes "check"))) }
 {
-    let table = "The table file to check; it is only read";
     let about = "Check each page of a table file";
-    let command = new_command(alloc, "check", about, CHECK_HELP);
-    with_word(alloc, Ok(command), "TABLE", table)
+    let table = "The table file to check; it is only read";
+    table_command(alloc, "check", about, table, CHECK_HELP)
 }
 
 // The command `next` as `clap` reads it.

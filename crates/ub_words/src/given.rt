@@ -71,16 +71,20 @@ pub struct UpgradeWords<'a> {
     pub new: &'a str,
 }
 
-/// What a command line says that asks for what a table file's header tells.
+/// A command whose words are a table file alone.
 #[derive(Clone, Copy)]
-pub struct DescribeWords<'a> {
-    /// The path of the table file.
-    pub table: &'a str,
+pub enum TableCommand {
+    /// What the table file's header tells.
+    Describe,
+    /// Whether the table file's pages are sound.
+    Check,
 }
 
-/// What a command line says that asks whether a table file's pages are sound.
+/// What a command line says that asks for something of a table file alone.
 #[derive(Clone, Copy)]
-pub struct CheckWords<'a> {
+pub struct TableWords<'a> {
+    /// What is asked for.
+    pub command: TableCommand,
     /// The path of the table file.
     pub table: &'a str,
 }

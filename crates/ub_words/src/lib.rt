@@ -10,7 +10,7 @@ pub mod law;
 mod words;
 
 pub use given::{
-    AppendWords, CheckWords, DataWords, DescribeWords, LoadWords, NextWords, QueryWords, RunWords,
+    AppendWords, DataWords, LoadWords, NextWords, QueryWords, RunWords, TableCommand, TableWords,
     TryWords, UpgradeWords,
 };
 pub use words::{Asked, STANDARD_INPUT, read_words};

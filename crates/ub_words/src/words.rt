@@ -1,11 +1,11 @@
 ghost use Rattle.std.specs.Prelude.{◌≡◌, ◌↔◌, ℕ, IsTrue, List, Some, codes, map, string_bytes, IfOk};
 ghost use Rattle.clap.specs.Words.{HasKind, fault_of, found_of, rows_of, subcommand_rows_of};
 ghost use Rattle.ub_words.specs.Asked.{AreLines, IsAskedBy};
-ghost use Rattle.ub_words.specs.CommandLine.{AsksNothing, IsTaken, standard_input, ubq_app};
+ghost use Rattle.ub_words.specs.CommandLine.{AsksNothing, IsTaken, standard_input, table_name, ubq_app};
 
 use crate::builder::program;
 use crate::given::{
-    AppendWords, CheckWords, DescribeWords, LoadWords, NextWords, QueryWords, RunWords, TryWords,
+    AppendWords, LoadWords, NextWords, QueryWords, RunWords, TableCommand, TableWords, TryWords,
     UpgradeWords, command_found, load_words, next_words, text_given, texts_given, three_after_next,
     try_words,
 };
@@ -31,10 +31,8 @@ pub enum Asked<'a> {
     Append(AppendWords<'a>),
     /// A table file of an older version to be made anew.
     Upgrade(UpgradeWords<'a>),
-    /// What the header of a table file tells.
-    Describe(DescribeWords<'a>),
-    /// Whether the pages of a table file are sound.
-    Check(CheckWords<'a>),
+    /// Something of a table file alone.
+    Table(TableWords<'a>),
     /// The addresses of a box that are nearest to one.
     Next(NextWords<'a>),
     /// The help or the version: this is its text.
@@ -81,8 +79,8 @@ fn asked_by_command<'a>(
         "append" => asked_by_append(alloc, found),
         "try" => asked_by_try(alloc, found),
         "upgrade" => asked_by_upgrade(alloc, found),
-        "describe" => asked_by_describe(alloc, found),
-        "check" => asked_by_check(alloc, found),
+        "describe" => asked_by_table(alloc, TableCommand::Describe, found),
+        "check" => asked_by_table(alloc, TableCommand::Check, found),
         "next" => asked_by_next(alloc, found),
         _ => no_command(alloc),
     }
@@ -167,24 +165,18 @@ fn asked_by_upgrade<'a>(alloc: Global, found: &ArgMatches<'a>) -> Result<Asked<'
     }
 }
 
-// What words ask for that name the command `describe`.
-fn asked_by_describe<'a>(alloc: Global, found: &ArgMatches<'a>) -> Result<Asked<'a>, AllocError>
-    ensures { (words : List (List ℕ)) → IsTaken words (Some (codes "describe", rows_of (found_of found.now)))
+// What words ask for that name a command whose words are a table file alone.
+fn asked_by_table<'a>(
+    alloc: Global,
+    command: TableCommand,
+    found: &ArgMatches<'a>,
+) -> Result<Asked<'a>, AllocError>
+    ensures { (words : List (List ℕ))
+        → IsTaken words (Some (table_name command, rows_of (found_of found.now)))
         → IfOk result (IsAskedBy words) }
 {
     match text_given(found, "TABLE") {
-        Some(table) => Ok(Asked::Describe(DescribeWords { table })),
-        None => no_command(alloc),
-    }
-}
-
-// What words ask for that name the command `check`.
-fn asked_by_check<'a>(alloc: Global, found: &ArgMatches<'a>) -> Result<Asked<'a>, AllocError>
-    ensures { (words : List (List ℕ)) → IsTaken words (Some (codes "check", rows_of (found_of found.now)))
-        → IfOk result (IsAskedBy words) }
-{
-    match text_given(found, "TABLE") {
-        Some(table) => Ok(Asked::Check(CheckWords { table })),
+        Some(table) => Ok(Asked::Table(TableWords { command, table })),
         None => no_command(alloc),
     }
 }

@@ -1,7 +1,7 @@
-use Rattle.std.proofs.Common.{refl}
+use Rattle.std.proofs.Common.{inr, refl}
 use Rattle.std.specs.Prelude.{map, string_bytes}
 use Rattle.ub_shell.proofs.CrashFacts.{append_crash, load_crash, no_crash, query_crash, run_crash, same_crash, upgrade_crash}
-use Rattle.ub_shell.proofs.FileFacts.{append_ends, check_ends, describe_ends, ended_alone, help_ends, load_ends, memory_ends, next_ends, query_ends, run_ends, try_ends, upgrade_ends, wrong_ends}
+use Rattle.ub_shell.proofs.FileFacts.{ends_as, tells_as}
 use Rattle.ub_shell.proofs.LastFacts.{lasting_as, never_done}
 use Rattle.ub_words.specs.declared.words.Asked.TheVariants as asked
 use Rattle.ub_shell.proofs.command.run_words.Goals as goal
@@ -9,7 +9,7 @@ use Rattle.ub_shell.proofs.command.run_words.Goals as goal
 pub returns-in-Ok-Load : goal.returns-in-Ok-Load
 returns-in-Ok-Load g c =
     record {
-      ended = ended_alone _ _ _ _ _ _ _ (load_ends _ c.in-Ok-Load.field-0 c.in-Ok-Load.asked _ _ _ _ _ c.in-Ok-Load.field-0-is c.in-Ok-Load.ensures c.load_file.ensures.loads);
+      ended = ends_as _ c.in-Ok-Load.field-0 (asked.Load c.in-Ok-Load.asked) _ _ _ _ _ _ _ c.in-Ok-Load.field-0-is c.in-Ok-Load.ensures (refl, c.load_file.ensures.loads);
       crash = load_crash (map string_bytes c.args.words.now) c.in-Ok-Load.field-0 (g.F.Files.facts c.args.files.now) _ _ (g.W.Out.facts c.args.out.now) (g.W.Out.facts c.load_file.new.out) (g.N.Out.facts c.args.notes.now) (g.N.Out.facts c.args.notes.now) c.load_file.result c.in-Ok-Load.asked c.in-Ok-Load.field-0-is c.in-Ok-Load.ensures c.load_file.ensures.crash;
       lasts = λ done. lasting_as (map string_bytes c.args.words.now) c.in-Ok-Load.field-0 (asked.Load c.in-Ok-Load.asked) (g.F.Files.facts c.args.files.now) (g.W.Out.facts c.args.out.now) (g.W.Out.facts c.load_file.new.out) (g.N.Out.facts c.args.notes.now) (g.N.Out.facts c.args.notes.now) c.load_file.result (g.F.Files.clock c.load_file.new.files) c.in-Ok-Load.field-0-is c.in-Ok-Load.ensures c.load_file.ensures.lasts;
     }
@@ -17,7 +17,7 @@ returns-in-Ok-Load g c =
 pub returns-in-Ok-Run : goal.returns-in-Ok-Run
 returns-in-Ok-Run g c =
     record {
-      ended = ended_alone _ _ _ _ _ _ _ (run_ends _ c.in-Ok-Run.field-0 c.in-Ok-Run.asked _ _ _ _ _ c.in-Ok-Run.field-0-is c.in-Ok-Run.ensures c.run_file.ensures.runs);
+      ended = ends_as _ c.in-Ok-Run.field-0 (asked.Run c.in-Ok-Run.asked) _ _ _ _ _ _ _ c.in-Ok-Run.field-0-is c.in-Ok-Run.ensures (refl, c.run_file.ensures.runs);
       crash = run_crash (map string_bytes c.args.words.now) c.in-Ok-Run.field-0 (g.F.Files.facts c.args.files.now) _ _ (g.W.Out.facts c.args.out.now) (g.W.Out.facts c.run_file.new.out) (g.N.Out.facts c.args.notes.now) (g.N.Out.facts c.args.notes.now) c.run_file.result c.in-Ok-Run.asked c.in-Ok-Run.field-0-is c.in-Ok-Run.ensures c.run_file.ensures.crash;
       lasts = λ done. lasting_as (map string_bytes c.args.words.now) c.in-Ok-Run.field-0 (asked.Run c.in-Ok-Run.asked) (g.F.Files.facts c.args.files.now) (g.W.Out.facts c.args.out.now) (g.W.Out.facts c.run_file.new.out) (g.N.Out.facts c.args.notes.now) (g.N.Out.facts c.args.notes.now) c.run_file.result (g.F.Files.clock c.run_file.new.files) c.in-Ok-Run.field-0-is c.in-Ok-Run.ensures (c.run_file.ensures.lasts done);
     }
@@ -25,7 +25,7 @@ returns-in-Ok-Run g c =
 pub returns-in-Ok-Query : goal.returns-in-Ok-Query
 returns-in-Ok-Query g c =
     record {
-      ended = query_ends _ c.in-Ok-Query.field-0 c.in-Ok-Query.asked _ _ _ _ _ _ _ c.in-Ok-Query.field-0-is c.in-Ok-Query.ensures c.query_file.ensures.queries;
+      ended = ends_as _ c.in-Ok-Query.field-0 (asked.Query c.in-Ok-Query.asked) _ _ _ _ _ _ _ c.in-Ok-Query.field-0-is c.in-Ok-Query.ensures c.query_file.ensures.queries;
       crash = query_crash (map string_bytes c.args.words.now) c.in-Ok-Query.field-0 (g.F.Files.facts c.args.files.now) _ _ (g.W.Out.facts c.args.out.now) (g.W.Out.facts c.query_file.new.out) (g.N.Out.facts c.args.notes.now) (g.N.Out.facts c.query_file.new.notes) c.query_file.result c.in-Ok-Query.asked c.in-Ok-Query.field-0-is c.in-Ok-Query.ensures c.query_file.ensures.crash;
       lasts = λ done. lasting_as (map string_bytes c.args.words.now) c.in-Ok-Query.field-0 (asked.Query c.in-Ok-Query.asked) (g.F.Files.facts c.args.files.now) (g.W.Out.facts c.args.out.now) (g.W.Out.facts c.query_file.new.out) (g.N.Out.facts c.args.notes.now) (g.N.Out.facts c.query_file.new.notes) c.query_file.result (g.F.Files.clock c.query_file.new.files) c.in-Ok-Query.field-0-is c.in-Ok-Query.ensures (c.query_file.ensures.lasts done);
     }
@@ -33,7 +33,7 @@ returns-in-Ok-Query g c =
 pub returns-in-Ok-Try : goal.returns-in-Ok-Try
 returns-in-Ok-Try g c =
     record {
-      ended = ended_alone _ _ _ _ _ _ _ (try_ends _ c.in-Ok-Try.field-0 c.in-Ok-Try.asked _ _ _ _ _ c.in-Ok-Try.field-0-is c.in-Ok-Try.ensures c.try_files.ensures.tries);
+      ended = ends_as _ c.in-Ok-Try.field-0 (asked.Try c.in-Ok-Try.asked) _ _ _ _ _ _ _ c.in-Ok-Try.field-0-is c.in-Ok-Try.ensures (refl, c.try_files.ensures.tries);
       crash = same_crash (map string_bytes c.args.words.now) (g.F.Files.facts c.args.files.now) _ _ (g.W.Out.facts c.args.out.now) (g.W.Out.facts c.try_files.new.out) (g.N.Out.facts c.args.notes.now) (g.N.Out.facts c.args.notes.now) c.try_files.result c.try_files.ensures.crash;
       lasts = λ done. lasting_as (map string_bytes c.args.words.now) c.in-Ok-Try.field-0 (asked.Try c.in-Ok-Try.asked) (g.F.Files.facts c.args.files.now) (g.W.Out.facts c.args.out.now) (g.W.Out.facts c.try_files.new.out) (g.N.Out.facts c.args.notes.now) (g.N.Out.facts c.args.notes.now) c.try_files.result (g.F.Files.clock c.try_files.new.files) c.in-Ok-Try.field-0-is c.in-Ok-Try.ensures tt;
     }
@@ -41,32 +41,25 @@ returns-in-Ok-Try g c =
 pub returns-in-Ok-Upgrade : goal.returns-in-Ok-Upgrade
 returns-in-Ok-Upgrade g c =
     record {
-      ended = ended_alone _ _ _ _ _ _ _ (upgrade_ends _ c.in-Ok-Upgrade.field-0 c.in-Ok-Upgrade.asked _ _ _ _ _ c.in-Ok-Upgrade.field-0-is c.in-Ok-Upgrade.ensures c.upgrade_file.ensures.upgrades);
+      ended = ends_as _ c.in-Ok-Upgrade.field-0 (asked.Upgrade c.in-Ok-Upgrade.asked) _ _ _ _ _ _ _ c.in-Ok-Upgrade.field-0-is c.in-Ok-Upgrade.ensures (refl, c.upgrade_file.ensures.upgrades);
       crash = upgrade_crash (map string_bytes c.args.words.now) c.in-Ok-Upgrade.field-0 (g.F.Files.facts c.args.files.now) _ _ (g.W.Out.facts c.args.out.now) (g.W.Out.facts c.upgrade_file.new.out) (g.N.Out.facts c.args.notes.now) (g.N.Out.facts c.args.notes.now) c.upgrade_file.result c.in-Ok-Upgrade.asked c.in-Ok-Upgrade.field-0-is c.in-Ok-Upgrade.ensures c.upgrade_file.ensures.crash;
       lasts = λ done. lasting_as (map string_bytes c.args.words.now) c.in-Ok-Upgrade.field-0 (asked.Upgrade c.in-Ok-Upgrade.asked) (g.F.Files.facts c.args.files.now) (g.W.Out.facts c.args.out.now) (g.W.Out.facts c.upgrade_file.new.out) (g.N.Out.facts c.args.notes.now) (g.N.Out.facts c.args.notes.now) c.upgrade_file.result (g.F.Files.clock c.upgrade_file.new.files) c.in-Ok-Upgrade.field-0-is c.in-Ok-Upgrade.ensures c.upgrade_file.ensures.lasts;
     }
 
-pub returns-in-Ok-Describe : goal.returns-in-Ok-Describe
-returns-in-Ok-Describe g c =
+pub returns-in-Ok-Table : goal.returns-in-Ok-Table
+returns-in-Ok-Table g c =
     record {
-      ended = ended_alone _ _ _ _ _ _ _ (describe_ends _ c.in-Ok-Describe.field-0 c.in-Ok-Describe.asked _ _ _ _ _ c.in-Ok-Describe.field-0-is c.in-Ok-Describe.ensures c.describe_file.ensures.describes);
-      crash = same_crash (map string_bytes c.args.words.now) (g.F.Files.facts c.args.files.now) _ _ (g.W.Out.facts c.args.out.now) (g.W.Out.facts c.describe_file.new.out) (g.N.Out.facts c.args.notes.now) (g.N.Out.facts c.args.notes.now) c.describe_file.result c.describe_file.ensures.crash;
-      lasts = λ done. lasting_as (map string_bytes c.args.words.now) c.in-Ok-Describe.field-0 (asked.Describe c.in-Ok-Describe.asked) (g.F.Files.facts c.args.files.now) (g.W.Out.facts c.args.out.now) (g.W.Out.facts c.describe_file.new.out) (g.N.Out.facts c.args.notes.now) (g.N.Out.facts c.args.notes.now) c.describe_file.result (g.F.Files.clock c.describe_file.new.files) c.in-Ok-Describe.field-0-is c.in-Ok-Describe.ensures tt;
-    }
-
-pub returns-in-Ok-Check : goal.returns-in-Ok-Check
-returns-in-Ok-Check g c =
-    record {
-      ended = ended_alone _ _ _ _ _ _ _ (check_ends _ c.in-Ok-Check.field-0 c.in-Ok-Check.asked _ _ _ _ _ c.in-Ok-Check.field-0-is c.in-Ok-Check.ensures c.check_file.ensures.checks);
-      crash = same_crash (map string_bytes c.args.words.now) (g.F.Files.facts c.args.files.now) _ _ (g.W.Out.facts c.args.out.now) (g.W.Out.facts c.check_file.new.out) (g.N.Out.facts c.args.notes.now) (g.N.Out.facts c.args.notes.now) c.check_file.result c.check_file.ensures.crash;
-      lasts = λ done. lasting_as (map string_bytes c.args.words.now) c.in-Ok-Check.field-0 (asked.Check c.in-Ok-Check.asked) (g.F.Files.facts c.args.files.now) (g.W.Out.facts c.args.out.now) (g.W.Out.facts c.check_file.new.out) (g.N.Out.facts c.args.notes.now) (g.N.Out.facts c.args.notes.now) c.check_file.result (g.F.Files.clock c.check_file.new.files) c.in-Ok-Check.field-0-is c.in-Ok-Check.ensures tt;
+      ended = ends_as _ c.in-Ok-Table.field-0 (asked.Table c.in-Ok-Table.asked) _ _ _ _ _ _ _ c.in-Ok-Table.field-0-is c.in-Ok-Table.ensures (refl, c.ask_file.ensures.asks);
+      crash = same_crash (map string_bytes c.args.words.now) (g.F.Files.facts c.args.files.now) _ _ (g.W.Out.facts c.args.out.now) (g.W.Out.facts c.ask_file.new.out) (g.N.Out.facts c.args.notes.now) (g.N.Out.facts c.args.notes.now) c.ask_file.result c.ask_file.ensures.crash;
+      lasts = λ done. lasting_as (map string_bytes c.args.words.now) c.in-Ok-Table.field-0 (asked.Table c.in-Ok-Table.asked) (g.F.Files.facts c.args.files.now) (g.W.Out.facts c.args.out.now) (g.W.Out.facts c.ask_file.new.out) (g.N.Out.facts c.args.notes.now) (g.N.Out.facts c.args.notes.now) c.ask_file.result (g.F.Files.clock c.ask_file.new.files) c.in-Ok-Table.field-0-is c.in-Ok-Table.ensures tt;
     }
 
 pub returns-in-Ok-Next : goal.returns-in-Ok-Next
 returns-in-Ok-Next g c =
     let told = c.tell_next.ensures in
     record {
-      ended = ended_alone _ _ _ _ _ _ _ (next_ends _ c.in-Ok-Next.field-0 c.in-Ok-Next.asked _ _ _ _ told.0 c.in-Ok-Next.field-0-is c.in-Ok-Next.ensures told.1 told.2);
+      ended = ends_as _ c.in-Ok-Next.field-0 (asked.Next c.in-Ok-Next.asked) _ _ _ _ _ _ _ c.in-Ok-Next.field-0-is c.in-Ok-Next.ensures
+          (refl, record { answer = told.0; answers = told.1; tells = told.2; files = refl });
       crash = no_crash (map string_bytes c.args.words.now) (g.F.Files.facts c.args.files.now) _ (g.W.Out.facts c.args.out.now) (g.W.Out.facts c.tell_next.new.out) (g.N.Out.facts c.args.notes.now) (g.N.Out.facts c.args.notes.now) c.tell_next.result;
       lasts = λ done. lasting_as (map string_bytes c.args.words.now) c.in-Ok-Next.field-0 (asked.Next c.in-Ok-Next.asked) (g.F.Files.facts c.args.files.now) (g.W.Out.facts c.args.out.now) (g.W.Out.facts c.tell_next.new.out) (g.N.Out.facts c.args.notes.now) (g.N.Out.facts c.args.notes.now) c.tell_next.result (g.F.Files.clock c.args.files.now) c.in-Ok-Next.field-0-is c.in-Ok-Next.ensures tt;
     }
@@ -74,7 +67,8 @@ returns-in-Ok-Next g c =
 pub returns-in-Ok-Help : goal.returns-in-Ok-Help
 returns-in-Ok-Help g c =
     record {
-      ended = ended_alone _ _ _ _ _ _ _ (help_ends _ _ _ _ _ _ _ (rw c.in-Ok-Help.field-0-is at c.in-Ok-Help.ensures) c.as_slice.ensures.value c.tell.ensures);
+      ended = ends_as _ c.in-Ok-Help.field-0 (asked.Help c.in-Ok-Help.text) _ _ _ _ _ _ _ c.in-Ok-Help.field-0-is c.in-Ok-Help.ensures
+          (refl, (tells_as _ _ _ _ _ _ c.as_slice.ensures.value c.tell.ensures, refl));
       crash = no_crash (map string_bytes c.args.words.now) (g.F.Files.facts c.args.files.now) _ (g.W.Out.facts c.args.out.now) (g.W.Out.facts c.tell.new.out) (g.N.Out.facts c.args.notes.now) (g.N.Out.facts c.args.notes.now) c.tell.result;
       lasts = λ done. record { asked = c.in-Ok-Help.field-0; asks = c.in-Ok-Help.ensures; lasts = rw c.in-Ok-Help.field-0-is tt };
     }
@@ -82,7 +76,8 @@ returns-in-Ok-Help g c =
 pub returns-in-Ok-Wrong : goal.returns-in-Ok-Wrong
 returns-in-Ok-Wrong g c =
     record {
-      ended = ended_alone _ _ _ _ _ _ _ (wrong_ends _ _ _ _ _ _ _ (rw c.in-Ok-Wrong.field-0-is at c.in-Ok-Wrong.ensures) c.as_slice-in-Ok-Wrong.ensures.value c.tell-in-Ok-Wrong.ensures);
+      ended = ends_as _ c.in-Ok-Wrong.field-0 (asked.Wrong c.in-Ok-Wrong.text) _ _ _ _ _ _ _ c.in-Ok-Wrong.field-0-is c.in-Ok-Wrong.ensures
+          (refl, (tells_as _ _ _ _ _ _ c.as_slice-in-Ok-Wrong.ensures.value c.tell-in-Ok-Wrong.ensures, refl));
       crash = no_crash (map string_bytes c.args.words.now) (g.F.Files.facts c.args.files.now) _ (g.W.Out.facts c.args.out.now) (g.W.Out.facts c.tell-in-Ok-Wrong.new.out) (g.N.Out.facts c.args.notes.now) (g.N.Out.facts c.args.notes.now) c.tell-in-Ok-Wrong.result;
       lasts = λ done. absurd (never_done _ _ _ _ c.tell-in-Ok-Wrong.result c.tell-in-Ok-Wrong.ensures refl done);
     }
@@ -90,7 +85,7 @@ returns-in-Ok-Wrong g c =
 pub returns-in-Err : goal.returns-in-Err
 returns-in-Err g c =
     record {
-      ended = ended_alone _ _ _ _ _ _ _ (memory_ends _ _ _ _ _ c.tell_memory.ensures);
+      ended = inr (refl, record { tells = c.tell_memory.ensures; files = refl });
       crash = no_crash (map string_bytes c.args.words.now) (g.F.Files.facts c.args.files.now) _ (g.W.Out.facts c.args.out.now) (g.W.Out.facts c.tell_memory.new.out) (g.N.Out.facts c.args.notes.now) (g.N.Out.facts c.args.notes.now) c.tell_memory.result;
       lasts = λ done. absurd (never_done _ _ _ _ c.tell_memory.result c.tell_memory.ensures refl done);
     }
@@ -98,7 +93,7 @@ returns-in-Err g c =
 pub returns-in-Ok-Append : goal.returns-in-Ok-Append
 returns-in-Ok-Append g c =
     record {
-      ended = ended_alone _ _ _ _ _ _ _ (append_ends _ c.in-Ok-Append.field-0 c.in-Ok-Append.asked _ _ _ _ _ c.in-Ok-Append.field-0-is c.in-Ok-Append.ensures c.append_file.ensures.appends);
+      ended = ends_as _ c.in-Ok-Append.field-0 (asked.Append c.in-Ok-Append.asked) _ _ _ _ _ _ _ c.in-Ok-Append.field-0-is c.in-Ok-Append.ensures (refl, c.append_file.ensures.appends);
       crash = append_crash (map string_bytes c.args.words.now) c.in-Ok-Append.field-0 (g.F.Files.facts c.args.files.now) _ _ (g.W.Out.facts c.args.out.now) (g.W.Out.facts c.append_file.new.out) (g.N.Out.facts c.args.notes.now) (g.N.Out.facts c.args.notes.now) c.append_file.result c.in-Ok-Append.asked c.in-Ok-Append.field-0-is c.in-Ok-Append.ensures c.append_file.ensures.crash;
       lasts = λ done. lasting_as (map string_bytes c.args.words.now) c.in-Ok-Append.field-0 (asked.Append c.in-Ok-Append.asked) (g.F.Files.facts c.args.files.now) (g.W.Out.facts c.args.out.now) (g.W.Out.facts c.append_file.new.out) (g.N.Out.facts c.args.notes.now) (g.N.Out.facts c.args.notes.now) c.append_file.result (g.F.Files.clock c.append_file.new.files) c.in-Ok-Append.field-0-is c.in-Ok-Append.ensures (c.append_file.ensures.lasts done);
     }
