@@ -255,9 +255,10 @@ def patched(pages, patches):
     return [bytes(p) for p in pages]
 
 # The text's items.
-def stepped(words, turn):
-    a, _, s = words.partition('+')
-    return int(a) + int(s or 0) * turn
+def stepped(words, turn, pages=0):
+    a, _, steps = words.partition('+')
+    s, _, more = steps.partition('+')
+    return int(a) + int(s or 0) * turn + int(more or 0) * pages
 
 def spell(items, turn=0):
     "The bytes of items."
@@ -270,7 +271,7 @@ def spell(items, turn=0):
             key, _, count = keys.partition('*')
             z, _, number = key.partition(':')
             for t in range(int(count or 1)):
-                out += stepped(z, t).to_bytes(16, 'big') + int(number or 0).to_bytes(4, 'big') + stepped(to, t).to_bytes(4, 'big')
+                out += stepped(z, t, turn).to_bytes(16, 'big') + int(number or 0).to_bytes(4, 'big') + stepped(to, t, turn).to_bytes(4, 'big')
         elif '*' in item:
             b, c = item.split('*'); out += bytes([int(b)]) * int(c)
         else:

@@ -7,17 +7,20 @@ ghost use Rattle.ub_journal.specs.Place.{IsHonest};
 
 use std::alloc::{AllocError, Global};
 use ub_journal::{Journal, Place, Tells, TornPlace, commit};
-use ub_overlay::{Overlay, Redo};
+use ub_overlay::{Changed, Overlay, Redo};
 use ub_store::{FaultyStore, MemStore, Page, PageStore, StoreFault};
 
 // Two pages in memory, of 1s and of 2s.
 fn two_pages(alloc: Global) -> Result<MemStore, StoreFault> {
     let mut store = MemStore::new(alloc);
-    let first = store.extend()?;
-    let second = store.extend()?;
-    store.write_page(first, &[1; 4096])?;
-    store.write_page(second, &[2; 4096])?;
-    Ok(store)
+    let added = store.extend().and(store.extend());
+    let written = store
+        .write_page(0, &[1; 4096])
+        .and(store.write_page(1, &[2; 4096]));
+    match added.and(written) {
+        Ok(()) => Ok(store),
+        Err(fault) => Err(fault),
+    }
 }
 
 // The same, as the file of a table at rest, which promises nothing.
@@ -32,10 +35,9 @@ fn two_pages_on_disk(alloc: Global) -> Result<TornPlace, AllocError>
 
 // Writes the second of two pages, and adds a third one.
 fn change<S: PageStore>(store: &mut S) -> Result<(), StoreFault> {
-    store.write_page(1, &[7; 4096])?;
-    let added = store.extend()?;
-    store.write_page(added, &[8; 4096])?;
-    store.sync()
+    let added = store.write_page(1, &[7; 4096]).and(store.extend());
+    let written = store.write_page(2, &[8; 4096]).and(store.sync());
+    added.and(written)
 }
 
 // Whether the page of this number is read, and is of this byte.
@@ -73,36 +75,63 @@ fn tells<J: Tells>(journal: &J, wanted: &[(u32, u8)]) -> bool {
     true
 }
 
-// Whether changes of two pages are read back, and leave the pages below as they are.
-fn stay_in_memory(alloc: Global) -> Result<bool, StoreFault> {
-    let mut overlay = Overlay::new(alloc, two_pages(alloc)?);
-    let was_same = !overlay.is_changed() && has_pages(&mut overlay, &[1, 2]);
-    change(&mut overlay)?;
-    let is_changed = overlay.is_changed() && has_pages(&mut overlay, &[1, 7, 8]);
-    let is_refused = overlay.write_page(3, &[9; 4096]) == Err(StoreFault::NoPage);
-    let Ok(parts) = overlay.into_parts() else {
-        return Err(StoreFault::Memory);
-    };
-    let mut below = parts.below;
-    let is_same = has_pages(&mut below, &[1, 2]);
-    let redo = Redo {
-        before: [1; 4096],
-        changed: parts.changed,
-    };
-    let is_apart = redo.count() == 3 && redo.head() == [1; 4096] && tells(&redo, &[(1, 7), (2, 8)]);
-    Ok(was_same && is_changed && is_refused && is_apart && is_same)
+// Whether changes of two pages are read back.
+fn are_read_back<S: PageStore>(overlay: &mut Overlay<S>) -> bool {
+    let was_same = !overlay.is_changed() & has_pages(overlay, &[1, 2]);
+    let is_changed = change(overlay).is_ok() & overlay.is_changed();
+    was_same
+        & is_changed
+        & has_pages(overlay, &[1, 7, 8])
+        & (overlay.write_page(3, &[9; 4096]) == Err(StoreFault::NoPage))
 }
 
-// Whether a failure of the store below is told once, and comes of no page that is held.
-fn tells_failures(alloc: Global) -> Result<bool, StoreFault> {
-    let below = FaultyStore::new(two_pages(alloc)?, 2);
+// Whether they are told of the pages that were changed.
+fn are_told(changed: Changed) -> bool {
+    let redo = Redo {
+        before: [1; 4096],
+        changed,
+    };
+    (redo.count() == 3) & (redo.head() == [1; 4096]) & tells(&redo, &[(1, 7), (2, 8)])
+}
+
+// Whether they are read back and told, and leave the pages below as they are.
+fn stay_over<S: PageStore>(alloc: Global, below: S) -> bool {
     let mut overlay = Overlay::new(alloc, below);
-    change(&mut overlay)?;
-    let is_held = reads(&mut overlay, 1, 7) && reads(&mut overlay, 2, 8);
-    let is_read = reads(&mut overlay, 0, 1);
+    let are_there = are_read_back(&mut overlay);
+    match overlay.into_parts() {
+        Ok(parts) => {
+            let mut below = parts.below;
+            are_there & has_pages(&mut below, &[1, 2]) & are_told(parts.changed)
+        }
+        Err(_) => false,
+    }
+}
+
+// The same over two pages.
+fn stay_in_memory(alloc: Global) -> bool {
+    match two_pages(alloc) {
+        Ok(below) => stay_over(alloc, below),
+        Err(_) => false,
+    }
+}
+
+// Whether a failure of the store below, at its second call, is told once, and comes of no page that is held.
+fn fails_once<S: PageStore>(overlay: &mut Overlay<S>) -> bool {
     let mut page = [0; 4096];
-    let has_failed = overlay.read_into(0, &mut page) == Err(StoreFault::Device);
-    Ok(is_held && is_read && has_failed && reads(&mut overlay, 0, 1))
+    change(overlay).is_ok()
+        & reads(overlay, 1, 7)
+        & reads(overlay, 2, 8)
+        & reads(overlay, 0, 1)
+        & (overlay.read_into(0, &mut page) == Err(StoreFault::Device))
+        & reads(overlay, 0, 1)
+}
+
+// The same over two pages.
+fn tells_failures(alloc: Global) -> bool {
+    match two_pages(alloc) {
+        Ok(below) => fails_once(&mut Overlay::new(alloc, FaultyStore::new(below, 2))),
+        Err(_) => false,
+    }
 }
 
 // Whether the page of this number is seen, and is of this byte.
@@ -125,22 +154,39 @@ fn puts<P: Place, J: Tells>(place: &mut P, journal: &J, first: u8, second: u8, t
     shows(place, 0, first) && shows(place, 1, second) && shows(place, 2, third)
 }
 
-// Whether changes in memory are put into the file of a table.
-fn are_put(alloc: Global) -> Result<bool, StoreFault> {
-    let mut overlay = Overlay::new(alloc, two_pages(alloc)?);
-    change(&mut overlay)?;
-    overlay.write_page(0, &[6; 4096])?;
-    if overlay.pages() == 0 {
-        return Ok(false);
+// The same of the file of the table of two pages.
+fn puts_on_disk<J: Tells>(alloc: Global, journal: &J) -> bool
+    requires { IsJournal (J.told journal.now) }
+{
+    match two_pages_on_disk(alloc) {
+        Ok(mut place) => puts(&mut place, journal, 6, 7, 8),
+        Err(_) => false,
     }
-    let (Ok(parts), Ok(mut place)) = (overlay.into_parts(), two_pages_on_disk(alloc)) else {
-        return Err(StoreFault::Memory);
+}
+
+// Whether changes in memory over these pages are put into the file.
+fn are_put_over<S: PageStore>(alloc: Global, below: S) -> bool {
+    let mut overlay = Overlay::new(alloc, below);
+    let is_changed = change(&mut overlay).is_ok() & overlay.write_page(0, &[6; 4096]).is_ok();
+    if overlay.pages() == 0 {
+        return false;
+    }
+    let Ok(parts) = overlay.into_parts() else {
+        return false;
     };
     let redo = Redo {
         before: [1; 4096],
         changed: parts.changed,
     };
-    Ok(puts(&mut place, &redo, 6, 7, 8))
+    is_changed & puts_on_disk(alloc, &redo)
+}
+
+// The same over two pages.
+fn are_put(alloc: Global) -> bool {
+    match two_pages(alloc) {
+        Ok(below) => are_put_over(alloc, below),
+        Err(_) => false,
+    }
 }
 
 // The pages that a journal stands for which cuts a table down to its first page, and changes that one.
@@ -157,32 +203,43 @@ fn cut<S: PageStore>(alloc: Global, below: S) -> Result<Overlay<S>, StoreFault> 
     }
 }
 
-// Whether they are read through that journal, a page that is added then is none that was cut, and the table stays as it is.
-fn are_read_through(alloc: Global) -> Result<bool, StoreFault> {
-    let mut overlay = cut(alloc, two_pages(alloc)?)?;
-    let is_cut = has_pages(&mut overlay, &[5]);
-    let added = overlay.extend()?;
-    let is_added = added == 1 && has_pages(&mut overlay, &[5, 0]);
-    let mut below = overlay.into_store();
-    Ok(is_cut && is_added && has_pages(&mut below, &[1, 2]))
+// Whether they are read through that journal, and a page that is added then is none that was cut.
+fn is_cut<S: PageStore>(overlay: &mut Overlay<S>) -> bool {
+    has_pages(overlay, &[5]) & (overlay.extend() == Ok(1)) & has_pages(overlay, &[5, 0])
+}
+
+// The same over these pages, which stay as they are.
+fn are_read_over<S: PageStore>(alloc: Global, below: S) -> bool {
+    match cut(alloc, below) {
+        Ok(mut overlay) => is_cut(&mut overlay) & has_pages(&mut overlay.into_store(), &[1, 2]),
+        Err(_) => false,
+    }
+}
+
+// The same over two pages.
+fn are_read_through(alloc: Global) -> bool {
+    match two_pages(alloc) {
+        Ok(below) => are_read_over(alloc, below),
+        Err(_) => false,
+    }
 }
 
 #[test]
 fn changes_stay_in_memory(rt: HostRuntime) {
-    assert!(rt; stay_in_memory(rt.alloc()) == Ok(true));
+    assert!(rt; stay_in_memory(rt.alloc()));
 }
 
 #[test]
 fn a_failure_below_is_told_once(rt: HostRuntime) {
-    assert!(rt; tells_failures(rt.alloc()) == Ok(true));
+    assert!(rt; tells_failures(rt.alloc()));
 }
 
 #[test]
 fn changes_are_put_into_the_file(rt: HostRuntime) {
-    assert!(rt; are_put(rt.alloc()) == Ok(true));
+    assert!(rt; are_put(rt.alloc()));
 }
 
 #[test]
 fn a_journal_is_read_through(rt: HostRuntime) {
-    assert!(rt; are_read_through(rt.alloc()) == Ok(true));
+    assert!(rt; are_read_through(rt.alloc()));
 }

@@ -12,8 +12,6 @@ mod file;
 #[cfg(test)]
 mod file_fake;
 #[cfg(test)]
-mod old_headers;
-#[cfg(test)]
 mod page;
 #[cfg(test)]
 mod page_masks;

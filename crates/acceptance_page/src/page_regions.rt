@@ -1,5 +1,6 @@
-// Regions that are written and read, and pages that are refused.
-use crate::samples::{all_right, page_of, plane, region_page, row, table};
+// Regions that are written and read. Which pages are refused, and why, is text of `tree_transcripts` ('What the reader of a region
+// refuses').
+use crate::samples::{page_of, plane, region_page, row, table};
 use ub_page::{Draft, Page, RegionPage};
 use ub_table::{Key, PageFault, Row, Schema};
 
@@ -33,28 +34,6 @@ const HIGH: &[(usize, u8)] = &[
     (47, 3),
     (55, 20),
     (63, 1),
-];
-
-// Bytes of the first page that are changed, and the fault that is told then.
-static FAULTS: &[(&[(usize, u8)], PageFault)] = &[
-    (&[(0, 0)], PageFault::WrongKind),
-    (&[(3, 3)], PageFault::BadCount),
-    (&[(27, 0), (31, 0)], PageFault::BadRow),
-    (
-        &[
-            (27, 4),
-            (31, 1),
-            (35, 0),
-            (39, 1),
-            (43, 2),
-            (47, 1),
-            (55, 7),
-            (63, 10),
-        ],
-        PageFault::BadOrder,
-    ),
-    (&[(19, 4)], PageFault::OutOfRegion),
-    (&[(4095, 1)], PageFault::BadPadding),
 ];
 
 // Whether a region has this first key and these rows.
@@ -165,31 +144,10 @@ fn tells_all(schema: &Schema) -> bool {
     }
 }
 
-// Whether a page is refused so.
-fn is_refused(schema: &Schema, page: &Page, fault: PageFault) -> bool {
-    match RegionPage::read(schema, page) {
-        Ok(_) => false,
-        Err(told) => told == fault,
-    }
-}
-
-// How many of the changed pages are refused so, up to the first that isn't.
-fn faults_right(schema: &Schema) -> usize {
-    let mut right = 0usize;
-    for (changes, fault) in FAULTS {
-        if !is_refused(schema, &page_of(LOW, changes), *fault) {
-            return right;
-        }
-        right = right.wrapping_add(1);
-    }
-    right
-}
-
 #[test]
-fn gives_rows_and_keys_or_the_first_fault(rt: HostRuntime) {
+fn gives_rows_and_keys(rt: HostRuntime) {
     let schema = plane().expect(&rt, "a table");
     assert!(rt; tells_all(&schema));
-    all_right(&rt, faults_right(&schema), FAULTS.len());
 }
 
 // 64 rows of a table of four dimensions and four measures, in the order of their keys.

@@ -159,17 +159,17 @@ fn is_split_again(first: &mut RegionPage, second: &mut RegionPage, third: &mut R
         return false;
     }
     let is_right = is_region(first, ORIGIN, &[1, 2])
-        && is_region(second, begin, &[3, 4])
-        && is_region(third, key(262_401, 0), &[6])
-        && second.remove(&key(362, 6))
-        && is_region(second, begin, &[3]);
+        & is_region(second, begin, &[3, 4])
+        & is_region(third, key(262_401, 0), &[6])
+        & second.remove(&key(362, 6))
+        & is_region(second, begin, &[3]);
     put(second, 1, 5);
     is_right
-        && is_region(second, begin, &[3, 5])
-        && join(second, third, 3)
-        && is_region(second, begin, &[3, 5, 6])
-        && join(first, second, 5)
-        && is_region(first, ORIGIN, &[1, 2, 3, 5, 6])
+        & is_region(second, begin, &[3, 5])
+        & join(second, third, 3)
+        & is_region(second, begin, &[3, 5, 6])
+        & join(first, second, 5)
+        & is_region(first, ORIGIN, &[1, 2, 3, 5, 6])
 }
 
 #[test]
@@ -255,24 +255,29 @@ fn rows_taken_out_and_put_in(rt: HostRuntime) {
     }
 }
 
-// Whether rows are taken out by their keys, where they are, and only then: by number and address
-// both, among others of one address, and to the last one.
+// Keys, whether a row of each is taken out of those that are left, and the places of the others: by
+// number and address both, among others of one address, and to the last one.
+static REMOVALS: &[(u128, u32, bool, &[usize])] = &[
+    (362, 7, false, &[0, 2, 3, 4]),
+    (20, 3, false, &[0, 2, 3, 4]),
+    (361, 3, false, &[0, 2, 3, 4]),
+    (362, 0, false, &[0, 2, 3, 4]),
+    (362, 5, true, &[0, 2, 4]),
+    (362, 5, false, &[0, 2, 4]),
+    (1, 7, true, &[2, 4]),
+    (362, 6, true, &[2]),
+    (362, 3, true, &[]),
+    (362, 3, false, &[]),
+];
+
+// Whether rows are taken out by their keys, where they are, and only then.
 fn are_taken_out(region: &mut RegionPage) -> bool {
-    !region.remove(&key(362, 7))
-        && !region.remove(&key(20, 3))
-        && !region.remove(&key(361, 3))
-        && !region.remove(&key(362, 0))
-        && is_region(region, ORIGIN, &[0, 2, 3, 4])
-        && region.remove(&key(362, 5))
-        && is_region(region, ORIGIN, &[0, 2, 4])
-        && !region.remove(&key(362, 5))
-        && region.remove(&key(1, 7))
-        && is_region(region, ORIGIN, &[2, 4])
-        && region.remove(&key(362, 6))
-        && is_region(region, ORIGIN, &[2])
-        && region.remove(&key(362, 3))
-        && is_region(region, ORIGIN, &[])
-        && !region.remove(&key(362, 3))
+    for (z, number, is_there, left) in REMOVALS {
+        if region.remove(&key(*z, *number)) != *is_there || !is_region(region, ORIGIN, left) {
+            return false;
+        }
+    }
+    true
 }
 
 #[test]
@@ -282,31 +287,42 @@ fn rows_taken_out_by_key(rt: HostRuntime) {
     assert!(rt; are_taken_out(&mut region));
 }
 
-// Whether no row, one and two are few where pages hold so many.
-fn are_told_few(none: &RegionPage, one: &RegionPage, two: &RegionPage) -> bool {
-    none.are_few(2)
-        && none.are_few(3)
-        && !one.are_few(2)
-        && !one.are_few(3)
-        && one.are_few(4)
-        && !two.are_few(4)
-        && !two.are_few(5)
-        && two.are_few(6)
+// Numbers of rows, and of rows that pages hold, and whether the first are few then.
+static FEW: &[(usize, u32, bool)] = &[
+    (0, 2, true),
+    (0, 3, true),
+    (1, 2, false),
+    (1, 3, false),
+    (1, 4, true),
+    (2, 4, false),
+    (2, 5, false),
+    (2, 6, true),
+];
+
+// Whether regions of so many rows are told to have few.
+fn are_told_few(shape: Shape) -> bool {
+    for (rows, page_rows, are_few) in FEW {
+        let region = region_of(shape, &FOUR[..*rows % 4]);
+        if region.are_few(*page_rows) != *are_few {
+            return false;
+        }
+    }
+    true
 }
 
 // Whether two regions of a row each are joined where a page holds two, and not where it holds one;
 // and the one before with these where it holds three, and not where it holds two.
 fn are_joined(before: &mut RegionPage, region: &mut RegionPage, next: &RegionPage) -> bool {
     !join(region, next, 1)
-        && is_region(region, ORIGIN, &[2])
-        && join(region, next, 2)
-        && is_region(region, ORIGIN, &[2, 5])
-        && !join(before, region, 2)
-        && is_region(before, ORIGIN, &[0])
-        && join(before, region, 3)
-        && is_region(before, ORIGIN, &[0, 2, 5])
-        && is_region(region, ORIGIN, &[2, 5])
-        && is_region(next, ORIGIN, &[5])
+        & is_region(region, ORIGIN, &[2])
+        & join(region, next, 2)
+        & is_region(region, ORIGIN, &[2, 5])
+        & !join(before, region, 2)
+        & is_region(before, ORIGIN, &[0])
+        & join(before, region, 3)
+        & is_region(before, ORIGIN, &[0, 2, 5])
+        & is_region(region, ORIGIN, &[2, 5])
+        & is_region(next, ORIGIN, &[5])
 }
 
 #[test]
@@ -315,9 +331,7 @@ fn few_rows_joined(rt: HostRuntime) {
     let mut before = region_of(shape, &[0]);
     let mut region = region_of(shape, &[2]);
     let next = region_of(shape, &[5]);
-    let none = region_of(shape, &[]);
-    let two = region_of(shape, &[1, 6]);
-    assert!(rt; are_told_few(&none, &next, &two));
+    assert!(rt; are_told_few(shape));
     assert!(rt; are_joined(&mut before, &mut region, &next));
 }
 
@@ -332,13 +346,19 @@ fn are_appended(shape: Shape, places: &[usize], next: &[usize], all: &[usize]) -
     is_region(&region, ORIGIN, all)
 }
 
+// Places of rows, of those that are put behind them, and of all of them.
+static APPENDED: &[(&[usize], &[usize], &[usize])] = &[
+    (&[], &[], &[]),
+    (&[0, 1], &[], &[0, 1]),
+    (&[], &[2, 6], &[2, 6]),
+    (&[0], &[1, 4, 5], &[0, 1, 4, 5]),
+    (&[0, 1, 2], &[6], &[0, 1, 2, 6]),
+];
+
 #[test]
 fn rows_appended(rt: HostRuntime) {
     let shape = Shape::new(4).expect(&rt, "four dimensions");
-    let is_right = are_appended(shape, &[], &[], &[])
-        && are_appended(shape, &[0, 1], &[], &[0, 1])
-        && are_appended(shape, &[], &[2, 6], &[2, 6])
-        && are_appended(shape, &[0], &[1, 4, 5], &[0, 1, 4, 5])
-        && are_appended(shape, &[0, 1, 2], &[6], &[0, 1, 2, 6]);
-    assert!(rt; is_right);
+    for (places, next, all) in APPENDED {
+        assert!(rt; are_appended(shape, places, next, all));
+    }
 }

@@ -72,7 +72,7 @@ fn are_named(columns: &[Name], letters: &[u8]) -> bool {
 }
 
 // Puts these bytes into a page, one after the other.
-pub(crate) fn change(page: &mut Page, changes: &[(usize, u8)]) {
+fn change(page: &mut Page, changes: &[(usize, u8)]) {
     for (place, byte) in changes {
         page[*place % 4096] = *byte;
     }
@@ -87,7 +87,7 @@ pub(crate) fn page_of(bytes: &[(usize, u8)], changes: &[(usize, u8)]) -> Page {
 }
 
 // Puts a number into a page, on so many bytes from an offset on, the highest byte first.
-pub(crate) fn poke(page: &mut [u8], at: usize, width: u32, number: u128) {
+fn poke(page: &mut [u8], at: usize, width: u32, number: u128) {
     let mut rest = number;
     for i in 0..width {
         let place = at.wrapping_add((width - 1 - i) as usize);

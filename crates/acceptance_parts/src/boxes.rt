@@ -1,6 +1,5 @@
 // The boxes of conditions, where they are many, and how many points some of them have.
 use std::alloc::{AllocError, Global};
-use std::test::Fail;
 use ub_bigmin::ZBox;
 use ub_boxes::{boxes, points, total};
 use ub_query::{Cond, Operator};
@@ -57,13 +56,32 @@ fn is_total(some: Option<&[ZBox]>, wanted: u128) -> bool {
     }
 }
 
+// Whether the boxes of a condition are so many, with so many points, and say all of it.
+fn is_covered(alloc: Global, filter: &Cond, schema: &Schema, count: usize, size: u128) -> bool {
+    match boxes(alloc, Some(filter), schema) {
+        Ok(cover) => {
+            cover.boxes().len() == count
+                && points(&cover) == Some(size)
+                && cover.is_exact()
+                && !cover.is_wide()
+        }
+        Err(_) => false,
+    }
+}
+
+// Whether those of the condition with many cells are.
+fn are_many(alloc: Global, schema: &Schema) -> bool {
+    match many(alloc) {
+        Ok(filter) => is_covered(alloc, &filter, schema, 1055, 270_582_938_656),
+        Err(_) => false,
+    }
+}
+
 // 65 times 63 cells. Beside each of the 32 values of a, b is free; beside the 33 gaps between them it has 31 values.
 #[test]
-fn makes_boxes_of_many_cells(rt: HostRuntime) -> Result<(), Fail> {
-    let cover = boxes(rt.alloc(), Some(&many(rt.alloc())?), &table(2)?)?;
-    assert!(rt; cover.boxes().len() == 1055 && points(&cover) == Some(270_582_938_656));
-    assert!(rt; cover.is_exact() && !cover.is_wide());
-    Ok(())
+fn makes_boxes_of_many_cells(rt: HostRuntime) {
+    let schema = table(2).expect(&rt, "a table");
+    assert!(rt; are_many(rt.alloc(), &schema));
 }
 
 // a <= 2 OR b >= 2.
@@ -75,20 +93,41 @@ fn corner(alloc: Global) -> Result<Cond, AllocError> {
     )
 }
 
-// Beside the first box, (2^32 - 3) * (2^32 - 2) points.
+// Whether the boxes of a condition but the first one have so many points.
+fn has_rest(alloc: Global, filter: &Cond, schema: &Schema, size: u128) -> bool {
+    match boxes(alloc, Some(filter), schema) {
+        Ok(cover) => is_total(cover.boxes().get(1..), size),
+        Err(_) => false,
+    }
+}
+
+// Whether beside the first box of that condition there are (2^32 - 3) * (2^32 - 2) points.
+fn is_added_up(alloc: Global, schema: &Schema) -> bool {
+    match corner(alloc) {
+        Ok(filter) => has_rest(alloc, &filter, schema, 18_446_744_052_234_715_142),
+        Err(_) => false,
+    }
+}
+
 #[test]
-fn adds_points_up(rt: HostRuntime) -> Result<(), Fail> {
-    let cover = boxes(rt.alloc(), Some(&corner(rt.alloc())?), &table(2)?)?;
-    assert!(rt; is_total(cover.boxes().get(1..), 18_446_744_052_234_715_142));
-    Ok(())
+fn adds_points_up(rt: HostRuntime) {
+    let schema = table(2).expect(&rt, "a table");
+    assert!(rt; is_added_up(rt.alloc(), &schema));
+}
+
+// Whether a whole space has more points than can be told.
+fn is_uncounted(alloc: Global, schema: &Schema) -> bool {
+    match boxes(alloc, None, schema) {
+        Ok(space) => total(space.boxes()).is_none() && points(&space).is_none(),
+        Err(_) => false,
+    }
 }
 
 // The space of four dimensions has 2^128.
 #[test]
-fn counts_no_points_of_a_whole_space(rt: HostRuntime) -> Result<(), Fail> {
-    let space = boxes(rt.alloc(), None, &table(4)?)?;
-    assert!(rt; total(space.boxes()).is_none() && points(&space).is_none());
-    Ok(())
+fn counts_no_points_of_a_whole_space(rt: HostRuntime) {
+    let schema = table(4).expect(&rt, "a table");
+    assert!(rt; is_uncounted(rt.alloc(), &schema));
 }
 
 // Comparisons of the one dimension of a table, which is signed, how many boxes they have, and how many points these.
@@ -120,22 +159,22 @@ fn are_ends(
     value: i128,
     count: usize,
     size: u128,
-) -> Result<bool, AllocError> {
+) -> bool {
     let filter = Cond::Compare {
         column: 0,
         operator,
         value,
     };
-    let cover = boxes(alloc, Some(&filter), schema)?;
-    Ok(cover.boxes().len() == count && points(&cover) == Some(size) && cover.is_exact())
+    is_covered(alloc, &filter, schema, count, size)
 }
 
 #[test]
-fn cuts_a_signed_dimension_at_its_values(rt: HostRuntime) -> Result<(), Fail> {
-    let schema = signed_table(1, 1)?;
+fn cuts_a_signed_dimension_at_its_values(rt: HostRuntime) {
+    let schema = signed_table(1, 1).expect(&rt, "a table");
     for (operator, value, count, size) in &ENDS {
-        let are = are_ends(rt.alloc(), &schema, *operator, *value, *count, *size)?;
-        assert!(rt; are, "{value}");
+        assert!(rt;
+            are_ends(rt.alloc(), &schema, *operator, *value, *count, *size),
+            "{value}"
+        );
     }
-    Ok(())
 }

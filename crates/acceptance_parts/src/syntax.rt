@@ -1,6 +1,5 @@
 // The syntax that is built of statements, and a symbol that no statement has.
 use std::alloc::{AllocError, Global};
-use std::test::Fail;
 use ub_lexer::{Token, TokenKind, lex};
 use ub_syntax::{
     Aggregate, Condition, Insertion, Item, Literal, OrderKey, Selection, Sentence, Symbol, Syntax,
@@ -17,14 +16,6 @@ fn sentence_of(alloc: Global, source: &[u8]) -> Result<Option<Sentence>, AllocEr
     match too_many(source, tokens) {
         Some(_) => Ok(None),
         None => Ok(Some(build(alloc, source, tokens)?)),
-    }
-}
-
-// The same, if it is a SELECT.
-fn syntax_of(alloc: Global, source: &[u8]) -> Result<Option<Syntax>, AllocError> {
-    match sentence_of(alloc, source)? {
-        Some(Sentence::Select(syntax)) => Ok(Some(syntax)),
-        _ => Ok(None),
     }
 }
 
@@ -140,35 +131,64 @@ fn groups_from_the_left(syntax: &Syntax) -> bool {
     matches!(&**both, Condition::And(_, _)) && matches!(&**either, Condition::Or(_, _))
 }
 
-#[test]
-fn reads_the_least_statement(rt: HostRuntime) -> Result<(), Fail> {
-    let syntax = syntax_of(rt.alloc(), b"EXPLAIN SELECT * FROM t")?.expect(&rt, "a statement");
-    assert!(rt; is_least(&syntax));
-    Ok(())
+// What the syntax of a statement is to be.
+#[derive(Clone, Copy)]
+enum Built {
+    Least,
+    Lists,
+    // AND and OR group from the left.
+    Grouped,
+    Insert,
+    // Whether it has a condition.
+    Delete(bool),
+}
+
+static BUILT: [(&[u8], Built); 6] = [
+    (b"EXPLAIN SELECT * FROM t", Built::Least),
+    (
+        b"SELECT COUNT(*), SUM(m) FROM t GROUP BY x, y ORDER BY x DESC, COUNT(*) LIMIT 5",
+        Built::Lists,
+    ),
+    (
+        b"select * from t where a=1 or b=2 and c=3 and(d=4 or e=5 or not not f=6)",
+        Built::Grouped,
+    ),
+    (b"INSERT INTO t VALUES (10, -2)", Built::Insert),
+    (b"delete from t", Built::Delete(false)),
+    (
+        b"DELETE FROM t WHERE x = 1 OR NOT y = 2",
+        Built::Delete(true),
+    ),
+];
+
+// Whether a sentence is so.
+fn is_so(sentence: &Sentence, built: Built) -> bool {
+    match built {
+        Built::Least => matches!(sentence, Sentence::Select(syntax) if is_least(syntax)),
+        Built::Lists => matches!(sentence, Sentence::Select(syntax) if has_lists(syntax)),
+        Built::Grouped => {
+            matches!(sentence, Sentence::Select(syntax) if groups_from_the_left(syntax))
+        }
+        Built::Insert => { matches!(sentence, Sentence::Insert(insertion) if is_insert(insertion)) }
+        Built::Delete(has_filter) => {
+            matches!(sentence, Sentence::Delete(syntax) if is_delete(syntax, has_filter))
+        }
+    }
+}
+
+// Whether the syntax that is built of a source is so.
+fn is_built(alloc: Global, source: &[u8], built: Built) -> bool {
+    match sentence_of(alloc, source) {
+        Ok(Some(sentence)) => is_so(&sentence, built),
+        _ => false,
+    }
 }
 
 #[test]
-fn reads_each_list(rt: HostRuntime) -> Result<(), Fail> {
-    let source = b"SELECT COUNT(*), SUM(m) FROM t GROUP BY x, y ORDER BY x DESC, COUNT(*) LIMIT 5";
-    let syntax = syntax_of(rt.alloc(), source)?.expect(&rt, "a statement");
-    assert!(rt; has_lists(&syntax));
-    Ok(())
-}
-
-#[test]
-fn reads_an_insert(rt: HostRuntime) -> Result<(), Fail> {
-    let sentence = sentence_of(rt.alloc(), b"INSERT INTO t VALUES (10, -2)")?;
-    assert!(rt; matches!(&sentence, Some(Sentence::Insert(insertion)) if is_insert(insertion)));
-    Ok(())
-}
-
-#[test]
-fn reads_a_delete(rt: HostRuntime) -> Result<(), Fail> {
-    let all = sentence_of(rt.alloc(), b"delete from t")?;
-    assert!(rt; matches!(&all, Some(Sentence::Delete(syntax)) if is_delete(syntax, false)));
-    let some = sentence_of(rt.alloc(), b"DELETE FROM t WHERE x = 1 OR NOT y = 2")?;
-    assert!(rt; matches!(&some, Some(Sentence::Delete(syntax)) if is_delete(syntax, true)));
-    Ok(())
+fn statements_have_their_syntax(rt: HostRuntime) {
+    for (i, case) in BUILT.iter().enumerate() {
+        assert!(rt; is_built(rt.alloc(), case.0, case.1), "statement {i}");
+    }
 }
 
 // The verdict on a source of one statement, if it has a token.
@@ -182,41 +202,45 @@ fn verdict_on(alloc: Global, source: &[u8]) -> Result<Option<Verdict>, AllocErro
 }
 
 // What an INSERT and a DELETE don't have is refused where it stands.
-#[test]
-fn refuses_other_changes(rt: HostRuntime) -> Result<(), Fail> {
-    let cases: [(&[u8], usize); 9] = [
-        (b"EXPLAIN DELETE FROM t", 8),
-        (b"EXPLAIN INSERT INTO t VALUES (1)", 8),
-        (b"DELETE FROM t GROUP BY x", 14),
-        (b"DELETE FROM t LIMIT 1", 14),
-        (b"DELETE FROM t WHERE x = 1 ORDER BY x", 26),
-        (b"INSERT INTO t VALUES ()", 22),
-        (b"INSERT INTO t VALUES (1, )", 25),
-        (b"INSERT INTO t VALUES (1", 23),
-        (b"INSERT INTO t VALUES (1), (2)", 24),
-    ];
-    for (source, at) in &cases {
-        assert!(rt; verdict_on(rt.alloc(), source)? == Some(Verdict::Syntax { at: *at }));
+static REFUSED: [(&[u8], usize); 9] = [
+    (b"EXPLAIN DELETE FROM t", 8),
+    (b"EXPLAIN INSERT INTO t VALUES (1)", 8),
+    (b"DELETE FROM t GROUP BY x", 14),
+    (b"DELETE FROM t LIMIT 1", 14),
+    (b"DELETE FROM t WHERE x = 1 ORDER BY x", 26),
+    (b"INSERT INTO t VALUES ()", 22),
+    (b"INSERT INTO t VALUES (1, )", 25),
+    (b"INSERT INTO t VALUES (1", 23),
+    (b"INSERT INTO t VALUES (1), (2)", 24),
+];
+
+// Whether a source is refused at this byte.
+fn is_refused(alloc: Global, source: &[u8], at: usize) -> bool {
+    match verdict_on(alloc, source) {
+        Ok(verdict) => verdict == Some(Verdict::Syntax { at }),
+        Err(_) => false,
     }
-    Ok(())
+}
+
+#[test]
+fn refuses_other_changes(rt: HostRuntime) {
+    for (source, at) in &REFUSED {
+        assert!(rt; is_refused(rt.alloc(), source, *at), "at {at}");
+    }
+}
+
+// Whether no part of a source is one too many.
+fn is_within(alloc: Global, source: &[u8]) -> bool {
+    match lex(alloc, source) {
+        Ok(tokens) => too_many(source, tokens.as_slice()).is_none(),
+        Err(_) => false,
+    }
 }
 
 // The values of an INSERT have no limit.
 #[test]
-fn limits_no_values(rt: HostRuntime) -> Result<(), Fail> {
-    let source = b"INSERT INTO t VALUES (1,2,3,4,5,6,7,8,9,10)";
-    let tokens = lex(rt.alloc(), source)?;
-    assert!(rt; too_many(source, tokens.as_slice()).is_none());
-    Ok(())
-}
-
-// AND and OR group from the left.
-#[test]
-fn groups_conditions(rt: HostRuntime) -> Result<(), Fail> {
-    let source = b"select * from t where a=1 or b=2 and c=3 and(d=4 or e=5 or not not f=6)";
-    let syntax = syntax_of(rt.alloc(), source)?.expect(&rt, "a statement");
-    assert!(rt; groups_from_the_left(&syntax));
-    Ok(())
+fn limits_no_values(rt: HostRuntime) {
+    assert!(rt; is_within(rt.alloc(), b"INSERT INTO t VALUES (1,2,3,4,5,6,7,8,9,10)"));
 }
 
 // A byte that begins no token: a statement that has it is refused before its grammar is asked.

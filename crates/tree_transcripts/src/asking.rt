@@ -1,11 +1,11 @@
 use crate::queries::answer_by;
-use crate::regions::{meet, seek, span};
-use crate::reply::{Reply, UNKNOWN, say};
+use crate::regions::{meet, span};
+use crate::reply::{NONE, Reply, UNKNOWN, say};
 use crate::words::{Words, add_word};
 use std::alloc::Global;
 use ub_store::PageStore;
-use ub_table::Key;
-use ub_tree::Tree;
+use ub_table::{Key, Schema};
+use ub_tree::{Region, Tree, TreeFault};
 
 /// What a line on a tree is answered.
 pub fn ask<S: PageStore>(alloc: Global, tree: &mut Tree<S>, line: &str) -> Reply {
@@ -14,20 +14,23 @@ pub fn ask<S: PageStore>(alloc: Global, tree: &mut Tree<S>, line: &str) -> Reply
         "insert" => insert(alloc, tree, &mut words),
         "fill" => fill(alloc, tree, words.short()),
         "empty" => empty(alloc, tree, words.short()),
-        "remove" => remove(alloc, tree, &mut words),
-        "check" => check(alloc, tree),
-        "begin" => begin(alloc, tree),
+        "remove" => gone(alloc, tree.remove(key_of(&mut words))),
+        "check" => done(alloc, tree.check()),
+        "begin" => {
+            tree.begin();
+            say(alloc, "ok")
+        }
         head @ ("SELECT" | "EXPLAIN" | "DELETE") => answer_by(alloc, tree, head, line, 0),
         "sweep" => {
             let turns = words.short();
             answer_by(alloc, tree, "sweep", words.rest, turns)
         }
-        "seek" => seek(alloc, tree, words.number()),
+        "seek" => found(alloc, tree.seek(words.number(), None)),
         "span" => span(alloc, tree, &mut words),
         "walk" => meet(alloc, tree, 0, true),
         "meet" => meet(alloc, tree, words.short(), false),
-        "count" => count(alloc, tree),
-        "shape" => shape(alloc, tree),
+        "count" => count(alloc, tree.rows(), tree.regions(), tree.has_failed()),
+        "shape" => shape(alloc, tree.schema()),
         "trace" => trace(alloc, tree.trace()),
         _ => say(alloc, UNKNOWN),
     };
@@ -37,26 +40,28 @@ pub fn ask<S: PageStore>(alloc: Global, tree: &mut Tree<S>, line: &str) -> Reply
     reply
 }
 
-// Whether a row was there that is taken out, by the words for its address and its number.
-fn remove<S: PageStore>(alloc: Global, tree: &mut Tree<S>, words: &mut Words<'_>) -> Reply {
-    let key = Key {
+// The key of an address and a number, by the words for them.
+fn key_of(words: &mut Words<'_>) -> Key {
+    Key {
         z: words.number(),
         number: words.short(),
-    };
-    let is_there = tree.remove(key)?;
-    say(alloc, if is_there { "yes" } else { "no" })
+    }
 }
 
-// Checks the whole table.
-fn check<S: PageStore>(alloc: Global, tree: &mut Tree<S>) -> Reply {
-    tree.check()?;
+// Whether a row was there that was to be taken out.
+fn gone(alloc: Global, removed: Result<bool, TreeFault>) -> Reply {
+    say(alloc, if removed? { "yes" } else { "no" })
+}
+
+// What was done, unless it was refused.
+fn done(alloc: Global, ended: Result<(), TreeFault>) -> Reply {
+    ended?;
     say(alloc, "ok")
 }
 
-// Begins the trace anew.
-fn begin<S: PageStore>(alloc: Global, tree: &mut Tree<S>) -> Reply {
-    tree.begin();
-    say(alloc, "ok")
+// Whether there is a region that was sought.
+fn found(alloc: Global, sought: Result<Option<Region>, TreeFault>) -> Reply {
+    say(alloc, if sought?.is_some() { "ok" } else { NONE })
 }
 
 // Puts in a row, by the words for its values: its number.
@@ -82,13 +87,11 @@ fn put<S: PageStore>(alloc: Global, tree: &mut Tree<S>, dims: &[u32], measures: 
 
 // Puts in so many rows, at 0, 1, .. of the first dimension, and at 0 of another one.
 fn fill<S: PageStore>(alloc: Global, tree: &mut Tree<S>, count: u32) -> Reply {
-    let is_line = tree.schema().dims() == 1;
+    let dims = (tree.schema().dims() as usize).min(2);
+    let measures = (tree.schema().measures() as usize).min(1);
     for x in 0..count {
-        if is_line {
-            put(alloc, tree, &[x], &[])?;
-        } else {
-            put(alloc, tree, &[x, 0], &[0])?;
-        }
+        let point = [x, 0];
+        put(alloc, tree, &point[..dims], &[0][..measures])?;
     }
     say(alloc, "ok")
 }
@@ -110,15 +113,13 @@ fn empty<S: PageStore>(alloc: Global, tree: &mut Tree<S>, count: u32) -> Reply {
 }
 
 // How many rows and regions there are, and whether the tree has failed.
-fn count<S: PageStore>(alloc: Global, tree: &Tree<S>) -> Reply {
-    let failed = if tree.has_failed() { " failed" } else { "" };
-    let (rows, regions) = (tree.rows(), tree.regions());
+fn count(alloc: Global, rows: u32, regions: u32, has_failed: bool) -> Reply {
+    let failed = if has_failed { " failed" } else { "" };
     Ok(format!(in alloc; "rows {rows} regions {regions}{failed}")?)
 }
 
 // How many dimensions, measures and columns there are, and how many rows on a page.
-fn shape<S: PageStore>(alloc: Global, tree: &Tree<S>) -> Reply {
-    let schema = tree.schema();
+fn shape(alloc: Global, schema: &Schema) -> Reply {
     let (dims, measures) = (schema.dims(), schema.measures());
     let (columns, rows) = (schema.columns().len(), schema.page_rows());
     Ok(format!(in alloc; "dims {dims} measures {measures} columns {columns} page-rows {rows}")?)

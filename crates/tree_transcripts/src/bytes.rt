@@ -105,11 +105,13 @@ impl Spelled {
         self.is_wrong |= self.bytes.extend_from_slice(&bytes[from..]).is_err();
     }
 
-    // A number, or one and a step that is added so often.
+    // A number, or one and a step that is added so often, and another one that is added for each page before.
     fn stepped(&mut self, words: &str, turn: u128) -> u128 {
-        let (from, step) = words.split_once('+').unwrap_or((words, "0"));
+        let (from, steps) = words.split_once('+').unwrap_or((words, "0"));
+        let (step, more) = steps.split_once('+').unwrap_or((steps, "0"));
         let all = self.number(step).saturating_mul(turn);
-        self.number(from).saturating_add(all)
+        let pages = self.number(more).saturating_mul(self.turn);
+        self.number(from).saturating_add(all).saturating_add(pages)
     }
 
     // The number that a word spells.

@@ -12,7 +12,7 @@
 //! An item is a byte (7), a number on bytes of which the highest is the first (6/4), a byte several times (0*12), a row of numbers
 //! (1~64/4), a text ('UBTR), a name on 33 bytes (.t), or an entry of an index or a directory: its address, its number where that isn't
 //! 0, and its page (e10>4, e0:1>1). Many entries are one item: the first address and page, their steps, and how many (e0+2*170>3+1). On
-//! several pages a number may have a step too (1+2/4). Hurts are bytes at an offset of a page: `0@12 7/4, 3@24 1/4` are two.
+//! several pages a number may have a step too (1+2/4), and an entry a second one (e0+1+170*170>1). Hurts are bytes at an offset of a page: `0@12 7/4, 3@24 1/4` are two.
 //!
 //!     open NAME           opens a store of its pages; `open NAME fail K` one that fails at its K-th call; `open NAME with HURTS`
 //!     open                opens the store that the last tree left; `again fail K` one of its pages that fails

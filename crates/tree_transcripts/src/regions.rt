@@ -4,15 +4,9 @@ use std::alloc::{AllocError, Global};
 use ub_bigmin::ZBox;
 use ub_page::RegionPage;
 use ub_store::PageStore;
-use ub_table::Key;
+use ub_table::{Key, Schema};
 use ub_tree::{Region, Tree, TreeFault};
 use ub_zaddr::{Point, Shape, last};
-
-/// Whether there is a region whose span ends at z or later.
-pub fn seek<S: PageStore>(alloc: Global, tree: &mut Tree<S>, z: u128) -> Reply {
-    let found = tree.seek(z, None)?;
-    say(alloc, if found.is_some() { "ok" } else { NONE })
-}
 
 /// The span of the region that ends at an address or later, and its first row and its last, read from its page or from another one.
 /// The word for the last address is `last`; `span least on 1` is the least key alone, with no search before it.
@@ -31,9 +25,19 @@ pub fn span<S: PageStore>(alloc: Global, tree: &mut Tree<S>, words: &mut Words<'
 fn held<S: PageStore>(alloc: Global, tree: &mut Tree<S>, region: &Region) -> Reply {
     let mut held = tree.empty_region();
     tree.read_region(region, &mut held)?;
-    let to = address(alloc, region.to, last_of(tree))?;
-    let rows = rows(alloc, &held)?;
-    Ok(format!(in alloc; "{}..{to} {rows}", region.from)?)
+    Ok(told(alloc, region, last_of(tree.schema()), &held)?)
+}
+
+// The words for them, where this is the last address.
+fn told(
+    alloc: Global,
+    region: &Region,
+    end: u128,
+    held: &RegionPage,
+) -> Result<String, AllocError> {
+    let to = address(alloc, region.to, end)?;
+    let rows = rows(alloc, held)?;
+    format!(in alloc; "{}..{to} {rows}", region.from)
 }
 
 // An address, or the word for the last one.
@@ -62,7 +66,7 @@ fn sought<S: PageStore>(
 ) -> Result<Option<Region>, TreeFault> {
     let z = match words.word() {
         "least" => return Ok(Some(least())),
-        "last" => last_of(tree),
+        "last" => last_of(tree.schema()),
         word => Words::new(word).number(),
     };
     tree.seek(z, None)
@@ -79,9 +83,9 @@ fn least() -> Region {
     }
 }
 
-// The last address of a tree.
-fn last_of<S: PageStore>(tree: &Tree<S>) -> u128 {
-    last(tree.schema().shape())
+// The last address of a table.
+fn last_of(schema: &Schema) -> u128 {
+    last(schema.shape())
 }
 
 // The first region after another one that meets the box; where all regions are walked, `Full` if it isn't the first of all.

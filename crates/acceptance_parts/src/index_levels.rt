@@ -1,7 +1,7 @@
 // An index of six levels with one to four entries a page, the leftmost pages of which are the roots of indexes of one to five: each
 // key, each neighbour, and all regions but the first dropped in several orders.
-use crate::pages::{Listed, Sheet};
-use crate::trial::{Answer, Run, Step, Trial, all_go};
+use crate::index_pages::{Listed, Sheet};
+use crate::index_trial::{Answer, Step, Trial, goes};
 use std::alloc::Global;
 
 // The regions' entries, from left to right.
@@ -67,33 +67,31 @@ const PAGES: &[Sheet] = &[
     Sheet::Index(6, &[(0, 0, 23), (25, 0, 28), (30, 0, 35)]),
 ];
 
-static RUNS: &[Run] = &[Run {
-    shown: "levels one to six",
-    steps: &[
-        (Step::Store(PAGES, 0, 4), Answer::Done),
-        (Step::Index(1, 1, 63), Answer::Done),
-        (Step::List(REGIONS, 4), Answer::Done),
-        (Step::Store(PAGES, 0, 4), Answer::Done),
-        (Step::Index(4, 2, 63), Answer::Done),
-        (Step::List(REGIONS, 7), Answer::Done),
-        (Step::Store(PAGES, 0, 4), Answer::Done),
-        (Step::Index(7, 3, 63), Answer::Done),
-        (Step::List(REGIONS, 10), Answer::Done),
-        (Step::Store(PAGES, 0, 4), Answer::Done),
-        (Step::Index(18, 4, 63), Answer::Done),
-        (Step::List(REGIONS, 14), Answer::Done),
-        (Step::Store(PAGES, 0, 4), Answer::Done),
-        (Step::Index(23, 5, 63), Answer::Done),
-        (Step::List(REGIONS, 16), Answer::Done),
-        (Step::Store(PAGES, 0, 4), Answer::Done),
-        (Step::Index(36, 6, 63), Answer::Done),
-        (Step::List(REGIONS, 19), Answer::Done),
-    ],
-}];
+static STEPS: &[(Step, Answer)] = &[
+    (Step::Store(PAGES, 0, 4), Answer::Done),
+    (Step::Index(1, 1, 63), Answer::Done),
+    (Step::List(REGIONS, 4), Answer::Done),
+    (Step::Store(PAGES, 0, 4), Answer::Done),
+    (Step::Index(4, 2, 63), Answer::Done),
+    (Step::List(REGIONS, 7), Answer::Done),
+    (Step::Store(PAGES, 0, 4), Answer::Done),
+    (Step::Index(7, 3, 63), Answer::Done),
+    (Step::List(REGIONS, 10), Answer::Done),
+    (Step::Store(PAGES, 0, 4), Answer::Done),
+    (Step::Index(18, 4, 63), Answer::Done),
+    (Step::List(REGIONS, 14), Answer::Done),
+    (Step::Store(PAGES, 0, 4), Answer::Done),
+    (Step::Index(23, 5, 63), Answer::Done),
+    (Step::List(REGIONS, 16), Answer::Done),
+    (Step::Store(PAGES, 0, 4), Answer::Done),
+    (Step::Index(36, 6, 63), Answer::Done),
+    (Step::List(REGIONS, 19), Answer::Done),
+];
 
 #[test]
 fn levels_one_to_six(rt: HostRuntime) {
-    all_go(&rt, rt.alloc(), RUNS);
+    let alloc = rt.alloc();
+    goes(&rt, alloc, "levels one to six", STEPS);
 }
 
 // An index: its level, its root, and how many regions stand below it.

@@ -9,35 +9,27 @@ pub(crate) type Listed = (u128, u32, u32);
 // A pager over a store that fails at one call.
 pub(crate) type Tried = Pager<FaultyStore<MemStore>>;
 
-// A page.
+// A page of an index.
 #[derive(Clone, Copy)]
 pub(crate) enum Sheet {
-    // Of an index: its level, and its entries.
+    // Its level, and its entries.
     Index(u32, &'static [Listed]),
-    // Of an index: its level from 1 to 16, and the page that the first of its 170 entries names; the others name page 1001, 1002
-    // and so on. Each leads to keys that the level below can hold.
+    // Its level from 1 to 16, and the page that the first of its 170 entries names; the others name page 1001, 1002 and so on. Each
+    // leads to keys that the level below can hold.
     Full(u32, u32),
-    // Of a directory of format 1: regions that begin with the addresses from one on, the region of address z on page z + 1000; how
-    // many they are, 170 at most; and the page that is named next, 0 for none.
-    Directory(u32, u32, u32),
-    // Of a directory of format 1: 170 regions that begin with the addresses from one on, all on page 1; and the page that is named
-    // next, 0 for none.
-    Shared(u32, u32),
     // Zeros.
     Blank,
 }
 
-// The first four bytes of a page as a number, its kind, its level and its count, and the next four, the page that is named next.
-fn head_of(sheet: &Sheet) -> (u32, u32) {
+// The first four bytes of a page as a number: its kind, its level and its count.
+fn head_of(sheet: &Sheet) -> u32 {
     match sheet {
         Sheet::Index(level, entries) => {
             let count = entries.len().min(170) as u32;
-            (0x4900_0000 + *level.min(&255) * 65536 + count, 0)
+            0x4900_0000 + *level.min(&255) * 65536 + count
         }
-        Sheet::Full(level, _) => (0x4900_00aa + *level.min(&255) * 65536, 0),
-        Sheet::Directory(_, count, next) => (0x4400_0000 + *count.min(&170), *next),
-        Sheet::Shared(_, next) => (0x4400_00aa, *next),
-        Sheet::Blank => (0, 0),
+        Sheet::Full(level, _) => 0x4900_00aa + *level.min(&255) * 65536,
+        Sheet::Blank => 0,
     }
 }
 
@@ -56,15 +48,6 @@ fn listed_at(sheet: &Sheet, i: u32) -> Option<Listed> {
     match sheet {
         Sheet::Index(_, entries) => entries.get(i as usize).copied(),
         Sheet::Full(level, below) => Some(full_at(*level, *below, i)),
-        Sheet::Directory(from, count, _) => {
-            let z = from.wrapping_add(i);
-            if i < *count {
-                Some((u128::from(z), 0, z.wrapping_add(1000)))
-            } else {
-                None
-            }
-        }
-        Sheet::Shared(from, _) => Some((u128::from(from.wrapping_add(i)), 0, 1)),
         Sheet::Blank => None,
     }
 }
@@ -84,9 +67,7 @@ fn poke(page: &mut [u8], at: usize, width: u32, number: u128) {
 // The bytes of a page: its head, and of each entry an address of 16 bytes, a number and a page.
 pub(crate) fn page_of(sheet: &Sheet) -> Page {
     let mut page = [0; 4096];
-    let (word, next) = head_of(sheet);
-    poke(&mut page, 0, 4, u128::from(word));
-    poke(&mut page, 4, 4, u128::from(next));
+    poke(&mut page, 0, 4, u128::from(head_of(sheet)));
     for i in 0..170u32 {
         let Some((z, number, below)) = listed_at(sheet, i) else {
             break;
@@ -100,7 +81,7 @@ pub(crate) fn page_of(sheet: &Sheet) -> Page {
 }
 
 // Puts a blank page and these into a store of none.
-pub(crate) fn fill(store: &mut MemStore, pages: &[Sheet]) -> Result<(), StoreFault> {
+fn fill(store: &mut MemStore, pages: &[Sheet]) -> Result<(), StoreFault> {
     store.extend()?;
     for sheet in pages {
         let number = store.extend()?;

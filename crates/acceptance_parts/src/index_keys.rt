@@ -1,5 +1,5 @@
 // What an index is to answer by the flat list of its regions' entries, and whether it does.
-use crate::pages::{Listed, Tried};
+use crate::index_pages::{Listed, Tried};
 use ub_bigmin::ZBox;
 use ub_index::{Index, IndexFault};
 use ub_page::Key;

@@ -1,8 +1,8 @@
 // Changes of an index over a store whose calls fail in turn: the fault comes once, the index is as it was where no page was put yet,
 // and the same call again does what it was to do.
-use crate::changes::THREE;
-use crate::pages::Sheet;
-use crate::trial::{Answer, DEVICE, Step, Trial};
+use crate::index_changes::THREE;
+use crate::index_pages::Sheet;
+use crate::index_trial::{Answer, DEVICE, Step, Trial};
 use std::alloc::Global;
 use ub_page::Key;
 use ub_region::Region;

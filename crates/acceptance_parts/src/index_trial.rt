@@ -1,7 +1,7 @@
 // Steps on an index and on the pager of its store, as data.
-use crate::keys::{is_list, leads, leads_to_all, meets_each, page_given};
-use crate::opening::begins;
-use crate::pages::{Listed, Sheet, Tried, page_of, stored};
+use crate::index_keys::{is_list, leads, leads_to_all, meets_each, page_given};
+use crate::index_opening::begins;
+use crate::index_pages::{Listed, Sheet, Tried, page_of, stored};
 use std::alloc::Global;
 use std::process::Abort;
 use ub_index::{Index, IndexFault};
@@ -51,7 +51,7 @@ pub(crate) enum Step {
     Lead(&'static [(u128, u32)]),
     // Whether each of the 170 addresses of the lowest full page does.
     LeadToAll,
-    // Whether boxes meet those of the six regions of `searches` that they meet.
+    // Whether boxes meet those of the six regions of `index_searches` that they meet.
     Meet,
     // Whether the trace notes no page.
     Trace,
@@ -89,12 +89,6 @@ const NO_REGION: Region = Region {
     page: 0,
 };
 
-// What is tried: what it shows, and steps.
-pub(crate) struct Run {
-    pub(crate) shown: &'static str,
-    pub(crate) steps: &'static [(Step, Answer)],
-}
-
 // An index, the region that was taken last, and the change that was prepared last.
 #[derive(Drop)]
 struct Held {
@@ -111,16 +105,10 @@ pub(crate) struct Trial {
     pager: Option<Tried>,
 }
 
-// Asserts that the steps of each of these runs are answered so.
-pub(crate) fn all_go(rt: &impl Abort, alloc: Global, runs: &[Run]) {
-    for run in runs {
-        let right = steps_right(alloc, run.steps);
-        assert!(rt;
-            right == run.steps.len(),
-            "{}: {right} steps were right",
-            run.shown
-        );
-    }
+// Asserts that these steps are answered so, by what they show.
+pub(crate) fn goes(rt: &impl Abort, alloc: Global, shown: &str, steps: &[(Step, Answer)]) {
+    let right = steps_right(alloc, steps);
+    assert!(rt; right == steps.len(), "{shown}: {right} steps were right");
 }
 
 // How many of these steps are answered so, up to the first wrong one.
