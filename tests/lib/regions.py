@@ -5,6 +5,7 @@ A point is a coordinate for each dimension. A key is the address of a point and 
 dimension, both inside. The regions of a table are a list in the order of their first keys, of which each region holds the rows whose keys
 aren't before its first key, and are before that of the next region.
 """
+import bisect
 
 BITS = 32
 GREATEST = 2**BITS - 1
@@ -37,7 +38,7 @@ def no_regions():
 
 def place_of(regions, key):
     """The place of the region that holds a key: the last one that doesn't begin after it."""
-    return max(place for place, region in enumerate(regions) if region.first <= key)
+    return bisect.bisect_right(regions, key, key=lambda region: region.first) - 1
 
 
 def insert(regions, page_rows, key, row):
