@@ -6,6 +6,7 @@ from pathlib import Path
 TOP = Path(__file__).resolve().parent.parent.parent
 
 ALL = "x >= 0"
+HALF = "x BETWEEN 100000 AND 893700 AND y BETWEEN 100000 AND 893700 AND z BETWEEN 100000 AND 893700"
 FIFTH = "x BETWEEN 200000 AND 813000 AND y BETWEEN 200000 AND 813000 AND z BETWEEN 200000 AND 813000"
 TENTH = "x BETWEEN 200000 AND 686000 AND y BETWEEN 200000 AND 686000 AND z BETWEEN 200000 AND 686000"
 TWENTIETH = "x BETWEEN 300000 AND 686292 AND y BETWEEN 300000 AND 686292 AND z BETWEEN 300000 AND 686292"
@@ -29,7 +30,12 @@ QUERIES = [
     ("ORDER BY a dimension, all rows (a sweep)", 4, f"SELECT * FROM t WHERE {ALL} ORDER BY x;"),
     ("ORDER BY a measure, all rows (a scan)", 4, f"SELECT * FROM t WHERE {ALL} ORDER BY amount;"),
     ("ORDER BY a measure, LIMIT 10, over all", 10, f"SELECT * FROM t WHERE {ALL} ORDER BY amount LIMIT 10;"),
+    ("ORDER BY x, LIMIT 10, over all (a sweep)", 20, f"SELECT * FROM t WHERE {ALL} ORDER BY x LIMIT 10;"),
+    ("ORDER BY y, LIMIT 10, over all (a sweep)", 20, f"SELECT * FROM t WHERE {ALL} ORDER BY y LIMIT 10;"),
+    ("ORDER BY z, LIMIT 10, over all (a sweep)", 20, f"SELECT * FROM t WHERE {ALL} ORDER BY z LIMIT 10;"),
+    ("ORDER BY x, LIMIT 10, in a half (a sweep)", 40, f"SELECT * FROM t WHERE {HALF} ORDER BY x LIMIT 10;"),
     ("ORDER BY a dimension, LIMIT 10, in a tenth (a sweep)", 100, f"SELECT * FROM t WHERE {TENTH} ORDER BY x LIMIT 10;"),
+    ("GROUP BY x, LIMIT 20, over all (a sweep)", 20, f"SELECT x, COUNT(*), SUM(amount) FROM t WHERE {ALL} GROUP BY x LIMIT 20;"),
     ("a sweep of all rows with a comparison of a measure", 4, "SELECT * FROM t WHERE amount < 5000 ORDER BY x;"),
 ]
 
