@@ -356,5 +356,6 @@ opens_misfits {T = T} Takes index boxes s before after old new r e is h =
     subst (λ (x : Result T IndexFault). OpensStretch Takes index boxes s before after old new x) (sym (err_is r e is)) (record {
       parts = tt;
       forgotten = h.forgotten;
+      others = h.others;
       steps = step_misfits index.last s.level (entry_at s.span) s.span.next old new (Err e) e refl h;
     })

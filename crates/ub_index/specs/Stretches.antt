@@ -14,6 +14,7 @@ use Rattle.ub_region.specs.Spans.{end_before}
 use Rattle.ub_region.specs.Those.{AreThose}
 use Rattle.ub_region.specs.declared.entry.Entry.{Entry}
 use Rattle.ub_region.specs.declared.region.Region.{Region}
+use Rattle.ub_store.specs.Cache.{NoneMoreBut}
 use Rattle.ub_store.specs.Facts.{StoreFacts, IsHonest}
 use Rattle.ub_store.specs.View.{PagerView}
 use Rattle.ub_table.specs.Keys.{precedes}
@@ -124,9 +125,11 @@ IsNextMeeting boxes parts from (Some slot) =
     × ((m : ℕ) (other : Stretch) → from ≤ m → m < slot → slice_get parts m ≡ Some other → ¬ (MeetsAny boxes other))
 
 -- a stretch was to be opened, and this was answered: the sink has taken its parts that meet the boxes; or else the page that it names isn't
--- taken. With the device's fault the store has one failed read more, and else nothing has changed but the pages that the pager holds
+-- taken. With the device's fault the store has one failed read more, and else nothing has changed but the pages that the pager holds: none
+-- more than before but that one, which was checked
 pub record OpensStretch {S A : Type 0} (Takes : S → List Stretch → S → Type 0) (index : IndexView) (boxes : List Corners) (stretch : Stretch)
     (before after : S) (old new : PagerView) (result : Result A IndexFault) : Type 0 where
   pub parts : OnOk result ((parts : List Stretch) × ArePartsOn index old.store boxes stretch parts × TakesThese Takes before after parts)
   pub forgotten : IfErr result (IsForgotten new)
+  pub others : NoneMoreBut stretch.span.page old.cached new.cached
   pub steps : Steps index.last stretch.level (entry_at stretch.span) stretch.span.next old new result
