@@ -1,11 +1,11 @@
 -- The stretches that a sweep awaits over a sound tree, and the events that are ahead of it: where one is opened, and where the region that
 -- comes first is fetched.
-use Rattle.std.proofs.Common.{◌≡◌, ◌≤◌, ◌+◌, ◌⊎◌, ◌∙◌, ℕ, Bool, true, false, List, [], ◌∷◌, ◌++◌, Contains, IsPermutation, Option, Some, None, inl, inr, refl, sym, ap, subst, map, arith}
+use Rattle.std.proofs.Common.{◌≡◌, ◌≤◌, ◌∙◌, ℕ, Bool, true, false, List, [], ◌∷◌, ◌++◌, Contains, IsPermutation, Option, Some, None, inl, inr, refl, sym, ap, subst, arith}
 use Rattle.std.proofs.lemmas.List.Elements.{Contains-append_right}
 use Rattle.ub_bigmin.specs.Box.{Corners, IsValueInSpan}
 use Rattle.ub_planning.proofs.Laws.{along_never}
 use Rattle.ub_planning.specs.Visits.{AreEvents, Event, IsAlong, IsEventBefore}
-use Rattle.ub_query.proofs.Laws.{Rising, all_at, all_from_contains, all_permutation, contains_cases, contains_from_map, contains_here, contains_later, contains_none}
+use Rattle.ub_query.proofs.Laws.{Rising, all_at, all_from_contains, all_permutation, contains_cases, contains_from_map, contains_here, contains_later}
 use Rattle.ub_table.proofs.Laws.{before_trans, not_before_self}
 use Rattle.ub_table.specs.Keys.{IsBefore}
 use Rattle.ub_table.specs.declared.row.Key.{Key}
@@ -16,7 +16,7 @@ use Rattle.ub_tetris.proofs.NearFacts.{first_of_all, never_before, value_inside,
 use Rattle.ub_tetris.proofs.PlaceFacts.{below_told, place_opened}
 use Rattle.ub_tetris.proofs.SpansFacts.{IsOne, event_first, event_is, event_meets, event_of_region, events_rise, first_is_one, region_of_event}
 use Rattle.ub_tetris.proofs.StretchFacts.{all_inside, begins_held, held_from, lowest_is, lowest_there, region_lies, some_part, stretch_kept, whole_is_told}
-use Rattle.ub_tetris.proofs.TimesFacts.{held_alone, held_by, held_once, times_append, times_cons, times_same, weight, weight_most}
+use Rattle.ub_tetris.proofs.TimesFacts.{held_alone, held_by, held_once, times_append, times_cons, times_same, weight_most}
 use Rattle.ub_tetris.specs.Awaited.{AreValued, AwaitedStretch, IsAwaitedBefore, IsFirstOn, IsFirstValue, awaited_at, stretches_of, times_held}
 use Rattle.ub_tetris.specs.Sweep.{AreAhead, IsAwaited}
 use Rattle.ub_tetris.specs.inner.Events.{IsFirstAwaited}

@@ -1,5 +1,5 @@
 -- A sweep begins: the trace begins anew, and the whole tree is awaited.
-use Rattle.std.proofs.Common.{◌≡◌, ◌≢◌, ◌<◌, ◌∙◌, ◌∷◌, ℕ, Bool, true, false, List, [], All, Option, Some, None, Result, Ok, Err, length, refl, sym, ap, subst}
+use Rattle.std.proofs.Common.{◌≡◌, ◌<◌, ◌∙◌, ◌∷◌, ℕ, Bool, true, false, List, [], All, Option, Some, None, Result, Ok, Err, length, inl, refl, sym, ap, subst}
 use Rattle.std.proofs.lemmas.Bool.{true≢false}
 use Rattle.std.specs.Prelude.{IsTrue}
 use Rattle.std.specs.Result.{IsErrAnd}
@@ -15,11 +15,12 @@ use Rattle.ub_table.specs.Region.{RegionRows}
 use Rattle.ub_table.specs.declared.schema.Schema.{Schema}
 use Rattle.ub_tetris.proofs.AheadFacts.{ahead_begun}
 use Rattle.ub_tetris.proofs.BoxFacts.{have_dimension}
+use Rattle.ub_tetris.proofs.LargestFacts.{AreWithin, are_largest}
 use Rattle.ub_tetris.proofs.MachineFacts.{begins}
 use Rattle.ub_tetris.proofs.StretchFacts.{whole_is_told}
-use Rattle.ub_tetris.specs.Awaited.{AreStretchesOf, AwaitedStretch, IsFirstOn, IsWholeAwaited, awaited_at}
+use Rattle.ub_tetris.specs.Awaited.{AreStretchesOf, IsFirstOn, IsWholeAwaited, awaited_at}
 use Rattle.ub_tetris.specs.Effects.{Begins}
-use Rattle.ub_tetris.specs.Sweep.{HasBegun, IsStarted, IsSweepOf, IsSwept, SweepView}
+use Rattle.ub_tetris.specs.Sweep.{HasBegun, HoldsOneOf, IsStarted, IsSweepOf, IsSwept, SweepView}
 use Rattle.ub_tetris.specs.declared.course.Course.{Course}
 use Rattle.ub_tetris.specs.declared.fault.SweepFault.{SweepFault}
 use Rattle.ub_tetris.specs.declared.fault.SweepFault.TheVariants as sweep
@@ -27,7 +28,7 @@ use Rattle.ub_tetris.specs.inner.Events.{Ahead, AwaitsWhole, ahead_on}
 use Rattle.ub_tetris.specs.inner.Turns.{begun_view}
 use Rattle.ub_tree.proofs.Laws.{Keeps-by, begun_traced}
 use Rattle.ub_tree.specs.Stretches.{Stretch, whole_of}
-use Rattle.ub_tree.specs.View.{IsSound, TreeView, regions}
+use Rattle.ub_tree.specs.View.{TreeView, regions}
 use Rattle.ub_tree.specs.declared.fault.TreeFault.TheVariants.{Failed as HasFailed}
 
 -- ---- the events of a sweep
@@ -56,6 +57,7 @@ begun_at : (new : TreeView) (plan : PlanView) (dim : ℕ) (down : Bool) (value :
 begun_at new plan dim down value swept none first =
     let (events, are) = events_there new.schema plan dim down new.next (regions new) swept.planned swept.kind swept.sound.regions_are in
     let (rest, under_way) = begins new.schema plan dim down new.next (regions new) events (record { planned = swept.planned; kind = swept.kind; are = swept.sound.regions_are }) are in
+    let awaited = ahead_begun new swept.sound plan.covering.boxes dim down events are value (awaited_at (whole_of new) value) first refl in
     record {
       rest = rest;
       unread = events;
@@ -65,9 +67,14 @@ begun_at new plan dim down value swept none first =
         under_way = under_way;
         values = tt;
         noted = record { placed = []; there = tt; regions_are = refl; trace_is = none };
-        awaited = ahead_begun new swept.sound plan.covering.boxes dim down events are value (awaited_at (whole_of new) value) first refl;
+        awaited = awaited;
+        largest = are_largest new swept.sound plan.covering.boxes dim down [] events are (awaited_at (whole_of new) value) awaited (whole_within value);
       };
     }
+  where
+    whole_within : (value : Option ℕ) → AreWithin (HoldsOneOf []) new plan.covering.boxes (awaited_at (whole_of new) value)
+    whole_within None = tt
+    whole_within (Some v) = (inl refl, tt)
 
 module _ (t new : TreeView) (plan : PlanView) (course : Course) (whole : Stretch) (ahead : Ahead) (view : SweepView) (found : Option Course) (boxes : List Corners)
     (began : new ≡ record t { trace = emptied t.trace }) (is_whole : whole ≡ whole_of new) (awaits : AwaitsWhole boxes course whole ahead) (seen : view ≡ begun_view ahead) where

@@ -12,13 +12,14 @@ use Rattle.ub_store.specs.View.{Trace}
 use Rattle.ub_table.specs.declared.row.Row.{Row}
 use Rattle.ub_tetris.proofs.AheadFacts.{first_event}
 use Rattle.ub_tetris.proofs.ArrangeFacts.{all_of}
+use Rattle.ub_tetris.proofs.LargestFacts.{IsGoing}
 use Rattle.ub_tetris.proofs.MachineFacts.{fetches, rest_past}
 use Rattle.ub_tetris.proofs.StepFacts.{due_past, event_region, noted_more, sweep_over, sweeping_taken}
 use Rattle.ub_tetris.specs.Awaited.{AwaitedRegion, AwaitedStretch}
 use Rattle.ub_tetris.specs.Effects.{Rests}
 use Rattle.ub_tetris.specs.Held.{HeldRow, rows_held}
 use Rattle.ub_tetris.specs.Machine.{IsRowAlong}
-use Rattle.ub_tetris.specs.Sweep.{AreNoted, HasBroken, IsSweeping, SweepView}
+use Rattle.ub_tetris.specs.Sweep.{AreNoted, HasBroken, SweepView}
 use Rattle.ub_tetris.specs.declared.fault.SweepFault.{SweepFault}
 use Rattle.ub_tetris.specs.declared.state.State.{State}
 use Rattle.ub_tetris.specs.inner.Kept.{TakesFirst}
@@ -57,7 +58,7 @@ noted_still t new events noted placed trace = record {
   trace_is = trace ∙ noted.trace_is;
 }
 
-module _ (plan : PlanView) (t new : TreeView) (s : SweepView) (given rest : List Row) (fetched read left unread : List Event) (of : IsSweeping plan t s given rest (fetched ++ read) left) (parts : unread ≡ read ++ left) (placed : new.placed ≡ t.placed) where
+module _ (plan : PlanView) (t new : TreeView) (s : SweepView) (given rest : List Row) (fetched read left unread : List Event) (of : IsGoing plan t s given rest (fetched ++ read) left) (parts : unread ≡ read ++ left) (placed : new.placed ≡ t.placed) where
   broken_still : new.trace.pages ≡ t.trace.pages → HasBroken new s rest fetched unread
   broken_still trace = record {
     read = read;
@@ -77,7 +78,7 @@ module _ (plan : PlanView) (t new : TreeView) (s : SweepView) (given rest : List
       let (event, more, one, is_awaited, is_ahead) =
       first_event t of.swept.sound plan.covering.boxes s.dim s.is_descending (fetched ++ read) left of.under_way.events next s_then.awaited
       (sweeping_taken plan t s s_then next given rest (fetched ++ read) left of taken) lowest taken.first in
-      let under : IsSweeping plan t s given rest (fetched ++ read) (event ∷ more) = subst (λ (events : List Event). IsSweeping plan t s given rest (fetched ++ read) events) one of in
+      let under : IsGoing plan t s given rest (fetched ++ read) (event ∷ more) = subst (λ (events : List Event). IsGoing plan t s given rest (fetched ++ read) events) one of in
       let (p, there, page, begins) = placed_of t next.stretch.span is_awaited.there in
       let past : All (λ row. ¬ (IsRowAlong s.dim s.is_descending row event.value)) (rows_held s.held) =
       subst (λ (v : ℕ). All (λ row. ¬ (IsRowAlong s.dim s.is_descending row v)) (rows_held s.held)) is_awaited.value

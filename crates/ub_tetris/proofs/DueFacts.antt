@@ -1,5 +1,5 @@
 -- Whether the first of those awaited is due, and what is known of it once it was taken, opened or fetched.
-use Rattle.std.proofs.Common.{◌≡◌, ◌≤◌, ◌∙◌, ◌++◌, ◌∷◌, ℕ, Bool, true, false, not, List, [], Option, Some, None, Result, Ok, Err, Contains, IsPermutation, inl, inr, refl, sym, ap, subst, slice_index, arith}
+use Rattle.std.proofs.Common.{◌≡◌, ◌≤◌, ◌∙◌, ◌∷◌, ℕ, Bool, true, false, not, List, [], Option, Some, None, Result, Ok, Err, Contains, IsPermutation, inl, inr, refl, sym, ap, subst, slice_index, arith}
 use Rattle.std.proofs.lemmas.Bool.{true≢false}
 use Rattle.std.proofs.lemmas.List.{append-nil}
 use Rattle.std.proofs.lemmas.List.Sorted.{Contains-permutation, IsPermutation-refl, IsPermutation-sym}
@@ -15,15 +15,15 @@ use Rattle.ub_tetris.proofs.EventFacts.{queued_none}
 use Rattle.ub_tetris.proofs.FetchFacts.{fewer_fetched, fewer_opened}
 use Rattle.ub_tetris.proofs.HeldFacts.{HoldsAlso-none}
 use Rattle.ub_tetris.proofs.NearFacts.{never_before, one_value}
-use Rattle.ub_tetris.specs.Awaited.{AreValued, AwaitedStretch, HaveDimension, IsAwaitedBefore, stretches_of}
-use Rattle.ub_tetris.specs.Held.{HeldRow, held_row}
+use Rattle.ub_tetris.specs.Awaited.{AreValued, AwaitedStretch, HaveDimension, IsAwaitedBefore}
+use Rattle.ub_tetris.specs.Held.{HeldRow}
 use Rattle.ub_tetris.specs.Sweep.{HandsOver, SweepView}
 use Rattle.ub_tetris.specs.declared.course.Course.{Course}
 use Rattle.ub_tetris.specs.declared.event.Awaited.{Awaited}
 use Rattle.ub_tetris.specs.declared.state.State.{State}
-use Rattle.ub_tetris.specs.inner.Events.{Ahead, HasQueued, IsFirstAwaited, IsValueOfFirst, TakesNext, ahead_on, seen}
+use Rattle.ub_tetris.specs.inner.Events.{Ahead, HasQueued, IsValueOfFirst, TakesNext, ahead_on, seen}
 use Rattle.ub_tetris.specs.inner.Kept.{HoldsAlso, IsFirstOf}
-use Rattle.ub_tetris.specs.inner.Turns.{HasComeTo, HasFetched, HasOpened, HasTakenNext, IsDueAs, IsNoneDue, TakesDue, is_due_by, view_of}
+use Rattle.ub_tetris.specs.inner.Turns.{HasComeTo, HasFetched, HasOpened, HasTakenNext, IsDueAs, TakesDue, view_of}
 use Rattle.ub_tree.specs.Stretches.{ArePartsOf, Stretch, TakesThese}
 use Rattle.ub_tree.specs.View.{TreeView}
 

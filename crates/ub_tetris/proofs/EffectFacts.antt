@@ -1,5 +1,5 @@
 -- What the calls of a sweep leave of a tree, one after the other.
-use Rattle.std.proofs.Common.{◌≡◌, ◌≢◌, ◌≤◌, ◌∙◌, ◌++◌, ◌+◌, ◌∷◌, ◌⊎◌, inl, inr, ℕ, zero, suc, Bool, IsTrue, Result, Ok, Err, IfErr, List, [], IsPermutation, length, map, Contains, subst, sym, ap, refl, arith, append_assoc}
+use Rattle.std.proofs.Common.{◌≡◌, ◌≢◌, ◌≤◌, ◌∙◌, ◌++◌, ◌+◌, ◌∷◌, ◌⊎◌, inl, inr, ℕ, zero, suc, Bool, IsTrue, Result, Ok, Err, IfErr, List, [], length, map, Contains, subst, sym, ap, refl, arith, append_assoc}
 use Rattle.std.proofs.lemmas.List.{append-nil, length-append, map-append}
 use Rattle.std.proofs.lemmas.List.Elements.{Contains-append_right}
 use Rattle.std.proofs.lemmas.List.Sorted.{Contains-permutation, IsPermutation-sym}

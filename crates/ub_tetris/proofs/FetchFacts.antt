@@ -1,5 +1,5 @@
 -- A region is fetched, or a stretch opened: how many rows can still be given then.
-use Rattle.std.proofs.Common.{◌≡◌, ◌<◌, ◌≤◌, ◌+◌, ◌*◌, ◌^◌, ◌∙◌, ◌∷◌, ◌++◌, ℕ, Bool, List, [], IsPermutation, length, map, inl, inr, refl, sym, ap, subst, arith}
+use Rattle.std.proofs.Common.{◌≡◌, ◌<◌, ◌≤◌, ◌+◌, ◌^◌, ◌∙◌, ◌∷◌, ◌++◌, Bool, List, length, map, inl, inr, sym, ap, subst, arith}
 use Rattle.std.proofs.lemmas.List.{length-append, length-map}
 use Rattle.std.proofs.lemmas.List.Sorted.{length_permutation}
 use Rattle.std.proofs.lemmas.List.Sums.{count_by-le-length, length-filter}
@@ -16,7 +16,7 @@ use Rattle.ub_tetris.specs.Awaited.{AwaitedStretch, most_regions}
 use Rattle.ub_tetris.specs.Held.{HeldRow, held_row}
 use Rattle.ub_tetris.specs.Sweep.{SweepView, rows_left}
 use Rattle.ub_tetris.specs.inner.Kept.{HoldsAlso}
-use Rattle.ub_tetris.specs.inner.Turns.{HasComeTo, HasFetched, HasOpened, HasRead, HasTakenNext}
+use Rattle.ub_tetris.specs.inner.Turns.{HasComeTo, HasOpened, HasRead, HasTakenNext}
 use Rattle.ub_tree.specs.View.{TreeView}
 
 -- reading it leaves the schema

@@ -17,6 +17,7 @@ use Rattle.ub_tetris.proofs.BoxFacts.{have_dimension}
 use Rattle.ub_tetris.proofs.BrokenFacts.{noted_still, placed_of}
 use Rattle.ub_tetris.proofs.EffectFacts.{AwaitsThese, Sweeps-none, sweeps_then, swept_taken, swept_traced}
 use Rattle.ub_tetris.proofs.FoundFacts.{found_none, found_then, found_turn}
+use Rattle.ub_tetris.proofs.LargestFacts.{going}
 use Rattle.ub_tetris.proofs.MachineFacts.{selected_append}
 use Rattle.ub_tetris.proofs.StepFacts.{chosen_of, noted_more, parts_given, region_at}
 use Rattle.ub_tetris.proofs.StepsFacts.{first_then}
@@ -91,7 +92,7 @@ module _ (plan : PlanView) (t now : TreeView) (s s_now : SweepView) (given rest 
     its_region : (event : Event) (later : List Event) (p : Placed) → come.left ≡ event ∷ later → IsAwaited now a event → Contains now.placed p
         → p.region.first ≡ next.stretch.span.first → p.region ≡ event.span.region
     its_region event later p one awaited there first =
-        region_at plan t s given rest fetched unread event a p of
+        region_at plan t s given rest fetched unread event a p (going of)
         (Contains-append_right fetched unread event
         (subst (λ (events : List Event). Contains events event) (sym (come.parts ∙ ap (λ (events : List Event). come.read ++ events) one))
         (Contains-append_right come.read (event ∷ later) event (contains_here event later))))
@@ -133,7 +134,7 @@ module _ (plan : PlanView) (t now : TreeView) (s s_now : SweepView) (given rest 
         let chosen : more ≡ filter (is_selected t.schema plan.asked.filter) event.span.region.rows =
         has.rows_are ∙ ap (λ (schema : Schema). filter (is_chosen has.choice schema plan) has.region.rows) schema_is
         ∙ ap (λ (r : RegionRows). filter (is_chosen has.choice t.schema plan) r.rows) (sym is)
-        ∙ chosen_of plan t s given rest fetched unread has.choice p of (subst (λ (placed : List Placed). Contains placed p) placed_is there)
+        ∙ chosen_of plan t s given rest fetched unread has.choice p (going of) (subst (λ (placed : List Placed). Contains placed p) placed_is there)
         ∙ ap (λ (r : RegionRows). filter (is_selected t.schema plan.asked.filter) r.rows) region in
         record {
           read = come.read ++ event ∷ [];

@@ -12,6 +12,7 @@ pub mod FoundFacts
 pub mod GiveFacts
 pub mod HandFacts
 pub mod HeldFacts
+pub mod LargestFacts
 pub mod MachineFacts
 pub mod NearFacts
 pub mod NumberFacts

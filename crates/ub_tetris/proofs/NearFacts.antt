@@ -1,13 +1,13 @@
 -- The order in which a sweep comes to stretches: of two that are awaited, which is first.
-use Rattle.std.proofs.Common.{◌≡◌, ◌≤◌, ◌<◌, ◌⊎◌, ◌∙◌, ℕ, Bool, true, false, List, [], ◌∷◌, Option, Some, Contains, inl, inr, refl, sym, ap, subst, arith}
+use Rattle.std.proofs.Common.{◌≡◌, ◌⊎◌, ◌∙◌, ℕ, Bool, true, false, List, inl, inr, sym, subst, arith}
 use Rattle.std.proofs.lemmas.Bool.{cases_lt}
 use Rattle.ub_bigmin.specs.Box.{Corners, IsValueInSpan}
 use Rattle.ub_planning.specs.Visits.{IsAlong}
-use Rattle.ub_region.proofs.Laws.{before_cases, before_or_same}
+use Rattle.ub_region.proofs.Laws.{before_or_same}
 use Rattle.ub_table.proofs.Laws.{before_trans, not_before_self}
 use Rattle.ub_table.specs.Keys.{IsBefore}
 use Rattle.ub_table.specs.declared.row.Key.{Key}
-use Rattle.ub_tetris.proofs.AlongFacts.{IsUpTo, along_chain, along_never, along_up_to}
+use Rattle.ub_tetris.proofs.AlongFacts.{IsUpTo, along_never, along_up_to}
 use Rattle.ub_tetris.specs.Awaited.{AwaitedStretch, IsAwaitedBefore, IsFirstValue}
 use Rattle.ub_tree.specs.Laws.{LiesIn}
 use Rattle.ub_tree.specs.Spans.{Region}

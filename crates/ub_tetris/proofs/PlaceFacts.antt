@@ -1,19 +1,17 @@
 -- Stretches that came in the place of others, over any tree: one step after the other.
-use Rattle.std.proofs.Common.{◌≡◌, ◌≤◌, ◌+◌, ◌⊎◌, ◌∙◌, ℕ, Bool, List, [], ◌∷◌, ◌++◌, Contains, IsPermutation, inl, inr, refl, sym, ap, subst, map, arith, append_assoc}
-use Rattle.std.proofs.lemmas.List.{append-nil, map-append}
+use Rattle.std.proofs.Common.{◌≡◌, ◌≤◌, ◌+◌, ◌⊎◌, ◌∙◌, ℕ, Bool, List, [], ◌∷◌, ◌++◌, Contains, IsPermutation, inl, inr, refl, sym, ap, subst, arith, append_assoc}
+use Rattle.std.proofs.lemmas.List.{map-append}
 use Rattle.std.proofs.lemmas.List.Elements.{Contains-append_cases, Contains-append_left, Contains-append_right}
 use Rattle.std.proofs.lemmas.List.Sorted.{Contains-permutation, IsPermutation-sym}
 use Rattle.std.specs.List.{AllByRecursion}
-use Rattle.ub_bigmin.specs.Box.{Corners, HoldsAny}
-use Rattle.ub_query.proofs.Laws.{all_at, all_from_contains, all_permutation, contains_cases, contains_here, contains_later, contains_map, contains_none}
-use Rattle.ub_table.specs.Keys.{IsBefore}
+use Rattle.ub_bigmin.specs.Box.{Corners}
+use Rattle.ub_query.proofs.Laws.{all_at, all_from_contains, all_permutation, contains_here, contains_later, contains_map, contains_none}
 use Rattle.ub_table.specs.declared.row.Key.{Key}
 use Rattle.ub_tetris.proofs.NearFacts.{never_before, not_before_then, value_within}
 use Rattle.ub_tetris.proofs.StretchFacts.{part_begins, part_lies, parts_hold_all, parts_hold_few, parts_told}
 use Rattle.ub_tetris.proofs.TimesFacts.{times_append, times_cons, times_same, weight}
 use Rattle.ub_tetris.specs.Awaited.{AreInOrder, AreInPlaceOf, AreStretchesOf, AreValued, AwaitedRegion, AwaitedStretch, ComesDown, HaveDimension, IsAwaitedBefore, IsBelow, IsFirstValue, as_lowest, lowest, stretches_of, times_held}
-use Rattle.ub_tree.specs.Laws.{LiesIn}
-use Rattle.ub_tree.specs.Stretches.{ArePartsOf, IsStretchOf, Stretch, whole_of}
+use Rattle.ub_tree.specs.Stretches.{ArePartsOf, IsStretchOf, Stretch}
 use Rattle.ub_tree.specs.View.{TreeView}
 
 -- ---- parts of parts

@@ -1,8 +1,8 @@
 -- The regions of a tree beside the spans and events of a plan: which event is that of a region.
-use Rattle.std.proofs.Common.{slice_get, ◌≡◌, ◌≤◌, ◌<◌, ◌⊎◌, ℕ, List, [], ◌∷◌, Bool, true, false, map, Contains, IsPermutation, inl, inr, refl, sym, ap, ◌∙◌, subst, arith}
+use Rattle.std.proofs.Common.{slice_get, ◌≡◌, ◌≤◌, ℕ, List, [], ◌∷◌, Bool, true, false, map, Contains, inl, inr, refl, sym, ap, ◌∙◌, subst}
 use Rattle.std.proofs.lemmas.List.Elements.{All-contains}
 use Rattle.std.proofs.lemmas.List.Sorted.{Contains-permutation, IsPermutation-sym}
-use Rattle.ub_bigmin.specs.Box.{Corners, IsValueInSpan}
+use Rattle.ub_bigmin.specs.Box.{Corners}
 use Rattle.ub_planning.specs.Visits as plan
 use Rattle.ub_planning.specs.Visits.{AreEvents, Event, IsAlong, IsEventBefore, IsEventValue, Span, spans_up_to}
 use Rattle.ub_query.proofs.Laws.{Rising, Rising-from_adjacent, Rising-map, contains_cases, contains_from_map, contains_here, contains_later, contains_map, contains_none}

@@ -1,19 +1,21 @@
 -- A sweep over a tree, one step after the other: how it stands after the next region was fetched, and after a row was taken.
-use Rattle.std.proofs.Common.{◌≡◌, ◌+◌, ℕ, zero, suc, List, [], ◌∷◌, ◌++◌, Bool, true, false, not, Option, Some, None, map, drop, filter, slice_get, slice_index, Contains, IsPermutation, inl, inr, refl, sym, ap, ◌∙◌, append_assoc, subst, add-one}
+use Rattle.std.proofs.Common.{◌≡◌, ℕ, List, [], ◌∷◌, ◌++◌, true, not, Option, Some, None, map, filter, slice_index, Contains, IsPermutation, inl, inr, refl, sym, ap, ◌∙◌, append_assoc, subst}
 use Rattle.std.proofs.lemmas.Bool.{true≢false}
 use Rattle.std.proofs.lemmas.List.{append-nil, map-append}
-use Rattle.std.proofs.lemmas.List.Elements.{All-nil, Contains-append_left, Contains-append_right}
+use Rattle.std.proofs.lemmas.List.Elements.{All-contains, All-nil, Contains-append_left, Contains-append_right}
 use Rattle.std.proofs.lemmas.List.Sorted.{Contains-permutation, IsPermutation-map, IsPermutation-sym}
 use Rattle.std.specs.List.{All, AllByRecursion}
+use Rattle.ub_bigmin.specs.Box.{Corners}
 use Rattle.ub_filter.proofs.Laws.{chosen_are_selected}
 use Rattle.ub_filter.specs.Choice.{is_chosen}
 use Rattle.ub_planning.specs.Plan.{PlanView}
 use Rattle.ub_planning.specs.Visits.{Event, IsAlong, Span, is_past, spans_up_to}
 use Rattle.ub_filter.specs.declared.choice.Choice.{Choice}
-use Rattle.ub_query.proofs.Laws.{Rising-map, all_at, all_permutation, contains_cases, contains_here, contains_later, contains_none, contains_from_map, contains_map}
+use Rattle.ub_query.proofs.Laws.{Rising-map, all_at, all_from_contains, all_permutation, contains_cases, contains_here, contains_later, contains_none, contains_from_map, contains_map}
 use Rattle.ub_query.specs.Groups.{is_selected}
 use Rattle.ub_query.specs.Order.{IsRowBefore}
 use Rattle.ub_query.specs.declared.query.SortKey.{SortKey}
+use Rattle.ub_region.proofs.Laws.{all_append}
 use Rattle.ub_region.specs.Regions.{firsts_of, rows_of}
 use Rattle.ub_store.specs.View.{Trace}
 use Rattle.ub_table.proofs.Laws.{not_before_self}
@@ -27,7 +29,9 @@ use Rattle.ub_tetris.proofs.AheadFacts.{ahead_after, ahead_opened, ahead_same, f
 use Rattle.ub_tetris.proofs.BoxFacts.{have_dimension}
 use Rattle.ub_tetris.proofs.ArrangeFacts.{all_of, rising_two}
 use Rattle.ub_planning.proofs.Laws.{is_past_of, past_is}
+use Rattle.ub_tetris.proofs.LargestFacts.{AreWithin, IsGoing, IsOpened, IsReached, IsWithin, at_rest, going, opened_then, within_traced, within_turned}
 use Rattle.ub_tetris.proofs.MachineFacts.{IsBeforeNext, IsSweepOver, ends, fetches, gives}
+use Rattle.ub_tetris.proofs.NearFacts.{never_before}
 use Rattle.ub_tetris.proofs.OrderFacts.{held_before}
 use Rattle.ub_tetris.proofs.ReachFacts.{event_span}
 use Rattle.ub_tetris.proofs.SortedFacts.{keys_rise}
@@ -37,13 +41,13 @@ use Rattle.ub_tetris.specs.Awaited.{AwaitedRegion, AwaitedStretch, HaveDimension
 use Rattle.ub_tetris.specs.Sweep.{AreAhead, AreNoted, HasEnded, HasGiven, HasStepped, IsAwaited, IsSweeping, SweepView}
 use Rattle.ub_tetris.specs.inner.Kept.{HoldsAlso, IsFirstAmong, IsFirstOf, IsHeldBefore, TakesFirst}
 use Rattle.ub_tetris.specs.inner.Turns.{HasComeTo, HasFetched, HasOpened, HasTakenNext, IsDue, IsNoneDue}
-use Rattle.ub_tree.proofs.Laws.{IsTraced, Keeps-by}
+use Rattle.ub_tree.proofs.Laws.{Keeps-by}
 use Rattle.ub_tree.specs.Placed.{Placed}
 use Rattle.ub_tree.specs.Stretches.{ArePartsOf}
 use Rattle.ub_tree.specs.View.{TreeView, regions}
 use Rattle.ub_zaddr.specs.Address.{last_address}
 
-pub sweep_over : (plan : PlanView) (t : TreeView) (s : SweepView) (given rest : List Row) (fetched unread : List Event) → IsSweeping plan t s given rest fetched unread
+pub sweep_over : (plan : PlanView) (t : TreeView) (s : SweepView) (given rest : List Row) (fetched unread : List Event) → IsGoing plan t s given rest fetched unread
     → IsSweepOver t.schema plan s.dim s.is_descending t.next (regions t)
 sweep_over plan t s given rest fetched unread of = record { planned = of.swept.planned; kind = of.swept.kind; are = of.swept.sound.regions_are }
 
@@ -88,7 +92,7 @@ contains_within (y ∷ xs) x ys = contains_later y (xs ++ x ∷ ys) x (contains_
 
 -- the region on a page is that of the event
 pub region_at : (plan : PlanView) (t : TreeView) (s : SweepView) (given rest : List Row) (fetched unread : List Event) (event : Event) (a : AwaitedRegion) (p : Placed)
-    → IsSweeping plan t s given rest fetched unread → Contains (fetched ++ unread) event → a.region.first ≡ event.span.region.first → Contains t.placed p → p.region.first ≡ a.region.first
+    → IsGoing plan t s given rest fetched unread → Contains (fetched ++ unread) event → a.region.first ≡ event.span.region.first → Contains t.placed p → p.region.first ≡ a.region.first
     → p.region ≡ event.span.region
 region_at plan t s given rest fetched unread event a p of among begins there first =
     same_region (regions t) p.region event.span.region of.swept.sound.regions_are.ascending
@@ -98,7 +102,7 @@ region_at plan t s given rest fetched unread event a p of among begins there fir
     (first ∙ begins)
 
 pub event_region : (plan : PlanView) (t : TreeView) (s : SweepView) (given rest : List Row) (fetched left : List Event) (event : Event) (a : AwaitedRegion) (p : Placed)
-    → IsSweeping plan t s given rest fetched (event ∷ left) → IsAwaited t a event → Contains t.placed p → p.region.first ≡ a.region.first → p.region ≡ event.span.region
+    → IsGoing plan t s given rest fetched (event ∷ left) → IsAwaited t a event → Contains t.placed p → p.region.first ≡ a.region.first → p.region ≡ event.span.region
 event_region plan t s given rest fetched left event a p of is_awaited there first =
     region_at plan t s given rest fetched (event ∷ left) event a p of (contains_within fetched event left) is_awaited.first there first
 
@@ -125,7 +129,7 @@ rows_among (r ∷ regions) region row there here = elim (contains_cases r region
 ]
 
 -- the rows of a page that are chosen are the selected ones
-pub chosen_of : (plan : PlanView) (t : TreeView) (s : SweepView) (given rest : List Row) (fetched unread : List Event) (choice : Choice) (p : Placed) → IsSweeping plan t s given rest fetched unread
+pub chosen_of : (plan : PlanView) (t : TreeView) (s : SweepView) (given rest : List Row) (fetched unread : List Event) (choice : Choice) (p : Placed) → IsGoing plan t s given rest fetched unread
     → Contains t.placed p → filter (is_chosen choice t.schema plan) p.region.rows ≡ filter (is_selected t.schema plan.asked.filter) p.region.rows
 chosen_of plan t s given rest fetched unread choice p of there =
     ap (λ (x : PlanView). filter (is_chosen choice t.schema x) p.region.rows) of.swept.planned
@@ -136,33 +140,41 @@ module _ (plan : PlanView) (t : TreeView) (s : SweepView) (held_then : List Held
   abbrev after : TreeView
   after = record t { trace = trace }
 
-  fetched_next : (event : Event) (left : List Event) → IsSweeping plan t s given rest fetched (event ∷ left) → IsAwaited t a event → AreAhead t plan.covering.boxes s.dim s.is_descending more left
+  fetched_next : (event : Event) (left : List Event) → IsGoing plan t s given rest fetched (event ∷ left) → IsAwaited t a event → AreAhead t plan.covering.boxes s.dim s.is_descending more left
+      → AreWithin (IsOpened plan.covering.boxes s.dim s.is_descending s.held fetched (event ∷ left)) t plan.covering.boxes more
       → All (λ row. ¬ (IsRowAlong s.dim s.is_descending row a.value)) (rows_held s.held)
       → trace.pages ≡ t.trace.pages ++ a.region.page ∷ [] → Contains t.placed p → p.page ≡ a.region.page → p.region.first ≡ a.region.first
       → HoldsAlso t.schema (keys_of plan.asked) (filter (is_selected t.schema plan.asked.filter) p.region.rows) s.held held_then
-      → IsSweeping plan after (record s { held = held_then; awaited = more }) given rest (fetched ++ event ∷ []) left
-  fetched_next event left of is_awaited are_ahead past noted there page first holds =
+      → IsGoing plan after (record s { held = held_then; awaited = more }) given rest (fetched ++ event ∷ []) left
+  fetched_next event left of is_awaited are_ahead are_within past noted there page first holds =
       let chosen : List Row = filter (is_selected t.schema plan.asked.filter) p.region.rows in
       let same : p.region ≡ event.span.region = event_region plan t s given rest fetched left event a p of is_awaited there first in
       let rows : rows_held (s.held ++ map (held_row t.schema (keys_of plan.asked)) chosen) ≡ rows_held s.held ++ chosen =
       map-append (λ (h : HeldRow). h.row) s.held (map (held_row t.schema (keys_of plan.asked)) chosen) ∙ ap (λ (rows : List Row). rows_held s.held ++ rows) (rows_of_held t.schema (keys_of plan.asked) chosen) in
       let holds_rows : IsPermutation (rows_held s.held ++ chosen) (rows_held held_then) =
       subst (λ (rows : List Row). IsPermutation rows (rows_held held_then)) rows (IsPermutation-map (λ (h : HeldRow). h.row) (s.held ++ map (held_row t.schema (keys_of plan.asked)) chosen) held_then holds) in
+      let under_way = fetches t.schema plan s.dim s.is_descending t.next (regions t) (rows_held s.held) (rows_held held_then) given rest fetched event left
+      (sweep_over plan t s given rest fetched (event ∷ left) of) of.under_way
+      (subst (λ (v : ℕ). All (λ row. ¬ (IsRowAlong s.dim s.is_descending row v)) (rows_held s.held)) is_awaited.value past)
+      (subst (λ (region : RegionRows). IsPermutation (rows_held s.held ++ filter (is_selected t.schema plan.asked.filter) region.rows) (rows_held held_then)) same holds_rows) in
+      let none_before = All-contains (λ (e : Event). All (λ row. ¬ (IsRowAlong s.dim s.is_descending row e.value)) (rows_held held_then)) (fetched ++ event ∷ []) event under_way.held_past
+      (Contains-append_right fetched (event ∷ []) event (contains_here event [])) in
       record {
         working = of.working;
         swept = record { sound = (Keeps-by t after refl).sound of.swept.sound; planned = of.swept.planned; kind = of.swept.kind };
-        under_way = fetches t.schema plan s.dim s.is_descending t.next (regions t) (rows_held s.held) (rows_held held_then) given rest fetched event left
-            (sweep_over plan t s given rest fetched (event ∷ left) of) of.under_way
-            (subst (λ (v : ℕ). All (λ row. ¬ (IsRowAlong s.dim s.is_descending row v)) (rows_held s.held)) is_awaited.value past)
-            (subst (λ (region : RegionRows). IsPermutation (rows_held s.held ++ filter (is_selected t.schema plan.asked.filter) region.rows) (rows_held held_then)) same holds_rows);
+        under_way = under_way;
         values = all_permutation (λ (h : HeldRow). h.values ≡ values_by t.schema (keys_of plan.asked) h.row) (s.held ++ map (held_row t.schema (keys_of plan.asked)) chosen) held_then holds
             (held_by_more t.schema (keys_of plan.asked) s.held chosen of.values);
         noted = noted_more t after fetched event p of.noted refl there same (noted ∙ ap (λ (number : ℕ). t.trace.pages ++ number ∷ []) (sym page));
         awaited = ahead_after t plan.covering.boxes s.dim s.is_descending after more left refl are_ahead;
+        within = within_turned (IsOpened plan.covering.boxes s.dim s.is_descending s.held fetched (event ∷ left))
+            (IsOpened plan.covering.boxes s.dim s.is_descending held_then (fetched ++ event ∷ []) left) after plan.covering.boxes more
+            (λ above told. opened_then plan.covering.boxes s.dim s.is_descending s.held held_then fetched event left none_before above)
+            (within_traced (IsOpened plan.covering.boxes s.dim s.is_descending s.held fetched (event ∷ left)) t after plan.covering.boxes more refl refl are_within);
       }
 
 -- the row that is the first of those held, by a search and by its removal
-pub entry_past : (plan : PlanView) (t : TreeView) (s : SweepView) (given rest : List Row) (fetched unread : List Event) (h f : HeldRow) → IsSweeping plan t s given rest fetched unread
+pub entry_past : (plan : PlanView) (t : TreeView) (s : SweepView) (given rest : List Row) (fetched unread : List Event) (h f : HeldRow) → IsGoing plan t s given rest fetched unread
     → Contains s.held h → Contains s.held f → ¬ (IsHeldBefore h f) → IsUpTo s.is_descending (slice_index f.row.dims s.dim) (slice_index h.row.dims s.dim)
 entry_past plan t s given rest fetched unread h f of here there none along =
     none (held_before t.schema (keys_of plan.asked) h f
@@ -171,7 +183,7 @@ entry_past plan t s given rest fetched unread h f of here there none along =
     (along_before t.schema plan.asked s.dim s.is_descending h.row f.row (led_plan t.schema plan s.dim s.is_descending of.swept.planned of.swept.kind) along))
 
 -- where a stretch is due, no held row lies before its value
-pub due_past : (plan : PlanView) (t : TreeView) (s : SweepView) (given rest : List Row) (fetched unread : List Event) (value : ℕ) → IsSweeping plan t s given rest fetched unread
+pub due_past : (plan : PlanView) (t : TreeView) (s : SweepView) (given rest : List Row) (fetched unread : List Event) (value : ℕ) → IsGoing plan t s given rest fetched unread
     → IsDue s value → All (λ row. ¬ (IsRowAlong s.dim s.is_descending row value)) (rows_held s.held)
 due_past plan t s given rest fetched unread value of (None, none, due) =
     subst (λ (held : List HeldRow). All (λ row. ¬ (IsRowAlong s.dim s.is_descending row value)) (rows_held held)) (sym none)
@@ -189,7 +201,7 @@ due_past plan t s given rest fetched unread value of (Some row, (f, there, is, f
 
 -- where the first of those held is before a value, so is the row that is taken
 taken_before : (plan : PlanView) (t : TreeView) (s : SweepView) (left : List HeldRow) (given rest : List Row) (fetched unread : List Event) (other row : Row) (value : ℕ)
-    → IsSweeping plan t s given rest fetched unread → IsFirstOf s.held (Some other) → is_past s.is_descending (slice_index other.dims s.dim) value ≡ true → TakesFirst s.held left (Some row)
+    → IsGoing plan t s given rest fetched unread → IsFirstOf s.held (Some other) → is_past s.is_descending (slice_index other.dims s.dim) value ≡ true → TakesFirst s.held left (Some row)
     → IsRowAlong s.dim s.is_descending row value
 taken_before plan t s left given rest fetched unread other row value of (f, there, is, first) past (g, same, is_row, least) =
     let along : IsAlong s.is_descending (slice_index f.row.dims s.dim) value =
@@ -205,12 +217,12 @@ taken_before plan t s left given rest fetched unread other row value of (f, ther
 -- ---- a stretch is come to
 
 -- the first of those awaited was taken out, and is to be come to
-pub sweeping_taken : (plan : PlanView) (t : TreeView) (s s_then : SweepView) (next : AwaitedStretch) (given rest : List Row) (fetched unread : List Event) → IsSweeping plan t s given rest fetched unread
+pub sweeping_taken : (plan : PlanView) (t : TreeView) (s s_then : SweepView) (next : AwaitedStretch) (given rest : List Row) (fetched unread : List Event) → IsGoing plan t s given rest fetched unread
     → HasTakenNext s s_then next → AreAhead t plan.covering.boxes s.dim s.is_descending (next ∷ s_then.awaited) unread
 sweeping_taken plan t s s_then next given rest fetched unread of taken = ahead_same t plan.covering.boxes s.dim s.is_descending s.awaited (next ∷ s_then.awaited) unread taken.parts of.awaited
 
 -- the boxes of its plan have its dimension
-dimension_there : (plan : PlanView) (t : TreeView) (s : SweepView) (given rest : List Row) (fetched unread : List Event) → IsSweeping plan t s given rest fetched unread → HaveDimension s.dim plan.covering.boxes
+dimension_there : (plan : PlanView) (t : TreeView) (s : SweepView) (given rest : List Row) (fetched unread : List Event) → IsGoing plan t s given rest fetched unread → HaveDimension s.dim plan.covering.boxes
 dimension_there plan t s given rest fetched unread of = have_dimension t.schema plan s.dim s.is_descending of.swept.planned of.swept.kind
 
 pub parts_given : (plan : PlanView) (t new : TreeView) (s new_s : SweepView) (next : AwaitedStretch) (opened : HasOpened plan t new s new_s next) → HaveDimension s.dim plan.covering.boxes
@@ -221,7 +233,7 @@ parts_given plan t new s new_s next opened dims = elim opened.parts [
 ]
 
 -- what came of it is still ahead
-still_ahead : (plan : PlanView) (t new : TreeView) (s s_then new_s : SweepView) (next : AwaitedStretch) (given rest : List Row) (fetched unread : List Event) → IsSweeping plan t s given rest fetched unread
+still_ahead : (plan : PlanView) (t new : TreeView) (s s_then new_s : SweepView) (next : AwaitedStretch) (given rest : List Row) (fetched unread : List Event) → IsGoing plan t s given rest fetched unread
     → HasTakenNext s s_then next → HasOpened plan t new s_then new_s next → AreAhead new plan.covering.boxes s.dim s.is_descending new_s.awaited unread
 still_ahead plan t new s s_then new_s next given rest fetched unread of taken opened =
     let dim_is : s_then.dim ≡ s.dim = ap (λ (v : SweepView). v.dim) taken.same in
@@ -239,15 +251,44 @@ view_then s s_then new_s next taken is = is ∙ ap (λ (v : SweepView). record v
 held_then_is : (s s_then : SweepView) (next : AwaitedStretch) → HasTakenNext s s_then next → s_then.held ≡ s.held
 held_then_is s s_then next taken = ap (λ (v : SweepView). v.held) taken.same
 
-module _ (plan : PlanView) (t new : TreeView) (s s_then new_s : SweepView) (next : AwaitedStretch) (rows given rest : List Row) (fetched unread : List Event) (of : IsSweeping plan t s given rest fetched unread)
+module _ (plan : PlanView) (t new : TreeView) (s s_then new_s : SweepView) (next : AwaitedStretch) (rows given rest : List Row) (fetched unread : List Event) (of : IsGoing plan t s given rest fetched unread)
     (taken : HasTakenNext s s_then next) (come : HasComeTo plan t new s_then new_s next rows) where
   view_is : new_s ≡ record s { held = new_s.held; awaited = new_s.awaited }
   view_is = view_then s s_then new_s next taken come.view_is
 
-  opened_step : HasOpened plan t new s_then new_s next → IsSweeping plan new new_s given rest fetched unread
-  opened_step opened =
+  -- its parts are within one that is reached
+  parts_within : IsDue s next.value → (opened : HasOpened plan t new s_then new_s next)
+      → AreWithin (IsOpened plan.covering.boxes s.dim s.is_descending s.held fetched unread) t plan.covering.boxes opened.queued
+  parts_within due opened =
+      let boxes : List Corners = plan.covering.boxes in
+      let ahead = sweeping_taken plan t s s_then next given rest fetched unread of taken in
+      let reached : IsReached boxes s.dim s.is_descending s.held unread next.stretch = record {
+        value = next.value;
+        first = ahead.valued.0;
+        past = due_past plan t s given rest fetched unread next.value of due;
+        later = λ event there.
+            first_up_to_event t of.swept.sound boxes s.dim s.is_descending fetched unread of.under_way.events next (next ∷ s_then.awaited) event ahead
+            (never_before s.is_descending next, taken.first) there;
+      } in
+      let dim_is : s_then.dim ≡ s.dim = ap (λ (v : SweepView). v.dim) taken.same in
+      let parts = parts_given plan t new s_then new_s next opened (rw dim_is (dimension_there plan t s given rest fetched unread of)) in
+      all_from_contains (λ (a : AwaitedStretch). IsWithin (IsOpened boxes s.dim s.is_descending s.held fetched unread) t boxes a.stretch) opened.queued
+      (λ a there. inr (next.stretch, ahead.told.0, inr reached, stretches_of opened.queued, parts, contains_map (λ (b : AwaitedStretch). b.stretch) opened.queued a there))
+
+  abbrev Within : AwaitedStretch → Type 0
+  Within a = IsWithin (IsOpened plan.covering.boxes s.dim s.is_descending s.held fetched unread) t plan.covering.boxes a.stretch
+
+  -- those awaited then are within such ones, or within those that were opened before
+  opened_within : IsDue s next.value → HasOpened plan t new s_then new_s next
+      → AreWithin (IsOpened plan.covering.boxes s.dim s.is_descending s.held fetched unread) t plan.covering.boxes new_s.awaited
+  opened_within due opened =
+      all_permutation Within (s_then.awaited ++ opened.queued) new_s.awaited opened.now_are
+      (all_append Within s_then.awaited opened.queued (all_permutation Within s.awaited (next ∷ s_then.awaited) taken.parts of.within).1 (parts_within due opened))
+
+  opened_step : IsDue s next.value → HasOpened plan t new s_then new_s next → IsGoing plan new new_s given rest fetched unread
+  opened_step due opened =
       let held_is : new_s.held ≡ s.held = opened.held ∙ held_then_is s s_then next taken in
-      let at_t : IsSweeping plan t (record s { held = new_s.held; awaited = new_s.awaited }) given rest fetched unread = record {
+      let at_t : IsGoing plan t (record s { held = new_s.held; awaited = new_s.awaited }) given rest fetched unread = record {
         working = of.working;
         swept = of.swept;
         under_way = subst (λ (held : List HeldRow). IsUnderWay t.schema plan s.dim s.is_descending (regions t) (rows_held held) given rest fetched unread) (sym held_is) of.under_way;
@@ -255,12 +296,14 @@ module _ (plan : PlanView) (t new : TreeView) (s s_then new_s : SweepView) (next
         noted = of.noted;
         awaited = subst (λ (v : TreeView). AreAhead v plan.covering.boxes s.dim s.is_descending new_s.awaited unread) opened.same
             (still_ahead plan t new s s_then new_s next given rest fetched unread of taken opened);
+        within = subst (λ (held : List HeldRow). AreWithin (IsOpened plan.covering.boxes s.dim s.is_descending held fetched unread) t plan.covering.boxes new_s.awaited) (sym held_is)
+            (opened_within due opened);
       } in
-      subst (λ (v : TreeView). IsSweeping plan v new_s given rest fetched unread) (sym opened.same)
-      (subst (λ (v : SweepView). IsSweeping plan t v given rest fetched unread) (sym view_is) at_t)
+      subst (λ (v : TreeView). IsGoing plan v new_s given rest fetched unread) (sym opened.same)
+      (subst (λ (v : SweepView). IsGoing plan t v given rest fetched unread) (sym view_is) at_t)
 
   fetched_step : IsDue s next.value → new_s.awaited ≡ s_then.awaited → HasFetched plan t new next rows → HoldsAlso t.schema (keys_of plan.asked) rows s_then.held new_s.held
-      → (event : Event) × (left : List Event) × (unread ≡ event ∷ left) × IsSweeping plan new new_s given rest (fetched ++ event ∷ []) left
+      → (event : Event) × (left : List Event) × (unread ≡ event ∷ left) × IsGoing plan new new_s given rest (fetched ++ event ∷ []) left
   fetched_step due still has holds =
       let a : AwaitedRegion = record { value = next.value; region = next.stretch.span } in
       let (event, left, parts, is_awaited, is_ahead) =
@@ -273,22 +316,24 @@ module _ (plan : PlanView) (t new : TreeView) (s s_then new_s : SweepView) (next
       let from : HoldsAlso t.schema (keys_of plan.asked) rows s.held new_s.held =
       subst (λ (held : List HeldRow). HoldsAlso t.schema (keys_of plan.asked) rows held new_s.held) (held_then_is s s_then next taken) holds in
       let selected = subst (λ (rs : List Row). HoldsAlso t.schema (keys_of plan.asked) rs s.held new_s.held) chosen from in
-      let after = fetched_next plan t s new_s.held given rest fetched a s_then.awaited new.trace p event left
-      (subst (λ (events : List Event). IsSweeping plan t s given rest fetched events) parts of) is_awaited is_ahead
+      let of_next : IsGoing plan t s given rest fetched (event ∷ left) = subst (λ (events : List Event). IsGoing plan t s given rest fetched events) parts of in
+      let are_within = (all_permutation (λ (b : AwaitedStretch). IsWithin (IsOpened plan.covering.boxes s.dim s.is_descending s.held fetched (event ∷ left)) t plan.covering.boxes b.stretch)
+      s.awaited (next ∷ s_then.awaited) taken.parts of_next.within).1 in
+      let after = fetched_next plan t s new_s.held given rest fetched a s_then.awaited new.trace p event left of_next is_awaited is_ahead are_within
       (due_past plan t s given rest fetched unread next.value of due) has.read.noted.pages_are there page begins selected in (
         event,
         left,
         parts,
-        subst (λ (tree : TreeView). IsSweeping plan tree new_s given rest (fetched ++ event ∷ []) left) (sym has.read.same)
-            (subst (λ (v : SweepView). IsSweeping plan (record t { trace = new.trace }) v given rest (fetched ++ event ∷ []) left)
+        subst (λ (tree : TreeView). IsGoing plan tree new_s given rest (fetched ++ event ∷ []) left) (sym has.read.same)
+            (subst (λ (v : SweepView). IsGoing plan (record t { trace = new.trace }) v given rest (fetched ++ event ∷ []) left)
             (sym (view_is ∙ ap (λ (those : List AwaitedStretch). record s { held = new_s.held; awaited = those }) still)) after),
       )
 
   -- no region was fetched, or the next one
   pub come_step : IsDue s next.value → HoldsAlso t.schema (keys_of plan.asked) rows s_then.held new_s.held
-      → (read left : List Event) × (unread ≡ read ++ left) × IsSweeping plan new new_s given rest (fetched ++ read) left
+      → (read left : List Event) × (unread ≡ read ++ left) × IsGoing plan new new_s given rest (fetched ++ read) left
   come_step due holds = elim come.how [
-    | inl opened ↦ ([], unread, refl, subst (λ (events : List Event). IsSweeping plan new new_s given rest events unread) (sym (append-nil fetched)) (opened_step opened.0))
+    | inl opened ↦ ([], unread, refl, subst (λ (events : List Event). IsGoing plan new new_s given rest events unread) (sym (append-nil fetched)) (opened_step due opened.0))
     | inr has ↦ let (event, left, parts, next_step) = fetched_step due has.0 has.1 holds in (event ∷ [], left, parts, next_step)
   ]
 
@@ -315,12 +360,12 @@ taken_next plan t s left given rest fetched unread row of (g, same, is_row, leas
     let rows : IsPermutation (rows_held s.held) (row ∷ rows_held left) =
     subst (λ (r : Row). IsPermutation (rows_held s.held) (r ∷ rows_held left)) is_row (IsPermutation-map (λ (h : HeldRow). h.row) s.held (g ∷ left) same) in
     let given_row = gives t.schema plan s.dim s.is_descending t.next (regions t) (rows_held s.held) (rows_held left) given rest fetched unread row
-    (sweep_over plan t s given rest fetched unread of) of.under_way rows
+    (sweep_over plan t s given rest fetched unread (going of)) of.under_way rows
     (subst (λ (r : Row). All (λ other. ¬ (IsRowBefore t.schema order other r)) (rows_held left)) is_row (all_at_rest order t.schema g left values least)) before in (
       given_row.more,
       given_row.next,
       given_row.reached,
-      record { working = of.working; swept = of.swept; under_way = given_row.under_way; values = values.1; noted = of.noted; awaited = of.awaited },
+      record { working = of.working; swept = of.swept; under_way = given_row.under_way; values = values.1; noted = of.noted; awaited = of.awaited; largest = of.largest },
     )
 
 taken : (plan : PlanView) (t : TreeView) (s : SweepView) (left : List HeldRow) (given rest : List Row) (fetched unread : List Event) (row : Row) → IsSweeping plan t s given rest fetched unread
@@ -342,7 +387,7 @@ taken plan t s left given rest fetched unread row of takes before =
 ended : (plan : PlanView) (t : TreeView) (s : SweepView) (given rest : List Row) (fetched : List Event) → IsSweeping plan t s given rest fetched [] → s.held ≡ []
     → HasEnded plan t s given rest fetched []
 ended plan t s given rest fetched of none =
-    let all_given : rest ≡ [] = ends t.schema plan s.dim s.is_descending t.next (regions t) given rest fetched (sweep_over plan t s given rest fetched [] of)
+    let all_given : rest ≡ [] = ends t.schema plan s.dim s.is_descending t.next (regions t) given rest fetched (sweep_over plan t s given rest fetched [] (going of))
     (subst (λ (held : List HeldRow). IsUnderWay t.schema plan s.dim s.is_descending (regions t) (rows_held held) given rest fetched []) none of.under_way) in
     record {
       none = all_given;
@@ -354,7 +399,7 @@ not_empty : {E : Type 0} (xs : List E) (x : E) → Contains xs x → xs ≡ [] �
 not_empty xs x there none = contains_none x (subst (λ (ys : List _). Contains ys x) none there)
 
 -- the row that is taken lies before the first event that is left
-before_next : (plan : PlanView) (t : TreeView) (s : SweepView) (left : List HeldRow) (given rest : List Row) (fetched unread : List Event) (row : Row) → IsSweeping plan t s given rest fetched unread
+before_next : (plan : PlanView) (t : TreeView) (s : SweepView) (left : List HeldRow) (given rest : List Row) (fetched unread : List Event) (row : Row) → IsGoing plan t s given rest fetched unread
     → IsNoneDue s → TakesFirst s.held left (Some row) → IsBeforeNext s.dim s.is_descending row unread
 before_next plan t s left given rest fetched [] row of none takes = tt
 before_next plan t s left given rest fetched (event ∷ unread) row of (inl none) takes =
@@ -364,18 +409,18 @@ before_next plan t s left given rest fetched (event ∷ unread) row of (inr (nex
     (first_up_to_event t of.swept.sound plan.covering.boxes s.dim s.is_descending fetched (event ∷ unread) of.under_way.events next s.awaited event of.awaited first (contains_here event unread))
 
 -- no stretch is due, and the first of those held was taken
-pub last_step : (plan : PlanView) (t : TreeView) (s new_s : SweepView) (given rest : List Row) (fetched unread : List Event) (row : Option Row) → IsSweeping plan t s given rest fetched unread
+pub last_step : (plan : PlanView) (t : TreeView) (s new_s : SweepView) (given rest : List Row) (fetched unread : List Event) (row : Option Row) → IsGoing plan t s given rest fetched unread
     → IsNoneDue s → TakesFirst s.held new_s.held row → new_s ≡ record s { held = new_s.held } → HasStepped plan t new_s given rest fetched unread row
 last_step plan t s new_s given rest fetched unread row of none takes same =
     subst (λ (v : SweepView). HasStepped plan t v given rest fetched unread row) (sym same) (took row none takes)
   where
     took : (row : Option Row) → IsNoneDue s → TakesFirst s.held new_s.held row → HasStepped plan t (record s { held = new_s.held }) given rest fetched unread row
-    took (Some row) none takes = taken plan t s new_s.held given rest fetched unread row of takes (before_next plan t s new_s.held given rest fetched unread row of none takes)
+    took (Some row) none takes = taken plan t s new_s.held given rest fetched unread row (at_rest plan t s given rest fetched unread of none) takes (before_next plan t s new_s.held given rest fetched unread row of none takes)
     took None (inl none) (empty, still) =
         let no_more : unread ≡ [] = none_ahead t plan.covering.boxes s.dim s.is_descending s.awaited unread none of.awaited in
         subst (λ (events : List Event). HasEnded plan t (record s { held = new_s.held }) given rest fetched events) (sym no_more)
         (subst (λ (held : List HeldRow). HasEnded plan t (record s { held = held }) given rest fetched []) (empty ∙ sym still)
-        (ended plan t s given rest fetched (subst (λ (events : List Event). IsSweeping plan t s given rest fetched events) no_more of) empty))
+        (ended plan t s given rest fetched (subst (λ (events : List Event). IsSweeping plan t s given rest fetched events) no_more (at_rest plan t s given rest fetched unread of (inl none))) empty))
     took None (inr (next, there, first, other, is_first, past)) (empty, still) = absurd (not_empty s.held is_first.0 is_first.1 empty)
 
 -- a step after some regions were fetched is one from before them

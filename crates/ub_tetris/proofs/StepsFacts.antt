@@ -12,6 +12,7 @@ use Rattle.ub_tetris.proofs.BrokenFacts.{broken_by, broken_for, none_awaited, re
 use Rattle.ub_tetris.proofs.EffectFacts.{AwaitsThese, Sweeps-none, sweeps_then, swept_taken, swept_traced}
 use Rattle.ub_tetris.proofs.FetchFacts.{few_come}
 use Rattle.ub_tetris.proofs.FoundFacts.{gives_more, gives_none, gives_then, takes_row}
+use Rattle.ub_tetris.proofs.LargestFacts.{IsGoing, going}
 use Rattle.ub_tetris.proofs.StepFacts.{chain_step, come_step, last_step}
 use Rattle.ub_tetris.specs.Awaited.{AwaitedStretch}
 use Rattle.ub_tetris.specs.Effects.{GivesRows, HasAnswered, Rests, Sweeps, of_reading}
@@ -20,7 +21,7 @@ use Rattle.ub_tetris.specs.Sweep.{IsSweeping, HasBroken, HasStepped, SweepView, 
 use Rattle.ub_tetris.specs.declared.state.State.{State}
 use Rattle.ub_tetris.specs.inner.Events.{IsFirstAwaited}
 use Rattle.ub_tetris.specs.inner.Kept.{HoldsAlso, TakesFirst}
-use Rattle.ub_tetris.specs.inner.Turns.{AsksNext, HasComeTo, HasTakenNext, IsAskedFor, IsDue, IsNoneDue, view_of, with_next}
+use Rattle.ub_tetris.specs.inner.Turns.{AsksNext, HasComeTo, HasTakenNext, IsAskedFor, IsDue, IsNoneDue, view_of}
 use Rattle.ub_tree.proofs.Laws.{IsTraced}
 use Rattle.ub_tree.specs.View.{TreeView}
 use Rattle.ub_tree.specs.declared.read_fault.ReadFault.{ReadFault}
@@ -32,7 +33,7 @@ at_most a b c h k = omega arith
 pub record Fetches (plan : PlanView) (t now : TreeView) (s s_now : State) : Type 0 where
   pub effect : Sweeps {A = Unit {0}} plan (view_of s) (view_of s_now) t now (Ok tt)
   pub sweeping : (given rest : List Row) (fetched unread : List Event) → IsSweeping plan t (view_of s) given rest fetched unread
-      → (read left : List Event) × (unread ≡ read ++ left) × IsSweeping plan now (view_of s_now) given rest (fetched ++ read) left
+      → (read left : List Event) × (unread ≡ read ++ left) × IsGoing plan now (view_of s_now) given rest (fetched ++ read) left
   pub still : (view_of s).awaited ≡ [] → (now ≡ t) × (view_of s_now ≡ view_of s)
   pub few : rows_left (view_of s_now) ≤ rows_left (view_of s)
   pub kept : GivesRows plan t (view_of s) (view_of s_now) []
@@ -41,7 +42,7 @@ pub Fetches-none : (plan : PlanView) (t : TreeView) (s : State) → Fetches plan
 Fetches-none plan t s = record {
   effect = Sweeps-none plan tt (view_of s) t;
   sweeping = λ given rest fetched unread is.
-      ([], unread, refl, subst (λ (events : List Event). IsSweeping plan t (view_of s) given rest events unread) (sym (append-nil fetched)) is);
+      ([], unread, refl, subst (λ (events : List Event). IsGoing plan t (view_of s) given rest events unread) (sym (append-nil fetched)) (going is));
   still = λ none. (refl, refl);
   few = omega arith;
   kept = gives_none plan t (view_of s);
@@ -108,7 +109,7 @@ module _ (plan : PlanView) (t now : TreeView) (s s_now : State) (so_far : Fetche
                 read ++ more,
                 later,
                 parts ∙ ap (λ (events : List Event). read ++ events) one ∙ sym (append_assoc read more later),
-                subst (λ (events : List Event). IsSweeping plan new (view_of new_s) given rest events later) (append_assoc fetched read more) next_step,
+                subst (λ (events : List Event). IsGoing plan new (view_of new_s) given rest events later) (append_assoc fetched read more) next_step,
               );
           still = λ none. none_due none;
           few = at_most (rows_left (view_of new_s)) (rows_left (view_of s_now)) (rows_left (view_of s))

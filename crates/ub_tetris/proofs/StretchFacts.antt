@@ -1,5 +1,5 @@
 -- What the laws of stretches say of stretches that are awaited.
-use Rattle.std.proofs.Common.{◌≡◌, ◌≤◌, ◌<◌, ◌+◌, ◌⊎◌, ℕ, zero, suc, Bool, true, false, List, [], ◌∷◌, Contains, map, length, inl, inr, refl, sym, ap, ◌∙◌, subst, get_or, slice_get, Some, arith}
+use Rattle.std.proofs.Common.{◌≡◌, ◌≤◌, ◌<◌, ◌+◌, ◌⊎◌, ℕ, zero, suc, true, List, [], ◌∷◌, Contains, length, inl, inr, refl, sym, ap, subst, get_or, slice_get, Some, arith}
 use Rattle.std.proofs.lemmas.Bool.{cases_Bool, cases_lt}
 use Rattle.std.specs.List.{AllByRecursion, flat_map}
 use Rattle.ub_bigmin.specs.Box.{Corners, HoldsAny}
@@ -154,6 +154,14 @@ lowest_there t stretch sound told lowest =
 -- the span of a region within a stretch lies in that of the stretch
 pub region_lies : (t : TreeView) (stretch : Stretch) (r : Region) → IsSound t → IsStretchOf t stretch → Contains (spans_of t) r → holds_key stretch r.first ≡ true → (z : ℕ) → LiesIn r z → LiesIn stretch.span z
 region_lies t stretch r sound told there holds z lies = (stretch_is_its_regions t stretch z sound told).1 (r, in_within stretch (spans_of t) r there holds, lies)
+
+-- an address of a stretch lies in a region within it
+pub region_of_address : (t : TreeView) (stretch : Stretch) (z : ℕ) → IsSound t → IsStretchOf t stretch → LiesIn stretch.span z
+    → (r : Region) × Contains (spans_of t) r × (holds_key stretch r.first ≡ true) × LiesIn r z
+region_of_address t stretch z sound told lies =
+    let (r, there, here) = (stretch_is_its_regions t stretch z sound told).0 lies in
+    let (among, holds) = contains_from_filter (λ (region : Region). holds_key stretch region.first) (spans_of t) r there in
+    (r, among, holds, here)
 
 decided : {E : Type 0} (P : E → Type 0) (xs those : List E) (x : E) → AreThose P xs those → Contains xs x → P x ⊎ (¬ (P x))
 decided P [] those x are there = absurd (contains_none x there)

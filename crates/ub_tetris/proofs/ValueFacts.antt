@@ -16,6 +16,7 @@ use Rattle.ub_table.specs.declared.row.Row.{Row}
 use Rattle.ub_tetris.proofs.AlongFacts.{IsUpTo, along_never, along_up_to, keys_of, led_plan, up_to_apart, up_to_both, value_numbers}
 use Rattle.ub_tetris.proofs.ArrangeFacts.{all_of, rising_left, rising_right}
 use Rattle.ub_tetris.proofs.BrokenFacts.{all_right}
+use Rattle.ub_tetris.proofs.LargestFacts.{going}
 use Rattle.ub_tetris.proofs.MachineFacts.{IsBeforeNext, given_up_to, held_in_rest, held_or_unread}
 use Rattle.ub_tetris.proofs.NumberFacts.{asked-chain}
 use Rattle.ub_tetris.proofs.StepFacts.{entry_past, sweep_over, taken_next}
@@ -66,11 +67,11 @@ module _ (plan : PlanView) (t : TreeView) (s : SweepView) (given rest : List Row
   taken_value left row ((first, (f, there, is, none), at), (g, same, is_row, least)) =
       let here : Contains s.held g = Contains-permutation (g ∷ left) s.held g (IsPermutation-sym s.held (g ∷ left) same) (contains_here g left) in
       let up : IsUpTo s.is_descending (slice_index f.row.dims s.dim) (slice_index g.row.dims s.dim) =
-      entry_past plan t s given rest fetched unread g f of here there (all_at (λ (other : HeldRow). ¬ (IsHeldBefore other f)) s.held g none here) in
+      entry_past plan t s given rest fetched unread g f (going of) here there (all_at (λ (other : HeldRow). ¬ (IsHeldBefore other f)) s.held g none here) in
       let down : IsUpTo s.is_descending (slice_index g.row.dims s.dim) (slice_index f.row.dims s.dim) =
       elim (contains_cases g left f (Contains-permutation s.held (g ∷ left) f same there)) [
         | inl one ↦ subst (λ (h : HeldRow). IsUpTo s.is_descending (slice_index g.row.dims s.dim) (slice_index h.row.dims s.dim)) one (along_never s.is_descending (slice_index g.row.dims s.dim))
-        | inr later ↦ entry_past plan t s given rest fetched unread f g of there here (all_at (λ (other : HeldRow). ¬ (IsHeldBefore other g)) left f least later)
+        | inr later ↦ entry_past plan t s given rest fetched unread f g (going of) there here (all_at (λ (other : HeldRow). ¬ (IsHeldBefore other g)) left f least later)
       ] in
       ap (λ (r : Row). slice_index r.dims s.dim) (sym is_row) ∙ up_to_both s.is_descending (slice_index g.row.dims s.dim) (slice_index f.row.dims s.dim) down up
       ∙ ap (λ (r : Row). slice_index r.dims s.dim) is ∙ at
@@ -80,7 +81,7 @@ module _ (plan : PlanView) (t : TreeView) (s : SweepView) (given rest : List Row
       → (h : HeldRow) → Contains s.held h → IsAlong s.is_descending value (slice_index h.row.dims s.dim)
   held_past last gone at (None, none, far) h here = absurd (contains_none h (subst (λ (hs : List HeldRow). Contains hs h) none here))
   held_past last gone at (Some row, (f, there, is, least), apart) h here =
-      let over = sweep_over plan t s given rest fetched unread of in
+      let over = sweep_over plan t s given rest fetched unread (going of) in
       let in_rest : Contains rest f.row =
       held_in_rest t.schema plan s.dim s.is_descending t.next (regions t) (rows_held s.held) given rest fetched unread f.row over of.under_way (contains_map (λ (h : HeldRow). h.row) s.held f there) in
       let up : IsUpTo s.is_descending value (slice_index f.row.dims s.dim) =
@@ -90,14 +91,14 @@ module _ (plan : PlanView) (t : TreeView) (s : SweepView) (given rest : List Row
       up_to_apart s.is_descending value (slice_index f.row.dims s.dim) up
       (λ (e : slice_index f.row.dims s.dim ≡ value). apart (ap (λ (r : Row). slice_index r.dims s.dim) (sym is) ∙ e)) in
       along_up_to s.is_descending value (slice_index f.row.dims s.dim) (slice_index h.row.dims s.dim) strict
-      (entry_past plan t s given rest fetched unread h f of here there (all_at (λ (other : HeldRow). ¬ (IsHeldBefore other f)) s.held h least here))
+      (entry_past plan t s given rest fetched unread h f (going of) here there (all_at (λ (other : HeldRow). ¬ (IsHeldBefore other f)) s.held h least here))
 
   -- nor is any row still to be given, where no region is left that can have one
   past_value : (last : Row) → Contains given last → slice_index last.dims s.dim ≡ value → ((event : Event) → Contains unread event → IsAlong s.is_descending value event.value)
       → IsFirstElsewhere s.dim value s.held → All (λ row. IsRowPast s.dim s.is_descending value row) rest
   past_value last gone at before first =
       all_of (λ (row : Row). IsRowPast s.dim s.is_descending value row) rest
-      (λ row there. elim (held_or_unread t.schema plan s.dim s.is_descending t.next (regions t) (rows_held s.held) given rest fetched unread row (sweep_over plan t s given rest fetched unread of) of.under_way there) [
+      (λ row there. elim (held_or_unread t.schema plan s.dim s.is_descending t.next (regions t) (rows_held s.held) given rest fetched unread row (sweep_over plan t s given rest fetched unread (going of)) of.under_way there) [
         | inl kept ↦
             let (h, here, same) = contains_from_map (λ (h : HeldRow). h.row) s.held row kept in
             subst (λ (r : Row). IsAlong s.is_descending value (slice_index r.dims s.dim)) same (held_past last gone at first h here)

@@ -1,5 +1,5 @@
 -- What the calls of a sweep can answer, and what they leave of the tree.
-use Rattle.std.specs.Prelude.{◌≡◌, ◌≢◌, ◌<◌, ◌≤◌, ◌+◌, ◌++◌, [], ◌∷◌, ℕ, zero, suc, Bool, true, false, IsTrue, List, Option, Some, None, Result, Ok, Err, IfErr, OnOk, Contains, length, map, take}
+use Rattle.std.specs.Prelude.{◌≡◌, ◌≢◌, ◌<◌, ◌≤◌, ◌+◌, ◌++◌, [], ◌∷◌, ℕ, zero, suc, Bool, true, false, IsTrue, List, Option, Some, None, Result, Ok, Err, IfErr, OnOk, length, map, take}
 use Rattle.std.specs.List.{AllByRecursion, filter}
 use Rattle.std.specs.List.Sorted.{IsPermutation}
 use Rattle.ub_bigmin.specs.Box.{Corners}

@@ -1,5 +1,5 @@
 -- What contracts see of a sweep, and how it stands to its plan and to the tree over which it goes.
-use Rattle.std.specs.Prelude.{◌≡◌, ◌≢◌, ◌≤◌, ◌+◌, ◌*◌, ◌++◌, ◌∷◌, [], ℕ, Bool, false, List, Option, Some, None, length, map, slice_index, Contains}
+use Rattle.std.specs.Prelude.{◌≡◌, ◌≢◌, ◌≤◌, ◌+◌, ◌*◌, ◌++◌, ◌∷◌, ◌⊎◌, [], ℕ, Bool, true, false, List, Option, Some, None, length, map, slice_index, Contains}
 use Rattle.std.specs.List.{All, AllByRecursion}
 use Rattle.ub_bigmin.specs.Box.{Corners}
 use Rattle.ub_planning.specs.Plan.{PlanView, plan_of}
@@ -15,8 +15,9 @@ use Rattle.ub_table.specs.declared.schema.TheConstants.{MAX_ROWS}
 use Rattle.ub_tetris.specs.Held.{HeldRow, AreHeldBy, rows_held}
 use Rattle.ub_tetris.specs.Machine.{IsUnderWay, IsRowAlong, IsRowPast, regions_at}
 use Rattle.ub_tree.specs.Placed.{Placed, regions_in}
-use Rattle.ub_tree.specs.View.{TreeView, IsSound, regions, spans_of}
 use Rattle.ub_tree.specs.Spans.{Meets, Region}
+use Rattle.ub_tree.specs.Stretches.{ArePartsOf, IsStretchOf, MeetsAny, Stretch, holds_key, whole_of}
+use Rattle.ub_tree.specs.View.{TreeView, IsSound, regions, spans_of}
 pub use Rattle.ub_tetris.specs.Awaited.{AwaitedRegion, AwaitedStretch}
 use Rattle.ub_tetris.specs.Awaited.{AreStretchesOf, AreValued, most_regions, times_held}
 
@@ -71,8 +72,32 @@ pub record AreAhead (t : TreeView) (boxes : List Corners) (dim : ℕ) (is_descen
       → (event : Event) × Contains events event × (event.span.region.first ≡ region.first)
   pub those : (event : Event) → Contains events event → 1 ≤ times_held event.span.region.first awaited
 
+-- a region of one of these events lies within the stretch
+abbrev pub HoldsOneOf : List Event → Stretch → Type 0
+HoldsOneOf events stretch = (event : Event) × Contains events event × (holds_key stretch event.span.region.first ≡ true)
+
+-- the stretch is a part that meets the boxes of a stretch of the tree which has this property
+abbrev pub IsPartOfOne : (Stretch → Type 0) → TreeView → List Corners → Stretch → Type 0
+IsPartOfOne Has t boxes stretch =
+    (above : Stretch) × IsStretchOf t above × Has above × (parts : List Stretch) × ArePartsOf t boxes above parts × Contains parts stretch
+
+-- one of the largest stretches that meet the boxes and within which no region was fetched: it is the whole tree, or a part of a stretch
+-- within which one was
+pub record IsLargest (t : TreeView) (boxes : List Corners) (fetched : List Event) (stretch : Stretch) : Type 0 where
+  pub meets : MeetsAny boxes stretch
+  pub none : ¬ (HoldsOneOf fetched stretch)
+  pub above : (stretch ≡ whole_of t) ⊎ IsPartOfOne (HoldsOneOf fetched) t boxes stretch
+
+-- the stretches awaited over a sound tree are the largest that meet the boxes and within which no region was fetched: each of them is one,
+-- and each region that meets the boxes and wasn't fetched lies within one of them
+pub record AreLargest (t : TreeView) (boxes : List Corners) (fetched : List Event) (awaited : List AwaitedStretch) : Type 0 where
+  pub each : AllByRecursion (λ a. IsLargest t boxes fetched a.stretch) awaited
+  pub all : (region : Region) → Contains (spans_of t) region → Meets boxes region
+      → ((event : Event) → Contains fetched event → event.span.region.first ≢ region.first) → 1 ≤ times_held region.first awaited
+
 -- how a sweep that hasn't failed stands to its plan and its tree: these rows were given, and these are still to be given; the
--- trace has the pages of the regions that were fetched, and these are not fetched yet
+-- trace has the pages of the regions that were fetched, and these are not fetched yet; what it awaits are the largest stretches within
+-- which none was
 pub record IsSweeping (plan : PlanView) (t : TreeView) (s : SweepView) (given rest : List Row) (fetched unread : List Event) : Type 0 where
   pub working : s.is_failed ≡ false
   pub swept : IsSwept t plan s.dim s.is_descending
@@ -80,6 +105,7 @@ pub record IsSweeping (plan : PlanView) (t : TreeView) (s : SweepView) (given re
   pub values : AreHeldBy t.schema (swept_order plan.asked.group plan.asked.order) s.held
   pub noted : AreNoted t fetched
   pub awaited : AreAhead t plan.covering.boxes s.dim s.is_descending s.awaited unread
+  pub largest : AreLargest t plan.covering.boxes fetched s.awaited
 
 -- the next row was given: these regions were fetched for it, and those fetched are now just the ones whose event values aren't
 -- past it

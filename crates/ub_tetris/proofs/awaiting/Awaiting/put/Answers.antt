@@ -1,7 +1,7 @@
 use Rattle.std.proofs.Common.{◌∷◌, subst}
 use Rattle.std.specs.BinaryHeap.{heap_items}
 use Rattle.std.specs.List.Sorted.{IsPermutation}
-use Rattle.ub_tetris.proofs.EventFacts.{more_awaited, more_heaped}
+use Rattle.ub_tetris.proofs.EventFacts.{more_awaited}
 use Rattle.ub_tetris.specs.inner.Events.{Ahead, awaited_of, seen}
 use Rattle.ub_tetris.proofs.awaiting.Awaiting.put.Goals as goal
 
