@@ -1,15 +1,17 @@
 -- Which rows a gathering has taken, and how many there can be.
-use Rattle.std.proofs.Common.{◌≡◌, ◌<◌, ◌≤◌, ◌+◌, ℕ, zero, suc, List, [], ◌∷◌, Option, length, map, slice_index, slice_index_or, Bool, true, nat_eq, IsPermutation, add-one, refl, sym, subst, arith, ◌∙◌}
-use Rattle.std.proofs.lemmas.Bool.{eqb-true}
-use Rattle.std.proofs.lemmas.List.{length-map}
+use Rattle.std.proofs.Common.{◌≡◌, ◌<◌, ◌≤◌, ◌+◌, ℕ, zero, suc, List, [], ◌∷◌, Option, length, map, slice_index, slice_index_or, Bool, true, false, not, ◌&&◌, ◌||◌, ◌==◌, ◌≢◌, inl, inr, nat_eq, IsPermutation, add-one, refl, sym, ap, subst, arith, ◌∙◌}
+use Rattle.std.proofs.lemmas.Bool.{cases_Bool, eqb-true, false≢true}
+use Rattle.std.proofs.lemmas.List.{length-map, nil_from_length}
 use Rattle.std.proofs.lemmas.List.Elements.{All-map}
 use Rattle.std.proofs.lemmas.List.Sorted.{length_permutation}
 use Rattle.std.proofs.lemmas.List.Sums.{length-filter, count_by-le-length}
-use Rattle.std.specs.List.{All}
+use Rattle.std.specs.List.{All, list_any}
 use Rattle.std.specs.List.Sorted.{IsStrictlyIncreasing}
 use Rattle.ub_answer.specs.Held.{many}
+use Rattle.ub_query.proofs.Laws.{group_queries_are_told}
 use Rattle.ub_query.specs.Groups.{selected, is_selected}
-use Rattle.ub_query.specs.Posed.{IsAggregate, IsGrouped}
+use Rattle.ub_query.specs.Lead.{is_one_entry}
+use Rattle.ub_query.specs.Posed.{IsAggregate, IsGrouped, IsGroupQuery, is_aggregate}
 use Rattle.ub_query.specs.Shape.{Asked, Shape}
 use Rattle.ub_query.specs.declared.query.Item.{Item}
 use Rattle.ub_query.specs.declared.query.Item.TheVariants.{Column, Count, Aggregate}
@@ -65,3 +67,33 @@ none_there [] columns b same is holds = sym same
 none_there (c ∷ seen) columns b same is holds =
     let zero_long : suc (length seen) ≡ 0 = eqb-true (suc (length seen)) 0 (sym is ∙ holds) in
     absurd (omega arith)
+
+-- ---- which queries have one entry of all rows
+
+one_is_grouped : (none any : Bool) → (none && any) ≡ true → (not none || any) ≡ true
+one_is_grouped true any e = e
+one_is_grouped false any e = refl
+
+grouped_is_one : (none any : Bool) → none ≡ true → (not none || any) ≡ true → (none && any) ≡ true
+grouped_is_one true any is e = e
+grouped_is_one false any is e = absurd (false≢true is)
+
+none_is_false : (none any : Bool) → none ≡ false → (none && any) ≡ false
+none_is_false true any is = absurd (false≢true (sym is))
+none_is_false false any is = refl
+
+pub one_entry : (q : Asked) → IsGroupQuery q → q.group ≡ [] → true ≡ is_one_entry q
+one_entry q grouped none =
+    sym (grouped_is_one (length q.group == 0) (list_any is_aggregate q.items) (ap (λ (columns : List ℕ). length columns == 0) none) ((group_queries_are_told q).1 grouped))
+
+pub no_entry-rows : (q : Asked) → ¬ IsGroupQuery q → false ≡ is_one_entry q
+no_entry-rows q plain = elim (cases_Bool (is_one_entry q)) [
+  | inl t ↦ absurd (plain ((group_queries_are_told q).0 (one_is_grouped (length q.group == 0) (list_any is_aggregate q.items) t)))
+  | inr f ↦ sym f
+]
+
+pub no_entry-groups : (q : Asked) → q.group ≢ [] → false ≡ is_one_entry q
+no_entry-groups q some = elim (cases_Bool (length q.group == 0)) [
+  | inl t ↦ absurd (some (nil_from_length q.group (eqb-true (length q.group) 0 t)))
+  | inr f ↦ sym (none_is_false (length q.group == 0) (list_any is_aggregate q.items) f)
+]

@@ -4,10 +4,10 @@ use Rattle.std.proofs.lemmas.List.{length-append}
 use Rattle.std.proofs.lemmas.List.Sorted.{IsPermutation-refl}
 use Rattle.std.specs.List.{All}
 use Rattle.ub_answer.proofs.PermutedFacts.{cell-permuted}
-use Rattle.ub_answer.proofs.TallyFacts.{IsOfGroup, are-shown-next, shown-none, shown-list}
+use Rattle.ub_answer.proofs.TallyFacts.{IsOfGroup, are-shown-next, shown-more, shown-none, shown-list}
 use Rattle.ub_answer.specs.Held.{many}
 use Rattle.ub_answer.specs.inner.Cut.{cut}
-use Rattle.ub_answer.specs.inner.Tally.{of_none, with_row, IsNarrow, IsShown, HoldsTotals}
+use Rattle.ub_answer.specs.inner.Tally.{of_none, with_row, all_of, IsNarrow, IsSmallOf, IsShown, AreWithRows, HoldsTotals}
 use Rattle.ub_query.specs.Cells.{Group, group_cell}
 use Rattle.ub_query.specs.Groups.{selected, AreGroups}
 use Rattle.ub_query.specs.Meaning.{IsGroupMeaning, limited}
@@ -47,6 +47,15 @@ totals-next schema items seen taken row cells next same totals narrow is held fe
     (λ k d below. of_no_group schema row (slice_index_or items k d) (totals k d below))
     (λ k d e below aggregate. held less k d e below)
     (subst (λ (xs : List Item). (k : ℕ) (d : Item) (e : Cell) → k < length xs → slice_index_or next k e ≡ with_row schema row (slice_index_or xs k d) (slice_index_or cells k e)) same is)
+
+pub totals-more : (schema : Schema) (items seen : List Item) (taken more : List Row) (cells next : List Cell) → seen ≡ items → All (λ item. IsAggregate item) items
+    → All (λ item. IsSmallOf schema more item) seen → AreWithRows schema more seen cells next → HoldsTotals schema items taken cells → HoldsTotals schema items (taken ++ more) next
+totals-more schema items seen taken more cells next same totals small is held few k d e below =
+    let less : length taken < many = let long = length-append taken more in omega arith in
+    let here = subst (λ (xs : List Item). All (λ item. IsSmallOf schema more item) xs) same small k d below in
+    let now = subst (λ (xs : List Item). AreWithRows schema more xs cells next) same is k d e below in
+    subst (λ (c : Cell). IsShown schema [] (all_of (taken ++ more)) (slice_index_or items k d) c) (sym now)
+    (shown-more schema taken more (slice_index_or items k d) (slice_index_or cells k e) few (totals k d below) here (held less k d e below))
 
 filter-all : (rows : List Row) → filter (λ row. true) rows ≡ rows
 filter-all [] = refl

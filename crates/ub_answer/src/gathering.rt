@@ -1,4 +1,4 @@
-ghost use Rattle.std.specs.Prelude.{◌≡◌, ◌≢◌, ◌<◌, ◌≤◌, ◌∷◌, ◌++◌, [], List, Option, length, IfOk, OnOk};
+ghost use Rattle.std.specs.Prelude.{◌≡◌, ◌≢◌, ◌<◌, ◌≤◌, ◌∷◌, ◌++◌, [], List, Option, length, IfOk, OnOk, if◌then◌else◌};
 ghost use Rattle.std.specs.List.{All};
 ghost use Rattle.std.specs.List.Sorted.{IsPermutation};
 ghost use Rattle.ub_answer.specs.Gathered.{HasTaken, IsGathered, groups_held, rows_held, rows_held_by};
@@ -6,6 +6,7 @@ ghost use Rattle.ub_answer.specs.Held.{StayFew, many};
 ghost use Rattle.ub_answer.specs.Shaped.{IsShaped};
 ghost use Rattle.ub_query.specs.Cells.{Group};
 ghost use Rattle.ub_query.specs.Groups.{AreGroups, selected};
+ghost use Rattle.ub_query.specs.Lead.{is_one_entry};
 ghost use Rattle.ub_query.specs.Meaning.{IsMeaning};
 ghost use Rattle.ub_query.specs.Posed.{IsPosed};
 ghost use Rattle.ub_query.specs.Shape.{Shape, asked};
@@ -17,12 +18,12 @@ use crate::rows::CollectedRows;
 use crate::tally::MAX_ITEMS;
 use crate::totals::CollectedTotals;
 use std::alloc::{AllocError, Global};
-use ub_query::Query;
+use ub_query::{Query, RowBatch};
 use ub_table::{MAX_ROW_NUMBER, Row, Schema};
 
 /// What the answer of a query needs of the rows taken so far. `IsGathered` says which rows these are.
 ///
-/// The rows are handed over one by one, in any order, and all of them are taken: whoever hands them over
+/// The rows are handed over one by one or some at once, in any order, and all of them are taken: whoever hands them over
 /// looks at the query's condition. Each call is given the schema and the query of the first.
 #[derive(Drop)]
 pub struct Gathering {
@@ -71,6 +72,26 @@ impl Gathering {
                 Ok(())
             }
             Collected::Groups(groups) => groups.take(self.alloc, schema, query, row),
+        }
+    }
+
+    /// Takes more rows at once, in their order, where the answer is one entry of all rows: then this is true, and else it is false,
+    /// and none is taken. Takes no memory.
+    pub fn take_batch<B: RowBatch>(&mut self, schema: &Schema, query: &Query, batch: &B) -> bool
+        requires { IsPosed (length schema.now.columns) (asked query.now) }
+        ensures gathered { (taken : List _) → IsGathered schema.now (asked query.now) taken self.old
+            → IsGathered schema.now (asked query.now)
+            (if result then taken ++ B.rows batch.now else taken) self.new }
+        ensures told { (taken : List _) → IsGathered schema.now (asked query.now) taken self.old
+            → result ≡ is_one_entry (asked query.now) }
+        ensures few { StayFew query.now.limit (rows_held self.old) (rows_held self.new) }
+    {
+        match &mut self.collected {
+            Collected::Totals(totals) => {
+                totals.take_batch(schema, query, batch);
+                true
+            }
+            Collected::Rows(_) | Collected::Groups(_) => false,
         }
     }
 

@@ -3,7 +3,8 @@ ghost use Rattle.std.specs.List.{All};
 ghost use Rattle.ub_answer.specs.inner.Tally as spec;
 ghost use Rattle.ub_query.specs.Posed.{IsItemOver};
 
-use ub_query::{Aggregate, Cell, Item};
+use crate::part::part_of;
+use ub_query::{Aggregate, Cell, Item, RowBatch};
 use ub_table::{Row, Schema};
 
 /// How many items a query has at most.
@@ -37,6 +38,20 @@ pub fn add_row(tally: &mut Tally, schema: &Schema, items: &[Item], row: &Row)
     }
 }
 
+/// Takes more rows at once into the cells of the group that all rows are, where nothing is grouped.
+pub fn add_batch<B: RowBatch>(tally: &mut Tally, schema: &Schema, items: &[Item], batch: &B)
+    requires over { All (λ item. IsItemOver (length schema.now.columns) item) items.now }
+    requires few { length items.now ≤ MAX_ITEMS }
+    ensures cells { spec.AreWithRows schema.now (B.rows batch.now) items.now tally.old tally.new }
+    ensures small { All (λ item. spec.IsSmallOf schema.now (B.rows batch.now) item) items.now }
+    ensures long { length tally.new ≡ 8 }
+{
+    for (place, item) in items.iter().enumerate() {
+        let part = part_of(schema, *item, batch);
+        tally[place] = with_part(tally[place], *item, part);
+    }
+}
+
 // What an item shows of no rows.
 fn of_none(item: Item) -> Cell
     ensures { result ≡ spec.of_none item }
@@ -57,13 +72,27 @@ fn with_row(cell: Cell, schema: &Schema, item: Item, row: &Row) -> Cell
         Item::Column(column) => Cell::Number(i128::from(schema.value_of(row, column))),
         Item::Count => plus(cell, 1),
         Item::Aggregate(aggregate, column) => {
-            taken_in(aggregate, cell, schema.value_of(row, column))
+            taken_in(aggregate, cell, i128::from(schema.value_of(row, column)))
         }
     }
 }
 
-// What is taken of some values, and of one more.
-fn taken_in(aggregate: Aggregate, cell: Cell, value: i64) -> Cell
+// What an item shows of some rows and of more, by what it shows of the more and of those before.
+fn with_part(cell: Cell, item: Item, part: Cell) -> Cell
+    ensures { result ≡ spec.with_part part item cell }
+{
+    let Cell::Number(value) = part else {
+        return cell;
+    };
+    match item {
+        Item::Column(_) => part,
+        Item::Count => plus(cell, value),
+        Item::Aggregate(aggregate, _) => taken_in(aggregate, cell, value),
+    }
+}
+
+// What is taken of some values, and of one more, or of what was taken of more.
+fn taken_in(aggregate: Aggregate, cell: Cell, value: i128) -> Cell
     ensures { result ≡ spec.taken_in aggregate value cell }
 {
     match aggregate {
@@ -74,29 +103,29 @@ fn taken_in(aggregate: Aggregate, cell: Cell, value: i64) -> Cell
 }
 
 // A count or a sum, and one more number. A sum of fewer than 2^32 values lies far within an i128.
-fn plus(cell: Cell, value: i64) -> Cell
+fn plus(cell: Cell, value: i128) -> Cell
     ensures { result ≡ spec.plus value cell }
 {
     match cell {
-        Cell::Number(sum) => Cell::Number(sum.saturating_add(i128::from(value))),
-        Cell::Null => Cell::Number(i128::from(value)),
+        Cell::Number(sum) => Cell::Number(sum.saturating_add(value)),
+        Cell::Null => Cell::Number(value),
     }
 }
 
-fn lesser(cell: Cell, value: i64) -> Cell
+fn lesser(cell: Cell, value: i128) -> Cell
     ensures { result ≡ spec.lesser value cell }
 {
     match cell {
-        Cell::Number(least) => Cell::Number(least.min(i128::from(value))),
-        Cell::Null => Cell::Number(i128::from(value)),
+        Cell::Number(least) => Cell::Number(least.min(value)),
+        Cell::Null => Cell::Number(value),
     }
 }
 
-fn greater(cell: Cell, value: i64) -> Cell
+fn greater(cell: Cell, value: i128) -> Cell
     ensures { result ≡ spec.greater value cell }
 {
     match cell {
-        Cell::Number(greatest) => Cell::Number(greatest.max(i128::from(value))),
-        Cell::Null => Cell::Number(i128::from(value)),
+        Cell::Number(greatest) => Cell::Number(greatest.max(value)),
+        Cell::Null => Cell::Number(value),
     }
 }

@@ -11,9 +11,9 @@ ghost use Rattle.ub_query.specs.Shape.{Shape, asked};
 ghost use Rattle.ub_table.specs.Table.{Table};
 
 use crate::cells::Cells;
-use crate::tally::{MAX_ITEMS, Tally, add_row, tally_of_none};
+use crate::tally::{MAX_ITEMS, Tally, add_batch, add_row, tally_of_none};
 use std::alloc::{AllocError, Global};
-use ub_query::Query;
+use ub_query::{Query, RowBatch};
 use ub_table::{Row, Schema};
 
 /// What a query shows of all rows taken, where it has aggregates and no GROUP BY. No row is held.
@@ -43,6 +43,17 @@ impl CollectedTotals {
             → HoldsTotals schema.now query.now.items (taken ++ row.now ∷ []) self.new.tally }
     {
         add_row(&mut self.tally, schema, query.items.as_slice(), row);
+    }
+
+    /// Takes more rows at once. Takes no memory.
+    pub fn take_batch<B: RowBatch>(&mut self, schema: &Schema, query: &Query, batch: &B)
+        requires over { All (λ item. IsItemOver (length schema.now.columns) item) query.now.items }
+        requires few { length query.now.items ≤ MAX_ITEMS }
+        ensures { (taken : List _) → All (λ item. IsAggregate item) query.now.items
+            → HoldsTotals schema.now query.now.items taken self.old.tally
+            → HoldsTotals schema.now query.now.items (taken ++ B.rows batch.now) self.new.tally }
+    {
+        add_batch(&mut self.tally, schema, query.items.as_slice(), batch);
     }
 
     /// The answer: one row, also of no rows, and none where LIMIT 0 stands.

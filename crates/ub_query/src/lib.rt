@@ -6,7 +6,8 @@
 //! rows are selected, and into which groups they fall), `Order` (the order asked), `Posed` (what is true of every query that is
 //! accepted, and which of them give groups), `Meaning` (which rows of cells a query gives on a table), `Lead` (the key along
 //! which the rows of a result can be found) and `Laws`. Worked examples stand in `Examples`. How a query is written, where the
-//! rows are kept and how they are found stands elsewhere: those who find rows of a query hand them to a `RowSink`.
+//! rows are kept and how they are found stands elsewhere: those who find rows of a query hand them to a `RowSink`, one by one, or as
+//! a `RowBatch`.
 #![tactic(auto)]
 
 pub mod cell;
@@ -19,5 +20,5 @@ pub mod sink;
 pub use cell::Cell;
 pub use condition::{Cond, Operator};
 pub use query::{Aggregate, Item, Query, SortKey};
-pub use sink::RowSink;
+pub use sink::{RowBatch, RowSink};
 pub use ub_table::Items;

@@ -77,6 +77,27 @@ abbrev pub AreWithRow : Schema → Row → List Item → List Cell → List Cell
 AreWithRow schema row items before after = (k : ℕ) (d : Item) (e : Cell) → k < length items
     → slice_index_or after k e ≡ with_row schema row (slice_index_or items k d) (slice_index_or before k e)
 
+-- some rows as one group, where nothing is grouped
+abbrev pub all_of : List Row → Group
+all_of rows = record { values = []; rows = rows }
+
+-- what an item shows of some rows and of more, by what it shows of the more and of those before
+abbrev pub with_part : Cell → Item → Cell → Cell
+with_part Null item cell = cell
+with_part (Number v) (Column column) cell = Number v
+with_part (Number v) Count cell = plus v cell
+with_part (Number v) (Aggregate taken column) cell = taken_in taken v cell
+
+-- each cell is what its item shows with these rows more, where nothing is grouped
+abbrev pub AreWithRows : Schema → List Row → List Item → List Cell → List Cell → Type 0
+AreWithRows schema rows items before after = (k : ℕ) (d : Item) (e : Cell) → k < length items
+    → slice_index_or after k e
+    ≡ with_part (group_cell schema [] (all_of rows) (slice_index_or items k d)) (slice_index_or items k d) (slice_index_or before k e)
+
+-- what an item shows of the rows alone is not too great for as many values
+abbrev pub IsSmallOf : Schema → List Row → Item → Type 0
+IsSmallOf schema rows item = IsSmall (length rows) (group_cell schema [] (all_of rows) item)
+
 -- what is held of the rows taken where nothing is grouped
 abbrev pub HoldsTotals : Schema → List Item → List Row → List Cell → Type 0
-HoldsTotals schema items taken cells = length taken < many → AreShown schema [] items (record { values = []; rows = taken }) cells
+HoldsTotals schema items taken cells = length taken < many → AreShown schema [] items (all_of taken) cells
