@@ -12,9 +12,7 @@ use Rattle.ub_filter.specs.Choice.{IsFit, is_candidate, recheck_by, is_chosen}
 use Rattle.ub_filter.specs.declared.choice.Choice.{Choice}
 use Rattle.ub_filter.specs.declared.choice.Choice.TheVariants.{Boxes, Condition}
 use Rattle.ub_planning.proofs.Laws.{in_some, from_in_some, row_is_told, rows_are_points}
-use Rattle.ub_planning.specs.Plan.{PlanView, plan_of, residual_by}
-use Rattle.ub_planning.specs.declared.planned.Kind.{Kind}
-use Rattle.ub_planning.specs.declared.planned.Kind.TheVariants.{Empty, Scan, Sweep}
+use Rattle.ub_planning.specs.Plan.{PlanView, plan_of}
 use Rattle.ub_query.proofs.Laws.{contains_none, contains_cases, contains_here, contains_later}
 use Rattle.ub_query.specs.Groups.{is_selected}
 use Rattle.ub_query.specs.Shape.{Asked, Shape}
@@ -95,7 +93,7 @@ in_none i boxes point = (λ e. absurd (no_bit i e), λ some. absurd (contains_no
 pub in_all : (bit : ℕ) (boxes : List Corners) (k : ℕ) (point : List ℕ) → length boxes ≤ k → (bit ≡ 1) ↔ IsInSome (take k boxes) point → (bit ≡ 1) ↔ IsInSome boxes point
 in_all bit boxes k point past iff = subst (λ (bs : List Corners). (bit ≡ 1) ↔ IsInSome bs point) (take_all k boxes past) iff
 
-there_is : (rows : List Row) (k : ℕ) → k < length rows → (row : Row) × (slice_get rows k ≡ Some row)
+pub there_is : (rows : List Row) (k : ℕ) → k < length rows → (row : Row) × (slice_get rows k ≡ Some row)
 there_is rows k below = elim ((slice_get_cases rows k).1) [
   | inl some ↦ (some.0, some.2)
   | inr past ↦ let far = past.0 in absurd (omega arith)

@@ -1,2 +1,3 @@
+pub mod BatchFacts
 pub mod ChoiceFacts
 pub mod Laws

@@ -1,2 +1,3 @@
+pub mod Batch
 pub mod Choice
 pub mod Laws
