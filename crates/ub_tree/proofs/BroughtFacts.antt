@@ -17,7 +17,8 @@ use Rattle.ub_tree.specs.Upgrade.{IsLeftBy, IsUpgradeFault, IsUpgradePassing, St
 use Rattle.ub_tree.specs.View.{TreeView}
 use Rattle.ub_upgrade.specs.Bringing.{HasOldHeader, IsBringFault, IsHeadFault}
 use Rattle.ub_upgrade.specs.Building.{IsPassing}
-use Rattle.ub_upgrade.specs.Effects.{CountsNew, counted_old, written}
+use Rattle.ub_laying.specs.Effects.{written}
+use Rattle.ub_upgrade.specs.Effects.{CountsNew, counted_old}
 use Rattle.ub_upgrade.specs.Table.{BringsTable, IsNewFault, IsRootRefused, IsTableFault}
 use Rattle.ub_upgrade.specs.declared.fault.UpgradeFault.{UpgradeFault}
 use Rattle.ub_upgrade.specs.declared.fault.UpgradeFault.TheVariants as upgrade

@@ -29,9 +29,9 @@ use Rattle.ub_tree.specs.inner.Upgrading.{IsCarried}
 use Rattle.ub_upgrade.proofs.TableFacts.{root_fits}
 use Rattle.ub_upgrade.specs.Table.{CanBring, root_in}
 use Rattle.ub_upgrade.specs.Bringing.{HasIndexOf, HasOldHeader, IsBrought, directory_of}
-use Rattle.ub_upgrade.specs.Levels.{index_pages}
+use Rattle.ub_laying.specs.Levels.{index_pages}
 use Rattle.ub_upgrade.specs.Reading.{AreBelow, IsDirectory}
-use Rattle.ub_upgrade.specs.declared.building.Root.{Root}
+use Rattle.ub_laying.specs.declared.levels.Root.{Root}
 use Rattle.ub_zaddr.specs.Address.{last_address}
 
 -- ---- the index that stands on the new pages

@@ -17,7 +17,7 @@ use Rattle.ub_tree.specs.View.{TreeView, IsSound, region_count, regions}
 use Rattle.ub_tree.specs.declared.fault.TreeFault.{TreeFault}
 use Rattle.ub_tree.specs.declared.fault.TreeFault.TheVariants.{Memory, Page, Store}
 use Rattle.ub_upgrade.specs.Bringing.{HasOldHeader, directory_of}
-use Rattle.ub_upgrade.specs.Levels.{index_pages}
+use Rattle.ub_laying.specs.Levels.{index_pages}
 use Rattle.ub_upgrade.specs.Reading.{AreBelow, IsAskedFor, IsDirectory, IsNamed, IsRefused}
 use Rattle.ub_store.specs.declared.fault.StoreFault.TheVariants as store
 use Rattle.ub_writing.specs.Marks.{HasMark}

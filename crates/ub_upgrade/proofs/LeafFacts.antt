@@ -12,15 +12,16 @@ use Rattle.ub_store.specs.View.{PagerView}
 use Rattle.ub_store.specs.declared.fault.StoreFault.TheVariants as store
 use Rattle.ub_zaddr.specs.Address.{last_address}
 use Rattle.ub_upgrade.specs.Building.{AreLeaves, IsBuildFault, IsBuilt}
-use Rattle.ub_upgrade.specs.Effects.{AddsPages, BringsOver, HasNotFailed, counted_old}
-use Rattle.ub_upgrade.specs.Levels.{Cut, IsIndexOf, IsRaised}
-use Rattle.ub_upgrade.specs.declared.building.Root.{Root}
+use Rattle.ub_laying.specs.Effects.{AddsPages, HasNotFailed}
+use Rattle.ub_upgrade.specs.Effects.{BringsOver, counted_old}
+use Rattle.ub_laying.specs.Levels.{Cut, IsIndexOf, IsRaised}
+use Rattle.ub_laying.specs.declared.levels.Root.{Root}
 use Rattle.ub_upgrade.specs.declared.fault.UpgradeFault.{UpgradeFault}
-use Rattle.ub_upgrade.specs.declared.fault.UpgradeFault.TheVariants.{Page, Old, New}
-use Rattle.ub_upgrade.specs.declared.levels.Level.{Level}
+use Rattle.ub_upgrade.specs.declared.fault.UpgradeFault.TheVariants.{Old, New}
+use Rattle.ub_laying.specs.declared.levels.Level.{Level}
 use Rattle.ub_upgrade.specs.Reading.{HeadingView, AreBegun, AreBelow, HasPart, IsMet, IsReadUpTo}
 use Rattle.ub_upgrade.specs.declared.chain.Place.{Place}
-use Rattle.ub_upgrade.proofs.LevelFacts.{cut_added, lowest_level}
+use Rattle.ub_laying.proofs.LevelFacts.{cut_added, lowest_level}
 use Rattle.ub_upgrade.proofs.ReadFacts.{IsReadWhole, part_full, part_whole}
 
 -- the directory was read up to a place, and so many pages from one on tell the same entries

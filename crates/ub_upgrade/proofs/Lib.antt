@@ -1,6 +1,3 @@
-pub mod AddFacts
-pub mod LevelFacts
-pub mod SizeFacts
 pub mod ReadFacts
 pub mod WholeFacts
 pub mod LeafFacts

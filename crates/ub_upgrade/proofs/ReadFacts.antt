@@ -1,8 +1,8 @@
 -- Reading a directory page by page.
 use Rattle.std.proofs.lemmas.Grind.{common_steps}
-use Rattle.std.proofs.Common.{rules, ◌≡◌, ◌<◌, ◌≤◌, ◌+◌, ◌-◌, ◌*◌, ◌↔◌, ◌&&◌, ◌++◌, inl, inr, ℕ, suc, get_or, Bool, true, IsTrue, List, [], ◌∷◌, Some, None, Err, length, take, drop, ◌∙◌, ap, subst, refl, arith, slice_get, slice_index_or}
+use Rattle.std.proofs.Common.{rules, ◌≡◌, ◌<◌, ◌≤◌, ◌+◌, ◌-◌, ◌↔◌, ◌&&◌, ◌++◌, inl, inr, ℕ, suc, get_or, Bool, true, IsTrue, List, [], ◌∷◌, Some, None, Err, length, take, drop, ◌∙◌, ap, subst, refl, arith, slice_get, slice_index_or}
 use Rattle.std.proofs.lemmas.Bool.{and_parts, cases_eq, cases_lt}
-use Rattle.std.proofs.lemmas.List.{drop_all, length-append, length-take, length-drop, take-append-le, take_all, drop-append-le}
+use Rattle.std.proofs.lemmas.List.{drop_all, length-append, length-take, take-append-le, take_all, drop-append-le}
 use Rattle.std.proofs.lemmas.List.Elements.{All-from_recursion}
 use Rattle.std.specs.List.{All, AllByRecursion}
 use Rattle.ub_zaddr.specs.Address.{last_address}

@@ -15,7 +15,7 @@ use Rattle.ub_table.specs.declared.schema.Schema.{Schema}
 use Rattle.ub_upgrade.specs.Bringing.{HasOldHeader, IsBringFault, IsBrought}
 use Rattle.ub_upgrade.specs.Building.{IsPassing}
 use Rattle.ub_upgrade.specs.Table.{CanBring, IsTableFault}
-use Rattle.ub_upgrade.specs.declared.building.Root.{Root}
+use Rattle.ub_laying.specs.declared.levels.Root.{Root}
 use Rattle.ub_upgrade.specs.declared.fault.UpgradeFault.{UpgradeFault}
 use Rattle.ub_upgrade.specs.declared.fault.UpgradeFault.TheVariants.{Page, Old, New}
 use Rattle.ub_upgrade.specs.inner.Table.{IsRootFault}

@@ -1,6 +1,6 @@
 -- The pages of a store hold one directory of format 1 alone that begins on a page, and reading finds it.
 use Rattle.std.proofs.lemmas.Grind.{common_steps}
-use Rattle.std.proofs.Common.{rules, ◌≡◌, ◌<◌, ◌≤◌, ◌+◌, ◌-◌, ◌^◌, ◌++◌, inl, inr, ℕ, zero, suc, true, List, [], ◌∷◌, Option, Some, None, Result, length, take, drop, ◌∙◌, sym, ap, subst, refl, arith, slice_get, slice_index_or, append_assoc}
+use Rattle.std.proofs.Common.{rules, ◌≡◌, ◌<◌, ◌≤◌, ◌+◌, ◌-◌, ◌^◌, ◌++◌, inl, inr, ℕ, zero, suc, true, List, [], ◌∷◌, Some, None, Result, length, take, drop, ◌∙◌, sym, ap, subst, refl, arith, slice_get, slice_index_or, append_assoc}
 use Rattle.std.proofs.Math.Seq.{take-append-add}
 use Rattle.std.proofs.lemmas.Bool.{and_parts, and_from}
 use Rattle.std.proofs.lemmas.List.{length-append, length-drop, take-append-drop}
@@ -14,16 +14,15 @@ use Rattle.ub_page.specs.Entries.{AreAscending, IsEntry}
 use Rattle.ub_region.specs.declared.entry.Entry.{Entry}
 use Rattle.ub_region.proofs.Laws.{all_drop, all_right, all_take}
 use Rattle.ub_store.specs.Facts.{StoreFacts, IsHonest, page_count}
-use Rattle.ub_table.proofs.Laws.{before_of}
 use Rattle.ub_table.specs.Keys.{are_ascending}
 use Rattle.ub_table.specs.declared.fault.PageFault.{PageFault}
 use Rattle.ub_upgrade.proofs.BringFacts.{some_same}
 use Rattle.ub_index.proofs.Lists.{ascending_of}
-use Rattle.ub_upgrade.proofs.LevelFacts.{ascend_of}
+use Rattle.ub_laying.proofs.LevelFacts.{ascend_of}
 use Rattle.ub_upgrade.specs.Chain.{IsChain}
 use Rattle.ub_upgrade.specs.Reading.{HeadingView, IsDirectory, Spells, AreBelow, AreFull, AreBegun, HasPart, IsMisfit, IsPartFault, IsReadUpTo}
 use Rattle.ub_upgrade.specs.Building.{HasBuilt, IsBuildFault, IsBuilt, IsPassing}
-use Rattle.ub_upgrade.specs.declared.building.Root.{Root}
+use Rattle.ub_laying.specs.declared.levels.Root.{Root}
 use Rattle.ub_index.specs.Spans.{ArePlaces, first_keys}
 use Rattle.ub_upgrade.specs.declared.fault.UpgradeFault.{UpgradeFault}
 use Rattle.ub_upgrade.specs.declared.fault.UpgradeFault.TheVariants.{Page, Old, New}

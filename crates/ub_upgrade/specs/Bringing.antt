@@ -12,9 +12,9 @@ use Rattle.ub_store.specs.declared.store.TheConstants.{MAX_PAGES}
 use Rattle.ub_zaddr.specs.Address.{last_address}
 use Rattle.ub_upgrade.specs.Building.{AreCopied, IsPassing}
 use Rattle.ub_upgrade.specs.Effects.{BringsOver}
-use Rattle.ub_upgrade.specs.Levels.{IsIndexOf, index_pages}
+use Rattle.ub_laying.specs.Levels.{IsIndexOf, index_pages}
 use Rattle.ub_upgrade.specs.Reading.{HeadingView, AreBelow, IsAskedFor, IsDirectory, IsNamed, IsRefused, heading_of}
-use Rattle.ub_upgrade.specs.declared.building.Root.{Root}
+use Rattle.ub_laying.specs.declared.levels.Root.{Root}
 use Rattle.ub_upgrade.specs.declared.fault.UpgradeFault.{UpgradeFault}
 use Rattle.ub_upgrade.specs.declared.fault.UpgradeFault.TheVariants.{Page, Old, New}
 

@@ -1,6 +1,5 @@
 -- What the two calls do: pages are copied, and an index is built of an old directory.
-use Rattle.std.specs.Prelude.{◌≡◌, ◌≤◌, ◌<◌, ◌+◌, ◌⊎◌, ℕ, IsTrue, List, Result, IfErr, IfOk, OnOk, slice_get}
-use Rattle.ub_page.specs.declared.header.TheConstants.{MAX_LEVEL}
+use Rattle.std.specs.Prelude.{◌≡◌, ◌≤◌, ◌<◌, ◌+◌, ◌⊎◌, ℕ, IsTrue, List, Result, IfErr, slice_get}
 use Rattle.ub_region.specs.declared.entry.Entry.{Entry}
 use Rattle.ub_store.specs.Facts.{StoreFacts, IsPage, page_count}
 use Rattle.ub_store.specs.View.{PagerView}
@@ -8,10 +7,10 @@ use Rattle.ub_store.specs.declared.fault.StoreFault.TheVariants as store
 use Rattle.ub_store.specs.declared.store.TheConstants.{MAX_PAGES}
 use Rattle.ub_zaddr.specs.Address.{last_address}
 use Rattle.ub_upgrade.specs.Effects.{BringsOver}
-use Rattle.ub_upgrade.specs.Levels.{Cut, IsIndexOf, index_pages}
+use Rattle.ub_laying.specs.Levels.{Cut, IsIndexOf, index_pages}
 use Rattle.ub_upgrade.specs.Reading.{HeadingView, AreBelow, IsAskedFor, IsDirectory, IsNamed, IsRefused}
-use Rattle.ub_upgrade.specs.declared.building.Root.{Root}
-use Rattle.ub_upgrade.specs.declared.levels.Level.{Level}
+use Rattle.ub_laying.specs.declared.levels.Root.{Root}
+use Rattle.ub_laying.specs.declared.levels.Level.{Level}
 use Rattle.ub_upgrade.specs.declared.fault.UpgradeFault.{UpgradeFault}
 use Rattle.ub_upgrade.specs.declared.fault.UpgradeFault.TheVariants.{Page, Old, New}
 
@@ -53,18 +52,6 @@ IsBuildFault heading old new (Page n fault) = (page : List ℕ) × IsPage old n 
 abbrev pub IsThere : ℕ → UpgradeFault → Type 0
 IsThere count (Page n fault) = n < count
 IsThere count _ = Unit {0}
-
--- the root of an index stands on one of the pages that there are, which isn't the first, and its level is one that there can be
-pub record IsRoot (count : ℕ) (root : Root) : Type 0 where
-  pub some : 1 ≤ root.page
-  pub there : root.page < count
-  pub low : 1 ≤ root.level
-  pub high : root.level ≤ MAX_LEVEL
-
--- the root of an index is put behind so many pages more, with this result
-pub record PutsRoot {E : Type 0} (by : ℕ) (old new : StoreFacts) (result : Result Root E) : Type 0 where
-  pub root : IfOk result (IsRoot (page_count new))
-  pub count : OnOk result (page_count new ≡ page_count old + by)
 
 -- the new store has the index of these entries behind the pages that it had
 abbrev pub HasBuilt : HeadingView → StoreFacts → StoreFacts → Root → List Entry → Type 0

@@ -1,6 +1,5 @@
 pub mod Chain
 pub mod Reading
-pub mod Levels
 pub mod Effects
 pub mod Building
 pub mod Bringing

@@ -11,10 +11,11 @@ use Rattle.ub_store.specs.Facts.{StoreFacts, IsHonest, page_count}
 use Rattle.ub_store.specs.View.{PagerView}
 use Rattle.ub_store.specs.declared.fault.StoreFault.TheVariants as store
 use Rattle.ub_upgrade.specs.Bringing.{HasIndexOf, HasOldHeader, IsBringFault, IsBrought, IsHeadFault, directory_of}
-use Rattle.ub_upgrade.specs.Effects.{CountsNew, counted_old, written}
-use Rattle.ub_upgrade.specs.Levels.{index_pages}
+use Rattle.ub_laying.specs.Effects.{written}
+use Rattle.ub_upgrade.specs.Effects.{CountsNew, counted_old}
+use Rattle.ub_laying.specs.Levels.{index_pages}
 use Rattle.ub_upgrade.specs.Reading.{AreBelow, IsDirectory}
-use Rattle.ub_upgrade.specs.declared.building.Root.{Root}
+use Rattle.ub_laying.specs.declared.levels.Root.{Root}
 use Rattle.ub_upgrade.specs.declared.fault.UpgradeFault.{UpgradeFault}
 use Rattle.ub_upgrade.specs.declared.fault.UpgradeFault.TheVariants.{Page, New}
 use Rattle.ub_writing.specs.Marks.{HasMark}

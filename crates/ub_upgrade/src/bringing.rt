@@ -7,9 +7,10 @@ ghost use Rattle.ub_upgrade.specs.Bringing.{BringsPages, HasOldHeader, IsHeadFau
 ghost use Rattle.ub_upgrade.specs.Building.{IsPassing};
 ghost use Rattle.ub_upgrade.specs.Effects.{counted_old};
 
-use crate::building::{Root, build_index};
+use crate::building::build_index;
 use crate::copying::copy_pages;
 use crate::fault::UpgradeFault;
+use ub_laying::Root;
 use ub_page::{OldHeader, read_old_header};
 use ub_store::{Page, PageStore, Pager};
 

@@ -2,25 +2,15 @@
 ghost use Rattle.std.specs.Prelude.{◌≤◌, ◌<◌, ℕ, List, MatchResult, IfOk};
 ghost use Rattle.ub_region.specs.declared.entry.Entry as spec;
 ghost use Rattle.ub_store.specs.Facts.{IsHonest, page_count};
-ghost use Rattle.ub_upgrade.specs.Building.{AreLeaves, BuildsOver, HasBuilt, IsBuilt, IsPassing, PutsRoot};
-ghost use Rattle.ub_upgrade.specs.Levels.{PutsLevel, index_pages, pages_for};
+ghost use Rattle.ub_upgrade.specs.Building.{AreLeaves, BuildsOver, HasBuilt, IsBuilt, IsPassing};
+ghost use Rattle.ub_laying.specs.Levels.{PutsLevel, PutsRoot, index_pages, pages_for};
 ghost use Rattle.ub_upgrade.specs.Reading.{AreBelow, IsDirectory, heading_of};
 
-use crate::adding::add_index_page;
 use crate::chain::{Heading, Place, place_behind, read_part};
 use crate::fault::UpgradeFault;
-use crate::levels::{Level, write_levels};
+use ub_laying::{Level, Root, add_index_page, write_levels};
 use ub_store::{Page, PageStore, Pager};
 use ub_table::Schema;
-
-/// The root of an index: its page, and its level.
-#[derive(Clone, Copy, PartialEq, Eq, Debug)]
-pub struct Root {
-    /// The page, which isn't the first one.
-    pub page: u32,
-    /// The level: 1 to 16.
-    pub level: u32,
-}
 
 /// Reads the directory of a table of format 1, whose header tells of this schema, of this page on which the directory begins, and
 /// of so many regions, and puts the index of the same entries behind the pages of the new store, of which there is one at least: on

@@ -4,8 +4,8 @@ ghost use Rattle.ub_store.specs.Facts.{IsHonest, page_count};
 ghost use Rattle.ub_upgrade.specs.Building.{AreCopied, IsCopyFault};
 ghost use Rattle.ub_upgrade.specs.Effects.{BringsOver};
 
-use crate::adding::add_page;
 use crate::fault::UpgradeFault;
+use ub_laying::add_page;
 use ub_store::{Page, PageStore, Pager};
 
 /// Copies all pages of the old store but the first to the new one, which has its first page already, each under its own number.

@@ -19,23 +19,21 @@
 //! What is checked: each page of the chain by its reader, and against the pages before it (`chain`); that the old store has each
 //! region's page. The regions' pages themselves aren't looked at here.
 //!
-//! What belongs here is what needs no tree. The definitions stand in specs/: `Chain` and `Reading` (the old directory, and why it is
-//! refused), `Levels` (the pages of a level), `Effects` and `Building` (what the two calls do), `Bringing` (what they do for a header),
-//! `Table` (what is made of a whole table).
+//! What belongs here is what needs no tree. How the levels above the lowest one are put, and what an index is that is built so,
+//! stands in `ub_laying`. The definitions stand in specs/: `Chain` and `Reading` (the old directory, and why it is refused), `Effects`
+//! and `Building` (what the two calls do), `Bringing` (what they do for a header), `Table` (what is made of a whole table).
 
 #![tactic(auto)]
 
-mod adding;
 pub mod bringing;
 pub mod building;
 mod chain;
 pub mod copying;
 pub mod fault;
-mod levels;
 pub mod table;
 
 pub use bringing::{bring_pages, read_head};
-pub use building::{Root, build_index};
+pub use building::build_index;
 pub use copying::copy_pages;
 pub use fault::UpgradeFault;
 pub use table::bring_table;

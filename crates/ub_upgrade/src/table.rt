@@ -14,10 +14,10 @@ ghost use Rattle.ub_writing.specs.Marks.{HasMark};
 ghost use Rattle.ub_zaddr.specs.Address.{last_address};
 
 use crate::bringing::{bring_pages, read_head};
-use crate::building::Root;
 use crate::fault::UpgradeFault;
 use std::alloc::Global;
 use ub_index::{Index, IndexFault};
+use ub_laying::Root;
 use ub_page::OldHeader;
 use ub_store::{PageStore, Pager, StoreFault, new_page};
 use ub_table::Schema;

@@ -8,8 +8,9 @@ use Rattle.ub_store.specs.Facts.{StoreFacts, IsHonest, IsPage, page_count}
 use Rattle.ub_store.specs.View.{PagerView}
 use Rattle.ub_store.specs.declared.fault.StoreFault.TheVariants as store
 use Rattle.ub_upgrade.specs.Building.{IsPassing}
-use Rattle.ub_upgrade.specs.Effects.{CountsNew, written}
-use Rattle.ub_upgrade.specs.declared.building.Root.{Root}
+use Rattle.ub_laying.specs.Effects.{written}
+use Rattle.ub_upgrade.specs.Effects.{CountsNew}
+use Rattle.ub_laying.specs.declared.levels.Root.{Root}
 use Rattle.ub_upgrade.specs.declared.fault.UpgradeFault.{UpgradeFault}
 use Rattle.ub_upgrade.specs.declared.fault.UpgradeFault.TheVariants.{Page, New}
 

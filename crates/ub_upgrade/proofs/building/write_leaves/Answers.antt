@@ -5,8 +5,8 @@ use Rattle.ub_page.specs.Index.{index_page}
 use Rattle.ub_store.specs.Facts.{StoreFacts, IsPage, page_count}
 use Rattle.ub_upgrade.specs.Reading.{HeadingView, IsReadUpTo, AreBelow}
 use Rattle.ub_page.specs.Directory.{directory_page}
-use Rattle.ub_upgrade.specs.declared.levels.Level.{Level}
-use Rattle.ub_upgrade.proofs.AddFacts.{adds_self, adds_trans, not_after, honest_after}
+use Rattle.ub_laying.specs.declared.levels.Level.{Level}
+use Rattle.ub_laying.proofs.AddFacts.{adds_self, adds_trans, not_after, honest_after}
 use Rattle.ub_upgrade.proofs.LeafFacts.{begun_way, more_way, read_ended, refused_by, same_store}
 use Rattle.ub_upgrade.proofs.building.write_leaves.Goals as goal
 

@@ -1,0 +1,4 @@
+pub mod AddFacts
+pub mod LevelFacts
+pub mod SizeFacts
+pub mod LayFacts

@@ -1,0 +1,3 @@
+pub mod Effects
+pub mod Levels
+pub mod Laying

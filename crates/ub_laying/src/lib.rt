@@ -1,0 +1,27 @@
+//! Regions laid on pages, in the order of their keys, and an index of them, built from below. Each page is put once, and none is
+//! changed afterwards.
+//!
+//!     pages 1, 2, ..        R R R R R ..                       the regions, one after the other (`regions`)
+//!     behind them           I1(1..170) I1(171..340) ..         level 1: what names 170 regions each (`leaves`)
+//!     behind those          I2(.., ..) ..                      level 2, and so on up to the root (`levels`)
+//!
+//! So the file of a table that was loaded lies in key order, and a query with a range reads pages that follow each other. The pages
+//! of a level have numbers that follow each other too, and the first key of each stands on it: nothing is kept in memory but where a
+//! level begins and how many pages it has. The level that has one page alone is the root's; that is level 5 at most. `adding` adds a
+//! page to the store.
+//!
+//! What belongs here is what needs no tree: which page a region comes on, and an index whose entries are all there. How an index
+//! changes is `ub_index_change`'s. The definitions stand in specs/: `Laying` (regions on pages that follow each other, and their
+//! entries), `Levels` (the pages of a level, and the index that is built of them), `Effects` (what is left of the store).
+
+#![tactic(auto)]
+
+mod adding;
+mod laying;
+mod leaves;
+mod levels;
+mod regions;
+
+pub use adding::{add_index_page, add_page};
+pub use laying::lay_regions;
+pub use levels::{Level, Root, write_levels};
