@@ -7,3 +7,4 @@ pub mod NumberFacts
 pub mod OrderFacts
 pub mod PartFacts
 pub mod SortFacts
+pub mod SpreadFacts

@@ -3,9 +3,9 @@
 //! separator of just these. So the rows are parted at it, in the order in which they come, and both halves are the same
 //! problem; no page is touched before it is final.
 //!
-//! Of many rows the first half is put in first (`grow`): what that makes are parts, to which the other half comes, parted by halving
-//! over their first keys. So rows that ascend cost no more than n log² n steps, and the calls go as deep as a logarithm.
-//! Keys are compared by their coordinates.
+//! Of many rows the first half is put in first (`grow`): what that makes are parts, to which the other half comes. Where these are many
+//! the rows are parted by halving over their first keys, and else each is put behind the rows of its part (`spreading`). So rows that ascend
+//! cost no more than n log² n steps, and the calls go as deep as a logarithm. Keys are compared by their coordinates.
 //!
 //! What belongs here is rows, and the regions that they make, as lists. Pages and the index stand above. The definitions are
 //! in specs/: `Growing` (rows in order, rows before a key), `Parts` (parts of the rows, and what becomes of them); the functions
@@ -18,6 +18,7 @@ pub mod law;
 mod order;
 mod part;
 mod parting;
+mod spreading;
 #[cfg(test)]
 mod tests;
 

@@ -153,3 +153,68 @@ fn no_rows_are_one_region(rt: HostRuntime) -> Result<(), Fail> {
     assert!(rt; are(&grow_points(rt.alloc(), line, &[])?, &[(0, 0, 0, &[])]));
     Ok(())
 }
+
+// Where the row of a number stands on the line: the first 200 rows at the even places 2 to 400, and then 200 at the odd ones.
+fn place_of(number: u32) -> u32 {
+    if number <= 200 {
+        2 * number
+    } else {
+        2 * number.min(400) - 401
+    }
+}
+
+// The regions of these 400 rows.
+fn grow_many(alloc: Global, shape: Shape) -> Result<Grown, AllocError> {
+    let mut rows = Vec::new(alloc);
+    for number in 1..401 {
+        rows.push(Row {
+            number,
+            dims: [place_of(number), 0, 0, 0],
+            measures: [0; 4],
+        })?;
+    }
+    grow(alloc, shape, 2, rows)
+}
+
+// The first place of the region at an index, and how many it has. The first 200 rows make regions of two places each, as 6 and 8. The
+// odd place between them leaves the greater one alone, and the next odd place comes to that one. At the front 1 leaves 4 alone,
+// and then 3 itself.
+fn places_at(index: u32) -> (u32, usize) {
+    match index {
+        0 => (1, 2),
+        1 => (3, 1),
+        2..200 => (2 * index, 2),
+        _ => (400, 1),
+    }
+}
+
+// Whether the region at an index has just the rows of its places, in their order, and begins with the first of these; the first
+// region with 0.
+fn is_many_at(grown: &Grown, index: usize) -> bool {
+    if index > 200 || index >= grown.len() {
+        return false;
+    }
+    let (from, count) = places_at(index as u32);
+    let rows = grown.rows(index);
+    if rows.len() != count {
+        return false;
+    }
+    for i in 0..rows.len() {
+        let place = rows[i].dims[0];
+        if place as usize != from as usize + i || place_of(rows[i].number) != place {
+            return false;
+        }
+    }
+    grown.first(index).z == if index == 0 { 0 } else { u128::from(from) }
+}
+
+#[test]
+fn rows_come_to_many_regions(rt: HostRuntime) -> Result<(), Fail> {
+    let line = Shape::new(1).expect(&rt, "a line");
+    let grown = grow_many(rt.alloc(), line)?;
+    assert!(rt; grown.len() == 201);
+    for index in 0..grown.len() {
+        assert!(rt; is_many_at(&grown, index));
+    }
+    Ok(())
+}
