@@ -3,7 +3,6 @@ ghost use Rattle.std.specs.Prelude.{◌≡◌, IfOk, length};
 ghost use Rattle.std.specs.List.{AllByRecursion};
 
 use std::alloc::{AllocError, Global};
-use std::test::Fail;
 use ub_answer::Cells;
 use ub_query::Cell;
 
@@ -41,47 +40,40 @@ fn extend(cells: &mut Cells, more: &Cells, limit: Option<u64>) -> Result<(), All
     cells.extend(more, limit)
 }
 
-// The rows 1 and 2, and 3 and 4 after them.
-fn four(alloc: Global, limit: Option<u64>) -> Result<Cells, AllocError> {
-    let mut cells = pair(alloc, 1, 2)?;
-    extend(&mut cells, &pair(alloc, 3, 4)?, limit)?;
-    Ok(cells)
+// Those two rows, the second of which has the next number, or none where the first number is 0.
+fn rows(alloc: Global, first: u8) -> Result<Cells, AllocError>
+    ensures { IfOk result (AllByRecursion (λ cells. length cells ≡ 2)) }
+{
+    match first {
+        0 => Ok(Cells::none(alloc)),
+        _ => pair(alloc, first, first.saturating_add(1)),
+    }
 }
 
-// Limits, and the rows that stand then: as many of them as the limit says, also where it is in the rows that there were.
-static LIMITS: [(Option<u64>, &[u8]); 5] = [
-    (None, &[1, 2, 3, 4]),
-    (Some(5), &[1, 2, 3, 4]),
-    (Some(3), &[1, 2, 3]),
-    (Some(1), &[1]),
-    (Some(0), &[]),
+// The number of the first row of two, or 0, that of the first row of those that are put after them, or 0, a limit, and the rows that stand
+// then: as many of them as the limit says, also where it is in the rows that there were.
+static CASES: [(u8, u8, Option<u64>, &[u8]); 7] = [
+    (1, 3, None, &[1, 2, 3, 4]),
+    (1, 3, Some(5), &[1, 2, 3, 4]),
+    (1, 3, Some(3), &[1, 2, 3]),
+    (1, 3, Some(1), &[1]),
+    (1, 3, Some(0), &[]),
+    (1, 0, None, &[1, 2]),
+    (0, 3, Some(3), &[3, 4]),
 ];
 
 // Whether these rows stand then.
-fn are_first(alloc: Global, limit: Option<u64>, numbers: &[u8]) -> Result<bool, AllocError> {
-    Ok(has(&four(alloc, limit)?, numbers))
+fn are_first(alloc: Global, first: u8, second: u8, limit: Option<u64>, numbers: &[u8]) -> bool {
+    let (Ok(mut cells), Ok(more)) = (rows(alloc, first), rows(alloc, second)) else {
+        return false;
+    };
+    extend(&mut cells, &more, limit).is_ok() & has(&cells, numbers)
 }
 
 #[test]
-fn puts_rows_as_far_as_the_limit_goes(rt: HostRuntime) -> Result<(), Fail> {
-    for (limit, numbers) in &LIMITS {
-        assert!(rt; are_first(rt.alloc(), *limit, numbers)?);
+fn puts_rows_as_far_as_the_limit_goes(rt: HostRuntime) {
+    for (i, (first, second, limit, numbers)) in CASES.iter().enumerate() {
+        let is_so = are_first(rt.alloc(), *first, *second, *limit, numbers);
+        assert!(rt; is_so, "case {i}");
     }
-    Ok(())
-}
-
-#[test]
-fn puts_no_rows_after_some(rt: HostRuntime) -> Result<(), Fail> {
-    let mut cells = pair(rt.alloc(), 1, 2)?;
-    extend(&mut cells, &Cells::none(rt.alloc()), None)?;
-    assert!(rt; has(&cells, &[1, 2]));
-    Ok(())
-}
-
-#[test]
-fn puts_rows_after_none(rt: HostRuntime) -> Result<(), Fail> {
-    let mut cells = Cells::none(rt.alloc());
-    extend(&mut cells, &pair(rt.alloc(), 3, 4)?, Some(3))?;
-    assert!(rt; has(&cells, &[3, 4]));
-    Ok(())
 }

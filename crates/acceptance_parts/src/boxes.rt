@@ -1,17 +1,11 @@
-// The boxes of conditions, where they are many, and how many points some of them have.
+// The boxes of conditions, where they are many, and of a signed dimension; and how many points they have.
 use std::alloc::{AllocError, Global};
-use ub_bigmin::ZBox;
 use ub_boxes::{boxes, points, total};
 use ub_query::{Cond, Operator};
 use ub_table::{Name, PageFault, Schema};
 
-// A table of the dimensions a, b, c and d, or of the first ones of them.
-fn table(dims: usize) -> Result<Schema, PageFault> {
-    signed_table(dims, 0)
-}
-
-// The same where the dimensions whose bits this mask has are signed.
-fn signed_table(dims: usize, signed: u32) -> Result<Schema, PageFault> {
+// A table of the dimensions a, b, c and d, or of the first ones of them. Those whose bits this mask has are signed.
+fn table(dims: usize, signed: u32) -> Result<Schema, PageFault> {
     let columns = [
         Name::new(b"a")?,
         Name::new(b"b")?,
@@ -48,42 +42,6 @@ fn many(alloc: Global) -> Result<Cond, AllocError> {
     Ok(some)
 }
 
-// Whether there are such boxes, and they have so many points.
-fn is_total(some: Option<&[ZBox]>, wanted: u128) -> bool {
-    match some {
-        Some(boxes) => total(boxes) == Some(wanted),
-        None => false,
-    }
-}
-
-// Whether the boxes of a condition are so many, with so many points, and say all of it.
-fn is_covered(alloc: Global, filter: &Cond, schema: &Schema, count: usize, size: u128) -> bool {
-    match boxes(alloc, Some(filter), schema) {
-        Ok(cover) => {
-            cover.boxes().len() == count
-                && points(&cover) == Some(size)
-                && cover.is_exact()
-                && !cover.is_wide()
-        }
-        Err(_) => false,
-    }
-}
-
-// Whether those of the condition with many cells are.
-fn are_many(alloc: Global, schema: &Schema) -> bool {
-    match many(alloc) {
-        Ok(filter) => is_covered(alloc, &filter, schema, 1055, 270_582_938_656),
-        Err(_) => false,
-    }
-}
-
-// 65 times 63 cells. Beside each of the 32 values of a, b is free; beside the 33 gaps between them it has 31 values.
-#[test]
-fn makes_boxes_of_many_cells(rt: HostRuntime) {
-    let schema = table(2).expect(&rt, "a table");
-    assert!(rt; are_many(rt.alloc(), &schema));
-}
-
 // a <= 2 OR b >= 2.
 fn corner(alloc: Global) -> Result<Cond, AllocError> {
     either(
@@ -93,88 +51,204 @@ fn corner(alloc: Global) -> Result<Cond, AllocError> {
     )
 }
 
-// Whether the boxes of a condition but the first one have so many points.
-fn has_rest(alloc: Global, filter: &Cond, schema: &Schema, size: u128) -> bool {
-    match boxes(alloc, Some(filter), schema) {
-        Ok(cover) => is_total(cover.boxes().get(1..), size),
-        Err(_) => false,
+// A condition.
+#[derive(Clone, Copy)]
+enum Filter {
+    // None.
+    All,
+    // The one of many cells.
+    Many,
+    // The one of two comparisons.
+    Corner,
+    // A comparison of the first dimension.
+    Compare(Operator, i128),
+}
+
+fn filter_of(alloc: Global, filter: Filter) -> Result<Option<Cond>, AllocError> {
+    match filter {
+        Filter::All => Ok(None),
+        Filter::Many => Ok(Some(many(alloc)?)),
+        Filter::Corner => Ok(Some(corner(alloc)?)),
+        Filter::Compare(operator, value) => Ok(Some(Cond::Compare {
+            column: 0,
+            operator,
+            value,
+        })),
     }
 }
 
-// Whether beside the first box of that condition there are (2^32 - 3) * (2^32 - 2) points.
-fn is_added_up(alloc: Global, schema: &Schema) -> bool {
-    match corner(alloc) {
-        Ok(filter) => has_rest(alloc, &filter, schema, 18_446_744_052_234_715_142),
-        Err(_) => false,
-    }
-}
+// How many dimensions a table has, the mask of those that are signed, a condition, how many boxes it has, how many points the boxes but
+// the first have, and how many all of them have, if that can be told.
+type Case = (usize, u32, Filter, usize, u128, Option<u128>);
 
-#[test]
-fn adds_points_up(rt: HostRuntime) {
-    let schema = table(2).expect(&rt, "a table");
-    assert!(rt; is_added_up(rt.alloc(), &schema));
-}
-
-// Whether a whole space has more points than can be told.
-fn is_uncounted(alloc: Global, schema: &Schema) -> bool {
-    match boxes(alloc, None, schema) {
-        Ok(space) => total(space.boxes()).is_none() && points(&space).is_none(),
-        Err(_) => false,
-    }
-}
-
-// The space of four dimensions has 2^128.
-#[test]
-fn counts_no_points_of_a_whole_space(rt: HostRuntime) {
-    let schema = table(4).expect(&rt, "a table");
-    assert!(rt; is_uncounted(rt.alloc(), &schema));
-}
-
-// Comparisons of the one dimension of a table, which is signed, how many boxes they have, and how many points these.
-static ENDS: [(Operator, i128, usize, u128); 15] = [
-    // The literal, or the number after it, is no value: there is no cut, and the comparison holds everywhere, or nowhere.
-    (Operator::AtMost, 2_147_483_647, 1, 4_294_967_296),
-    (Operator::Greater, 2_147_483_647, 0, 0),
-    (Operator::AtLeast, -2_147_483_648, 1, 4_294_967_296),
-    (Operator::Less, -2_147_483_648, 0, 0),
-    (Operator::Equal, 2_147_483_648, 0, 0),
-    (Operator::NotEqual, -2_147_483_649, 1, 4_294_967_296),
-    (Operator::AtMost, i128::MAX, 1, 4_294_967_296),
-    (Operator::Greater, i128::MAX, 0, 0),
-    (Operator::AtLeast, i128::MIN, 1, 4_294_967_296),
-    (Operator::Less, i128::MIN, 0, 0),
+static CASES: [Case; 18] = [
+    // The space of four dimensions has 2^128 points.
+    (4, 0, Filter::All, 1, 0, None),
+    // Beside the first box there are (2^32 - 3) * (2^32 - 2) points, and 3 * 2^32 in it.
+    (
+        2,
+        0,
+        Filter::Corner,
+        2,
+        18_446_744_052_234_715_142,
+        Some(18_446_744_065_119_617_030),
+    ),
+    // 65 times 63 cells. Beside each of the 32 values of a, b is free; beside the 33 gaps between them it has 31 values. The first gap is of
+    // 0 and 1.
+    (
+        2,
+        0,
+        Filter::Many,
+        1055,
+        270_582_938_654,
+        Some(270_582_938_656),
+    ),
+    // Of a signed dimension. The literal, or the number after it, is no value: there is no cut, and the comparison holds everywhere, or
+    // nowhere.
+    (
+        1,
+        1,
+        Filter::Compare(Operator::AtMost, 2_147_483_647),
+        1,
+        0,
+        Some(4_294_967_296),
+    ),
+    (
+        1,
+        1,
+        Filter::Compare(Operator::Greater, 2_147_483_647),
+        0,
+        0,
+        Some(0),
+    ),
+    (
+        1,
+        1,
+        Filter::Compare(Operator::AtLeast, -2_147_483_648),
+        1,
+        0,
+        Some(4_294_967_296),
+    ),
+    (
+        1,
+        1,
+        Filter::Compare(Operator::Less, -2_147_483_648),
+        0,
+        0,
+        Some(0),
+    ),
+    (
+        1,
+        1,
+        Filter::Compare(Operator::Equal, 2_147_483_648),
+        0,
+        0,
+        Some(0),
+    ),
+    (
+        1,
+        1,
+        Filter::Compare(Operator::NotEqual, -2_147_483_649),
+        1,
+        0,
+        Some(4_294_967_296),
+    ),
+    (
+        1,
+        1,
+        Filter::Compare(Operator::AtMost, i128::MAX),
+        1,
+        0,
+        Some(4_294_967_296),
+    ),
+    (
+        1,
+        1,
+        Filter::Compare(Operator::Greater, i128::MAX),
+        0,
+        0,
+        Some(0),
+    ),
+    (
+        1,
+        1,
+        Filter::Compare(Operator::AtLeast, i128::MIN),
+        1,
+        0,
+        Some(4_294_967_296),
+    ),
+    (
+        1,
+        1,
+        Filter::Compare(Operator::Less, i128::MIN),
+        0,
+        0,
+        Some(0),
+    ),
     // The first cut that there is, the last one, and those round zero.
-    (Operator::Greater, -2_147_483_648, 1, 4_294_967_295),
-    (Operator::AtMost, 2_147_483_646, 1, 4_294_967_295),
-    (Operator::Less, 0, 1, 2_147_483_648),
-    (Operator::Equal, -1, 1, 1),
-    (Operator::NotEqual, 0, 2, 4_294_967_295),
+    (
+        1,
+        1,
+        Filter::Compare(Operator::Greater, -2_147_483_648),
+        1,
+        0,
+        Some(4_294_967_295),
+    ),
+    (
+        1,
+        1,
+        Filter::Compare(Operator::AtMost, 2_147_483_646),
+        1,
+        0,
+        Some(4_294_967_295),
+    ),
+    (
+        1,
+        1,
+        Filter::Compare(Operator::Less, 0),
+        1,
+        0,
+        Some(2_147_483_648),
+    ),
+    (1, 1, Filter::Compare(Operator::Equal, -1), 1, 0, Some(1)),
+    (
+        1,
+        1,
+        Filter::Compare(Operator::NotEqual, 0),
+        2,
+        2_147_483_647,
+        Some(4_294_967_295),
+    ),
 ];
 
-// Whether the boxes of a comparison are so many, with so many points, and say all of it.
-fn are_ends(
-    alloc: Global,
-    schema: &Schema,
-    operator: Operator,
-    value: i128,
-    count: usize,
-    size: u128,
-) -> bool {
-    let filter = Cond::Compare {
-        column: 0,
-        operator,
-        value,
+// Whether the boxes of a condition are so many, have so many points, and say all of it.
+fn is_covered(alloc: Global, filter: Option<&Cond>, schema: &Schema, case: &Case) -> bool {
+    let (_, _, _, count, rest, size) = *case;
+    match boxes(alloc, filter, schema) {
+        Ok(cover) => {
+            (cover.boxes().len() == count)
+                & (total(cover.boxes().get(1..).unwrap_or(&[])) == Some(rest))
+                & (total(cover.boxes()) == size)
+                & (points(&cover) == size)
+                & cover.is_exact()
+                & !cover.is_wide()
+        }
+        Err(_) => false,
+    }
+}
+
+// Whether those of a case are.
+fn is_right(alloc: Global, case: &Case) -> bool {
+    let (dims, signed, filter, _, _, _) = *case;
+    let (Ok(schema), Ok(filter)) = (table(dims, signed), filter_of(alloc, filter)) else {
+        return false;
     };
-    is_covered(alloc, &filter, schema, count, size)
+    is_covered(alloc, filter.as_ref(), &schema, case)
 }
 
 #[test]
-fn cuts_a_signed_dimension_at_its_values(rt: HostRuntime) {
-    let schema = signed_table(1, 1).expect(&rt, "a table");
-    for (operator, value, count, size) in &ENDS {
-        assert!(rt;
-            are_ends(rt.alloc(), &schema, *operator, *value, *count, *size),
-            "{value}"
-        );
+fn conditions_have_these_boxes(rt: HostRuntime) {
+    for (i, case) in CASES.iter().enumerate() {
+        assert!(rt; is_right(rt.alloc(), case), "case {i}");
     }
 }

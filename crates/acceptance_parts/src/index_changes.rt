@@ -1,7 +1,7 @@
 // Changes of hand-made indexes: a region more and a region less, full pages that are parted up to a new root, roots that give way,
 // and sixteen full levels.
 use crate::index_pages::Sheet;
-use crate::index_trial::{Answer, Step, goes};
+use crate::index_trial::{Answer, Play, Step, goes};
 
 // Full pages of one level, of three and of sixteen, from page 1 on, each of which is the first that the next one names.
 const ONE: &[Sheet] = &[Sheet::Full(1, 1000)];
@@ -184,42 +184,42 @@ static ALL_FULL: &[(Step, Answer)] = &[
 #[test]
 fn changed_indexes(rt: HostRuntime) {
     let alloc = rt.alloc();
-    goes(&rt, alloc, "a region more, on page 3", MORE);
+    goes(&rt, alloc, "a region more, on page 3", Play::Steps(MORE));
     goes(
         &rt,
         alloc,
         "the first of a page goes: the page above gets another key",
-        FIRST_GOES,
+        Play::Steps(FIRST_GOES),
     );
     goes(
         &rt,
         alloc,
         "the only one of a page and of the page above goes: two roots give way",
-        TWO_GIVE_WAY,
+        Play::Steps(TWO_GIVE_WAY),
     );
     goes(
         &rt,
         alloc,
         "the only one of pages of three levels goes: three roots give way at once",
-        THREE_GIVE_WAY,
+        Play::Steps(THREE_GIVE_WAY),
     );
     goes(
         &rt,
         alloc,
         "the same, and the root stays, since it names two pages yet",
-        ROOT_STAYS,
+        Play::Steps(ROOT_STAYS),
     );
     goes(
         &rt,
         alloc,
         "one full page is parted up to a new root",
-        ONE_PARTED,
+        Play::Steps(ONE_PARTED),
     );
     goes(
         &rt,
         alloc,
         "three full pages are parted up to a new root",
-        THREE_PARTED,
+        Play::Steps(THREE_PARTED),
     );
-    goes(&rt, alloc, "sixteen full levels", ALL_FULL);
+    goes(&rt, alloc, "sixteen full levels", Play::Steps(ALL_FULL));
 }

@@ -2,8 +2,7 @@
 // and the same call again does what it was to do.
 use crate::index_changes::THREE;
 use crate::index_pages::Sheet;
-use crate::index_trial::{Answer, DEVICE, Step, Trial};
-use std::alloc::Global;
+use crate::index_trial::{Answer, DEVICE, Play, Step, Trial, goes};
 use ub_page::Key;
 use ub_region::Region;
 
@@ -12,14 +11,14 @@ type Pages = &'static [(u128, u32)];
 
 // A step, what it answers, how many calls of the store it makes, and after how many of them, where the last of these fails, the
 // index is as it was.
-struct Made(Step, Answer, u64, u64);
+pub(crate) struct Made(Step, Answer, u64, u64);
 
 // What is made: the pages of a store, steps on them, how often they call it, and where addresses lead before and after.
-struct Case {
+pub(crate) struct Case {
     shown: &'static str,
     pages: &'static [Sheet],
     steps: &'static [Made],
-    calls: u64,
+    pub(crate) calls: u64,
     before: Pages,
     after: Pages,
 }
@@ -136,7 +135,7 @@ fn goes_over(trial: &mut Trial, case: &Case, due: u64) -> bool {
 }
 
 // Up to which call of its store that fails a case goes so.
-fn calls_right(trial: &mut Trial, case: &Case) -> u64 {
+pub(crate) fn calls_right(trial: &mut Trial, case: &Case) -> u64 {
     for due in 1..=case.calls.saturating_add(1) {
         if !goes_over(trial, case, due) {
             return due - 1;
@@ -145,20 +144,9 @@ fn calls_right(trial: &mut Trial, case: &Case) -> u64 {
     case.calls.saturating_add(1)
 }
 
-// The same over stores of its own.
-fn right(alloc: Global, case: &Case) -> u64 {
-    let mut trial = Trial::new(alloc);
-    calls_right(&mut trial, case)
-}
-
 #[test]
 fn changes_over_a_failing_store(rt: HostRuntime) {
     for case in CASES {
-        let last = right(rt.alloc(), case);
-        assert!(rt;
-            last == case.calls.saturating_add(1),
-            "{}, up to call {last}",
-            case.shown
-        );
+        goes(&rt, rt.alloc(), case.shown, Play::Calls(case));
     }
 }

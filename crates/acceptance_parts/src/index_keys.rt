@@ -1,9 +1,10 @@
 // What an index is to answer by the flat list of its regions' entries, and whether it does.
-use crate::index_pages::{Listed, Tried};
+use crate::index_pages::Listed;
 use ub_bigmin::ZBox;
 use ub_index::{Index, IndexFault};
 use ub_page::Key;
 use ub_region::Region;
+use ub_store::{PageStore, Pager};
 use ub_zaddr::{Point, Shape};
 
 // The first key of a region that is listed.
@@ -58,7 +59,7 @@ fn is_found(found: &Region, listed: &Region) -> bool {
 }
 
 // Whether each key of this address is found in the region that holds it.
-fn finds_at(index: &Index, pager: &mut Tried, flat: &[Listed], z: u128) -> bool {
+fn finds_at<S: PageStore>(index: &Index, pager: &mut Pager<S>, flat: &[Listed], z: u128) -> bool {
     for number in 0..7 {
         let Some(listed) = region_in(flat, z, number) else {
             return false;
@@ -72,7 +73,7 @@ fn finds_at(index: &Index, pager: &mut Tried, flat: &[Listed], z: u128) -> bool 
 }
 
 // Whether each key up to an address behind the last region's first is.
-fn finds_each(index: &Index, pager: &mut Tried, flat: &[Listed]) -> bool {
+fn finds_each<S: PageStore>(index: &Index, pager: &mut Pager<S>, flat: &[Listed]) -> bool {
     for z in 0..40u32 {
         if !finds_at(index, pager, flat, u128::from(z)) {
             return false;
@@ -90,7 +91,7 @@ pub(crate) fn page_given(given: Result<Option<Region>, IndexFault>) -> u32 {
 }
 
 // Whether each region has those for neighbours that are listed beside it.
-fn has_neighbours(index: &Index, pager: &mut Tried, flat: &[Listed]) -> bool {
+fn has_neighbours<S: PageStore>(index: &Index, pager: &mut Pager<S>, flat: &[Listed]) -> bool {
     for i in 0..flat.len() {
         let Some(region) = region_in(flat, flat[i].0, flat[i].1) else {
             return false;
@@ -107,12 +108,16 @@ fn has_neighbours(index: &Index, pager: &mut Tried, flat: &[Listed]) -> bool {
 }
 
 // Whether an index answers as the flat list of its regions does.
-pub(crate) fn is_list(index: &Index, pager: &mut Tried, flat: &[Listed]) -> bool {
+pub(crate) fn is_list<S: PageStore>(index: &Index, pager: &mut Pager<S>, flat: &[Listed]) -> bool {
     finds_each(index, pager, flat) & has_neighbours(index, pager, flat)
 }
 
 // Whether the least key of each address leads to its page.
-pub(crate) fn leads(index: &Index, pager: &mut Tried, pages: &[(u128, u32)]) -> bool {
+pub(crate) fn leads<S: PageStore>(
+    index: &Index,
+    pager: &mut Pager<S>,
+    pages: &[(u128, u32)],
+) -> bool {
     for (z, page) in pages {
         match index.region_holding(pager, &Key { z: *z, number: 0 }) {
             Ok(region) if region.page == *page => {}
@@ -123,7 +128,7 @@ pub(crate) fn leads(index: &Index, pager: &mut Tried, pages: &[(u128, u32)]) -> 
 }
 
 // Whether the regions of the lowest page of full ones are found, each on its page.
-pub(crate) fn leads_to_all(index: &Index, pager: &mut Tried) -> bool {
+pub(crate) fn leads_to_all<S: PageStore>(index: &Index, pager: &mut Pager<S>) -> bool {
     for z in 0..170u32 {
         if !leads(index, pager, &[(u128::from(z), 1000 + z)]) {
             return false;
@@ -133,7 +138,7 @@ pub(crate) fn leads_to_all(index: &Index, pager: &mut Tried) -> bool {
 }
 
 // Whether the regions on these pages are those that are met, in this order and no others.
-fn meets(index: &Index, pager: &mut Tried, boxes: &[ZBox], pages: &[u32]) -> bool {
+fn meets<S: PageStore>(index: &Index, pager: &mut Pager<S>, boxes: &[ZBox], pages: &[u32]) -> bool {
     let mut after: Option<Region> = None;
     for page in pages {
         match index.next_meeting(pager, boxes, after.as_ref()) {
@@ -156,7 +161,7 @@ fn between(lo: u32, hi: u32) -> Option<ZBox> {
 }
 
 // Whether boxes meet those of six regions that they meet.
-pub(crate) fn meets_each(index: &Index, pager: &mut Tried) -> bool {
+pub(crate) fn meets_each<S: PageStore>(index: &Index, pager: &mut Pager<S>) -> bool {
     let (Some(middle), Some(low), Some(high)) = (between(5, 20), between(2, 2), between(40, 63))
     else {
         return false;

@@ -1,11 +1,10 @@
 // An index of six levels with one to four entries a page, the leftmost pages of which are the roots of indexes of one to five: each
 // key, each neighbour, and all regions but the first dropped in several orders.
 use crate::index_pages::{Listed, Sheet};
-use crate::index_trial::{Answer, Step, Trial, goes};
-use std::alloc::Global;
+use crate::index_trial::{Answer, Play, Step, Trial, goes};
 
 // The regions' entries, from left to right.
-const REGIONS: &[Listed] = &[
+static REGIONS: &[Listed] = &[
     (0, 0, 100),
     (1, 0, 101),
     (1, 3, 102),
@@ -28,7 +27,7 @@ const REGIONS: &[Listed] = &[
 ];
 
 // The pages, from 1 on, in this order: what a page leads to, and then the page.
-const PAGES: &[Sheet] = &[
+static PAGES: &[Sheet] = &[
     Sheet::Index(1, &[(0, 0, 100), (1, 0, 101), (1, 3, 102), (2, 1, 103)]),
     Sheet::Index(1, &[(5, 0, 104)]),
     Sheet::Index(1, &[(6, 0, 105), (6, 1, 106)]),
@@ -67,35 +66,8 @@ const PAGES: &[Sheet] = &[
     Sheet::Index(6, &[(0, 0, 23), (25, 0, 28), (30, 0, 35)]),
 ];
 
-static STEPS: &[(Step, Answer)] = &[
-    (Step::Store(PAGES, 0, 4), Answer::Done),
-    (Step::Index(1, 1, 63), Answer::Done),
-    (Step::List(REGIONS, 4), Answer::Done),
-    (Step::Store(PAGES, 0, 4), Answer::Done),
-    (Step::Index(4, 2, 63), Answer::Done),
-    (Step::List(REGIONS, 7), Answer::Done),
-    (Step::Store(PAGES, 0, 4), Answer::Done),
-    (Step::Index(7, 3, 63), Answer::Done),
-    (Step::List(REGIONS, 10), Answer::Done),
-    (Step::Store(PAGES, 0, 4), Answer::Done),
-    (Step::Index(18, 4, 63), Answer::Done),
-    (Step::List(REGIONS, 14), Answer::Done),
-    (Step::Store(PAGES, 0, 4), Answer::Done),
-    (Step::Index(23, 5, 63), Answer::Done),
-    (Step::List(REGIONS, 16), Answer::Done),
-    (Step::Store(PAGES, 0, 4), Answer::Done),
-    (Step::Index(36, 6, 63), Answer::Done),
-    (Step::List(REGIONS, 19), Answer::Done),
-];
-
-#[test]
-fn levels_one_to_six(rt: HostRuntime) {
-    let alloc = rt.alloc();
-    goes(&rt, alloc, "levels one to six", STEPS);
-}
-
 // An index: its level, its root, and how many regions stand below it.
-type Level = (u32, u32, u32);
+pub(crate) type Level = (u32, u32, u32);
 
 static LEVELS: [Level; 6] = [
     (1, 1, 4),
@@ -114,7 +86,7 @@ enum Order {
     Middle,
 }
 
-static ORDERS: [Order; 3] = [Order::Ascending, Order::Descending, Order::Middle];
+static ORDERS: &[Order; 3] = &[Order::Ascending, Order::Descending, Order::Middle];
 
 // Whether the index is the flat list of the regions that are left, one bit for each from the lowest: gone through from the first to
 // the last, each has the one before it for a neighbour.
@@ -187,10 +159,21 @@ fn drops(trial: &mut Trial, region: Listed, left: u32) -> bool {
         & is_left(trial, left)
 }
 
-// Whether all regions of the index of this level but the first are dropped in this order.
+// Whether the index of this level is the flat list of the regions below it.
+fn is_listed(trial: &mut Trial, level: &Level) -> bool {
+    let told = [
+        trial.answer(&Step::Store(PAGES, 0, 4)),
+        trial.answer(&Step::Index(level.1, level.0, 63)),
+        trial.answer(&Step::List(REGIONS, level.2 as usize)),
+    ];
+    told == [Answer::Done; 3]
+}
+
+// Whether the index of this level is that list, and all of its regions but the first are dropped in this order.
 fn drops_each(trial: &mut Trial, level: &Level, order: Order) -> bool {
-    trial.answer(&Step::Store(PAGES, 0, 4));
-    trial.answer(&Step::Index(level.1, level.0, 63));
+    if !is_listed(trial, level) {
+        return false;
+    }
     let mut left = u32::MAX.wrapping_shr(32 - level.2.clamp(1, 32));
     for _ in 1..level.2 {
         let Some((region, bit)) = ranked(left, next_rank(left, order)) else {
@@ -204,30 +187,21 @@ fn drops_each(trial: &mut Trial, level: &Level, order: Order) -> bool {
     left == 1
 }
 
-// In how many orders they are, up to the first in which they aren't.
-fn orders_right(trial: &mut Trial, level: &Level) -> usize {
-    for (i, order) in ORDERS.iter().enumerate() {
+// In how many of the three orders they are, up to the first in which they aren't.
+pub(crate) fn orders_right(trial: &mut Trial, level: &Level) -> u64 {
+    let mut right = 0u64;
+    for order in ORDERS {
         if !drops_each(trial, level, *order) {
-            return i;
+            return right;
         }
+        right = right.saturating_add(1);
     }
-    ORDERS.len()
-}
-
-// The same of the index of this level.
-fn emptied(alloc: Global, level: &Level) -> usize {
-    let mut trial = Trial::new(alloc);
-    orders_right(&mut trial, level)
+    right
 }
 
 #[test]
 fn drops_to_one(rt: HostRuntime) {
     for level in &LEVELS {
-        let right = emptied(rt.alloc(), level);
-        assert!(rt;
-            right == ORDERS.len(),
-            "{}: {right} orders were right",
-            level.0
-        );
+        goes(&rt, rt.alloc(), "an index is emptied", Play::Drops(level));
     }
 }

@@ -1,24 +1,32 @@
 // Steps on an index and on the pager of its store, as data.
+use crate::index_faults::{Case, calls_right};
+use crate::index_held::{Damage, count_told};
 use crate::index_keys::{is_list, leads, leads_to_all, meets_each, page_given};
+use crate::index_levels::{Level, orders_right};
 use crate::index_opening::begins;
 use crate::index_pages::{Listed, Sheet, Tried, page_of, stored};
+use crate::index_searches::six_under;
 use std::alloc::Global;
 use std::process::Abort;
 use ub_index::{Index, IndexFault};
 use ub_index_change::{Change, commit, prepare_add, prepare_drop};
 use ub_page::{Key, PageFault};
 use ub_region::Region;
-use ub_store::StoreFault;
+use ub_store::{PageStore, Pager, StoreFault};
 
 // A step on a store, on an index, or on both.
 #[derive(Clone, Copy)]
 pub(crate) enum Step {
     // Takes a store of a blank page and of these from page 1 on, whose call of this number fails, behind a pager that holds so many.
     Store(&'static [Sheet], u64, usize),
+    // The same of the pages of the index of six regions with so many levels, one to three.
+    Six(u32, u64, usize),
     // Takes the index with this root, its level, and this last address. Nothing is read.
     Index(u32, u32, u128),
     // Opens that index, and takes it.
     Open(u32, u32, u128),
+    // The same over a new store of the index of six regions with three levels; the trace must note no page.
+    OpenAnew(u32, u32, u128),
     // Makes the index of the region on page 5 on this page, with this last address, and takes it.
     Create(u32, u128),
     // Puts a page in the place of this one.
@@ -105,16 +113,44 @@ pub(crate) struct Trial {
     pager: Option<Tried>,
 }
 
-// Asserts that these steps are answered so, by what they show.
-pub(crate) fn goes(rt: &impl Abort, alloc: Global, shown: &str, steps: &[(Step, Answer)]) {
-    let right = steps_right(alloc, steps);
-    assert!(rt; right == steps.len(), "{shown}: {right} steps were right");
+// What is played on a trial of its own.
+#[derive(Clone, Copy)]
+pub(crate) enum Play {
+    // Steps, and what they answer.
+    Steps(&'static [(Step, Answer)]),
+    // Pages that are damaged.
+    Damages(&'static [Damage]),
+    // An index of a level, from which regions are dropped in each order.
+    Drops(&'static Level),
+    // What is made over a store that fails at each of its calls, and at the first after them.
+    Calls(&'static Case),
 }
 
-// How many of these steps are answered so, up to the first wrong one.
-fn steps_right(alloc: Global, steps: &[(Step, Answer)]) -> usize {
+// Asserts that all of a play is right, by what it shows.
+pub(crate) fn goes(rt: &impl Abort, alloc: Global, shown: &str, play: Play) {
+    let right = right_of(alloc, play);
+    assert!(rt; right == size_of(play), "{shown}: {right} were right");
+}
+
+// How many parts of a play are right, up to the first wrong one.
+fn right_of(alloc: Global, play: Play) -> u64 {
     let mut trial = Trial::new(alloc);
-    trial.count_right(steps)
+    match play {
+        Play::Steps(steps) => trial.count_right(steps),
+        Play::Damages(damages) => count_told(&mut trial, damages),
+        Play::Drops(level) => orders_right(&mut trial, level),
+        Play::Calls(case) => calls_right(&mut trial, case),
+    }
+}
+
+// How many parts a play has.
+fn size_of(play: Play) -> u64 {
+    match play {
+        Play::Steps(steps) => steps.len() as u64,
+        Play::Damages(damages) => damages.len() as u64,
+        Play::Drops(_) => 3,
+        Play::Calls(case) => case.calls.saturating_add(1),
+    }
 }
 
 impl Trial {
@@ -132,30 +168,49 @@ impl Trial {
     }
 
     // How many of these steps are answered so, up to the first wrong one.
-    fn count_right(&mut self, steps: &[(Step, Answer)]) -> usize {
-        for (i, (step, wanted)) in steps.iter().enumerate() {
+    fn count_right(&mut self, steps: &[(Step, Answer)]) -> u64 {
+        let mut right = 0u64;
+        for (step, wanted) in steps {
             if self.answer(step) != *wanted {
-                return i;
+                return right;
             }
+            right = right.saturating_add(1);
         }
-        steps.len()
+        right
     }
 
     // What a step answers.
     pub(crate) fn answer(&mut self, step: &Step) -> Answer {
-        if let Step::Store(pages, due, room) = step {
-            self.pager = stored(self.alloc, pages, *due, *room);
-            return Answer::Done;
+        match step {
+            Step::Store(pages, due, room) => self.stock(pages, *due, *room),
+            Step::Six(levels, due, room) => self.stock(six_under(*levels), *due, *room),
+            Step::OpenAnew(root, levels, last) => {
+                self.stock(six_under(3), 0, 4);
+                let opened = self.asked(&Step::Open(*root, *levels, *last));
+                let noted = self.asked(&Step::Trace);
+                if noted == Answer::Done { opened } else { noted }
+            }
+            _ => self.asked(step),
         }
+    }
+
+    // What a step on the index or on the pager of the store answers.
+    fn asked(&mut self, step: &Step) -> Answer {
         match &mut self.pager {
             Some(pager) => ask(self.alloc, &mut self.held, pager, step),
             None => Answer::Wrong,
         }
     }
+
+    // Takes a store of these pages.
+    fn stock(&mut self, pages: &[Sheet], due: u64, room: usize) -> Answer {
+        self.pager = stored(self.alloc, pages, due, room);
+        Answer::Done
+    }
 }
 
 // What a step on an index answers.
-fn ask(alloc: Global, held: &mut Held, pager: &mut Tried, step: &Step) -> Answer {
+fn ask<S: PageStore>(alloc: Global, held: &mut Held, pager: &mut Pager<S>, step: &Step) -> Answer {
     match step {
         Step::Index(root, levels, last) => {
             held.index = Index::new((*root).max(1), (*levels).max(1).min(16), *last);
@@ -176,25 +231,16 @@ fn ask(alloc: Global, held: &mut Held, pager: &mut Tried, step: &Step) -> Answer
             Answer::Done
         }
         Step::Is(region) => whether(held.region == *region),
-        Step::Add(z, number) => held.add(
-            alloc,
-            pager,
-            &Key {
-                z: *z,
-                number: *number,
-            },
-        ),
-        Step::Drop => held.drop_region(alloc, pager),
-        Step::Added => held.added(),
-        Step::Grow => held.grow(pager),
-        Step::Commit => held.commit(pager),
+        Step::Add(z, number) => held.prepare(alloc, pager, Some(&key_of(*z, *number))),
+        Step::Drop => held.prepare(alloc, pager, None),
+        Step::Added | Step::Grow | Step::Commit => held.make(pager, step),
         Step::Put(number, sheet) => ended(pager.put(*number, &page_of(sheet))),
         _ => held.search(pager, step),
     }
 }
 
 // What a step that changes nothing answers.
-fn look(index: &Index, pager: &mut Tried, step: &Step) -> Answer {
+fn look<S: PageStore>(index: &Index, pager: &mut Pager<S>, step: &Step) -> Answer {
     match step {
         Step::Seek(z, after) => {
             match index.seek(pager, *z, after.as_ref()) {
@@ -239,16 +285,10 @@ impl Held {
     }
 
     // What a search for a region answers.
-    fn search(&mut self, pager: &mut Tried, step: &Step) -> Answer {
+    fn search<S: PageStore>(&mut self, pager: &mut Pager<S>, step: &Step) -> Answer {
         match step {
             Step::Find(z, number) => {
-                match self.index.region_holding(
-                    pager,
-                    &Key {
-                        z: *z,
-                        number: *number,
-                    },
-                ) {
+                match self.index.region_holding(pager, &key_of(*z, *number)) {
                     Ok(region) => self.found(Ok(Some(region))),
                     Err(fault) => refused(fault),
                 }
@@ -274,41 +314,36 @@ impl Held {
         }
     }
 
-    // Prepares that a region comes behind the one that was taken.
-    fn add(&mut self, alloc: Global, pager: &mut Tried, key: &Key) -> Answer {
-        let prepared = prepare_add(&self.index, alloc, pager, &self.region, key);
+    // Prepares that a region comes at a key behind the one that was taken, or where there is no key that this one goes.
+    fn prepare<S: PageStore>(
+        &mut self,
+        alloc: Global,
+        pager: &mut Pager<S>,
+        key: Option<&Key>,
+    ) -> Answer {
+        let prepared = match key {
+            Some(key) => prepare_add(&self.index, alloc, pager, &self.region, key),
+            None => prepare_drop(&self.index, alloc, pager, &self.region),
+        };
         self.hold(prepared)
     }
 
-    // Prepares that the region that was taken goes.
-    fn drop_region(&mut self, alloc: Global, pager: &mut Tried) -> Answer {
-        let prepared = prepare_drop(&self.index, alloc, pager, &self.region);
-        self.hold(prepared)
-    }
-
-    // The page of the region that is added.
-    fn added(&self) -> Answer {
+    // Tells the page of the region that the prepared change adds, grows the store as that needs, or makes the change.
+    fn make<S: PageStore>(&mut self, pager: &mut Pager<S>, step: &Step) -> Answer {
         match &self.change {
-            Some(change) => Answer::Told(change.page()),
+            Some(change) => match step {
+                Step::Added => Answer::Told(change.page()),
+                Step::Grow => ended(change.grow(pager)),
+                _ => ended(commit(&mut self.index, pager, change)),
+            },
             None => Answer::Wrong,
         }
     }
+}
 
-    // Grows the store.
-    fn grow(&mut self, pager: &mut Tried) -> Answer {
-        match &self.change {
-            Some(change) => ended(change.grow(pager)),
-            None => Answer::Wrong,
-        }
-    }
-
-    // Makes the change.
-    fn commit(&mut self, pager: &mut Tried) -> Answer {
-        match &self.change {
-            Some(change) => ended(commit(&mut self.index, pager, change)),
-            None => Answer::Wrong,
-        }
-    }
+// The key of an address and a number.
+fn key_of(z: u128, number: u32) -> Key {
+    Key { z, number }
 }
 
 // Done where that is so.
