@@ -2,14 +2,13 @@
 // after each call is looked at, and healed, with a crash after each call of that, which is healed in turn. The numbers were worked out
 // by another program, which has the calls in their order written out.
 
-ghost use Rattle.std.specs.Prelude.{◌≡◌, IfOk};
+ghost use Rattle.std.specs.Prelude.{IfOk};
 ghost use Rattle.ub_journal.specs.Place.{IsHonest};
 
 use crate::disk::{Case, Disk, NONE, TORN, WHOLE};
 use crate::pages::{BACK_NEW, FRONT_NEW, GARBAGE, MARKED, MISMARKED, NEW, OLD, ZEROS, page_of};
 use std::alloc::{AllocError, Global};
 use ub_journal::{Change, Deed, Journal, Place, TornPlace, commit, heal, is_journal};
-use ub_store::Page;
 
 // What was seen so far: how many images, and how many of them were healed.
 #[derive(Clone, Copy)]

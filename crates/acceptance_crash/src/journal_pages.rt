@@ -1,5 +1,7 @@
 // A journal's pages, each told by its first bytes and by what stands behind them.
 
+use crate::calls::byte_of;
+use crate::pages::{page_from, page_of_numbers, tells};
 use std::alloc::{AllocError, Global};
 use ub_journal::{Journal, JournalFault, TornPlace, is_journal};
 use ub_journal_page::{read_journal, write_journal};
@@ -76,15 +78,8 @@ const OLD_DAMAGES: &[(u32, usize, u8)] = &[
     (3, 4095, 1),
 ];
 
-// A page of these bytes, and of this one behind them.
-fn page_of(front: &[u8; 16], rest: u8) -> Page {
-    let mut page = [rest; 4096];
-    page[..16].copy_from_slice(front);
-    page
-}
-
 // Puts a page behind those of a store.
-fn add(store: &mut MemStore, page: &Page) -> bool {
+fn add<S: PageStore>(store: &mut S, page: &Page) -> bool {
     match store.extend() {
         Ok(n) => store.write_page(n, page).is_ok(),
         Err(_) => false,
@@ -94,30 +89,26 @@ fn add(store: &mut MemStore, page: &Page) -> bool {
 // A store of the first so many of a journal's pages, or none where memory is refused.
 fn store_of(alloc: Global, pages: &[([u8; 16], u8); 6], count: usize) -> Option<MemStore> {
     let mut store = MemStore::new(alloc);
-    for i in 0..count.min(6) {
-        let (front, rest) = pages[i];
-        if !add(&mut store, &page_of(&front, rest)) {
-            return None;
-        }
+    let mut right = true;
+    for (front, rest) in &pages[..count.min(6)] {
+        right &= add(&mut store, &page_from(front, *rest));
     }
-    Some(store)
+    right.then_some(store)
 }
 
 // Whether the pages of a store are told to be damaged.
-fn is_damaged(alloc: Global, store: &mut MemStore) -> bool {
+fn is_damaged<S: PageStore>(alloc: Global, store: &mut S) -> bool {
     matches!(read_journal(alloc, store), Err(JournalFault::Damaged))
 }
 
 // Whether with this byte on a page of a store its pages are told to be damaged.
-fn is_damaged_with(alloc: Global, store: &mut MemStore, damage: (u32, usize, u8)) -> bool {
+fn is_damaged_with<S: PageStore>(alloc: Global, store: &mut S, damage: (u32, usize, u8)) -> bool {
     let (n, offset, byte) = damage;
     let Ok(page) = store.read_page(n) else {
         return false;
     };
     let mut damaged = page;
-    if offset < 4096 {
-        damaged[offset] = byte;
-    }
+    damaged[offset % 4096] = byte;
     if store.write_page(n, &damaged).is_err() {
         return false;
     }
@@ -125,43 +116,33 @@ fn is_damaged_with(alloc: Global, store: &mut MemStore, damage: (u32, usize, u8)
     store.write_page(n, &page).is_ok() && told
 }
 
-// Whether pages spell the journal: its count, its changes' numbers, and each page of it.
-fn is_whole(journal: &Journal, store: &mut MemStore) -> bool {
-    let changes = journal.changes.as_slice();
-    if journal.count != 10 || changes.len() != 2 {
-        return false;
-    }
-    (changes[0].number == 3)
-        & (changes[1].number == 9)
-        & (changes[0].page == [3; 4096])
-        & (changes[1].page == [9; 4096])
-        & (journal.before == [1; 4096])
-        & (journal.head == [2; 4096])
+// Whether pages spell the journal: its count, its changes, and its two other pages.
+fn is_whole<S: PageStore>(journal: &Journal, store: &S) -> bool {
+    (journal.count == 10)
+        & tells(journal, &[(3, 4096, 3), (9, 4096, 9)])
+        & (byte_of(&journal.before) == 1)
+        & (byte_of(&journal.head) == 2)
         & (store.pages() == 6)
 }
 
 // Whether a journal is written as the pages of a store.
-fn is_written(alloc: Global, journal: &Journal, store: &mut MemStore) -> bool {
+fn is_written<S: PageStore>(alloc: Global, journal: &Journal, store: &mut S) -> bool {
     let mut bytes = Vec::new(alloc);
     if !is_journal(journal) || write_journal(&mut bytes, journal).is_err() {
         return false;
     }
-    let count = store.pages() as usize;
-    let bytes = bytes.as_slice();
-    let mut right = bytes.len() == 4096 * count;
-    for n in 0..count {
-        let page = store.read_page(n as u32);
-        right &= 4096 * n + 4096 <= bytes.len() && is_page(page, &bytes[4096 * n..4096 * n + 4096]);
-    }
-    right
+    has_bytes(store, bytes.as_slice())
 }
 
-// Whether a page was read, and has these bytes.
-fn is_page(read: Result<Page, StoreFault>, bytes: &[u8]) -> bool {
-    match read {
-        Ok(page) => &page[..] == bytes,
-        Err(_) => false,
+// Whether the pages of a store have these bytes, one behind the other, and no others.
+fn has_bytes<S: PageStore>(store: &mut S, bytes: &[u8]) -> bool {
+    let mut right = bytes.len() % 4096 == 0;
+    let mut n = 0u32;
+    for part in bytes.chunks(4096) {
+        right &= store.read_page(n) == Ok(page_from(part, 0));
+        n = n.saturating_add(1);
     }
+    right && store.pages() == n
 }
 
 // Whether these pages spell the journal, which is written as they stand, or in another version.
@@ -171,7 +152,7 @@ fn is_read(alloc: Global, pages: &[([u8; 16], u8); 6], is_as_they_stand: bool) -
     };
     match read_journal(alloc, &mut store) {
         Ok(journal) => {
-            is_whole(&journal, &mut store)
+            is_whole(&journal, &store)
                 && is_written(alloc, &journal, &mut store) == is_as_they_stand
         }
         Err(_) => false,
@@ -226,40 +207,27 @@ fn bytes_of(alloc: Global, changes: &[(u32, u32, u8)]) -> Option<Vec<u8>> {
     right.then_some(bytes)
 }
 
-// A store of a journal with so many changes, of which these are the bytes.
-fn packed_store(alloc: Global, count: u8, bytes: &[u8]) -> Option<MemStore> {
-    let mut store = MemStore::new(alloc);
-    let mut head = page_of(b"UBTJ\0\0\0\x02\0\0\0\x0a\0\0\0\0", 0);
-    head[15] = count;
-    let mut right = add(&mut store, &head)
-        & add(&mut store, &[1; 4096])
-        & add(&mut store, &[2; 4096]);
-    for n in 0..bytes.len().div_ceil(4096) {
-        let mut page = [0; 4096];
-        for i in 0..4096 {
-            if let Some(byte) = bytes.get(4096 * n + i) {
-                page[i] = *byte;
-            }
-        }
-        right &= add(&mut store, &page);
-    }
-    right.then_some(store)
+// Puts the first pages of a journal behind those of a store: its head, one of 1s, and one of 2s.
+fn add_front<S: PageStore>(store: &mut S, head: &Page) -> bool {
+    add(store, head) & add(store, &[1; 4096]) & add(store, &[2; 4096])
 }
 
-// Whether a journal has these changes.
-fn has_changes(journal: &Journal, changes: &[(u32, u32, u8)]) -> bool {
-    let read = journal.changes.as_slice();
-    let mut right = read.len() == changes.len();
-    for (change, (number, held, byte)) in read.iter().zip(changes) {
-        let mut page = [0; 4096];
-        for i in 0..4096 {
-            if i < *held as usize {
-                page[i] = *byte;
-            }
-        }
-        right &= (change.number == *number) & (change.page == page);
+// Puts bytes on pages behind those of a store, with zeros behind the last.
+fn add_bytes<S: PageStore>(store: &mut S, bytes: &[u8]) -> bool {
+    let mut right = true;
+    for part in bytes.chunks(4096) {
+        right &= add(store, &page_from(part, 0));
     }
     right
+}
+
+// A store of a journal with so many changes, of which these are the bytes.
+fn packed_store(alloc: Global, count: u8, bytes: &[u8]) -> Option<MemStore> {
+    let mut head = page_from(b"UBTJ\0\0\0\x02\0\0\0\x0a\0\0\0\0", 0);
+    head[15] = count;
+    let mut store = MemStore::new(alloc);
+    let right = add_front(&mut store, &head) & add_bytes(&mut store, bytes);
+    right.then_some(store)
 }
 
 // Whether the journal with these changes is read and written where a table can have them, and is told to be damaged otherwise; and
@@ -273,7 +241,7 @@ fn is_told(alloc: Global, changes: &[(u32, u32, u8)], can_have: bool) -> bool {
     };
     let right = match read_journal(alloc, &mut store) {
         Ok(journal) => {
-            can_have && has_changes(&journal, changes) && is_written(alloc, &journal, &mut store)
+            can_have && tells(&journal, changes) && is_written(alloc, &journal, &mut store)
         }
         Err(fault) => !can_have && fault == JournalFault::Damaged,
     };
@@ -347,26 +315,13 @@ const TABLES: &[(&[u8], u8, u16, u8)] = &[
     (&[8, 7, 7, 7, 7, 7, 7, 7, 7, 9], 8, 0, 0),
 ];
 
-// A page of so many numbers from one on.
-fn numbers_page(from: u16, count: usize) -> Page {
-    let mut page = [0; 4096];
-    for i in 0..count.min(1024) {
-        let [high, low] = from.wrapping_add(i as u16).to_be_bytes();
-        page[4 * i + 2] = high;
-        page[4 * i + 3] = low;
-    }
-    page
-}
-
 // A store of a journal of version 1 with 1025 changes, of the pages 1 to 1025 of 2048.
 fn long_store(alloc: Global) -> Option<MemStore> {
     let mut store = MemStore::new(alloc);
-    let head = page_of(b"UBTJ\0\0\0\x01\0\0\x08\0\0\0\x04\x01", 0);
-    let mut right = add(&mut store, &head)
-        & add(&mut store, &[1; 4096])
-        & add(&mut store, &[2; 4096])
-        & add(&mut store, &numbers_page(1, 1024))
-        & add(&mut store, &numbers_page(1025, 1));
+    let head = page_from(b"UBTJ\0\0\0\x01\0\0\x08\0\0\0\x04\x01", 0);
+    let mut right = add_front(&mut store, &head)
+        & add(&mut store, &page_of_numbers(1, 1024))
+        & add(&mut store, &page_of_numbers(1025, 1));
     for i in 0..1025u32 {
         right &= add(&mut store, &[(i & 255) as u8; 4096]);
     }
@@ -379,13 +334,14 @@ fn is_long(journal: &Journal) -> bool {
     let mut right = changes.len() == 1025;
     for i in 0..changes.len() {
         let byte = (i & 255) as u8;
-        right &= (changes[i].number as usize == i + 1) & (changes[i].page == [byte; 4096]);
+        right &= (changes[i].number as usize == i + 1)
+            & (byte_of(&changes[i].page) == u32::from(byte));
     }
     right
 }
 
 // Whether the long journal is read.
-fn is_long_read(alloc: Global, store: &mut MemStore) -> bool {
+fn is_long_read<S: PageStore>(alloc: Global, store: &mut S) -> bool {
     match read_journal(alloc, store) {
         Ok(journal) => is_long(&journal),
         Err(_) => false,
@@ -411,7 +367,7 @@ fn numbers_go_on_on_a_second_page(rt: HostRuntime) {
 }
 
 // Of how many tables the journal is told to be theirs, or not, as it is, up to the first of which it is told otherwise.
-fn count_fits(alloc: Global, store: &mut MemStore) -> usize {
+fn count_fits<S: PageStore>(alloc: Global, store: &mut S) -> usize {
     let mut right = 0usize;
     for (pages, mark, rest, told) in TABLES {
         let is_so = match read_journal(alloc, store) {

@@ -1,88 +1,68 @@
 // Changes that are held in memory over a table which is only read, and that are put into its file at the end. Each page is of one
 // byte, over and over.
 
-ghost use Rattle.std.specs.Prelude.{IfOk};
+ghost use Rattle.std.specs.Prelude.{IfSome};
 ghost use Rattle.ub_journal.specs.Image.{IsJournal};
 ghost use Rattle.ub_journal.specs.Place.{IsHonest};
 
-use std::alloc::{AllocError, Global};
+use crate::calls::{Answer, Call, answers, byte_of};
+use crate::pages::tells;
+use std::alloc::Global;
 use ub_journal::{Journal, Place, Tells, TornPlace, commit};
 use ub_overlay::{Changed, Overlay, Redo};
 use ub_store::{FaultyStore, MemStore, Page, PageStore, StoreFault};
 
-// Two pages in memory, of 1s and of 2s.
-fn two_pages(alloc: Global) -> Result<MemStore, StoreFault> {
+// Calls that make a table of two pages, of 1s and of 2s.
+static MADE: &[(Call, Answer)] = &[
+    (Call::Extend, Ok(0)),
+    (Call::Extend, Ok(1)),
+    (Call::Write(0, 1), Ok(0)),
+    (Call::Write(1, 2), Ok(0)),
+];
+
+// That table in memory.
+fn two_in_memory(alloc: Global) -> Option<MemStore> {
     let mut store = MemStore::new(alloc);
-    let added = store.extend().and(store.extend());
-    let written = store
-        .write_page(0, &[1; 4096])
-        .and(store.write_page(1, &[2; 4096]));
-    match added.and(written) {
-        Ok(()) => Ok(store),
-        Err(fault) => Err(fault),
-    }
+    answers(&mut store, MADE).then_some(store)
 }
 
-// The same, as the file of a table at rest, which promises nothing.
-fn two_pages_on_disk(alloc: Global) -> Result<TornPlace, AllocError>
-    ensures { IfOk result (λ place. ¬ (IsHonest (⟦<TornPlace as Place>⟧.facts place))) }
+// The same as a file at rest, which promises nothing.
+fn two_on_disk(alloc: Global) -> Option<TornPlace>
+    ensures { IfSome result (λ place. ¬ (IsHonest (⟦<TornPlace as Place>⟧.facts place))) }
 {
-    let mut pages = Vec::new(alloc);
-    pages.push([1; 4096])?;
-    pages.push([2; 4096])?;
-    Ok(TornPlace::new(alloc, pages, 0, None, false))
+    let pages = two_in_memory(alloc)?.into_pages();
+    Some(TornPlace::new(alloc, pages, 0, None, false))
 }
 
-// Writes the second of two pages, and adds a third one.
-fn change<S: PageStore>(store: &mut S) -> Result<(), StoreFault> {
-    let added = store.write_page(1, &[7; 4096]).and(store.extend());
-    let written = store.write_page(2, &[8; 4096]).and(store.sync());
-    added.and(written)
-}
+// Calls of a store with these pages.
+static TWO: &[(Call, Answer)] = &[
+    (Call::Read(0), Ok(1)),
+    (Call::Read(1), Ok(2)),
+    (Call::Pages, Ok(2)),
+];
 
-// Whether the page of this number is read, and is of this byte.
-fn reads<S: PageStore>(store: &mut S, n: u32, byte: u8) -> bool {
-    match store.read_page(n) {
-        Ok(page) => page == [byte; 4096],
-        Err(_) => false,
-    }
-}
+// Calls that write the second page, and add a third one.
+static CHANGE: &[(Call, Answer)] = &[
+    (Call::Write(1, 7), Ok(0)),
+    (Call::Extend, Ok(2)),
+    (Call::Write(2, 8), Ok(0)),
+    (Call::Sync, Ok(0)),
+];
 
-// Whether a store has these pages and no more.
-fn has_pages<S: PageStore>(store: &mut S, bytes: &[u8]) -> bool {
-    let mut n = 0;
-    for byte in bytes {
-        if !reads(store, n, *byte) {
-            return false;
-        }
-        n = n.saturating_add(1);
-    }
-    store.pages() == n
-}
-
-// Whether a journal tells these changes.
-fn tells<J: Tells>(journal: &J, wanted: &[(u32, u8)]) -> bool {
-    if journal.changes() != wanted.len() {
-        return false;
-    }
-    for at in 0..wanted.len() {
-        let (number, page) = journal.change(at);
-        let (wanted_number, byte) = wanted[at];
-        if number != wanted_number || *page != [byte; 4096] {
-            return false;
-        }
-    }
-    true
-}
+// Calls after these.
+static CHANGED: &[(Call, Answer)] = &[
+    (Call::Read(0), Ok(1)),
+    (Call::Read(1), Ok(7)),
+    (Call::Read(2), Ok(8)),
+    (Call::Pages, Ok(3)),
+    (Call::Write(3, 9), Err(StoreFault::NoPage)),
+];
 
 // Whether changes of two pages are read back.
 fn are_read_back<S: PageStore>(overlay: &mut Overlay<S>) -> bool {
-    let was_same = !overlay.is_changed() & has_pages(overlay, &[1, 2]);
-    let is_changed = change(overlay).is_ok() & overlay.is_changed();
-    was_same
-        & is_changed
-        & has_pages(overlay, &[1, 7, 8])
-        & (overlay.write_page(3, &[9; 4096]) == Err(StoreFault::NoPage))
+    let was_same = !overlay.is_changed() & answers(overlay, TWO);
+    let is_changed = answers(overlay, CHANGE) & overlay.is_changed();
+    was_same & is_changed & answers(overlay, CHANGED)
 }
 
 // Whether they are told of the pages that were changed.
@@ -91,7 +71,7 @@ fn are_told(changed: Changed) -> bool {
         before: [1; 4096],
         changed,
     };
-    (redo.count() == 3) & (redo.head() == [1; 4096]) & tells(&redo, &[(1, 7), (2, 8)])
+    (redo.count() == 3) & (byte_of(&redo.head()) == 1) & tells(&redo, &[(1, 4096, 7), (2, 4096, 8)])
 }
 
 // Whether they are read back and told, and leave the pages below as they are.
@@ -101,7 +81,7 @@ fn stay_over<S: PageStore>(alloc: Global, below: S) -> bool {
     match overlay.into_parts() {
         Ok(parts) => {
             let mut below = parts.below;
-            are_there & has_pages(&mut below, &[1, 2]) & are_told(parts.changed)
+            are_there & answers(&mut below, TWO) & are_told(parts.changed)
         }
         Err(_) => false,
     }
@@ -109,28 +89,33 @@ fn stay_over<S: PageStore>(alloc: Global, below: S) -> bool {
 
 // The same over two pages.
 fn stay_in_memory(alloc: Global) -> bool {
-    match two_pages(alloc) {
-        Ok(below) => stay_over(alloc, below),
-        Err(_) => false,
+    match two_in_memory(alloc) {
+        Some(below) => stay_over(alloc, below),
+        None => false,
     }
 }
 
-// Whether a failure of the store below, at its second call, is told once, and comes of no page that is held.
-fn fails_once<S: PageStore>(overlay: &mut Overlay<S>) -> bool {
-    let mut page = [0; 4096];
-    change(overlay).is_ok()
-        & reads(overlay, 1, 7)
-        & reads(overlay, 2, 8)
-        & reads(overlay, 0, 1)
-        & (overlay.read_into(0, &mut page) == Err(StoreFault::Device))
-        & reads(overlay, 0, 1)
-}
+// Calls over a store whose second call fails: that is told once, and comes of no page that is held.
+static FAILING: &[(Call, Answer)] = &[
+    (Call::Write(1, 7), Ok(0)),
+    (Call::Extend, Ok(2)),
+    (Call::Write(2, 8), Ok(0)),
+    (Call::Sync, Ok(0)),
+    (Call::Read(1), Ok(7)),
+    (Call::Read(2), Ok(8)),
+    (Call::Read(0), Ok(1)),
+    (Call::Into(0), Err(StoreFault::Device)),
+    (Call::Read(0), Ok(1)),
+];
 
-// The same over two pages.
+// Whether they are answered so over two pages.
 fn tells_failures(alloc: Global) -> bool {
-    match two_pages(alloc) {
-        Ok(below) => fails_once(&mut Overlay::new(alloc, FaultyStore::new(below, 2))),
-        Err(_) => false,
+    match two_in_memory(alloc) {
+        Some(below) => answers(
+            &mut Overlay::new(alloc, FaultyStore::new(below, 2)),
+            FAILING,
+        ),
+        None => false,
     }
 }
 
@@ -140,7 +125,7 @@ fn shows<P: Place>(place: &mut P, n: u32, byte: u8) -> bool
     ensures asks_nothing { ¬ (IsHonest (P.facts place.new)) }
 {
     let mut page: Page = [0; 4096];
-    place.read_page(n, &mut page).is_ok() && page == [byte; 4096]
+    place.read_page(n, &mut page).is_ok() && byte_of(&page) == u32::from(byte)
 }
 
 // Whether a journal is put into a table's file, which then has these three pages.
@@ -158,16 +143,16 @@ fn puts<P: Place, J: Tells>(place: &mut P, journal: &J, first: u8, second: u8, t
 fn puts_on_disk<J: Tells>(alloc: Global, journal: &J) -> bool
     requires { IsJournal (J.told journal.now) }
 {
-    match two_pages_on_disk(alloc) {
-        Ok(mut place) => puts(&mut place, journal, 6, 7, 8),
-        Err(_) => false,
+    match two_on_disk(alloc) {
+        Some(mut place) => puts(&mut place, journal, 6, 7, 8),
+        None => false,
     }
 }
 
 // Whether changes in memory over these pages are put into the file.
 fn are_put_over<S: PageStore>(alloc: Global, below: S) -> bool {
     let mut overlay = Overlay::new(alloc, below);
-    let is_changed = change(&mut overlay).is_ok() & overlay.write_page(0, &[6; 4096]).is_ok();
+    let is_changed = answers(&mut overlay, CHANGE) & overlay.write_page(0, &[6; 4096]).is_ok();
     if overlay.pages() == 0 {
         return false;
     }
@@ -183,9 +168,9 @@ fn are_put_over<S: PageStore>(alloc: Global, below: S) -> bool {
 
 // The same over two pages.
 fn are_put(alloc: Global) -> bool {
-    match two_pages(alloc) {
-        Ok(below) => are_put_over(alloc, below),
-        Err(_) => false,
+    match two_in_memory(alloc) {
+        Some(below) => are_put_over(alloc, below),
+        None => false,
     }
 }
 
@@ -203,24 +188,29 @@ fn cut<S: PageStore>(alloc: Global, below: S) -> Result<Overlay<S>, StoreFault> 
     }
 }
 
-// Whether they are read through that journal, and a page that is added then is none that was cut.
-fn is_cut<S: PageStore>(overlay: &mut Overlay<S>) -> bool {
-    has_pages(overlay, &[5]) & (overlay.extend() == Ok(1)) & has_pages(overlay, &[5, 0])
-}
+// Calls of what is read through that journal: a page that is added then is none that was cut.
+static CUT: &[(Call, Answer)] = &[
+    (Call::Read(0), Ok(5)),
+    (Call::Pages, Ok(1)),
+    (Call::Extend, Ok(1)),
+    (Call::Read(0), Ok(5)),
+    (Call::Read(1), Ok(0)),
+    (Call::Pages, Ok(2)),
+];
 
-// The same over these pages, which stay as they are.
+// Whether they are answered so over these pages, which stay as they are.
 fn are_read_over<S: PageStore>(alloc: Global, below: S) -> bool {
     match cut(alloc, below) {
-        Ok(mut overlay) => is_cut(&mut overlay) & has_pages(&mut overlay.into_store(), &[1, 2]),
+        Ok(mut overlay) => answers(&mut overlay, CUT) & answers(&mut overlay.into_store(), TWO),
         Err(_) => false,
     }
 }
 
 // The same over two pages.
 fn are_read_through(alloc: Global) -> bool {
-    match two_pages(alloc) {
-        Ok(below) => are_read_over(alloc, below),
-        Err(_) => false,
+    match two_in_memory(alloc) {
+        Some(below) => are_read_over(alloc, below),
+        None => false,
     }
 }
 

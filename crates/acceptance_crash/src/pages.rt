@@ -1,5 +1,7 @@
-// Pages of a few kinds, each told by one byte: what a table of before and after has at each number, and what a torn write leaves.
+// Pages by hand. Those of a few kinds are each told by one byte: what a table of before and after has at each number, and what a torn
+// write leaves. Those of a journal are told by their first bytes and by what stands behind them.
 
+use ub_journal::Tells;
 use ub_store::Page;
 
 /// Zeros.
@@ -41,5 +43,44 @@ pub(crate) fn page_of(n: u32, kind: u32) -> Page {
     let mut page = [back; 4096];
     page[..2048].fill(front);
     page[5] = mark;
+    page
+}
+
+/// A page that begins with these bytes, and has this one behind them, over and over.
+pub(crate) fn page_from(front: &[u8], rest: u8) -> Page {
+    let count = front.len().min(4096);
+    let mut page = [rest; 4096];
+    page[..count].copy_from_slice(&front[..count]);
+    page
+}
+
+/// A page that begins with so many of this byte, 4096 at most, and has zeros behind them.
+pub(crate) fn held_page(held: u32, byte: u8) -> Page {
+    page_from(&[byte; 4096][..(held as usize).min(4096)], 0)
+}
+
+/// Whether a journal tells these changes, each by its number, how many bytes its page holds, and their byte.
+pub(crate) fn tells<J: Tells>(journal: &J, wanted: &[(u32, u32, u8)]) -> bool {
+    if journal.changes() != wanted.len() {
+        return false;
+    }
+    for at in 0..wanted.len() {
+        let (number, page) = journal.change(at);
+        let (wanted_number, held, byte) = wanted[at];
+        if number != wanted_number || *page != held_page(held, byte) {
+            return false;
+        }
+    }
+    true
+}
+
+/// A page of so many numbers from one on, each of four bytes, and zeros behind them.
+pub(crate) fn page_of_numbers(from: u16, count: usize) -> Page {
+    let mut page = [0; 4096];
+    for i in 0..count.min(1024) {
+        let [high, low] = from.wrapping_add(i as u16).to_be_bytes();
+        page[4 * i + 2] = high;
+        page[4 * i + 3] = low;
+    }
     page
 }
