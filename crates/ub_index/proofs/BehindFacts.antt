@@ -1,5 +1,5 @@
 -- How a search goes down to a leaf, and what it finds there behind a region.
-use Rattle.std.proofs.Common.{rules, false, ◌≡◌, ◌<◌, ◌-◌, ◌↔◌, ◌⊎◌, inl, inr, ℕ, List, [], ◌∷◌, Option, Some, None, IfSome, ◌∙◌, sym, ap, subst, refl, arith}
+use Rattle.std.proofs.Common.{rules, false, ◌≡◌, ◌<◌, ◌-◌, ◌↔◌, inr, ℕ, List, Option, Some, None, IfSome, ◌∙◌, sym, ap, subst, refl, arith}
 use Rattle.ub_region.specs.declared.region.Region.{Region}
 use Rattle.ub_page.specs.Index.{node_on}
 use Rattle.ub_region.specs.declared.entry.Entry.{Entry}
@@ -89,7 +89,7 @@ step_given index store key leaf place holds down here step = record {
 -- what is found on a leaf
 module _ (index : IndexView) (store : StoreFacts) (To : Key → Option ℕ → Type 0)
     (region : Region) (leaf : Leaf) (holds : HoldsLeaf region.first leaf) (down : IsHonest store → LeadsDown index store region.first 1 leaf) where
-  gives : (page : List ℕ) → FitsAtEnds page 1 leaf.place.entry leaf.place.next → (IsHonest store → NamesFitting index.last store.pages 1 leaf.place.entry leaf.place.next)
+  pub gives : (page : List ℕ) → FitsAtEnds page 1 leaf.place.entry leaf.place.next → (IsHonest store → NamesFitting index.last store.pages 1 leaf.place.entry leaf.place.next)
       → (IsHonest store → page ≡ page_in store.pages leaf.place.entry.page) → (k : Key) → ¬ (IsBefore k region.first) → IfSome leaf.until (IsBefore k)
       → (below : Entry) (next : Option Key) → FallsTo k (node_on page).entries leaf.place.next below next → Gives index store k (region_of index.last below next)
   gives page ends named there k later to below next falls = record {

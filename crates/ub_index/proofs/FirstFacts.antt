@@ -1,13 +1,13 @@
 -- No way goes over page 0.
-use Rattle.std.proofs.Common.{rules, ◌≡◌, ◌≤◌, ◌∙◌, ◌↔◌, inl, inr, ℕ, zero, suc, List, Option, Some, None, ap, sym, subst, arith, slice_get}
+use Rattle.std.proofs.Common.{rules, ◌≡◌, ◌≤◌, ◌↔◌, inl, inr, ℕ, zero, suc, List, Option, sym, subst, slice_get}
 use Rattle.std.proofs.lemmas.Option.{slice_get_cases, slice_get_within}
 use Rattle.ub_region.specs.declared.entry.Entry.{Entry}
 use Rattle.ub_store.specs.Facts.{StoreFacts}
 use Rattle.ub_table.specs.declared.fault.PageFault.{PageFault}
 use Rattle.ub_table.specs.declared.row.Key.{Key}
-use Rattle.ub_index.specs.Fitting.{FallsTo, IsNotTaken, IsUnfit}
-use Rattle.ub_index.specs.Index.{NamesFitting, entries_of, top}
-use Rattle.ub_index.specs.View.{IndexView, Leads, Stops, entry_at}
+use Rattle.ub_index.specs.Fitting.{FallsTo, IsNotTaken}
+use Rattle.ub_index.specs.Index.{NamesFitting, entries_of}
+use Rattle.ub_index.specs.View.{IndexView, Leads, Stops}
 use Rattle.ub_index.specs.Way.{LeadsTo, StopsAt}
 use Rattle.ub_region.specs.declared.region.Region.{Region}
 use Rattle.ub_index.proofs.KeptFacts.{kept_named, same_page}

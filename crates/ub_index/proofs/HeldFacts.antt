@@ -1,5 +1,5 @@
 -- What the ends of a page tell of it, and which pages are held that were checked.
-use Rattle.std.proofs.Common.{rules, ◌≡◌, ◌<◌, ◌^◌, ◌⊎◌, inl, inr, ℕ, List, Option, Some, None, Result, Ok, Err, IfOk, IfErr, sym, subst, refl, arith}
+use Rattle.std.proofs.Common.{rules, ◌≡◌, ◌<◌, ◌^◌, ◌⊎◌, inl, inr, ℕ, List, Option, Some, None, Result, Ok, Err, IfOk, IfErr, subst, refl, arith}
 use Rattle.std.proofs.lemmas.Bool.{cases_eq}
 use Rattle.ub_page.proofs.IndexLaws.{length-node_on, node_parts}
 use Rattle.ub_page.specs.Index.{node_on, HasHead, IsIndexKind}

@@ -1,10 +1,10 @@
 -- What becomes of an index where its pages stay, and what stands on pages that tell given entries.
-use Rattle.std.proofs.Common.{rules, ◌≡◌, ℕ, zero, suc, List, [], ◌∷◌, Option, Some, None, slice_get, ◌∙◌, sym, ap, subst, refl}
+use Rattle.std.proofs.Common.{rules, ◌≡◌, ℕ, zero, suc, List, [], ◌∷◌, Option, slice_get, ◌∙◌, sym, ap, subst, refl}
 use Rattle.std.specs.List.{flat_map}
 use Rattle.ub_region.specs.declared.entry.Entry.{Entry}
 use Rattle.ub_table.specs.declared.row.Key.{Key}
 use Rattle.ub_index.specs.Standing.{PagesStay}
-use Rattle.ub_index.specs.Index.{IsTold, entries_of, page_in, first_or, AscendTo, EachTo, Fits, NamesFitting, IsUnder, under, pages_under}
+use Rattle.ub_index.specs.Index.{IsTold, entries_of, page_in, AscendTo, EachTo, NamesFitting, IsUnder, under, pages_under}
 use Rattle.ub_index.proofs.Lists.{IsNotBefore, ascend_later, each_later, each_same, same_each}
 
 -- a page that is as it was is the one that it was

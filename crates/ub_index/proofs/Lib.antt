@@ -22,3 +22,5 @@ pub mod FirstFacts
 pub mod StretchSteps
 pub mod StretchFacts
 pub mod StretchCover
+pub mod AlongFacts
+pub mod WalkingFacts

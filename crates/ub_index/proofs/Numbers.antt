@@ -9,7 +9,7 @@ use Rattle.ub_table.specs.declared.row.Key.{Key}
 use Rattle.ub_index.specs.Standing.{PagesStay, IsOutside}
 use Rattle.ub_index.proofs.KeptFacts.{same_entries}
 use Rattle.ub_index.proofs.Lists.{each_all, same_each}
-use Rattle.ub_index.specs.Index.{entries_of, first_or, page_in, EachTo, IsUnder, pages_under}
+use Rattle.ub_index.specs.Index.{entries_of, page_in, IsUnder, pages_under}
 
 pub differs : (a b : ℕ) → nat_eq a b ≡ false → a ≢ b
 differs a b f e = let t = eq-eqb a b e in cc

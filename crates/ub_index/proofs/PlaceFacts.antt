@@ -14,7 +14,7 @@ use Rattle.ub_store.specs.Facts.{StoreFacts}
 use Rattle.ub_table.proofs.Laws.{ascending_get, before_from, before_of, before_parts, not_before_self, precedes_of, precedes_trans}
 use Rattle.ub_table.specs.Keys.{IsBefore, precedes, origin, are_ascending}
 use Rattle.ub_table.specs.declared.row.Key.{Key}
-use Rattle.ub_index.specs.Index.{entries_of, first_or, AscendTo, EachTo, IsUnder, under, top}
+use Rattle.ub_index.specs.Index.{entries_of, AscendTo, IsUnder, under, top}
 use Rattle.ub_index.specs.Searching.{Gives, key_before}
 use Rattle.ub_index.specs.View.{IndexView, IsIndexOn, IsRegionAt, IsPreviousRegion, entries_in, entry_at}
 use Rattle.ub_region.specs.declared.region.Region.{Region}

@@ -13,7 +13,7 @@ use Rattle.ub_index.specs.Searching.{GoesDown, IsWayFault, store_after}
 use Rattle.ub_index.specs.View.{IndexView, Stops}
 use Rattle.ub_index.specs.Way.{StopsAt}
 use Rattle.ub_index.specs.declared.fault.IndexFault.{IndexFault}
-use Rattle.ub_index.specs.declared.fault.IndexFault.TheVariants.{Full, Page, Store}
+use Rattle.ub_index.specs.declared.fault.IndexFault.TheVariants.{Page, Store}
 use Rattle.ub_index.proofs.HeldFacts.{both_on, Keeps}
 use Rattle.ub_index.proofs.WayFacts.{stops_here}
 

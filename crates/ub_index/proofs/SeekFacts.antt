@@ -1,5 +1,5 @@
 -- Searches among the regions in order.
-use Rattle.std.proofs.Common.{rules, ◌≡◌, ◌<◌, ◌≤◌, ◌⊎◌, drop, inl, inr, ℕ, zero, suc, max, true, false, List, [], ◌∷◌, Option, Some, None, length, ◌↔◌, ◌∙◌, sym, ap, refl, arith, slice_get, subst, nat_le, if◌then◌else◌}
+use Rattle.std.proofs.Common.{rules, ◌≡◌, ◌<◌, ◌≤◌, drop, inl, inr, ℕ, zero, suc, max, true, false, List, [], ◌∷◌, Option, Some, None, length, ◌↔◌, ◌∙◌, sym, ap, refl, arith, slice_get, subst, nat_le, if◌then◌else◌}
 use Rattle.std.proofs.lemmas.Bool.{cases_lt, cases_eq, cases_Bool, le-leb, lt-leb, and_parts}
 use Rattle.std.proofs.lemmas.Option.{slice_get_read, slice_get_within, get_or_from_slice_get, slice_get_cases}
 use Rattle.std.specs.List.{All, Contains}

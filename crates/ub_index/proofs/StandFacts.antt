@@ -1,11 +1,10 @@
 -- What an index is to those who keep regions on other pages of its store.
-use Rattle.std.proofs.Common.{rules, Ok, ◌≡◌, ◌≤◌, ◌<◌, ◌∙◌, ◌^◌, ℕ, zero, List, [], ◌∷◌, Some, None, length, nat_eq, ap, sym, subst, refl, arith, slice_get, inl, suc, Bool, Option, option_map, ◌⊎◌, inr, slice_set}
+use Rattle.std.proofs.Common.{rules, Ok, ◌≡◌, ◌≤◌, ◌<◌, ◌∙◌, ◌^◌, ℕ, zero, List, [], ◌∷◌, Some, None, length, nat_eq, ap, sym, subst, refl, arith, slice_get, suc, option_map, ◌⊎◌, slice_set}
 use Rattle.std.specs.List.{AllByRecursion, IsDistinct, flat_map}
 use Rattle.ub_index.specs.Spans.{ArePlaces}
 use Rattle.ub_page.specs.Entries.{IsEntry}
 use Rattle.ub_region.specs.declared.entry.Entry.{Entry}
 use Rattle.ub_store.specs.Facts.{StoreFacts, IsHonest, WritesAt, page_count}
-use Rattle.ub_table.specs.Keys.{origin}
 use Rattle.ub_table.specs.declared.row.Key.{Key}
 use Rattle.ub_page.specs.Index.{IsNode, Node, index_page}
 use Rattle.ub_index.specs.Standing.{PagesStay, IsOutside, OldStayOutside, StandsAsOn, AreOwnPages, region_pages}
@@ -17,9 +16,7 @@ use Rattle.ub_index.proofs.KeptFacts.{kept_index, kept_under, told_index}
 use Rattle.ub_index.proofs.Numbers.{StandApart, apart_swap, distinct_cons, kept_pages, within_store, distinct_apart, distinct_first, distinct_left}
 use Rattle.ub_index.proofs.OrderFacts.{under_first}
 use Rattle.ub_index.proofs.PlaceFacts.{begins, each_entry, up, within}
-use Rattle.std.proofs.lemmas.Bool.{cases_eq}
 use Rattle.ub_region.proofs.Laws.{all_more}
-use Rattle.std.specs.Prelude.{IsTrue}
 use Rattle.ub_store.specs.Cache.{SameBut, page_at}
 use Rattle.ub_store.specs.View.{PagerView}
 use Rattle.ub_index.specs.Held.{KeepsChecked}

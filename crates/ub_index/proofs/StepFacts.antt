@@ -1,11 +1,10 @@
 -- What a call leaves that brings a page, looks at it, and forgets it where it is refused.
-use Rattle.std.proofs.Common.{rules, ◌≡◌, ℕ, List, Option, Some, None, Result, slice_get, Ok, Err, IfOk, IfErr, ◌∙◌, sym, ap, subst}
+use Rattle.std.proofs.Common.{rules, ◌≡◌, ℕ, List, Option, Some, None, Result, slice_get, Ok, Err, IfErr, ◌∙◌, sym, ap, subst}
 use Rattle.std.specs.Result.{IsErrAnd}
 use Rattle.ub_region.specs.declared.entry.Entry.{Entry}
 use Rattle.ub_store.specs.Cache.{NoneMoreBut, page_at}
 use Rattle.ub_store.specs.Facts.{StoreFacts, IsHonest, IsPage}
 use Rattle.ub_store.specs.View.{PagerView, Trace}
-use Rattle.ub_store.specs.declared.fault.StoreFault.TheVariants as store
 use Rattle.ub_table.specs.declared.fault.PageFault.{PageFault}
 use Rattle.ub_table.specs.declared.row.Key.{Key}
 use Rattle.ub_index.specs.Bringing.{BringsFitting, IsBringFault}
@@ -15,7 +14,7 @@ use Rattle.ub_index.specs.Index.{Fits, NamesFitting}
 use Rattle.ub_index.specs.Searching.{GoesDown, IsWayFault, ReadsIndex}
 use Rattle.ub_index.specs.View.{IndexView}
 use Rattle.ub_index.specs.declared.fault.IndexFault.{IndexFault}
-use Rattle.ub_index.specs.declared.fault.IndexFault.TheVariants.{Full, Page, Store}
+use Rattle.ub_index.specs.declared.fault.IndexFault.TheVariants.{Page}
 use Rattle.ub_page.specs.declared.index.Head.{Head}
 use Rattle.ub_index.proofs.FitFacts.{is_refused, page_is}
 use Rattle.ub_index.proofs.HeldFacts.{both_on, keeps_gone, more_gone, Keeps}

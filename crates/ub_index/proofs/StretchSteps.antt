@@ -15,7 +15,8 @@ use Rattle.ub_index.proofs.StepFacts.{step_misfits}
 use Rattle.ub_index.specs.Bringing.{BringsFitting}
 use Rattle.ub_index.specs.Index.{AscendTo, first_or}
 use Rattle.ub_index.specs.Spans.{region_of}
-use Rattle.ub_index.specs.Stretches.{IsNextMeeting, MeetsAny, OpensStretch, TakesThese, parts_on, stretch_of, stretches_to}
+use Rattle.ub_index.specs.Sinks.{TakesThese}
+use Rattle.ub_index.specs.Stretches.{IsNextMeeting, MeetsAny, OpensStretch, parts_on, stretch_of, stretches_to}
 use Rattle.ub_index.specs.View.{IndexView, entry_at}
 use Rattle.ub_index.specs.declared.fault.IndexFault.{IndexFault}
 use Rattle.ub_index.specs.declared.stretch.Stretch.{Stretch}
@@ -310,10 +311,10 @@ none_next boxes all from (Some slot) never h = absurd (never slot refl)
 
 -- ---- what was handed over
 
-pub takes_more : {S : Type 0} (Takes : S → List Stretch → S → Type 0) (a b c : S) (some more : List Stretch) → TakesThese Takes a b some → TakesThese Takes b c more
+pub takes_more : {S X : Type 0} (Takes : S → List X → S → Type 0) (a b c : S) (some more : List X) → TakesThese Takes a b some → TakesThese Takes b c more
     → TakesThese Takes a c (some ++ more)
-takes_more Takes a b c some more h k start taken has =
-    subst (λ (parts : List Stretch). Takes start parts c) (append_assoc taken some more) (k start (taken ++ some) (h start taken has))
+takes_more {X = X} Takes a b c some more h k start taken has =
+    subst (λ (these : List X). Takes start these c) (append_assoc taken some more) (k start (taken ++ some) (h start taken has))
 
 module _ {X : Type 0} (P : X → Type 0) where
   -- these are those that have the property of all before an index: with those of the rest they are those of all

@@ -10,4 +10,7 @@ pub mod Descending
 pub mod Bringing
 pub mod Opening
 pub mod Standing
+pub mod Sinks
 pub mod Stretches
+pub mod Along
+pub mod Walking

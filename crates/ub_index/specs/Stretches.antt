@@ -4,6 +4,7 @@ use Rattle.std.specs.Prelude.{◌≡◌, ◌≤◌, ◌<◌, ◌-◌, ◌⊎◌,
 use Rattle.ub_bigmin.specs.Box.{Corners}
 use Rattle.ub_index.specs.Descending.{IsForgotten, Steps}
 use Rattle.ub_index.specs.Index.{Fits, NamesFitting, entries_of, first_or, page_in, top}
+use Rattle.ub_index.specs.Sinks.{TakesThese}
 use Rattle.ub_index.specs.Spans.{Meets, region_of}
 use Rattle.ub_index.specs.View.{IndexView, entry_at}
 use Rattle.ub_index.specs.Way.{HoldsKey}
@@ -101,16 +102,7 @@ holds_key stretch key = not (precedes key stretch.span.first) && is_before_end k
 abbrev pub within : Stretch → List Region → List Region
 within stretch regions = filter (λ region. holds_key stretch region.first) regions
 
--- ---- a sink, by what is true of two of its states between which it has taken some stretches
-
--- it is under way: since some state it has taken some stretches, or none
-abbrev pub Began : {S : Type 0} → (S → List Stretch → S → Type 0) → S → Type 0
-Began {S = S} Takes now = (start : S) × (taken : List Stretch) × Takes start taken now
-
--- between two states it has taken these stretches, after those that it took before
-abbrev pub TakesThese : {S : Type 0} → (S → List Stretch → S → Type 0) → S → S → List Stretch → Type 0
-TakesThese {S = S} Takes old new parts =
-    (start : S) (taken : List Stretch) → Takes start taken old → Takes start (taken ++ parts) new
+-- ---- what is handed to a sink
 
 -- it has taken the parts of a stretch that meet the boxes, of those that this page tells
 abbrev pub TakesParts : {S : Type 0} → (S → List Stretch → S → Type 0) → List Corners → ℕ → Stretch → List ℕ → S → S → Type 0

@@ -8,7 +8,7 @@ ghost use Rattle.ub_index.specs.Index.{Fits, NamesFitting, first_or, top};
 ghost use Rattle.ub_index.specs.Opening.{IsPassing};
 ghost use Rattle.ub_index.specs.Searching.{Aims, IsAim, IsAimless, at_least};
 ghost use Rattle.ub_page.specs.Index.{head_on, node_on};
-ghost use Rattle.ub_page.specs.Slots.{IsSlot};
+ghost use Rattle.ub_page.specs.Slots.{IsSlot, entry_in};
 ghost use Rattle.ub_index.specs.Way.{HoldsKey};
 ghost use Rattle.ub_store.specs.Facts.{IsHonest};
 ghost use Rattle.ub_table.specs.Keys.{IsBefore};
@@ -101,7 +101,7 @@ pub fn bring_root<S: PageStore>(
 
 /// Brings the page that the entry of a place of this level names, and checks it: in full, if it was read, and of one that was
 /// held its ends. What its first bytes tell comes where it fits there; the pager then holds it. It forgets a page that is refused.
-fn bring_next<S: PageStore>(
+pub fn bring_next<S: PageStore>(
     pager: &mut Pager<S>,
     last: u128,
     level: u32,
@@ -279,8 +279,8 @@ pub fn earlier(a: &Option<Key>, b: &Option<Key>) -> Option<Key>
     }
 }
 
-// Whether a key is before the end, if there is one.
-fn ends_before(key: &Key, end: &Option<Key>) -> bool
+/// Whether a key is before the end, if there is one.
+pub fn ends_before(key: &Key, end: &Option<Key>) -> bool
     ensures { IsTrue result ↔ IfSome end.now (IsBefore key.now) }
 {
     match end {
@@ -299,12 +299,13 @@ fn fall(page: &Page, count: usize, key: &Key, end: Option<Key>) -> Place
     place_in(page, count, slot_in(page, count, key), end)
 }
 
-// The place in a slot, to which each key falls that falls to this slot.
-fn place_in(page: &Page, count: usize, slot: usize, end: Option<Key>) -> Place
+/// The place in a slot, to which each key falls that falls to this slot.
+pub fn place_in(page: &Page, count: usize, slot: usize, end: Option<Key>) -> Place
     requires count { count ≡ (head_on page.now).count }
     requires within { slot < count }
     requires few { count ≤ MAX_ENTRIES }
-    ensures { (key : Key) → IsSlot key count page.now slot
+    ensures entry { result.entry ≡ entry_in slot page.now }
+    ensures falls { (key : Key) → IsSlot key count page.now slot
         → FallsTo key (node_on page.now).entries end result.entry result.next }
 {
     Place {
@@ -313,9 +314,9 @@ fn place_in(page: &Page, count: usize, slot: usize, end: Option<Key>) -> Place
     }
 }
 
-// The slot to which a key falls: the one behind this slot, as it mostly is where a search goes on, or else it is found by
-// halving.
-fn slot_behind(page: &Page, count: usize, slot: usize, key: &Key) -> usize
+/// The slot to which a key falls: the one behind this slot, as it mostly is where a search goes on, or else it is found by
+/// halving.
+pub fn slot_behind(page: &Page, count: usize, slot: usize, key: &Key) -> usize
     requires within { slot < count }
     requires few { count ≤ MAX_ENTRIES }
     ensures { IsSlot key.now count page.now result }

@@ -275,8 +275,8 @@ fn descend<S: PageStore>(
     Ok(region_at(last, place.entry, place.next))
 }
 
-// The leaf to which the way down from a root of this level leads.
-fn leaf_of<S: PageStore>(
+/// The leaf to which the way down from a root of this level leads. The pager forgets a page that is refused.
+pub fn leaf_of<S: PageStore>(
     pager: &mut Pager<S>,
     root: u32,
     levels: u32,

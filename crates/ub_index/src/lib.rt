@@ -51,6 +51,10 @@
 //!    would not begin later then, OutOfRegion of the root is told: so each walk ends, and none comes to a first key twice.
 //!  - Who looks at all pages asks for them one by one (`entries`): each is checked in full, held or not.
 //!
+//! WALKS. Who wants all regions that meet some boxes has them handed over (`walking`). A walk goes down to the leaf of the first one, and
+//! along it as long as the next one stands there; then it goes down again from the root. So each leaf is sought once, and what is handed
+//! over is what a search gives after each region.
+//!
 //! STRETCHES. What an entry of any level names, the keys from its own up to where the next one begins, is a *stretch* (`stretch`): at
 //! level 0 a region. Who looks for regions in an order of their own begins with the whole index as one stretch, and opens stretches one
 //! by one: the page of one is brought and checked in full, and the parts of it that meet some boxes are handed over, each a stretch of
@@ -66,9 +70,9 @@
 //!
 //! DEFINITIONS (specs). What an index is: `Index`, and what contracts see of one: `View`; where its regions stand: `Spans`. Which
 //! page is taken: `Fitting`; what is known of the pages that are held: `Held`. The way to a key: `Way`; a page that is brought, and
-//! the steps down: `Bringing`, `Descending`; what searches answer, and why they are refused: `Searching`; what a stretch is, and
-//! its parts: `Stretches`; `Opening`. What an index is to those who keep regions on other pages of its store, which grows:
-//! `Standing`. `Laws`.
+//! the steps down: `Bringing`, `Descending`; what searches answer, and why they are refused: `Searching`; a walk, and how it goes
+//! along a leaf: `Walking`, `Along`; what a stretch is, and its parts: `Stretches`; what a sink has taken: `Sinks`; `Opening`. What an
+//! index is to those who keep regions on other pages of its store, which grows: `Standing`. `Laws`.
 //!
 //! What belongs here is the way through several pages. How one page is spelled and searched (`ub_page`), and how pages are kept
 //! (`ub_store`), stands below; how the pages of an index change (`ub_index_change`), and which pages are a table's, above. The
@@ -84,9 +88,11 @@ pub mod index;
 pub mod law;
 mod opening;
 pub mod stretch;
+pub mod walking;
 
 pub use descent::{Place, bring_fitting, bring_root, root_place};
 pub use entries::entries_at;
 pub use fault::IndexFault;
 pub use index::{Index, region_at};
 pub use stretch::{Stretch, StretchSink};
+pub use walking::RegionSink;

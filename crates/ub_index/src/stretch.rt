@@ -2,7 +2,8 @@
 ghost use Rattle.std.specs.Prelude.{◌≡◌, ◌<◌, ◌≤◌, ◌∷◌, [], List, OnOk, Some, slice_get};
 ghost use Rattle.ub_bigmin.specs.Box.{Corners};
 ghost use Rattle.ub_index.specs.Spans.{Meets};
-ghost use Rattle.ub_index.specs.Stretches.{Began, FitsStretch, IsNextMeeting, OpensStretch, TakesParts, TakesThese, parts_on, whole_stretch};
+ghost use Rattle.ub_index.specs.Sinks.{Began, TakesThese};
+ghost use Rattle.ub_index.specs.Stretches.{FitsStretch, IsNextMeeting, OpensStretch, TakesParts, parts_on, whole_stretch};
 ghost use Rattle.ub_index.specs.declared.stretch.Stretch.{Stretch};
 ghost use Rattle.ub_page.specs.Index.{head_on};
 

@@ -1,5 +1,5 @@
 -- A row put into a tree: where its region's rows come to stand, what becomes of the table, and what a call tells of it.
-use Rattle.std.proofs.Common.{◌≡◌, ◌≢◌, ◌<◌, ◌≤◌, ◌+◌, ◌^◌, ◌∙◌, ◌++◌, ◌⊎◌, inl, inr, ℕ, zero, suc, true, false, List, [], ◌∷◌, Ok, Err, Result, IfErr, IfOk, OnOk, Option, None, Some, length, map, take, drop, nat_le, nat_lt, sym, ap, subst, refl, arith, slice_get, append_assoc}
+use Rattle.std.proofs.Common.{◌≡◌, ◌≢◌, ◌<◌, ◌≤◌, ◌+◌, ◌^◌, ◌∙◌, ◌++◌, ◌⊎◌, inl, inr, ℕ, zero, suc, true, false, List, [], ◌∷◌, Ok, Err, Result, IfErr, IfOk, OnOk, Option, None, Some, length, map, take, drop, max, nat_le, nat_lt, sym, ap, subst, refl, arith, slice_get, append_assoc}
 use Rattle.std.proofs.lemmas.Bool.{cases_Bool, ltb-true, ltb-false}
 use Rattle.std.proofs.lemmas.List.Sorted.{length_permutation}
 use Rattle.std.specs.List.{AllByRecursion}
@@ -97,6 +97,13 @@ pub next_one : (next number : ℕ) → number ≡ next → next_after next numbe
 next_one next number is = elim (cases_Bool (nat_lt number next)) [
   | inl t ↦ let less = ltb-true number next t in absurd (omega arith)
   | inr f ↦ rw f (omega arith)
+]
+
+-- it is the later of the one that was next and the one after that of the row
+pub next_is : (next number : ℕ) → max next (number + 1) ≡ next_after next number
+next_is next number = elim (cases_Bool (nat_lt number next)) [
+  | inl t ↦ let less = ltb-true number next t in rw t (omega arith)
+  | inr f ↦ let more = ltb-false number next f in rw f (omega arith)
 ]
 
 -- a row was put into a sound tree that had none of its number

@@ -6,6 +6,7 @@ pub mod NewFacts
 pub mod RoomFacts
 pub mod AnswerFacts
 pub mod MeetFacts
+pub mod HandedFacts
 pub mod WalkFacts
 pub mod IndexedFacts
 pub mod SearchFacts

@@ -1,20 +1,15 @@
--- The regions that meet some boxes, one after the other: which one comes next, and which have come.
+-- The elements of a list that have a property, one after the other: which one comes next, and which have come; and spans in order.
 use Rattle.std.proofs.lemmas.Grind.{common_steps}
 use Rattle.std.proofs.Common.{rules}
 use Rattle.std.proofs.Common.{◌≡◌, ◌<◌, ◌≤◌, inl, inr, ℕ, zero, suc, List, [], ◌∷◌, ◌++◌, Option, Some, None, IfSome, Contains, length, map, take, ◌∙◌, sym, ap, refl, arith, subst, slice_get, append_assoc}
 use Rattle.std.proofs.lemmas.Bool.{cases_lt, cases_eq}
 use Rattle.std.proofs.lemmas.Option.{slice_get_read, slice_get_within, get_or_from_slice_get, slice_get_cases}
 use Rattle.ub_check.proofs.CheckingFacts.{take_at}
-use Rattle.ub_bigmin.specs.Box.{Corners}
 use Rattle.ub_region.specs.Those.{AreThose}
 use Rattle.ub_table.proofs.Laws.{not_both_before, not_before_self}
 use Rattle.ub_table.specs.Keys.{IsBefore}
-use Rattle.ub_tree.proofs.AnswerFacts.{answers_ended, first_more, left_after, left_less}
-use Rattle.ub_tree.specs.Handing.{AreMetBy, TakesThese}
 use Rattle.ub_tree.specs.Placed.{Placed, entry_of}
 use Rattle.ub_tree.specs.Spans.{IsLater, regions_of, Region}
-use Rattle.ub_tree.specs.Told.{AreFirst, GivesNext}
-use Rattle.ub_tree.specs.View.{TreeView}
 
 -- the span before the one at a place, if there is one
 abbrev pub before : ℕ → List Region → Option Region
@@ -98,38 +93,6 @@ module _ (spans : List Region) (ordered : (i j : ℕ) (a b : Region) → i < j �
         ]
       ]
 
--- ---- the same of a tree, whose regions are handed to a sink
-
 pub spans_long : (last : ℕ) (placed : List Placed) → length (regions_of last (map entry_of placed)) ≡ length placed
 spans_long last [] = refl
 spans_long last (p ∷ placed) = ap suc (spans_long last placed)
-
--- so far as a walk has come, in which nothing changes
-pub record Walks (boxes : List Corners) (t now : TreeView) (found : List Region) (after : Option Region) : Type 0 where
-  pub same : now ≡ t
-  pub come : AreFirst boxes t None found after
-
-module _ (boxes : List Corners) (t now : TreeView) (found : List Region) (after : Option Region) (walks : Walks boxes t now found after) where
-  -- what the tree tells next, of one that is the same
-  told : (next copied : Option Region) → copied ≡ after → GivesNext boxes now copied next → GivesNext boxes t after next
-  told next copied is gives =
-      subst (λ (a : Option Region). GivesNext boxes t a next) is (subst (λ (x : TreeView). GivesNext boxes x copied next) walks.same gives)
-
-  pub walks_ended : (next copied : Option Region) → ((x : Region) → next ≡ Some x → ⊥) → copied ≡ after → GivesNext boxes now copied next → AreMetBy boxes t found
-  walks_ended None copied none is gives = answers_ended boxes t None found after walks.come (told None copied is gives)
-  walks_ended (Some span) copied none is gives = absurd (none span refl)
-
-  pub walks_on : (new : TreeView) (copied : Option Region) (span : Region) → new ≡ now → copied ≡ after → GivesNext boxes now copied (Some span)
-      → Walks boxes t new (found ++ span ∷ []) (Some span)
-  walks_on new copied span same is gives =
-      record { same = same ∙ walks.same; come = first_more boxes t None found after span walks.come (told (Some span) copied is gives) }
-
-  -- and fewer regions are left after it
-  pub walks_down : (copied : Option Region) (span : Region) → copied ≡ after → GivesNext boxes now copied (Some span) → left_after t (Some span) < left_after t after
-  walks_down copied span is gives = left_less boxes t after span (told (Some span) copied is gives)
-
--- ---- the sink
-
-module _ {S : Type 0} (Takes : S → List Region → S → Type 0) where
-  pub takes_more : (a b c : S) (some more : List Region) → TakesThese Takes a b some → TakesThese Takes b c more → TakesThese Takes a c (some ++ more)
-  takes_more a b c some more h k start taken has = subst (λ (regions : List Region). Takes start regions c) (append_assoc taken some more) (k start (taken ++ some) (h start taken has))

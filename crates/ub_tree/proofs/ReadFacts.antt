@@ -8,7 +8,7 @@ use Rattle.ub_store.specs.View.{Trace, emptied}
 use Rattle.ub_store.specs.declared.fault.StoreFault.TheVariants as store
 use Rattle.ub_table.specs.declared.fault.PageFault.{PageFault}
 use Rattle.ub_table.specs.declared.row.Key.{Key}
-use Rattle.ub_tree.specs.Effects.{IsReadFault, IsPageRefused, IsPageMissing, IsSearchFault, IsStopped, SearchesFor, raised_by}
+use Rattle.ub_tree.specs.Effects.{IsReadFault, IsPageRefused, IsPageMissing, IsSearchFault, IsStopped, raised_by}
 use Rattle.ub_tree.specs.Reading.{IsGiven, IsWalkFault, ReadsTree, SearchesTree, counted, fault_of_tree, read_store}
 use Rattle.ub_tree.specs.Spans.{Region}
 use Rattle.ub_tree.specs.Told.{AreFirst, GivesNext, IsRegionOf, SeeksNext}
@@ -126,21 +126,9 @@ pub walk_given : (boxes : List Corners) (t : TreeView) (e : ReadFault) → IsWal
 walk_given boxes t read.Memory h = tt
 walk_given boxes t (read.Tree fault) (other, found, after, first, h) = (searched_fault (SeeksNext boxes t after) t fault h, other)
 
-walk_of : (boxes : List Corners) (t : TreeView) (found : List Region) (after : Option Region) (e : TreeFault) → AreFirst boxes t None found after → IsSearchFault (SeeksNext boxes t after) t e
+pub walk_of : (boxes : List Corners) (t : TreeView) (found : List Region) (after : Option Region) (e : TreeFault) → AreFirst boxes t None found after → IsSearchFault (SeeksNext boxes t after) t e
     → IsWalkFault boxes t (fault_of_tree e)
 walk_of boxes t found after e first h = search rules
-
--- the fault of a search handed on, after others that changed nothing
-pub searches_by : {T U : Type 0} (r : Result T ReadFault) (e : TreeFault) (boxes : List Corners) (a b c : TreeView) (found : List Region) (after copied : Option Region)
-    → IsErrAnd r (λ x. x ≡ fault_of_tree e) → b ≡ a → copied ≡ after → AreFirst boxes a None found after → SearchesFor {A = U} (SeeksNext boxes b copied) b c (Err e)
-    → SearchesTree boxes a c r
-searches_by (Ok x) e boxes a b c found after copied is same alike first h = absurd is
-searches_by {T = T} (Err f) e boxes a b c found after copied is same alike first h =
-    rw is (subst (λ (t : TreeView). SearchesTree {A = T} boxes t c (Err (fault_of_tree e))) same (record {
-      same = h.same ∙ ap (λ (n : ℕ). record b { store = record b.store { failed_reads = n } }) (sym (counted_of T e b.store.failed_reads));
-      faults = walk_of boxes b found after e (subst (λ (t : TreeView). AreFirst boxes t None found after) (sym same) first)
-          (subst (λ (o : Option Region). IsSearchFault (SeeksNext boxes b o) b e) alike h.faults);
-    }))
 
 -- a walk reads no more than what a tree is searched for
 pub searched_read : {A : Type 0} {boxes : List Corners} (old new : TreeView) (r : Result A ReadFault) → SearchesTree boxes old new r → ReadsTree old new r

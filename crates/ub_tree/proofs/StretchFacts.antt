@@ -149,7 +149,7 @@ module _ (t : TreeView) (s : Stretch) (small : t.inner.index.last < 2 ^ 128) (so
       (λ sound. let way = (missing h).2 sound.honest in no_stop t way.0 (missing h).0 None small sound way.1, inl (missing h))
   read_fault e h = absurd h
 
-stores_alike : (T U : Type 0) (e : IndexFault) (s : StoreFacts) → store_after {A = U} (Err e) s ≡ read_store {A = T} (Err (fault_of_tree (index_fault e))) s
+pub stores_alike : (T U : Type 0) (e : IndexFault) (s : StoreFacts) → store_after {A = U} (Err e) s ≡ read_store {A = T} (Err (fault_of_tree (index_fault e))) s
 stores_alike T U e s = search rules
 
 -- the call of the index as one of the tree

@@ -12,7 +12,8 @@ use Rattle.ub_tree.specs.View.{TreeView}
 use Rattle.ub_tree.specs.declared.fault.TreeFault.TheVariants as tree
 use Rattle.ub_tree.specs.declared.read_fault.ReadFault.{ReadFault}
 use Rattle.ub_tree.specs.declared.read_fault.ReadFault.TheVariants.{Memory, Tree}
-pub use Rattle.ub_index.specs.Stretches.{Began, MeetsAny, TakesThese, holds_key, within}
+pub use Rattle.ub_index.specs.Sinks.{Began, TakesThese}
+pub use Rattle.ub_index.specs.Stretches.{MeetsAny, holds_key, within}
 pub use Rattle.ub_index.specs.declared.stretch.Stretch.{Stretch}
 
 -- the whole tree as one stretch

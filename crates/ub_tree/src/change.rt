@@ -19,7 +19,7 @@ ghost use Rattle.ub_tree.specs.Told.{IsRegionOf};
 ghost use Rattle.ub_tree.specs.View.{IsSound, region_count};
 ghost use Rattle.ub_writing.specs.Puts.{PutsTwo};
 
-use crate::fault::{TreeFault, bad_count};
+use crate::fault::TreeFault;
 use crate::tree::Tree;
 use ub_check::read_region;
 use ub_index_change::{Change, commit};
@@ -31,14 +31,6 @@ use ub_writing::{Drafts, Room, put_halves, put_region, take_room};
 
 // One above the last number that a row can have.
 const NEXT_END: u32 = MAX_ROW_NUMBER + 1;
-
-// The number that the next row gets, once a row of this number is there too.
-fn next_after(next: u32, number: u32) -> u32
-    requires { number ≤ MAX_ROW_NUMBER }
-    ensures { result ≡ spec.next_after next number }
-{
-    if number < next { next } else { number + 1 }
-}
 
 // The refusal of a call in which the store failed as it was changed: the tree has failed then.
 fn failing(is_failed: &mut bool, fault: StoreFault) -> TreeFault
@@ -108,14 +100,17 @@ impl<S: PageStore> Tree<S> {
         }
     }
 
-    // The refusal of a region more or fewer than a header can count.
+    // The refusal of a region more or fewer than a header can count, or of a row where none is counted.
     pub(crate) fn uncounted(&self) -> TreeFault
         ensures fault { result ≡ TreeFault.Page 0 PageFault.BadCount }
         ensures many { region_count self.now ≡ 4294967295 → ¬ (IsSound self.now) }
     {
         // Its contract tells the proof how many pages there can be.
         let _pages = self.pager.pages();
-        bad_count()
+        TreeFault::Page {
+            page: 0,
+            fault: PageFault::BadCount,
+        }
     }
 
     // Gives the store the pages that a change needs. After a failure of the device the tree has failed.
@@ -313,7 +308,7 @@ impl<S: PageStore> Tree<S> {
             });
         };
         self.store_with(&region, index, row, room)?;
-        self.next = next_after(self.next, row.number);
+        self.next = self.next.max(row.number + 1);
         self.rows += 1;
         Ok(row.number)
     }

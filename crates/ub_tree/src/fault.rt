@@ -1,5 +1,3 @@
-ghost use Rattle.std.specs.Prelude.{◌≡◌};
-
 use std::alloc::AllocError;
 use thiserror::Error;
 use ub_index::IndexFault;
@@ -25,16 +23,6 @@ pub enum TreeFault {
     /// Memory was refused.
     #[error("Memory")]
     Memory,
-}
-
-/// The refusal of a table of which the header counts other regions or rows than there are.
-pub(crate) fn bad_count() -> TreeFault
-    ensures { result ≡ TreeFault.Page 0 PageFault.BadCount }
-{
-    TreeFault::Page {
-        page: 0,
-        fault: PageFault::BadCount,
-    }
 }
 
 impl From<StoreFault> for TreeFault {

@@ -4,9 +4,10 @@
 //! `Indexed` (where its index stands), `Effects` (what a call leaves), `Stored` (the pages of a closed table), `Opened` (which pages are
 //! opened), `Old` and `Upgrade` (the pages of a table of an older format, and what is made of them), `Closing`, `Checking` (where a
 //! check of all pages stops), `Holding`, `Others` and `Pages` (what a change of any tree must answer, and what it leaves of the
-//! pages), `Stretches` (what an entry of any level of the index names); the functions of `law` ensure the laws of a sound tree. The code: `creation`, `opening` and `upgrading`
-//! to begin, `checking` to look at all pages, `tree` to search and read, `stretches` to go down the index step by step, `change` to put
-//! rows in, `removal` to take them out, `closing` to end; `finding` asks the index where a region is.
+//! pages), `Stretches` (what an entry of any level of the index names); the functions of `law` ensure the laws of a sound tree. The code:
+//! `creation`, `opening` and `upgrading` to begin, `checking` to look at all pages, `tree` to search, to walk over regions and to read,
+//! `stretches` to go down the index step by step, `change` to put rows in, `removal` to take them out, `closing` to end; `finding` asks
+//! the index where a region is.
 //!
 //! What belongs here is what a tree does over a store. In which order its pages go out, and the mark of a changed table, stand in
 //! `ub_writing`; where each region's page is, in `ub_index`, and how that changes, in `ub_index_change`; how a region is taken in, and all
@@ -25,15 +26,12 @@ pub mod law;
 mod opening;
 pub mod read_fault;
 mod removal;
-pub mod sink;
 mod stretches;
 pub mod tree;
 mod upgrading;
-mod walking;
 
 pub use fault::TreeFault;
 pub use read_fault::ReadFault;
-pub use sink::RegionSink;
 pub use tree::Tree;
-pub use ub_index::{Stretch, StretchSink};
+pub use ub_index::{RegionSink, Stretch, StretchSink};
 pub use ub_region::Region;

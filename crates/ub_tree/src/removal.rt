@@ -5,7 +5,7 @@ ghost use Rattle.ub_tree.specs.inner.Removing.{IsPair, Joins, JoinsNextTo, Joins
 ghost use Rattle.ub_tree.specs.Removal.{Removes};
 ghost use Rattle.ub_tree.specs.Told.{IsRegionOf};
 
-use crate::fault::{TreeFault, bad_count};
+use crate::fault::TreeFault;
 use crate::tree::Tree;
 use std::mem::swap;
 use ub_page::RegionPage;
@@ -127,7 +127,7 @@ impl<S: PageStore> Tree<S> {
             return Ok(false);
         }
         if self.rows == 0 {
-            return Err(bad_count());
+            return Err(self.uncounted());
         }
         self.settle(&region, room)?;
         self.rows -= 1;

@@ -1,21 +1,24 @@
-ghost use Rattle.std.specs.Prelude.{◌≡◌, ◌<◌, ◌≤◌, ◌+◌, false, IsTrue, Err, length, IfOk, IfSome, option_copied};
+ghost use Rattle.std.specs.Prelude.{◌≡◌, ◌<◌, ◌≤◌, ◌+◌, false, IsTrue, Err, List, length, IfOk, IfSome, OnOk, option_copied};
 ghost use Rattle.ub_region.specs.RegionPage.{empty_region};
 ghost use Rattle.ub_store.specs.View.{emptied};
 ghost use Rattle.ub_table.specs.declared.row.TheConstants.{MAX_ROW_NUMBER};
 ghost use Rattle.ub_tree.specs.Calls.{TakesIn};
 ghost use Rattle.ub_tree.specs.Effects.{SearchesFor};
-ghost use Rattle.ub_tree.specs.Spans.{IsLater, Meets, First};
+ghost use Rattle.ub_tree.specs.Handing.{AreMetBy, Began, TakesThese};
+ghost use Rattle.ub_tree.specs.Reading.{SearchesTree};
+ghost use Rattle.ub_tree.specs.Spans.{IsLater, Meets, First, Region};
 ghost use Rattle.ub_tree.specs.Told.{GivesAt, GivesNext, IsRegionOf, SeeksAt, SeeksNext};
 ghost use Rattle.ub_tree.specs.Tree.{IsTree, tree_view};
 ghost use Rattle.ub_tree.specs.View.{IsSound, level_count, region_count, spans_of};
 ghost use Rattle.ub_writing.specs.Marks.{is_written};
 
 use crate::fault::TreeFault;
+use crate::read_fault::ReadFault;
 use std::alloc::Global;
 use std::marker::Model;
 use ub_bigmin::ZBox;
 use ub_check::fetch_region;
-use ub_index::Index;
+use ub_index::{Index, RegionSink};
 use ub_page::{Header, RegionPage};
 use ub_region::Region;
 use ub_store::{PageStore, Pager};
@@ -190,6 +193,29 @@ impl<S: PageStore> Tree<S> {
         }
         let found = self.index.next_meeting(&mut self.pager, boxes, after)?;
         Ok(found)
+    }
+
+    /// Hands each region that meets one of the boxes to a sink, one after the other, in the order of their first keys: over any
+    /// tree just those that `next_meeting` answers, asked after each of them until there is none. No region is fetched, and the
+    /// trace stays.
+    ///
+    /// `Memory` where memory was refused, here or by the sink; `Tree` where the tree refused the search for the next region, after
+    /// some of them.
+    pub fn for_each_meeting<T: RegionSink>(
+        &mut self,
+        boxes: &[ZBox],
+        sink: &mut T,
+    ) -> Result<(), ReadFault>
+        requires { Began (T.Takes boxes.now) sink.old }
+        ensures met { OnOk result ((met : List Region) × AreMetBy boxes.now self.old met
+            × TakesThese (T.Takes boxes.now) sink.old sink.new met) }
+        ensures effect { SearchesTree boxes.now self.old self.new result }
+    {
+        if self.has_failed() {
+            return Err(ReadFault::Tree(TreeFault::Failed));
+        }
+        self.index.for_each_meeting(&mut self.pager, boxes, sink)?;
+        Ok(())
     }
 
     /// A region of no rows, for `read_region`. Takes no memory.

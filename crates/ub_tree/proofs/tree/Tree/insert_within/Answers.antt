@@ -5,7 +5,7 @@ use Rattle.ub_table.specs.Region.{IsRow, key_of, measures_of}
 use Rattle.ub_table.specs.declared.fault.PageFault.TheVariants.{BadOrder}
 use Rattle.ub_table.specs.declared.row.Key.{Key}
 use Rattle.ub_tree.proofs.EffectFacts.{changes_of, counted_anew, left_by, marked_sound, searched_by, then_changed, unchanged_of}
-use Rattle.ub_tree.proofs.GrowFacts.{added_answers, grown, grows_by, key_there, passing_answers_key, answers_err_at, answers_ok_at, refused_inserts}
+use Rattle.ub_tree.proofs.GrowFacts.{added_answers, grown, grows_by, key_there, passing_answers_key, answers_err_at, answers_ok_at, next_is, refused_inserts}
 use Rattle.ub_tree.proofs.HoldingFacts.{key_is_there, next_key}
 use Rattle.ub_tree.proofs.RemovalFacts.{holder}
 use Rattle.ub_tree.proofs.RoomFacts.{can_stand, rows_on}
@@ -97,9 +97,9 @@ returns g c =
     let last_a : a.inner.index.last ≡ last_address a.schema.dims = subst (λ (v : TreeView). v.inner.index.last ≡ last_address v.schema.dims) c.self.view_is c.self.invariant.last_is in
     let can = can_stand a span row page.region.rows last_a (rows_on a span page.region read.read.on) read.falls.holds good has in
     let u = c.self-2.inside in
-    let d : TreeView = tree_view u.schema u.index u.count c.next_after-self-inside.result (u.rows + 1) (is_written u.mark) u.is_failed u.pager in
+    let d : TreeView = tree_view u.schema u.index u.count c.max-self-inside.result (u.rows + 1) (is_written u.mark) u.is_failed u.pager in
     let d_is : d ≡ record after { next = next_after after.next row.number; rows = after.rows + 1 } =
-    ap (λ (n : ℕ). tree_view u.schema u.index u.count n (u.rows + 1) (is_written u.mark) u.is_failed u.pager) c.next_after-self-inside.ensures
+    ap (λ (n : ℕ). tree_view u.schema u.index u.count n (u.rows + 1) (is_written u.mark) u.is_failed u.pager) (c.max-self-inside.ensures ∙ next_is _ row.number)
     ∙ ap (λ (v : TreeView). record v { next = next_after v.next row.number; rows = v.rows + 1 }) c.self-2.view_is in
     let few : after.inner.count < 2 ^ 32 = subst (λ (v : TreeView). v.inner.count < 2 ^ 32) c.self-2.view_is c.self-2.invariant.few in
     let last : after.inner.index.last ≡ last_address after.schema.dims = subst (λ (v : TreeView). v.inner.index.last ≡ last_address v.schema.dims) c.self-2.view_is c.self-2.invariant.last_is in

@@ -30,7 +30,7 @@ returns-then-self-eq0 g c =
     let same = c.in_ok-region.ensures.effect.same in
     let has = has_told page.region.rows read.read.dims refl c.remove.ensures.found c.if-not-remove.false in
     let none = sym (ap (λ (v : TreeView). v.rows) (c.self.view_is ∙ same)) ∙ c.if-self-eq0.true in
-    rw c.bad_count.ensures (uncounted_removes c.args.self.now c.args.key.now c.requires c.read_holding.new.self c.in_ok-region.region page read same has none)
+    rw c.uncounted.ensures.fault (uncounted_removes c.args.self.now c.args.key.now c.requires c.read_holding.new.self c.in_ok-region.region page read same has none)
 
 pub settle-requires-clause-rows : goal.settle-requires-clause-rows
 settle-requires-clause-rows g c =

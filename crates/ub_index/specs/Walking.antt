@@ -1,0 +1,46 @@
+-- A walk over the regions of an index that meet some boxes, over any store and any pages.
+use Rattle.std.specs.Prelude.{◌≡◌, ◌<◌, ◌^◌, ℕ, List, [], ◌∷◌, Option, Some, None, Result, IfErr, OnOk}
+use Rattle.ub_bigmin.specs.Box.{Corners}
+use Rattle.ub_index.specs.Along.{Meeting}
+use Rattle.ub_index.specs.Descending.{IsForgotten}
+use Rattle.ub_index.specs.Held.{AreChecked, KeepsChecked, NoneMoreButIndex}
+use Rattle.ub_index.specs.Searching.{GivesAfter, IsSought, IsWayFault, store_after}
+use Rattle.ub_index.specs.Sinks.{TakesThese}
+use Rattle.ub_index.specs.Spans.{IsLater}
+use Rattle.ub_index.specs.View.{IndexView}
+use Rattle.ub_index.specs.declared.fault.IndexFault.{IndexFault}
+use Rattle.ub_region.specs.declared.region.Region.{Region}
+use Rattle.ub_store.specs.Facts.{StoreFacts}
+use Rattle.ub_store.specs.View.{PagerView}
+use Rattle.ub_table.specs.declared.row.Key.{Key}
+
+-- this region is given after another one, if one is given, and is later
+pub record IsGivenNext (index : IndexView) (store : StoreFacts) (To : Key → Option ℕ → Type 0) (after : Option Region) (found : Region) : Type 0 where
+  pub given : GivesAfter index store To after (Some found)
+  pub later : IsLater after found
+  pub small : found.first.number < 2 ^ 32
+
+-- these are given first, each after the one before it, and this is the last of them
+abbrev pub AreGivenFirst : IndexView → StoreFacts → (Key → Option ℕ → Type 0) → Option Region → List Region → Option Region → Type 0
+AreGivenFirst index store To after [] last = after ≡ last
+AreGivenFirst index store To after (found ∷ more) last = IsGivenNext index store To after found × AreGivenFirst index store To (Some found) more last
+
+-- these are all that are given, from the beginning on, each after the one before it, until none is
+abbrev pub AreAllGiven : IndexView → StoreFacts → (Key → Option ℕ → Type 0) → List Region → Type 0
+AreAllGiven index store To regions = (last : Option Region) × AreGivenFirst index store To None regions last × GivesAfter index store To last None
+
+-- why a walk is refused: as a search is after some of the regions that are given
+abbrev pub IsWalkRefused : IndexView → StoreFacts → (Key → Option ℕ → Type 0) → IndexFault → Type 0
+IsWalkRefused index store To fault =
+    (found : List Region) × (last : Option Region) × AreGivenFirst index store To None found last × IsWayFault index store (IsSought index store To last) fault
+
+-- the regions that meet the boxes were to be handed over, and this was answered: the sink has taken all that are given. With the device's fault
+-- the store has one failed read more, and else nothing has changed but the pages that the pager holds, none more but of the index
+pub record WalksOver {S A : Type 0} (Takes : S → List Region → S → Type 0) (index : IndexView) (boxes : List Corners) (before after : S) (old new : PagerView)
+    (result : Result A IndexFault) : Type 0 where
+  pub met : OnOk result ((met : List Region) × TakesThese Takes before after met × (AreChecked index.last old → AreAllGiven index old.store (Meeting boxes) met))
+  pub forgotten : IfErr result (IsForgotten new)
+  pub same : new ≡ record old { store = store_after result old.store; cached = new.cached }
+  pub checked : KeepsChecked index.last old new
+  pub more : NoneMoreButIndex index.last old.cached new.cached
+  pub faults : AreChecked index.last old → IfErr result (IsWalkRefused index old.store (Meeting boxes))

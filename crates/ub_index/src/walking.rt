@@ -1,0 +1,157 @@
+// A walk over the regions of an index that meet some boxes: along a leaf, and then down to the next one.
+ghost use Rattle.std.specs.Prelude.{◌≡◌, ◌<◌, ◌≤◌, ◌∷◌, [], List, IfOk, OnOk};
+ghost use Rattle.ub_bigmin.specs.Box.{Corners};
+ghost use Rattle.ub_index.specs.Along.{ComesToLeaf, HandsAlong, HandsLeaf, IsSlotNext, Meeting};
+ghost use Rattle.ub_index.specs.Fitting.{FitsAtEnds};
+ghost use Rattle.ub_index.specs.Sinks.{Began, TakesThese};
+ghost use Rattle.ub_index.specs.Spans.{Meets};
+ghost use Rattle.ub_index.specs.View.{index_view};
+ghost use Rattle.ub_index.specs.Walking.{WalksOver};
+ghost use Rattle.ub_page.specs.Index.{head_on};
+ghost use Rattle.ub_region.specs.declared.region.Region.{Region};
+
+use crate::descent::{Leaf, aim, bring_next, ends_before, place_in, slot_behind};
+use crate::fault::IndexFault;
+use crate::goal::Goal;
+use crate::index::{Index, leaf_of, region_at};
+use std::alloc::AllocError;
+use ub_bigmin::ZBox;
+use ub_page::{MAX_ENTRIES, Page, first_at};
+use ub_region::{ORIGIN, Region};
+use ub_store::{PageStore, Pager};
+use ub_table::{Key, PageFault};
+
+/// What is handed the regions that meet some boxes, one after the other, and makes something of them.
+///
+/// A proof sees which regions it has taken between two of its states: `Takes`.
+pub trait RegionSink {
+    ghost Takes: { List Corners → Self → List Region → Self → Type 0 };
+
+    /// Takes one more region that meets the boxes. After a refusal the sink is used no more.
+    fn push(&mut self, boxes: &[ZBox], region: &Region) -> Result<(), AllocError>
+        requires meets { Meets boxes.now region.now }
+        requires began { Began (Takes boxes.now) self.old }
+        ensures { OnOk result (TakesThese (Takes boxes.now) self.old self.new
+            (region.now ∷ [])) };
+}
+
+impl Index {
+    /// Hands each region that meets one of the boxes to a sink, one after the other, in the order of their first keys: over any
+    /// store just those that `next_meeting` gives, asked after each of them until there is none. A leaf that the search comes to is
+    /// gone along while it holds the next one.
+    ///
+    /// Refused as `next_meeting` is, after some of them; Store with Memory comes also where memory was refused by the sink.
+    pub fn for_each_meeting<S: PageStore, T: RegionSink>(
+        &self,
+        pager: &mut Pager<S>,
+        boxes: &[ZBox],
+        sink: &mut T,
+    ) -> Result<(), IndexFault>
+        requires { Began (T.Takes boxes.now) sink.old }
+        ensures { WalksOver (T.Takes boxes.now) self.now boxes.now sink.old sink.new pager.old
+            pager.new result }
+    {
+        let last = self.last();
+        let (root, levels) = self.root();
+        let mut from = Some(ORIGIN);
+        while let Some(key) = from {
+            from = hand_leaf(pager, root, levels, last, boxes, &key, sink)?;
+            if !ends_before(&key, &from) {
+                pager.forget(root);
+                return Err(IndexFault::Page {
+                    page: root,
+                    fault: PageFault::OutOfRegion,
+                });
+            }
+        }
+        Ok(())
+    }
+}
+
+// Hands over the regions from a key on that meet the boxes, of the leaf to which the search goes down from a root of this level. It
+// goes on from a later key then, if it does, unless what that leaf gives begins before the key.
+fn hand_leaf<S: PageStore, T: RegionSink>(
+    pager: &mut Pager<S>,
+    root: u32,
+    levels: u32,
+    last: u128,
+    boxes: &[ZBox],
+    from: &Key,
+    sink: &mut T,
+) -> Result<Option<Key>, IndexFault>
+    requires low { 1 ≤ levels }
+    requires began { Began (T.Takes boxes.now) sink.old }
+    ensures { HandsLeaf (T.Takes boxes.now) (index_view root levels last) (Meeting boxes.now)
+        from.now sink.old sink.new pager.old pager.new result }
+{
+    let Some(key) = aim(&Goal::Boxes(boxes), last, from) else {
+        return Ok(None);
+    };
+    let leaf = leaf_of(pager, root, levels, last, &key)?;
+    let head = bring_next(pager, last, 1, &leaf.place)?;
+    let page = pager.cached(leaf.place.entry.page);
+    let on = hand_along(page, head.count, last, &leaf, boxes, from, sink)?;
+    Ok(on)
+}
+
+// Hands over the regions of a leaf's page that meet the boxes and follow one another from a key on. Answers where the last of them
+// ends, or else that key.
+fn hand_along<T: RegionSink>(
+    page: &Page,
+    count: usize,
+    last: u128,
+    leaf: &Leaf,
+    boxes: &[ZBox],
+    from: &Key,
+    sink: &mut T,
+) -> Result<Option<Key>, AllocError>
+    requires count { count ≡ (head_on page.now).count }
+    requires ends { FitsAtEnds page.now 1 leaf.now.place.entry leaf.now.place.next }
+    requires comes { ComesToLeaf last (Meeting boxes.now) from.now leaf.now }
+    requires began { Began (T.Takes boxes.now) sink.old }
+    ensures { IfOk result (HandsAlong (T.Takes boxes.now) last (Meeting boxes.now) leaf.now
+        page.now count from.now sink.old sink.new) }
+{
+    let mut on = *from;
+    let mut behind = 0;
+    while let Some(slot) = next_slot(page, count, last, leaf, boxes, behind, &on) {
+        let place = place_in(page, count, slot, leaf.place.next);
+        let region = region_at(last, place.entry, place.next);
+        sink.push(boxes, &region)?;
+        let Some(next) = region.next else {
+            return Ok(None);
+        };
+        on = next;
+        behind = slot;
+    }
+    Ok(Some(on))
+}
+
+// The slot of a leaf's page in which the next region from a key on stands that meets the boxes, mostly the one behind this slot. None
+// where the search goes down elsewhere, or falls to what begins before the key.
+fn next_slot(
+    page: &Page,
+    count: usize,
+    last: u128,
+    leaf: &Leaf,
+    boxes: &[ZBox],
+    behind: usize,
+    from: &Key,
+) -> Option<usize>
+    requires within { behind < count }
+    requires few { count ≤ MAX_ENTRIES }
+    ensures { IsSlotNext last (Meeting boxes.now) leaf.now page.now count from.now result }
+{
+    let Some(key) = aim(&Goal::Boxes(boxes), last, from) else {
+        return None;
+    };
+    if !ends_before(&key, &leaf.until) {
+        return None;
+    }
+    let slot = slot_behind(page, count, behind, &key);
+    if first_at(page, slot).is_before(from) {
+        None
+    } else {
+        Some(slot)
+    }
+}
