@@ -98,6 +98,14 @@ put_none value mask rows i count values below none many so_far =
     let (row, at) = there_is rows i below in
     let same = next_is_clear mask rows i row at none in (many ∙ ap length (sym same), so_far ∙ ap (λ (rs : List Row). map value rs) (sym same))
 
+-- the same of all rows
+pub put_next : (value : Row → ℤ) (rows : List Row) (i : ℕ) (row : Row) (values : List ℤ) (v : ℤ) → slice_get rows i ≡ Some row → v ≡ value row → i < length values
+    → take i values ≡ map value (take i rows) → take (i + 1) (slice_set values i v) ≡ map value (take (i + 1) rows)
+put_next value rows i row values v at is within so_far =
+    take_more_set values i v within ∙ ap (λ (xs : List ℤ). xs ++ v ∷ []) so_far ∙ ap (λ (x : ℤ). map value (take i rows) ++ x ∷ []) is
+    ∙ sym (map_push value (take i rows) row)
+    ∙ ap (map value) (sym (take_more rows i row (slice_get_within rows i row at) ∙ ap (λ (r : Row). take i rows ++ r ∷ []) (get_or_from_slice_get rows i row row at)))
+
 -- ---- how many they are
 
 bit_there : (mask k i : ℕ) (rows : List Row) → i < length rows → cond (slice_index_or (map (has_bit mask) (placed_from k rows)) i false) 1 0 ≡ bit_at mask (k + i)
@@ -157,6 +165,35 @@ few_at mask rows most few =
     let some = count_by-le-length (has_bit mask) (placed_from 0 rows) in
     let all = length-placed 0 rows in
     omega arith
+
+-- where they are as many as there are, they are all
+rows_placed : (k : ℕ) (rows : List Row) → map row_of (placed_from k rows) ≡ rows
+rows_placed k [] = refl
+rows_placed k (r ∷ rows) = ap (λ (rs : List Row). r ∷ rs) (rows_placed (k + 1) rows)
+
+all_pass : (test : ℕ × Row → Bool) (ps : List (ℕ × Row)) → length (filter test ps) ≡ length ps → filter test ps ≡ ps
+all_pass test [] many = refl
+all_pass test (p ∷ ps) many = by_test (test p) refl (λ (e : length (filter test ps) ≡ length ps). all_pass test ps e)
+  where
+    rest : length (filter test ps) ≤ length ps
+    rest = let counted = length-filter test ps in let some = count_by-le-length test ps in omega arith
+
+    by_test : (b : Bool) → test p ≡ b → (length (filter test ps) ≡ length ps → filter test ps ≡ ps) → filter test (p ∷ ps) ≡ p ∷ ps
+    by_test true is later =
+        let first : filter test (p ∷ ps) ≡ p ∷ filter test ps = rw is refl in
+        let long : suc (length (filter test ps)) ≡ suc (length ps) = sym (ap length first) ∙ many in
+        first ∙ ap (λ (qs : List (ℕ × Row)). p ∷ qs) (later (omega arith))
+    by_test false is later =
+        let first : filter test (p ∷ ps) ≡ filter test ps = rw is refl in
+        let long : length (filter test ps) ≡ suc (length ps) = sym (ap length first) ∙ many in
+        let few = rest in
+        absurd (omega arith)
+
+pub all_at : (mask : ℕ) (rows : List Row) → length (rows_at mask rows) ≡ length rows → rows_at mask rows ≡ rows
+all_at mask rows many =
+    let long : length (filter (has_bit mask) (placed_from 0 rows)) ≡ length (placed_from 0 rows) =
+    sym (length-map (filter (has_bit mask) (placed_from 0 rows)) row_of) ∙ many ∙ sym (length-placed 0 rows) in
+    ap (map row_of) (all_pass (has_bit mask) (placed_from 0 rows) long) ∙ rows_placed 0 rows
 
 -- ---- the rows that a test tells
 
