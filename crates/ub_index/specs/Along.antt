@@ -32,9 +32,11 @@ ComesToLeaf last To from leaf = (aim : Key) × IsAim last To from aim × HoldsLe
 -- what begins before the key
 abbrev pub IsSlotNext : ℕ → (Key → Option ℕ → Type 0) → Leaf → List ℕ → ℕ → Key → Option ℕ → Type 0
 IsSlotNext last To leaf page count from None =
-    (aim : Key) → IsAim last To from aim → IfSome leaf.until (IsBefore aim) → (slot : ℕ) × IsSlot aim count page slot × IsBefore (first_in slot page) from
+    (aim : Key) → IsAim last To from aim → IfSome leaf.until (IsBefore aim)
+    → (slot : ℕ) × IsSlot aim count page slot × IsBefore (first_in slot page) from
 IsSlotNext last To leaf page count from (Some slot) =
-    (aim : Key) × IsAim last To from aim × IfSome leaf.until (IsBefore aim) × IsSlot aim count page slot × (¬ (IsBefore (first_in slot page) from))
+    (aim : Key) × IsAim last To from aim × IfSome leaf.until (IsBefore aim)
+    × IsSlot aim count page slot × (¬ (IsBefore (first_in slot page) from))
 
 -- among the entries of the leaf this region is the next one from a key on
 pub record StandsNext (last : ℕ) (To : Key → Option ℕ → Type 0) (leaf : Leaf) (entries : List Entry) (from : Key) (region : Region) : Type 0 where
@@ -54,8 +56,8 @@ FollowOn last To leaf entries from (region ∷ more) on =
 
 -- the regions of a leaf's page that follow one another from a key on were handed over, and the walk goes on from where the last of them ends. It
 -- stays at the key only where none is the next one
-pub record HandsAlong {S : Type 0} (Takes : S → List Region → S → Type 0) (last : ℕ) (To : Key → Option ℕ → Type 0) (leaf : Leaf) (page : List ℕ) (count : ℕ)
-    (from : Key) (before after : S) (on : Option Key) : Type 0 where
+pub record HandsAlong {S : Type 0} (Takes : S → List Region → S → Type 0) (last : ℕ) (To : Key → Option ℕ → Type 0) (leaf : Leaf)
+    (page : List ℕ) (count : ℕ) (from : Key) (before after : S) (on : Option Key) : Type 0 where
   pub regions : List Region
   pub takes : TakesThese Takes before after regions
   pub follow : FollowOn last To leaf (node_on page).entries (Some from) regions on
@@ -76,12 +78,13 @@ GivesAlong index store To from (region ∷ more) on = GivesOn index store To fro
 
 -- what is given where the search goes on from a key begins before it
 abbrev pub Crosses : IndexView → StoreFacts → (Key → Option ℕ → Type 0) → Key → Type 0
-Crosses index store To from = (aim : Key) × IsAim index.last To from aim × (region : Region) × Gives index store aim region × IsBefore region.first from
+Crosses index store To from =
+    (aim : Key) × IsAim index.last To from aim × (region : Region) × Gives index store aim region × IsBefore region.first from
 
--- the regions of a leaf from a key on were to be handed over, and this was answered: from where the walk goes on, if it does, which is a later key
--- unless what is given begins before the key
-pub record HandsLeaf {S : Type 0} (Takes : S → List Region → S → Type 0) (index : IndexView) (To : Key → Option ℕ → Type 0) (from : Key) (before after : S)
-    (old new : PagerView) (result : Result (Option Key) IndexFault) : Type 0 where
+-- the regions of a leaf from a key on were to be handed over, and this was answered: from where the walk goes on, if it does, which is a
+-- later key unless what is given begins before the key
+pub record HandsLeaf {S : Type 0} (Takes : S → List Region → S → Type 0) (index : IndexView) (To : Key → Option ℕ → Type 0) (from : Key)
+    (before after : S) (old new : PagerView) (result : Result (Option Key) IndexFault) : Type 0 where
   pub taken : IfOk result (λ on. (regions : List Region) × TakesThese Takes before after regions
       × (AreChecked index.last old → GivesAlong index old.store To (Some from) regions on))
   pub stays : AreChecked index.last old → IfOk result (λ on. IfSome on (λ key. ¬ (IsBefore from key) → Crosses index old.store To from))

@@ -32,13 +32,15 @@ AreAllGiven index store To regions = (last : Option Region) × AreGivenFirst ind
 -- why a walk is refused: as a search is after some of the regions that are given
 abbrev pub IsWalkRefused : IndexView → StoreFacts → (Key → Option ℕ → Type 0) → IndexFault → Type 0
 IsWalkRefused index store To fault =
-    (found : List Region) × (last : Option Region) × AreGivenFirst index store To None found last × IsWayFault index store (IsSought index store To last) fault
+    (found : List Region) × (last : Option Region) × AreGivenFirst index store To None found last
+    × IsWayFault index store (IsSought index store To last) fault
 
 -- the regions that meet the boxes were to be handed over, and this was answered: the sink has taken all that are given. With the device's fault
 -- the store has one failed read more, and else nothing has changed but the pages that the pager holds, none more but of the index
-pub record WalksOver {S A : Type 0} (Takes : S → List Region → S → Type 0) (index : IndexView) (boxes : List Corners) (before after : S) (old new : PagerView)
-    (result : Result A IndexFault) : Type 0 where
-  pub met : OnOk result ((met : List Region) × TakesThese Takes before after met × (AreChecked index.last old → AreAllGiven index old.store (Meeting boxes) met))
+pub record WalksOver {S A : Type 0} (Takes : S → List Region → S → Type 0) (index : IndexView) (boxes : List Corners) (before after : S)
+    (old new : PagerView) (result : Result A IndexFault) : Type 0 where
+  pub met : OnOk result ((met : List Region) × TakesThese Takes before after met
+      × (AreChecked index.last old → AreAllGiven index old.store (Meeting boxes) met))
   pub forgotten : IfErr result (IsForgotten new)
   pub same : new ≡ record old { store = store_after result old.store; cached = new.cached }
   pub checked : KeepsChecked index.last old new
