@@ -26,7 +26,7 @@ use Rattle.ub_tree.specs.Tree.{placed_in, tree_view}
 use Rattle.ub_writing.specs.Creation.{IsLaidOut}
 use Rattle.ub_zaddr.specs.Address.{last_address}
 
-none_twice : IsDistinct nat_eq []
+pub none_twice : IsDistinct nat_eq []
 none_twice = IsDistinct-from_count nat_eq_equiv [] refl
 
 pub empty_is_region : (schema : Schema) → IsRegion schema only_region

@@ -38,6 +38,7 @@ pub mod OpeningFacts
 pub mod ClosingFacts
 pub mod CoverFacts
 pub mod CreationFacts
+pub mod LaidFacts
 pub mod ReadFacts
 pub mod ChainFacts
 pub mod UpgradeFacts

@@ -17,6 +17,7 @@ pub mod Closing
 pub mod Opened
 pub mod Old
 pub mod Upgrade
+pub mod Laid
 pub mod Others
 pub mod Holding
 pub mod Pages

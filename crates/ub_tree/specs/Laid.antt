@@ -1,0 +1,93 @@
+-- A table that is loaded: how it is begun over a store, and what stands there once its regions are laid.
+use Rattle.std.specs.Prelude.{◌≡◌, ◌≤◌, ◌<◌, ◌+◌, ◌*◌, ℕ, suc, true, false, List, [], ◌∷◌, None, Result, Err, IfErr, IfOk, length}
+use Rattle.ub_laying.specs.Effects.{HasFailedOnce, HasNotFailed, written}
+use Rattle.ub_region.specs.Regions.{AreRegions, rows_of}
+use Rattle.ub_store.specs.Cache.{page_at}
+use Rattle.ub_store.specs.Facts.{StoreFacts, IsHonest, page_count}
+use Rattle.ub_store.specs.View.{PagerView, untouched}
+use Rattle.ub_store.specs.declared.fault.Rejected.{Rejected}
+use Rattle.ub_store.specs.declared.fault.StoreFault.TheVariants as store
+use Rattle.ub_table.specs.Region.{RegionRows}
+use Rattle.ub_table.specs.declared.row.TheConstants.{MAX_ROW_NUMBER}
+use Rattle.ub_table.specs.declared.schema.Schema.{Schema}
+use Rattle.ub_tree.specs.Calls.{IsCreateFault}
+use Rattle.ub_tree.specs.Effects.{written_store}
+use Rattle.ub_tree.specs.Placed.{Placed}
+use Rattle.ub_tree.specs.View.{TreeView, IsSound, region_count, regions}
+use Rattle.ub_tree.specs.declared.fault.TreeFault.{TreeFault}
+use Rattle.ub_tree.specs.declared.fault.TreeFault.TheVariants.{Store}
+use Rattle.ub_writing.specs.Marks.{HasMark}
+
+-- a table that is begun: what it is made of, and the facts of its store
+pub record BegunView : Type 0 where
+  pub schema : Schema
+  pub store : StoreFacts
+
+abbrev pub begun_view : Schema → StoreFacts → BegunView
+begun_view schema store = record { schema = schema; store = store }
+
+-- the store behind a pager has one page alone, which marks a table of this schema as changed; no page is held, nor was any asked for
+pub record IsFresh (schema : Schema) (pager : PagerView) : Type 0 where
+  pub count : page_count pager.store ≡ 1
+  pub marked : IsHonest pager.store → HasMark schema pager.store.pages
+  pub held : (n : ℕ) → page_at pager.cached n ≡ None
+  pub trace : pager.trace ≡ untouched
+
+-- what is begun over a store with these facts: a table of this schema, whose first page marks it as changed, and stands alone
+pub record IsBegun (store : StoreFacts) (schema : Schema) (b : BegunView) : Type 0 where
+  pub schema_is : b.schema ≡ schema
+  pub store_is : b.store ≡ record store { pages = b.store.pages; synced = b.store.synced }
+  pub count : page_count b.store ≡ 1
+  pub marked : IsHonest store → HasMark schema b.store.pages
+
+-- a table of this schema was to be begun over a store with these facts, and this was answered: it was; or why not, with the store, in
+-- which no page stands but the first
+pub record Begins {S : Type 0} (facts : S → StoreFacts) (old : StoreFacts) (schema : Schema) (result : Result BegunView (Rejected S TreeFault)) : Type 0 where
+  pub begun : IfOk result (IsBegun old schema)
+  pub first : IfErr result (λ refused. page_count (facts refused.store) ≤ 1)
+  pub refused : IfErr result (λ refused. IsCreateFault old refused.fault)
+  pub left : IfErr result (λ refused. facts refused.store ≡ written_store {A = S} (Err refused.fault) old (facts refused.store))
+
+-- regions that can be laid as a table whose next row gets this number: they are regions of one, they have fewer rows than that, and
+-- there are no more of them than the first one and one for each row number before it
+pub record CanLay (schema : Schema) (next : ℕ) (grown : List RegionRows) : Type 0 where
+  pub regions_are : AreRegions schema next grown
+  pub fewer : length (rows_of grown) < next
+  pub last_next : next ≤ MAX_ROW_NUMBER + 1
+  pub few : length grown ≤ next
+
+-- these regions on pages that follow each other from this number on
+abbrev pub placed_from : ℕ → List RegionRows → List Placed
+placed_from n [] = []
+placed_from n (region ∷ regions) = record { page = n; region = region } ∷ placed_from (suc n) regions
+
+-- the tree of these regions, whose next row gets this number, over a store where its table was begun: over an honest one a sound tree, and
+-- the regions stand on pages that follow each other from the second page on; behind them are no more pages than as many again. It counts as
+-- changed, so that closing it writes and syncs it
+pub record IsLaid (begun : BegunView) (next : ℕ) (grown : List RegionRows) (t : TreeView) : Type 0 where
+  pub schema_is : t.schema ≡ begun.schema
+  pub sound : IsHonest begun.store → IsSound t
+  pub placed_are : IsHonest begun.store → t.placed ≡ placed_from 1 grown
+  pub regions_are : IsHonest begun.store → regions t ≡ grown
+  pub count_is : region_count t ≡ length grown
+  pub rows_are : t.rows ≡ length (rows_of grown)
+  pub next_is : t.next ≡ next
+  pub store_is : t.store ≡ record begun.store { pages = t.store.pages; synced = t.store.synced }
+  pub pages : page_count t.store ≤ 1 + 2 * length grown
+  pub working : t.is_failed ≡ false
+  pub changed : t.is_changed ≡ true
+  pub trace_is : t.trace ≡ untouched
+
+-- the counts of a store after a refusal with this fault: the device's fault raises one of them by one
+abbrev pub CountsFault : TreeFault → StoreFacts → StoreFacts → Type 0
+CountsFault (Store store.Device) old new = HasFailedOnce old new
+CountsFault _ old new = HasNotFailed old new
+
+-- these regions were to be laid where a table was begun, and this was answered: its tree; or why not, with the store, which isn't opened as
+-- a table, and of which the pages, and those that last, may be others
+pub record LaysTable {S : Type 0} (facts : S → StoreFacts) (begun : BegunView) (next : ℕ) (grown : List RegionRows) (result : Result TreeView (Rejected S TreeFault)) : Type 0 where
+  pub laid : IfOk result (IsLaid begun next grown)
+  pub unopened : IsHonest begun.store → IfErr result (λ refused. HasMark begun.schema (facts refused.store).pages)
+  pub refused : IfErr result (λ refused. IsCreateFault begun.store refused.fault)
+  pub same : IfErr result (λ refused. facts refused.store ≡ written begun.store (facts refused.store))
+  pub counts : IfErr result (λ refused. CountsFault refused.fault begun.store (facts refused.store))
