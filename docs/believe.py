@@ -89,7 +89,7 @@ SECTIONS = [
         "Pages of a file",
         "How regions come of rows; the bytes of pages; what a store of pages is; which pages are a table, and which tree\n"
         "they or a CSV text give; which faults come.",
-        "ub_bytes ub_region ub_page ub_store ub_file ub_index ub_index_change ub_check ub_upgrade ub_writing ub_tree ub_table.Block"
+        "ub_bytes ub_region ub_page ub_store ub_file ub_index ub_index_change ub_check ub_laying ub_upgrade ub_writing ub_tree ub_table.Block"
         " ub_load.Loading ub_load.LoadedTree",
     ),
     (
