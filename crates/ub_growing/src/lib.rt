@@ -9,7 +9,7 @@
 //!
 //! What belongs here is rows, and the regions that they make, as lists. Pages and the index stand above. The definitions are
 //! in specs/: `Growing` (rows in order, rows before a key), `Parts` (parts of the rows, and what becomes of them); the functions
-//! of `law` ensure the laws by which parting gives what insertion gives. It is for loading a table; nothing stands on it yet.
+//! of `law` ensure the laws by which parting gives what insertion gives. It is for loading a table (`ub_load`).
 
 #![tactic(auto)]
 

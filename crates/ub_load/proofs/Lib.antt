@@ -7,6 +7,7 @@ pub mod ReadingFacts
 pub mod HeaderFacts
 pub mod ToldFacts
 pub mod LoadFacts
+pub mod LaidFacts
 pub mod NamedFacts
 pub mod PlacedFacts
 pub mod RowsFacts

@@ -1,36 +1,28 @@
--- How the records that have been read of a text, and the tree that holds their rows, become more.
-use Rattle.std.proofs.Common.{◌≡◌, ◌≤◌, ◌+◌, ℕ, false, List, [], ◌∷◌, ◌++◌, length, map, Some, None, true, refl, sym, ap, subst, ◌∙◌, arith, append_assoc, length-append, inl, inr}
+-- How the records that have been read of a text, and their rows, become more.
+use Rattle.std.proofs.Common.{◌≡◌, ◌≤◌, ◌+◌, ℕ, List, [], ◌∷◌, ◌++◌, length, map, Some, None, true, false, refl, sym, ap, ◌∙◌, arith, append_assoc, length-append, inr}
 use Rattle.std.proofs.lemmas.List.{map-append, length-map}
 use Rattle.std.proofs.lemmas.List.FromFn.{length-enumerate_from}
-use Rattle.std.specs.List.{enumerate_from}
+use Rattle.std.specs.List.{AllByRecursion, enumerate_from}
 use Rattle.std.specs.Prelude.{Result, Ok, Err, IfOk, IfErr}
 use Rattle.std.specs.Result.{OnOk}
 use Rattle.csv.specs.declared.reader.Reader.{Reader}
-use Rattle.ub_store.specs.Facts.{StoreFacts, IsHonest}
-use Rattle.ub_tree.proofs.Laws.{grown_is_not_full}
-use Rattle.ub_tree.specs.Calls.{IsCreated}
-use Rattle.ub_tree.specs.Change.{IsInserted}
-use Rattle.ub_tree.specs.Effects.{IsIndexFull}
-use Rattle.ub_tree.specs.Grown.{IsOnlyGrown}
-use Rattle.ub_tree.specs.Placed.{Placed}
-use Rattle.ub_tree.specs.View.{TreeView, IsSound, regions}
+use Rattle.ub_region.proofs.KeyLists.{all_append}
+use Rattle.ub_store.specs.Facts.{StoreFacts}
+use Rattle.ub_tree.specs.View.{TreeView}
 use Rattle.ub_load.specs.Calls.{Loads}
 use Rattle.ub_load.specs.Field.{trimmed}
-use Rattle.ub_load.specs.LoadedTable.{IsSchemaOf, columns_of, records_of, row_of, rows_of}
-use Rattle.ub_load.specs.LoadedTree.{IsLoadedTree}
-use Rattle.ub_load.specs.Loading.{HasGrown, HasTaken, IsLoadFault, IsTakeFault}
-use Rattle.ub_load.specs.inner.Progress.{HasLoadedRecords, HasReadHeader, HoldsRows, IsHeaded, IsHeaderFault, IsLoading, IsRecordsFault}
+use Rattle.ub_load.specs.LoadedTable.{IsLoaded, IsSchemaOf, columns_of, records_of, row_of, rows_of}
+use Rattle.ub_load.specs.Loading.{IsLoadFault}
+use Rattle.ub_load.specs.inner.Progress.{AreFirstRows, AreNumberedFrom, HasLoadedRecords, HasReadHeader, IsHeaded, IsHeaderFault, IsLoading, IsRecordsFault, IsRowOf, record_refusal}
 use Rattle.ub_load.specs.inner.Records.{HasRead, IsAt, Source}
+use Rattle.ub_load.proofs.PutFacts.{number_is}
 use Rattle.ub_load.proofs.ReadingFacts.{at_end, at_front, at_next}
-use Rattle.ub_load.proofs.ToldFacts.{header_is_of_text, told_after, told_first}
+use Rattle.ub_load.proofs.ToldFacts.{header_is_of_text, record_is_told, told_first, told_found}
 use Rattle.ub_load.specs.Refusals.{first_of, first_refusal, header_refusal, header_refusals, record_refusals, refusals}
 use Rattle.ub_load.specs.declared.fault.LoadFault.{LoadFault}
 use Rattle.ub_load.specs.declared.fault.LoadFault.TheVariants.{NoHeader}
 use Rattle.ub_load.proofs.RefusalFacts.{enumerate_from-append, first-here, first-skip, flat-more, flat-refused}
-use Rattle.ub_region.proofs.Laws.{insertion_adds_the_row}
-use Rattle.ub_region.specs.Regions.{insert, insert_all}
-use Rattle.ub_table.specs.Keys.{origin}
-use Rattle.ub_table.specs.Region.{RegionRows, IsRow, measures_of}
+use Rattle.ub_table.specs.Region.{IsRow, measures_of}
 use Rattle.ub_table.specs.Value.{axes_of}
 use Rattle.ub_table.specs.declared.axes.Axes.{Axes}
 use Rattle.ub_table.specs.declared.row.Row.{Row}
@@ -55,136 +47,73 @@ pub rows_of-none : (axes : Axes) → rows_of axes [] ≡ []
 unfolding rows_of
 rows_of-none axes = refl
 
-insert_all-more : (dims c : ℕ) (rows : List Row) (row : Row) (regions : List RegionRows) → insert_all dims c (rows ++ row ∷ []) regions ≡ insert dims c row (insert_all dims c rows regions)
-insert_all-more dims c [] row regions = refl
-insert_all-more dims c (first ∷ rows) row regions = insert_all-more dims c rows row (insert dims c first regions)
-
--- a new tree holds no rows
-holds_none : (dims c : ℕ) (t : TreeView) → IsSound t → regions t ≡ record { first = origin; rows = [] } ∷ [] → t.next ≡ 1 → IsOnlyGrown t → HoldsRows dims c [] t
-holds_none dims c t sound are next grown = record {
-  sound = sound;
-  regions_are = are;
-  table = rw are (record { ascending = λ k lt. absurd (omega arith); same = λ row. (λ c. c, λ c. c) });
-  next = next;
-  few = (let count = sound.count_is in let one = sym (length-map t.placed (λ (p : Placed). p.region)) ∙ ap length are in omega arith);
-  grown = grown;
-}
-
--- one more row, which is put in
-holds_more : (dims c : ℕ) (rows : List Row) (row : Row) (t u : TreeView) → HoldsRows dims c rows t → t.schema.dims ≡ dims → t.schema.page_rows ≡ c → IsRow t.schema.dims (measures_of t.schema) row
-    → IsInserted row t u → HasGrown t u → HoldsRows dims c (rows ++ row ∷ []) u
-holds_more dims c rows row t u h dims_are page_rows_are good put grown =
-    let are : regions u ≡ insert t.schema.dims t.schema.page_rows row (regions t) = put.regions_are in
-    record {
-      sound = put.sound;
-      regions_are = are ∙ rw (dims_are, page_rows_are, h.regions_are) (sym (insert_all-more dims c rows row (record { first = origin; rows = [] } ∷ [])));
-      table = rw are (insertion_adds_the_row t.schema t.next (regions t) rows row h.sound.regions_are h.table good put.number);
-      next = put.next ∙ (let old = h.next in let long = length-append rows (row ∷ []) in omega arith);
-      few = (let before = h.few in let more = grown.0 in let next = put.next in omega arith);
-      grown = put.grown h.grown;
-    }
-
 -- before the first record
 pub loading_none : {text : List ℕ} {axes : Axes} {page_rows : ℕ} {name : List ℕ} {schema : Schema} {a : Reader Source} → IsHeaded text axes page_rows name schema a
-    → (store : StoreFacts) (t : TreeView) → IsCreated store schema t → IsLoading text axes page_rows name store 1 t a
-loading_none {text} {axes} {page_rows} {name} {schema} is store t made =
-    let same : t.schema ≡ schema = made.schema_is in
-    let parts = is.schema_is in
-    record {
-      header = is.header;
-      taken = [];
-      at = is.at;
-      number_is = refl;
-      few = omega arith;
-      fine = is.fine;
-      accepted = refl;
-      name_is = ap (λ (s : Schema). s.name) same ∙ parts.0;
-      columns_are = ap (λ (s : Schema). s.columns) same ∙ parts.1;
-      axes_are = ap axes_of same ∙ parts.2;
-      page_rows_are = ap (λ (s : Schema). s.page_rows) same ∙ parts.3;
-      next_is = made.next_is;
-      at_work = record {
-        working = made.working;
-        store_is = made.store_is;
-        pages = (let three = made.pages in let next = made.next_is in omega arith);
-        trace_is = made.trace_is;
-      };
-      holds = λ honest. rw (rows_of-none axes) (holds_none axes.dims page_rows t (made.sound honest) (made.regions_are honest) made.next_is made.grown);
-    }
+    → IsLoading text axes page_rows name schema 1 [] a
+loading_none {axes = axes} is = record {
+  header = is.header;
+  taken = [];
+  at = is.at;
+  number_is = refl;
+  fine = is.fine;
+  accepted = refl;
+  schema_is = is.schema_is;
+  rows_are = sym (rows_of-none axes);
+}
 
--- what the tree's schema tells of a record's refusals is what the header tells
-width_is : (t : TreeView) (header : List (List ℕ)) → t.schema.columns ≡ map trimmed header → length t.schema.columns ≡ length header
-width_is t header e = ap length e ∙ length-map header trimmed
+module _ {text : List ℕ} {axes : Axes} {page_rows : ℕ} {name : List ℕ} {schema : Schema} {number : ℕ} {rows : List Row} {a : Reader Source}
+    (is : IsLoading text axes page_rows name schema number rows a) (b : Reader Source) (r : List (List ℕ)) where
+  -- what the schema tells of a record's refusals is what the header tells
+  width_is : length schema.columns ≡ length is.header
+  width_is = ap (λ (names : List (List ℕ)). length names) is.schema_is.1 ∙ length-map is.header trimmed
 
--- one more record
-pub loading_more : {text : List ℕ} {axes : Axes} {page_rows : ℕ} {name : List ℕ} {store : StoreFacts} {number : ℕ} {t : TreeView} {a : Reader Source}
-    → IsLoading text axes page_rows name store number t a → (u : TreeView) (b : Reader Source) (r : List (List ℕ)) → Took a b r
-    → HasTaken (number, r) t u → IsLoading text axes page_rows name store (number + 1) u b
-loading_more {text} {axes} {page_rows} {name} {store} {number} {t} is u b r s taken =
-    let wide = width_is t is.header is.columns_are in
-    let least : number ≤ 16777215 = taken.number in
-    let fine : first_of (record_refusals (axes_of t.schema) (length t.schema.columns) (number, r)) ≡ None = taken.accepted in
-    record {
-      header = is.header;
-      taken = is.taken ++ r ∷ [];
-      at = at_next is.at b r s;
-      number_is = (let count = is.number_is in let long = length-append is.taken (r ∷ []) in omega arith);
-      few = omega arith;
-      fine = is.fine;
-      accepted = flat-more (record_refusals axes (length is.header)) 1 number is.taken (r) is.number_is is.accepted (rw (is.axes_are, wide) at fine);
-      name_is = ap (λ (s : Schema). s.name) taken.schema ∙ is.name_is;
-      columns_are = ap (λ (s : Schema). s.columns) taken.schema ∙ is.columns_are;
-      axes_are = ap axes_of taken.schema ∙ is.axes_are;
-      page_rows_are = ap (λ (s : Schema). s.page_rows) taken.schema ∙ is.page_rows_are;
-      next_is = taken.next ∙ ap (λ (k : ℕ). k + 1) is.next_is;
-      at_work = record {
-        working = taken.working;
-        store_is = taken.store_is ∙ ap (λ (s : StoreFacts). record s { pages = u.store.pages; synced = u.store.synced }) is.at_work.store_is;
-        pages = (let before = is.at_work.pages in let more = taken.grown.1 in let next = taken.next in omega arith);
-        trace_is = taken.trace ∙ is.at_work.trace_is;
-      };
-      holds = λ honest.
-          let row = row_of (axes_of t.schema) (number, r) in
-          let before = is.holds honest in
-          let more = holds_more axes.dims page_rows (rows_of axes is.taken) row t u before (ap (λ (a : Axes). a.dims) is.axes_are) is.page_rows_are taken.row (taken.inserted before.sound) taken.grown in
-          let same : rows_of axes is.taken ++ row ∷ [] ≡ rows_of axes (is.taken ++ r ∷ []) =
-          rw (is.axes_are, is.number_is) (sym (rows_of-more axes is.taken (r))) in
-          subst (λ (rows : List Row). HoldsRows axes.dims page_rows rows u) same more;
-    }
+  -- one more record
+  pub loading_more : Took a b r → (row : Row) → IsRowOf schema (number, r) row → record_refusal schema (number, r) ≡ None → IsLoading text axes page_rows name schema (number + 1) (rows ++ row ∷ []) b
+  loading_more s row made fine =
+      let axes_are : axes_of schema ≡ axes = is.schema_is.2 in
+      record {
+        header = is.header;
+        taken = is.taken ++ r ∷ [];
+        at = at_next is.at b r s;
+        number_is = (let count = is.number_is in let long = length-append is.taken (r ∷ []) in omega arith);
+        fine = is.fine;
+        accepted = flat-more (record_refusals axes (length is.header)) 1 number is.taken r is.number_is is.accepted (rw (axes_are, width_is) at fine);
+        schema_is = is.schema_is;
+        rows_are = ap (λ (rs : List Row). rs ++ row ∷ []) is.rows_are
+            ∙ ap (λ (x : Row). rows_of axes is.taken ++ x ∷ []) (made.0 ∙ ap (λ (x : Axes). row_of x (number, r)) axes_are ∙ ap (λ (n : ℕ). row_of axes (n, r)) is.number_is)
+            ∙ sym (rows_of-more axes is.taken r);
+      }
 
--- a record that is refused is the first thing wrong in the text
-pub refused_here : {text : List ℕ} {axes : Axes} {page_rows : ℕ} {name : List ℕ} {store : StoreFacts} {number : ℕ} {t : TreeView} {a : Reader Source}
-    → IsLoading text axes page_rows name store number t a → (b : Reader Source) (r : List (List ℕ)) → Took a b r → (f : LoadFault)
-    → first_of (record_refusals (axes_of t.schema) (length t.schema.columns) (number, r)) ≡ Some f → first_refusal axes name (records_of text) ≡ Some f
-unfolding refusals
-refused_here {text} {axes} {page_rows} {name} {store} {number} {t} is b r s f bad =
-    let wide = width_is t is.header is.columns_are in
-    let front = at_front (at_next is.at b r s) in
-    let whole : is.header ∷ (is.taken ++ r ∷ front.0) ≡ records_of text = ap (λ rs. is.header ∷ rs) (sym (append_assoc is.taken (r ∷ []) front.0)) ∙ front.1 in
-    ap (first_refusal axes name) (sym whole)
-    ∙ first-skip (header_refusals axes.dims name (map trimmed is.header)) _ is.fine
-    ∙ flat-refused (record_refusals axes (length is.header)) 1 number is.taken front.0 (r) f is.number_is is.accepted (rw (is.axes_are, wide) at bad)
+  -- a record that is refused is the first thing wrong in the text
+  refused_here : Took a b r → (f : LoadFault) → record_refusal schema (number, r) ≡ Some f → first_refusal axes name (records_of text) ≡ Some f
+  unfolding refusals
+  refused_here s f bad =
+      let axes_are : axes_of schema ≡ axes = is.schema_is.2 in
+      let front = at_front (at_next is.at b r s) in
+      let whole : is.header ∷ (is.taken ++ r ∷ front.0) ≡ records_of text = ap (λ rs. is.header ∷ rs) (sym (append_assoc is.taken (r ∷ []) front.0)) ∙ front.1 in
+      ap (first_refusal axes name) (sym whole)
+      ∙ first-skip (header_refusals axes.dims name (map trimmed is.header)) _ is.fine
+      ∙ flat-refused (record_refusals axes (length is.header)) 1 number is.taken front.0 r f is.number_is is.accepted (rw (axes_are, width_is) at bad)
 
--- the index of a tree that is loaded is never full, since rows were only put into it
-index_never_full : {text : List ℕ} {axes : Axes} {page_rows : ℕ} {name : List ℕ} {store : StoreFacts} {number : ℕ} {t : TreeView} {a : Reader Source}
-    → IsLoading text axes page_rows name store number t a → IsHonest store → IsIndexFull t → ⊥
-index_never_full {t = t} is honest full = let h = is.holds honest in grown_is_not_full t h.sound h.grown full
+  -- what is told of a record is told of the text
+  pub told_record : Took a b r → (store : StoreFacts) (f : LoadFault) → record_refusal schema (number, r) ≡ Some f → IsLoadFault axes name text store f
+  told_record s store f bad =
+      inr (told_found _ _ _ f (record_is_told (axes_of schema) (length schema.columns) (number, r) f bad) (refused_here s f bad))
 
--- what is told of a record is told of the text
-pub told_record : {text : List ℕ} {axes : Axes} {page_rows : ℕ} {name : List ℕ} {store : StoreFacts} {number : ℕ} {t : TreeView} {a : Reader Source}
-    → IsLoading text axes page_rows name store number t a → (b : Reader Source) (r : List (List ℕ)) → Took a b r → (f : LoadFault)
-    → IsTakeFault (number, r) t f → IsLoadFault axes name text store f
-told_record {t = t} is b r s f (inl (same, full)) =
-    let few = is.few in
-    let next = is.next_is in
-    let pages = is.at_work.pages in
-    let levels : t.inner.index.levels ≤ 16 = full.0 in
-    let most = full.1 in
-    absurd (omega arith)
-told_record is b r s f (inr (inl (same, full))) = rw same (inr (inr (λ honest. index_never_full is honest full)))
-told_record is b r s f (inr (inr h)) =
-    let can_fail = ap (λ (facts : StoreFacts). facts.can_fail) is.at_work.store_is in
-    inr (told_after (refused_here is b r s) (λ can. rw can_fail at can) (λ broken honest. broken (is.holds honest).sound) f h)
+  -- at the end nothing is wrong, and these are all rows
+  pub all_loaded : TookNone a b r → IsLoaded text axes page_rows name schema rows
+  unfolding refusals
+  all_loaded s = record {
+    header = is.header;
+    rest = is.taken;
+    records = sym (at_end is.at b r s);
+    accepted = first-skip (header_refusals axes.dims name (map trimmed is.header)) _ is.fine ∙ is.accepted;
+    name_is = is.schema_is.0;
+    columns_are = is.schema_is.1;
+    axes_are = is.schema_is.2;
+    page_rows_are = is.schema_is.3;
+    rows_are = is.rows_are;
+  }
 
 -- a header that is refused is the first thing wrong
 pub refused_header : {text : List ℕ} {header : List (List ℕ)} {a : Reader Source} → IsAt text (header ∷ []) a → (axes : Axes) (name : List ℕ) (f : LoadFault)
@@ -225,64 +154,52 @@ pub not_loaded : (text : List ℕ) (axes : Axes) (page_rows : ℕ) (name : List 
     → IsLoadFault axes name text store f → Loads text axes page_rows name store result
 not_loaded text axes page_rows name store result e f is same told = rw (is, same) (record { loaded = λ honest. tt; working = tt; refused = told })
 
--- at the end nothing is wrong, and all rows are in the tree
-pub all_loaded : {text : List ℕ} {axes : Axes} {page_rows : ℕ} {name : List ℕ} {store : StoreFacts} {number : ℕ} {t : TreeView} {a : Reader Source}
-    → IsLoading text axes page_rows name store number t a → (b : Reader Source) (fields : List (List ℕ)) → TookNone a b fields → IsHonest store → IsLoadedTree text axes page_rows name t
-unfolding refusals
-all_loaded {text} {axes} {page_rows} {name} is b fields s honest =
-    let h = is.holds honest in
-    record {
-      rows = rows_of axes is.taken;
-      loaded = record {
-        header = is.header;
-        rest = is.taken;
-        records = sym (at_end is.at b fields s);
-        accepted = first-skip (header_refusals axes.dims name (map trimmed is.header)) _ is.fine ∙ is.accepted;
-        name_is = is.name_is;
-        columns_are = is.columns_are;
-        axes_are = is.axes_are;
-        page_rows_are = is.page_rows_are;
-        rows_are = refl;
-      };
-      sound = h.sound;
-      regions_are = h.regions_are;
-      table = h.table;
-      next = h.next;
-      few = h.few;
-    }
+-- ---- the rows so far
 
--- the records before the row of this number have been put into a tree that had none
-pub record IsTaking (from : Reader Source) (old : TreeView) (number : ℕ) (t : TreeView) (rdr : Reader Source) : Type 0 where
-  pub some : 1 ≤ number
+numbered_more : (n : ℕ) (rows : List Row) (row : Row) → AreNumberedFrom n rows → row.number ≡ n + length rows → AreNumberedFrom n (rows ++ row ∷ [])
+numbered_more n [] row h is = (omega arith, tt)
+numbered_more n (first ∷ rows) row h is = (h.0, numbered_more (n + 1) rows row h.1 (omega arith))
+
+-- the records before the row of this number have been read, and these are their rows
+pub record IsTaking (from : Reader Source) (schema : Schema) (number : ℕ) (rows : List Row) (rdr : Reader Source) : Type 0 where
   pub few : number ≤ 16777216
-  pub next_is : t.next ≡ number
-  pub working : t.is_failed ≡ false
-  pub loading : (text : List ℕ) (axes : Axes) (page_rows : ℕ) (name : List ℕ) (store : StoreFacts) → IsLoading text axes page_rows name store 1 old from
-      → IsLoading text axes page_rows name store number t rdr
+  pub number_is : number ≡ 1 + length rows
+  pub numbers : AreNumberedFrom 1 rows
+  pub each : AllByRecursion (IsRow schema.dims (measures_of schema)) rows
+  pub loading : (text : List ℕ) (axes : Axes) (page_rows : ℕ) (name : List ℕ) → IsHeaded text axes page_rows name schema from
+      → IsLoading text axes page_rows name schema number rows rdr
 
-module _ {from : Reader Source} {old t : TreeView} {number : ℕ} {a : Reader Source} (is : IsTaking from old number t a) (b : Reader Source) (r : List (List ℕ)) where
+pub taking_none : (from : Reader Source) (schema : Schema) (number : ℕ) (rows : List Row) → number ≡ 1 → rows ≡ [] → IsTaking from schema number rows from
+taking_none from schema number rows is none = rw (is, none) (record {
+  few = omega arith;
+  number_is = refl;
+  numbers = tt;
+  each = tt;
+  loading = λ text axes page_rows name h. loading_none h;
+})
+
+module _ {from : Reader Source} {schema : Schema} {number : ℕ} {rows : List Row} {a : Reader Source} (is : IsTaking from schema number rows a) (b : Reader Source) (r : List (List ℕ)) where
   -- one more record
-  pub taking_more : Took a b r → (u : TreeView) → HasTaken (number, r) t u → IsTaking from old (number + 1) u b
-  taking_more s u taken =
-      let least : number ≤ 16777215 = taken.number in
+  pub taking_more : Took a b r → (row : Row) → IsRowOf schema (number, r) row → record_refusal schema (number, r) ≡ None → IsTaking from schema (number + 1) (rows ++ row ∷ []) b
+  taking_more s row made fine =
+      let own = number_is (axes_of schema) number r row made.0 in
+      let last = made.1.number.1 in
+      let count = is.number_is in
       record {
-        some = omega arith;
         few = omega arith;
-        next_is = taken.next ∙ ap (λ (k : ℕ). k + 1) is.next_is;
-        working = taken.working;
-        loading = λ text axes page_rows name store h.
-            let now = is.loading text axes page_rows name store h in
-            loading_more now u b r s taken;
+        number_is = (let long = length-append rows (row ∷ []) in omega arith);
+        numbers = numbered_more 1 rows row is.numbers (omega arith);
+        each = all_append (IsRow schema.dims (measures_of schema)) rows (row ∷ []) is.each (made.1, tt);
+        loading = λ text axes page_rows name h. loading_more (is.loading text axes page_rows name h) b r s row made fine;
       }
 
   -- a record is refused
-  pub taking_refused : Took a b r → (f : LoadFault) → IsTakeFault (number, r) t f → IsRecordsFault from old f
-  taking_refused s f fault = λ text axes page_rows name store h.
-      let now = is.loading text axes page_rows name store h in
-      told_record now b r s f fault
+  pub taking_refused : Took a b r → (f : LoadFault) → record_refusal schema (number, r) ≡ Some f → IsRecordsFault from schema f
+  taking_refused s f bad = λ text axes page_rows name store h. told_record (is.loading text axes page_rows name h) b r s store f bad
 
   -- there are no more
-  pub all_taken : TookNone a b r → HasLoadedRecords from old t
-  all_taken s = λ text axes page_rows name store h.
-      let now = is.loading text axes page_rows name store h in
-      (now.at_work, λ honest. all_loaded now b r s honest)
+  pub all_taken : TookNone a b r → HasLoadedRecords from schema rows
+  all_taken s = λ text axes page_rows name h. all_loaded (is.loading text axes page_rows name h) b r s
+
+  pub first_rows : AreFirstRows schema rows
+  first_rows = record { numbers = is.numbers; each = is.each; few = (let most = is.few in let count = is.number_is in omega arith) }

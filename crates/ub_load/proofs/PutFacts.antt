@@ -8,12 +8,9 @@ use Rattle.std.proofs.lemmas.List.{length-map}
 use Rattle.std.proofs.lemmas.List.FromFn.{length-enumerate_from}
 use Rattle.std.proofs.lemmas.List.Elements.{All-from_recursion}
 use Rattle.ub_tree.proofs.Laws.{new_values, numbered_row}
-use Rattle.ub_tree.specs.Change.{Suits, numbered}
-use Rattle.ub_tree.specs.Holding.{GrowsAt}
-use Rattle.ub_tree.specs.View.{TreeView}
+use Rattle.ub_tree.specs.Change.{Suits}
 use Rattle.ub_load.specs.Field.{trimmed, is_number, number_of}
 use Rattle.ub_load.specs.LoadedTable.{coordinate_of, row_of}
-use Rattle.ub_load.specs.Loading.{HasGrown}
 use Rattle.ub_load.specs.Refusals.{content_refusal, content_refusals, field_refusal, fields_refusal, first_of}
 use Rattle.ub_load.specs.declared.fault.LoadFault.{LoadFault}
 use Rattle.ub_load.specs.declared.fault.LoadFault.TheVariants.{Csv, BadNumber, OutOfRange}
@@ -23,7 +20,6 @@ use Rattle.ub_table.proofs.Laws.{fitting_coordinate}
 use Rattle.ub_table.specs.Region.{IsNumbered, IsRow}
 use Rattle.ub_table.specs.Value.{fits_at}
 use Rattle.ub_table.specs.declared.axes.Axes.{Axes}
-use Rattle.ub_table.specs.declared.row.Key.{Key}
 use Rattle.ub_table.specs.declared.row.Row.{Row}
 
 none_head : (o : Option LoadFault) (rest : List (Option LoadFault)) → first_of (o ∷ rest) ≡ None → (o ≡ None) × (first_of rest ≡ None)
@@ -66,10 +62,6 @@ length_taken : {X : Type 0} (n : ℕ) (xs : List X) → n ≤ length xs → leng
 length_taken zero xs h = refl
 length_taken (suc n) [] h = absurd (omega arith)
 length_taken (suc n) (x ∷ xs) h = ap suc (length_taken n xs (omega arith))
-
--- a row with the number that it has
-pub numbered_again : (n : ℕ) (row : Row) → n ≡ row.number → numbered n row ≡ row
-numbered_again n row is = rw is refl
 
 -- the parts of a record that is accepted
 pub accepted_parts : (axes : Axes) (width number : ℕ) (fields : List (List ℕ)) → content_refusal axes width (number, fields) ≡ None
@@ -121,10 +113,3 @@ accepted_row axes width number fields few covers most some last h =
 pub number_is : (axes : Axes) (number : ℕ) (fields : List (List ℕ)) (row : Row) → row ≡ row_of axes (number, fields) → number ≡ row.number
 unfolding row_of
 number_is axes number fields row is = rw is refl
-
--- a tree gets one region and eighteen pages more at the most where a row is put in
-pub few_more : (key : Key) (old new : TreeView) → GrowsAt key old new → HasGrown old new
-few_more key old new grows = elim grows.others [
-  | inl h ↦ let count = h.1.0.count in let pages = h.1.1 in (omega arith, omega arith)
-  | inr h ↦ let count = h.1.0 in let pages = h.1.2 in let few : h.1.1 ≤ 17 = h.1.3 in (omega arith, omega arith)
-]

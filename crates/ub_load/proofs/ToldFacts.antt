@@ -1,19 +1,18 @@
 -- What is told of a text, of a record and of a tree. None of the refusals of a header or of what a record holds is one of the tree.
-use Rattle.std.proofs.Common.{◌⊎◌, ◌≡◌, ◌≢◌, ◌+◌, ◌==◌, ℕ, false, List, [], ◌∷◌, length, take, map, Option, Some, None, refl, sym, ap, subst, inl, inr}
-use Rattle.std.specs.Prelude.{IfSome, IsTrue, nat_lt, ◌&&◌, ◌||◌, not, if◌then◌else◌}
+use Rattle.std.proofs.Common.{◌⊎◌, ◌≡◌, ◌≢◌, ◌+◌, ◌==◌, ℕ, List, [], ◌∷◌, ◌++◌, ◌∙◌, length, take, map, Option, Some, None, refl, sym, ap, subst, inl, inr}
+use Rattle.std.specs.Prelude.{IfSome, IsTrue, nat_le, nat_lt, ◌&&◌, ◌||◌, not, if◌then◌else◌}
 use Rattle.std.specs.List.{AllByRecursion, enumerate_from, list_any}
 use Rattle.std.specs.Str.{bytes_eq}
 use Rattle.std.proofs.lemmas.Bool.{cases_Bool}
+use Rattle.ub_region.proofs.KeyLists.{all_append}
 use Rattle.ub_store.specs.Facts.{StoreFacts}
 use Rattle.ub_store.specs.declared.fault.StoreFault.TheVariants as store
 use Rattle.ub_tree.specs.Calls.{IsCreateFault}
-use Rattle.ub_tree.specs.Effects.{IsFull, IsIndexFull, IsLeft}
-use Rattle.ub_tree.specs.View.{TreeView, IsSound, KeepsTrace}
 use Rattle.ub_tree.specs.declared.fault.TreeFault.{TreeFault}
 use Rattle.ub_tree.specs.declared.fault.TreeFault.TheVariants as tree
 use Rattle.ub_load.specs.Field.{trimmed, is_number, number_of}
 use Rattle.ub_load.specs.Loading.{IsNewFault, IsToldOf}
-use Rattle.ub_load.specs.Refusals.{content_refusal, content_refusals, fault_of_tree, field_refusal, first_of, header_refusals, name_refusal}
+use Rattle.ub_load.specs.Refusals.{content_refusal, content_refusals, fault_of_tree, field_refusal, first_of, header_refusals, name_refusal, record_refusals}
 use Rattle.ub_load.specs.declared.fault.LoadFault.{LoadFault}
 use Rattle.ub_load.specs.declared.fault.LoadFault.TheVariants.{NoHeader, Csv, Tree, Memory, BadName, BadNumber, OutOfRange, ColumnCount}
 use Rattle.ub_table.specs.Name.{is_name}
@@ -81,25 +80,6 @@ new_fault facts (tree.Store store.BadSize) h = absurd h
 new_fault facts (tree.Store store.Memory) h = absurd h
 new_fault facts tree.Failed h = absurd h
 new_fault facts tree.Memory h = tt
-
--- what a refused insertion into a tree that works tells
-pub told_put : (first : Option LoadFault) (t u : TreeView) → t.is_failed ≡ false → (t.next ≡ 16777216 → first ≡ Some (Tree tree.Full)) → (fault : TreeFault) → IsLeft t u fault
-    → ((fault_of_tree fault ≡ Tree (tree.Store store.BadSize)) × IsFull t) ⊎ ((fault_of_tree fault ≡ Tree tree.Full) × IsIndexFull t)
-    ⊎ IsToldOf first (IsTrue t.store.can_fail) (¬ (IsSound t)) (fault_of_tree fault)
-told_put first t u works last tree.Full (inl given, same) = inr (inr (inl (last given)))
-told_put first t u works last tree.Full (inr full, same) = inr (inl (refl, full))
-told_put first t u works last (tree.Page page fault) h = inr (inr h.0)
-told_put first t u works last (tree.Store store.Device) h = inr (inr h.0)
-told_put first t u works last (tree.Store store.NoPage) h = inr (inr h.0)
-told_put first t u works last (tree.Store store.BadSize) h = inl (refl, h.0)
-told_put first t u works last (tree.Store store.Memory) h = absurd h
-told_put first t u works last tree.Failed h = let bad = rw works at h.0 in cc
-told_put first t u works last tree.Memory h = inr (inr tt)
-
--- what a change of a tree keeps
-pub frame_keeps : (t u : TreeView) → u ≡ record t { placed = u.placed; rows = u.rows; next = u.next; is_changed = u.is_changed; is_failed = u.is_failed; store = u.store; inner = u.inner }
-    → (u.schema ≡ t.schema) × KeepsTrace t u
-frame_keeps t u e = (ap (λ (v : TreeView). v.schema) e, ap (λ (v : TreeView). v.trace) e)
 
 -- over an honest store that can't fail: what is told is the first thing wrong, unless memory was refused
 pub told_sure : {first : Option LoadFault} {F B : Type 0} → ¬ F → ¬ B → (f : LoadFault) → IsToldOf first F B f → f ≢ Memory → first ≡ Some f
@@ -187,6 +167,44 @@ header_is_of_text dims name names f e =
       | inl t ↦ rw t tt
       | inr n ↦ rw n (λ fault e. cc)
     ]
+
+-- what is wrong with a record is no fault of the tree, or that it is full
+abbrev pub IsOfRecord : LoadFault → Type 0
+IsOfRecord f = IsOfText f ⊎ (f ≡ Tree tree.Full)
+
+of_record : (o : Option LoadFault) → IfSome o IsOfText → IfSome o IsOfRecord
+of_record None h = tt
+of_record (Some f) h = inl h
+
+pub record_is_told : (axes : Axes) (width : ℕ) (r : ℕ × List (List ℕ)) (f : LoadFault) → first_of (record_refusals axes width r) ≡ Some f → IsOfRecord f
+unfolding record_refusals content_refusals
+record_is_told axes width r f e =
+    first-has IsOfRecord (contents ++ last ∷ []) f (all_append (λ o. IfSome o IsOfRecord) contents (last ∷ []) (other_length, fields (enumerate_from 0 r.1)) (full, tt)) e
+  where
+    contents : List (Option LoadFault)
+    contents = (if length r.1 == width then None else Some Csv) ∷ map (field_refusal axes r.0) (enumerate_from 0 r.1)
+
+    last : Option LoadFault
+    last = if nat_le r.0 16777215 then None else Some (Tree tree.Full)
+
+    fields : (fs : List (ℕ × List ℕ)) → AllByRecursion (λ o. IfSome o IsOfRecord) (map (field_refusal axes r.0) fs)
+    fields = all_found (field_refusal axes r.0) IsOfRecord (λ field. of_record (field_refusal axes r.0 field) (field_is_of_text axes r.0 field))
+
+    other_length : IfSome (if length r.1 == width then None else Some Csv) IsOfRecord
+    other_length = elim (cases_Bool (length r.1 == width)) [
+      | inl t ↦ rw t tt
+      | inr n ↦ rw n (inl (λ fault e. cc))
+    ]
+
+    full : IfSome (if nat_le r.0 16777215 then None else Some (Tree tree.Full)) IsOfRecord
+    full = elim (cases_Bool (nat_le r.0 16777215)) [
+      | inl t ↦ rw t tt
+      | inr n ↦ rw n (inr refl)
+    ]
+
+pub told_found : (F B : Type 0) (first : Option LoadFault) (f : LoadFault) → IsOfRecord f → first ≡ Some f → IsToldOf first F B f
+told_found F B first f (inl h) e = told_first F B first f h e
+told_found F B first f (inr h) e = subst (λ (g : LoadFault). IsToldOf first F B g) (sym h) (inl (e ∙ ap Some h))
 
 -- what a record that can't be read tells
 pub told_unread : (first : Option LoadFault) (F B : Type 0) (f : LoadFault) → (f ≡ Csv) ⊎ (f ≡ Memory) → (f ≡ Csv) ⊎ IsToldOf first F B f

@@ -1,20 +1,14 @@
 -- What loading makes, and why it is refused.
-use Rattle.std.specs.Prelude.{◌≡◌, ◌≢◌, ◌≤◌, ◌+◌, ◌*◌, ◌⊎◌, ℕ, false, List, length, Option, Some, None, IsTrue}
-use Rattle.ub_load.specs.LoadedTable.{records_of, row_of}
-use Rattle.ub_load.specs.Refusals.{first_of, first_refusal, record_refusals}
+use Rattle.std.specs.Prelude.{◌≡◌, ◌≤◌, ◌+◌, ◌*◌, ◌⊎◌, ℕ, false, List, Option, Some, IsTrue}
+use Rattle.ub_load.specs.LoadedTable.{records_of}
+use Rattle.ub_load.specs.Refusals.{first_refusal}
 use Rattle.ub_load.specs.declared.fault.LoadFault.{LoadFault}
 use Rattle.ub_load.specs.declared.fault.LoadFault.TheVariants.{Csv, Tree, Memory}
 use Rattle.ub_store.specs.Facts.{StoreFacts, IsHonest, page_count}
 use Rattle.ub_store.specs.View.{untouched}
 use Rattle.ub_store.specs.declared.fault.StoreFault.TheVariants as store
-use Rattle.ub_table.specs.Region.{IsRow, measures_of}
-use Rattle.ub_table.specs.Value.{axes_of}
 use Rattle.ub_table.specs.declared.axes.Axes.{Axes}
-use Rattle.ub_table.specs.declared.row.Row.{Row}
-use Rattle.ub_table.specs.declared.row.TheConstants.{MAX_ROW_NUMBER}
-use Rattle.ub_tree.specs.Change.{IsInserted}
-use Rattle.ub_tree.specs.Effects.{IsFull, IsIndexFull}
-use Rattle.ub_tree.specs.View.{TreeView, IsSound, KeepsTrace, region_count}
+use Rattle.ub_tree.specs.View.{TreeView}
 use Rattle.ub_tree.specs.declared.fault.TreeFault.TheVariants as tree
 
 -- a tree that works, over the store that had these facts, no call of which has failed since, and no region of which was read; there are
@@ -47,39 +41,3 @@ IsToldOf first CanFail IsBroken fault = first ≡ Some fault
 abbrev pub IsLoadFault : Axes → List ℕ → List ℕ → StoreFacts → LoadFault → Type 0
 IsLoadFault axes name text facts fault =
     (fault ≡ Csv) ⊎ IsToldOf (first_refusal axes name (records_of text)) (IsTrue facts.can_fail) (¬ (IsHonest facts)) fault
-
--- the first thing that is wrong with a record (with its row number), for this tree
-abbrev pub record_refusal : ℕ × List (List ℕ) → TreeView → Option LoadFault
-record_refusal r t = first_of (record_refusals (axes_of t.schema) (length t.schema.columns) r)
-
--- the row of a record with its number, in this tree
-abbrev pub row_in : TreeView → ℕ × List (List ℕ) → Row
-row_in t r = row_of (axes_of t.schema) r
-
--- a row number was left, and is given
-abbrev pub HasCounted : TreeView → TreeView → Type 0
-HasCounted old new = (old.next ≢ MAX_ROW_NUMBER + 1) × (new.next ≡ old.next + 1)
-
--- one region more at the most, and a page for it, and one for each level of the index that there can be, and one for another root
-abbrev pub HasGrown : TreeView → TreeView → Type 0
-HasGrown old new = (region_count new ≤ region_count old + 1) × (page_count new.store ≤ page_count old.store + 18)
-
--- a record with nothing wrong in it has become a row of the tree
-pub record HasTaken (r : ℕ × List (List ℕ)) (old new : TreeView) : Type 0 where
-  pub number : r.0 ≤ MAX_ROW_NUMBER
-  pub accepted : record_refusal r old ≡ None
-  pub row : IsRow old.schema.dims (measures_of old.schema) (row_in old r)
-  pub inserted : IsSound old → IsInserted (row_in old r) old new
-  pub next : new.next ≡ old.next + 1
-  pub schema : new.schema ≡ old.schema
-  pub trace : KeepsTrace old new
-  pub working : new.is_failed ≡ false
-  pub store_is : new.store ≡ record old.store { pages = new.store.pages; synced = new.store.synced }
-  pub grown : HasGrown old new
-
--- why a record isn't taken; also where the store has no room for the pages that a region can take, or the index can't grow
-abbrev pub IsTakeFault : ℕ × List (List ℕ) → TreeView → LoadFault → Type 0
-IsTakeFault r t fault =
-    ((fault ≡ Tree (tree.Store store.BadSize)) × IsFull t)
-    ⊎ ((fault ≡ Tree tree.Full) × IsIndexFull t)
-    ⊎ IsToldOf (record_refusal r t) (IsTrue t.store.can_fail) (¬ (IsSound t)) fault

@@ -1,20 +1,18 @@
 //! A whole CSV text as a table in a UB-tree.
 
-ghost use Rattle.std.specs.Prelude.{◌≡◌, ◌≤◌, ◌+◌, ℕ, false, List, [], IfOk, IfErr};
-ghost use Rattle.std.specs.Result.{OnOk};
+ghost use Rattle.std.specs.Prelude.{◌≡◌, ◌≤◌, ◌+◌, ℕ, List, [], IfOk, IfErr, length};
 ghost use Rattle.csv.specs.Records.{fields_of};
 ghost use Rattle.ub_load.specs.Calls.{Loads};
 ghost use Rattle.ub_load.specs.LoadedTable.{axes_with};
-ghost use Rattle.ub_load.specs.Loading.{HasTaken, IsNewFault, IsTakeFault};
-ghost use Rattle.ub_load.specs.inner.Calls.{PutsNext};
-ghost use Rattle.ub_load.specs.inner.Progress.{HasLoadedRecords, HasReadHeader, IsHeaderFault, IsRecordsFault};
+ghost use Rattle.ub_load.specs.LoadedTree.{loaded_regions};
+ghost use Rattle.ub_load.specs.Loading.{IsNewFault};
+ghost use Rattle.ub_load.specs.inner.Calls.{Reads};
+ghost use Rattle.ub_load.specs.inner.Progress.{AreFirstRows, HasLoadedRecords, HasReadHeader, IsHeaderFault, IsRecordsFault, IsRowOf, record_refusal};
 ghost use Rattle.ub_load.specs.inner.Records.{IsAt};
 ghost use Rattle.ub_store.specs.Facts.{page_count};
-ghost use Rattle.ub_table.specs.Region.{measures_of};
 ghost use Rattle.ub_table.specs.Schema.{AreTableNumbers, IsMask};
 ghost use Rattle.ub_table.specs.declared.row.TheConstants.{MAX_ROW_NUMBER};
-ghost use Rattle.ub_tree.specs.Calls.{IsCreated};
-ghost use Rattle.ub_tree.specs.Change.{Suits};
+ghost use Rattle.ub_tree.specs.Laid.{IsBegun, IsLaid};
 
 use crate::fault::LoadFault;
 use crate::header::read_schema;
@@ -22,15 +20,16 @@ use crate::reading::{read_record, reader_of};
 use crate::row::read_row;
 use csv::{ByteRecord, Reader};
 use std::alloc::Global;
+use ub_growing::grow;
 use ub_store::PageStore;
-use ub_table::{Axes, Row, Schema};
-use ub_tree::{Tree, TreeFault};
+use ub_table::{Axes, MAX_ROW_NUMBER, Row, Schema};
+use ub_tree::{Begun, Tree, TreeFault};
 
 /// Loads the table of this name that a CSV text holds into a new tree over this store, which has no pages: the first record
 /// is the header, whose first `dims` columns are the dimensions and whose others are the measures, and each record after it
-/// is a row, put in as it is read, with the numbers from 1. `page_rows` is how many rows a region's page holds, and bit i of
-/// `signed` says that dimension i is signed. Records are read as `csv` reads them with its defaults; spaces at the ends of a
-/// field are no part of it.
+/// is a row, with the numbers from 1. The regions are those that rows make which are put in one after the other; no page of
+/// them is written before all rows are read. `page_rows` is how many rows a region's page holds, and bit i of `signed` says that
+/// dimension i is signed. Records are read as `csv` reads them with its defaults; spaces at the ends of a field are no part of it.
 ///
 /// The error is the first thing that is wrong, in the order of the text: `NoHeader`, `ColumnCount`, `BadName`, and then for
 /// each row `Csv` for a length other than the header's, `BadNumber` or `OutOfRange`, and `Tree` with `Full`. `Csv` comes only
@@ -83,9 +82,9 @@ fn load_from<S: PageStore>(
         → Loads text axes page_rows name.now (S.facts store) result }
 {
     let schema = read_header(reader, fields, axes, page_rows, name)?;
-    let mut tree = new_tree(alloc, store, &schema)?;
-    load_records(reader, fields, &mut tree)?;
-    Ok(tree)
+    let begun = begin_table(alloc, store, &schema)?;
+    let rows = load_records(alloc, reader, fields, &schema)?;
+    lay_rows(alloc, begun, rows)
 }
 
 // The schema of a table of this name whose columns are the fields of the first record, or why there is none.
@@ -107,62 +106,76 @@ fn read_header(
     read_schema(fields, axes, page_rows, name)
 }
 
-// Puts the rows of all other records into a tree that has none.
-fn load_records<S: PageStore>(
-    reader: &mut Reader<&[u8]>,
-    fields: &mut ByteRecord,
-    tree: &mut Tree<S>,
-) -> Result<(), LoadFault>
-    requires next { tree.old.next ≡ 1 }
-    requires working { tree.old.is_failed ≡ false }
-    ensures loaded { OnOk result (HasLoadedRecords reader.old tree.old tree.new) }
-    ensures refused { IfErr result (IsRecordsFault reader.old tree.old) }
-{
-    let mut number = 1;
-    while read_record(reader, fields)? {
-        load_record(tree, fields, number)?;
-        number += 1;
-    }
-    Ok(())
-}
-
-// A tree of this schema with no rows. Where it is refused the store is dropped.
-fn new_tree<S: PageStore>(alloc: Global, store: S, schema: &Schema) -> Result<Tree<S>, LoadFault>
+// A table of this schema, begun over a store. Where it is refused the store is dropped.
+fn begin_table<S: PageStore>(
+    alloc: Global,
+    store: S,
+    schema: &Schema,
+) -> Result<Begun<S>, LoadFault>
     requires { page_count (S.facts store) ≡ 0 }
-    ensures made { IfOk result (λ t. IsCreated (S.facts store) schema.now t) }
+    ensures begun { IfOk result (λ begun. IsBegun (S.facts store) schema.now begun) }
     ensures refused { IfErr result (IsNewFault (S.facts store)) }
 {
-    match Tree::create(alloc, store, schema) {
-        Ok(tree) => Ok(tree),
+    match Begun::begin(alloc, store, schema) {
+        Ok(begun) => Ok(begun),
         Err(refused) => Err(LoadFault::from(refused.fault)),
     }
 }
 
-// Puts the row of this number that a record holds into the tree, or tells the first thing that is wrong with the record.
-fn load_record<S: PageStore>(
-    tree: &mut Tree<S>,
-    fields: &ByteRecord,
-    number: u32,
-) -> Result<(), LoadFault>
-    requires numbered { (1 ≤ number) × (number ≤ MAX_ROW_NUMBER + 1) }
-    requires next { tree.old.next ≡ number }
-    requires working { tree.old.is_failed ≡ false }
-    ensures taken { OnOk result (HasTaken (number, fields_of fields.now) tree.old tree.new) }
-    ensures refused { IfErr result (IsTakeFault (number, fields_of fields.now) tree.old) }
+// The rows of all other records, for a table of this schema.
+fn load_records(
+    alloc: Global,
+    reader: &mut Reader<&[u8]>,
+    fields: &mut ByteRecord,
+    schema: &Schema,
+) -> Result<Vec<Row>, LoadFault>
+    ensures loaded { IfOk result (λ rows. HasLoadedRecords reader.old schema.now rows.items) }
+    ensures rows { IfOk result (λ rows. AreFirstRows schema.now rows.items) }
+    ensures refused { IfErr result (IsRecordsFault reader.old schema.now) }
 {
-    let axes = tree.schema().axes();
-    let width = tree.schema().columns().len();
-    let row = read_row(fields, axes, width, number)?;
-    put_row(tree, &row)?;
-    Ok(())
+    let mut rows = Vec::new(alloc);
+    let mut number = 1;
+    while read_record(reader, fields)? {
+        let row = load_record(schema, fields, number)?;
+        rows.push(row)?;
+        number += 1;
+    }
+    Ok(rows)
 }
 
-// Puts a row into the tree, where it gets the number that is next.
-fn put_row<S: PageStore>(tree: &mut Tree<S>, row: &Row) -> Result<(), TreeFault>
-    requires working { tree.old.is_failed ≡ false }
-    requires values { Suits tree.old.schema.dims (measures_of tree.old.schema) row.now }
-    ensures { PutsNext row.now tree.old tree.new result }
+// The row of this number that a record holds, for a table of this schema, or the first thing that is wrong with the record.
+fn load_record(schema: &Schema, fields: &ByteRecord, number: u32) -> Result<Row, LoadFault>
+    requires { (1 ≤ number) × (number ≤ MAX_ROW_NUMBER + 1) }
+    ensures { Reads (IsRowOf schema.now (number, fields_of fields.now))
+        (record_refusal schema.now (number, fields_of fields.now)) result }
 {
-    tree.insert_row(row)?;
-    Ok(())
+    let axes = schema.axes();
+    let width = schema.columns().len();
+    let row = read_row(fields, axes, width, number)?;
+    if number > MAX_ROW_NUMBER {
+        return Err(LoadFault::Tree(TreeFault::Full));
+    }
+    Ok(row)
+}
+
+// The tree of a table that was begun, with these rows, which were put in one after the other. Where it is refused the store is
+// dropped.
+fn lay_rows<S: PageStore>(
+    alloc: Global,
+    begun: Begun<S>,
+    rows: Vec<Row>,
+) -> Result<Tree<S>, LoadFault>
+    requires { AreFirstRows begun.schema rows.items }
+    ensures laid { IfOk result (IsLaid begun (length rows.items + 1)
+        (loaded_regions begun.schema.dims begun.schema.page_rows rows.items)) }
+    ensures refused { IfErr result (IsNewFault begun.store) }
+{
+    let next = rows.len() as u32 + 1;
+    let shape = begun.schema().shape();
+    let page_rows = begun.schema().page_rows() as usize;
+    let grown = grow(alloc, shape, page_rows, rows)?;
+    match begun.lay(&grown, next) {
+        Ok(tree) => Ok(tree),
+        Err(refused) => Err(LoadFault::from(refused.fault)),
+    }
 }

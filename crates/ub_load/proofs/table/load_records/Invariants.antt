@@ -2,9 +2,9 @@ use Rattle.std.proofs.Common.{◌-◌}
 use Rattle.ub_load.proofs.LoadFacts.{IsTaking}
 use Rattle.ub_load.proofs.table.load_records.Given as goal
 
-abbrev pub invariant-loop-tree : goal.invariant-loop-tree
-invariant-loop-tree g l = IsTaking l.fn.reader l.fn.tree l.number l.tree l.reader
+abbrev pub invariant-loop-rows : goal.invariant-loop-rows
+invariant-loop-rows l = IsTaking l.fn.reader l.schema l.number l.rows.items l.reader
 
 -- there are only so many row numbers
-abbrev pub decreases-loop-tree : goal.decreases-loop-tree
-decreases-loop-tree g l = 16777217 - l.number
+abbrev pub decreases-loop-rows : goal.decreases-loop-rows
+decreases-loop-rows l = 16777217 - l.number
