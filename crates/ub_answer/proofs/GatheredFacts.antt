@@ -84,7 +84,8 @@ none_is_false false any is = refl
 
 pub one_entry : (q : Asked) → IsGroupQuery q → q.group ≡ [] → true ≡ is_one_entry q
 one_entry q grouped none =
-    sym (grouped_is_one (length q.group == 0) (list_any is_aggregate q.items) (ap (λ (columns : List ℕ). length columns == 0) none) ((group_queries_are_told q).1 grouped))
+    sym (grouped_is_one (length q.group == 0) (list_any is_aggregate q.items) (ap (λ (columns : List ℕ). length columns == 0) none)
+    ((group_queries_are_told q).1 grouped))
 
 pub no_entry-rows : (q : Asked) → ¬ IsGroupQuery q → false ≡ is_one_entry q
 no_entry-rows q plain = elim (cases_Bool (is_one_entry q)) [

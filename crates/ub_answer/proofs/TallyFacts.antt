@@ -272,11 +272,13 @@ none-next items cells i x d0 below within done is k d e under =
     lt_of apart = elim (cases_lt k i) [ inl l ↦ l | inr g ↦ absurd (apart (omega arith)) ]
 
 -- the cells changed up to a place, each by its item
-pub cells-next : (change : Item → Cell → Cell) (items : List Item) (first cells : List Cell) (i : ℕ) (x : Cell) (d : Item) (e : Cell) → i < length items → i < length cells
+pub cells-next : (change : Item → Cell → Cell) (items : List Item) (first cells : List Cell) (i : ℕ) (x : Cell) (d : Item) (e : Cell)
+    → i < length items → i < length cells
     → ((k : ℕ) (d : Item) (e : Cell) → k < i → slice_index_or cells k e ≡ change (slice_index_or items k d) (slice_index_or first k e))
     → ((k : ℕ) (e : Cell) → i ≤ k → slice_index_or cells k e ≡ slice_index_or first k e)
     → x ≡ change (slice_index_or items i d) (slice_index_or cells i e)
-    → (k : ℕ) (d : Item) (e : Cell) → k < i + 1 → slice_index_or (slice_set cells i x) k e ≡ change (slice_index_or items k d) (slice_index_or first k e)
+    → (k : ℕ) (d : Item) (e : Cell) → k < i + 1 → slice_index_or (slice_set cells i x) k e ≡ change (slice_index_or items k d)
+    (slice_index_or first k e)
 cells-next change items first cells i x d0 e0 below within done rest is k d e under =
     read-set cells i x k e within (λ (c : Cell). c ≡ change (slice_index_or items k d) (slice_index_or first k e))
     (λ same.

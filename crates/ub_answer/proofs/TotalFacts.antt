@@ -48,8 +48,10 @@ totals-next schema items seen taken row cells next same totals narrow is held fe
     (λ k d e below aggregate. held less k d e below)
     (subst (λ (xs : List Item). (k : ℕ) (d : Item) (e : Cell) → k < length xs → slice_index_or next k e ≡ with_row schema row (slice_index_or xs k d) (slice_index_or cells k e)) same is)
 
-pub totals-more : (schema : Schema) (items seen : List Item) (taken more : List Row) (cells next : List Cell) → seen ≡ items → All (λ item. IsAggregate item) items
-    → All (λ item. IsSmallOf schema more item) seen → AreWithRows schema more seen cells next → HoldsTotals schema items taken cells → HoldsTotals schema items (taken ++ more) next
+pub totals-more : (schema : Schema) (items seen : List Item) (taken more : List Row) (cells next : List Cell) → seen ≡ items
+    → All (λ item. IsAggregate item) items
+    → All (λ item. IsSmallOf schema more item) seen → AreWithRows schema more seen cells next → HoldsTotals schema items taken cells
+    → HoldsTotals schema items (taken ++ more) next
 totals-more schema items seen taken more cells next same totals small is held few k d e below =
     let less : length taken < many = let long = length-append taken more in omega arith in
     let here = subst (λ (xs : List Item). All (λ item. IsSmallOf schema more item) xs) same small k d below in

@@ -41,14 +41,16 @@ placed-push k (r ∷ rows) row =
 abbrev one_at : ℕ → ℕ → Row → List Row
 one_at mask k row = map row_of (filter (has_bit mask) ((k, row) ∷ []))
 
-rows-push : (mask : ℕ) (rows : List Row) (row : Row) (k : ℕ) → k ≡ length rows → rows_at mask (rows ++ row ∷ []) ≡ rows_at mask rows ++ one_at mask k row
+rows-push : (mask : ℕ) (rows : List Row) (row : Row) (k : ℕ) → k ≡ length rows
+    → rows_at mask (rows ++ row ∷ []) ≡ rows_at mask rows ++ one_at mask k row
 rows-push mask rows row k is =
     ap (λ (ps : List (ℕ × Row)). map row_of (filter (has_bit mask) ps)) (placed-push 0 rows row)
     ∙ ap (map row_of) (filter-append (has_bit mask) (placed_from 0 rows) ((0 + length rows, row) ∷ []))
     ∙ map-append row_of (filter (has_bit mask) (placed_from 0 rows)) (filter (has_bit mask) ((0 + length rows, row) ∷ []))
     ∙ ap (λ (n : ℕ). rows_at mask rows ++ one_at mask n row) (let e : 0 + length rows ≡ k = omega arith in e)
 
-rows-more : (mask : ℕ) (rows : List Row) (i : ℕ) (row : Row) → slice_get rows i ≡ Some row → rows_at mask (take (i + 1) rows) ≡ rows_at mask (take i rows) ++ one_at mask i row
+rows-more : (mask : ℕ) (rows : List Row) (i : ℕ) (row : Row) → slice_get rows i ≡ Some row
+    → rows_at mask (take (i + 1) rows) ≡ rows_at mask (take i rows) ++ one_at mask i row
 rows-more mask rows i row at =
     let below = slice_get_within rows i row at in
     let long : length (take i rows) ≡ i = length-take-le i rows (omega arith) in
@@ -70,7 +72,8 @@ next_is_set mask rows i row at one =
 pub next_is_clear : (mask : ℕ) (rows : List Row) (i : ℕ) (row : Row) → slice_get rows i ≡ Some row → ¬ (bit_at mask i ≡ 1)
     → rows_at mask (take (i + 1) rows) ≡ rows_at mask (take i rows)
 next_is_clear mask rows i row at none =
-    rows-more mask rows i row at ∙ ap (λ (rs : List Row). rows_at mask (take i rows) ++ rs) (clear_there mask i row isnt) ∙ append-nil (rows_at mask (take i rows))
+    rows-more mask rows i row at ∙ ap (λ (rs : List Row). rows_at mask (take i rows) ++ rs) (clear_there mask i row isnt)
+    ∙ append-nil (rows_at mask (take i rows))
   where
     isnt : (bit_at mask i == 1) ≡ false
     isnt = elim (cases_Bool (bit_at mask i == 1)) [ inl t ↦ absurd (none (eqb-true (bit_at mask i) 1 t)) | inr f ↦ f ]
@@ -81,13 +84,16 @@ at_end mask rows k past = ap (rows_at mask) (take_all k rows past)
 
 -- ---- the values of the rows so far, put behind one another
 
-pub put_one : (value : Row → ℤ) (mask : ℕ) (rows : List Row) (i : ℕ) (row : Row) (count : ℕ) (values : List ℤ) (v : ℤ) → slice_get rows i ≡ Some row → bit_at mask i ≡ 1
+pub put_one : (value : Row → ℤ) (mask : ℕ) (rows : List Row) (i : ℕ) (row : Row) (count : ℕ) (values : List ℤ) (v : ℤ) → slice_get rows i ≡ Some row
+    → bit_at mask i ≡ 1
     → v ≡ value row → count < length values → count ≡ length (rows_at mask (take i rows)) → take count values ≡ map value (rows_at mask (take i rows))
-    → (count + 1 ≡ length (rows_at mask (take (i + 1) rows))) × (take (count + 1) (slice_set values count v) ≡ map value (rows_at mask (take (i + 1) rows)))
+    → (count + 1 ≡ length (rows_at mask (take (i + 1) rows))) ×
+    (take (count + 1) (slice_set values count v) ≡ map value (rows_at mask (take (i + 1) rows)))
 put_one value mask rows i row count values v at one is within many so_far =
     let more = next_is_set mask rows i row at one in (
       ap (λ (n : ℕ). n + 1) many ∙ sym (length_push (rows_at mask (take i rows)) row) ∙ ap length (sym more),
-      take_more_set values count v within ∙ ap (λ (xs : List ℤ). xs ++ v ∷ []) so_far ∙ ap (λ (x : ℤ). map value (rows_at mask (take i rows)) ++ x ∷ []) is
+      take_more_set values count v within ∙ ap (λ (xs : List ℤ). xs ++ v ∷ []) so_far
+          ∙ ap (λ (x : ℤ). map value (rows_at mask (take i rows)) ++ x ∷ []) is
           ∙ sym (map_push value (rows_at mask (take i rows)) row) ∙ ap (map value) (sym more),
     )
 
@@ -99,16 +105,19 @@ put_none value mask rows i count values below none many so_far =
     let same = next_is_clear mask rows i row at none in (many ∙ ap length (sym same), so_far ∙ ap (λ (rs : List Row). map value rs) (sym same))
 
 -- the same of all rows
-pub put_next : (value : Row → ℤ) (rows : List Row) (i : ℕ) (row : Row) (values : List ℤ) (v : ℤ) → slice_get rows i ≡ Some row → v ≡ value row → i < length values
+pub put_next : (value : Row → ℤ) (rows : List Row) (i : ℕ) (row : Row) (values : List ℤ) (v : ℤ) → slice_get rows i ≡ Some row → v ≡ value row
+    → i < length values
     → take i values ≡ map value (take i rows) → take (i + 1) (slice_set values i v) ≡ map value (take (i + 1) rows)
 put_next value rows i row values v at is within so_far =
     take_more_set values i v within ∙ ap (λ (xs : List ℤ). xs ++ v ∷ []) so_far ∙ ap (λ (x : ℤ). map value (take i rows) ++ x ∷ []) is
     ∙ sym (map_push value (take i rows) row)
-    ∙ ap (map value) (sym (take_more rows i row (slice_get_within rows i row at) ∙ ap (λ (r : Row). take i rows ++ r ∷ []) (get_or_from_slice_get rows i row row at)))
+    ∙ ap (map value) (sym (take_more rows i row (slice_get_within rows i row at)
+    ∙ ap (λ (r : Row). take i rows ++ r ∷ []) (get_or_from_slice_get rows i row row at)))
 
 -- ---- how many they are
 
-bit_there : (mask k i : ℕ) (rows : List Row) → i < length rows → cond (slice_index_or (map (has_bit mask) (placed_from k rows)) i false) 1 0 ≡ bit_at mask (k + i)
+bit_there : (mask k i : ℕ) (rows : List Row) → i < length rows
+    → cond (slice_index_or (map (has_bit mask) (placed_from k rows)) i false) 1 0 ≡ bit_at mask (k + i)
 bit_there mask k i [] below = absurd (omega arith)
 bit_there mask k zero (r ∷ rows) below =
     let e : k ≡ k + 0 = omega arith in
@@ -127,7 +136,8 @@ length-placed k [] = refl
 length-placed k (r ∷ rows) = ap suc (length-placed (k + 1) rows)
 
 same_mask : (mask : ℕ) (rows : List Row) → mask_l (map (has_bit mask) (placed_from 0 rows)) ≡ bit_and mask (2 ^ length rows - 1)
-same_mask mask rows = same_from_bits _ _ (λ i. bit_mask_l (map (has_bit mask) (placed_from 0 rows)) i ∙ at i ∙ sym (bit_at_and mask (2 ^ length rows - 1) i))
+same_mask mask rows = same_from_bits _ _ (λ i. bit_mask_l (map (has_bit mask) (placed_from 0 rows)) i ∙ at i
+    ∙ sym (bit_at_and mask (2 ^ length rows - 1) i))
   where
     long : length (map (has_bit mask) (placed_from 0 rows)) ≡ length rows
     long = length-map (placed_from 0 rows) (has_bit mask) ∙ length-placed 0 rows
@@ -154,7 +164,8 @@ same_mask mask rows = same_from_bits _ _ (λ i. bit_mask_l (map (has_bit mask) (
 -- the ones of the mask's first places
 pub counted : (mask : ℕ) (rows : List Row) (n : ℕ) → n ≡ length rows → count_ones (bit_and mask (2 ^ n - 1)) ≡ length (rows_at mask rows)
 counted mask rows n is =
-    ap (λ (m : ℕ). count_ones (bit_and mask (2 ^ m - 1))) is ∙ ap count_ones (sym (same_mask mask rows)) ∙ ones-mask_l (has_bit mask) (placed_from 0 rows)
+    ap (λ (m : ℕ). count_ones (bit_and mask (2 ^ m - 1))) is ∙ ap count_ones (sym (same_mask mask rows))
+    ∙ ones-mask_l (has_bit mask) (placed_from 0 rows)
     ∙ sym (length-filter (has_bit mask) (placed_from 0 rows)) ∙ sym (length-map (filter (has_bit mask) (placed_from 0 rows)) row_of)
 
 -- no more than there are
@@ -211,7 +222,8 @@ same_test n false iff = elim (cases_Bool (n == 1)) [
   | inr f ↦ f
 ]
 
-told_from : (test : Row → Bool) (mask k : ℕ) (rows : List Row) → ((i : ℕ) (row : Row) → slice_get rows i ≡ Some row → (bit_at mask (k + i) ≡ 1) ↔ IsTrue (test row))
+told_from : (test : Row → Bool) (mask k : ℕ) (rows : List Row)
+    → ((i : ℕ) (row : Row) → slice_get rows i ≡ Some row → (bit_at mask (k + i) ≡ 1) ↔ IsTrue (test row))
     → map row_of (filter (has_bit mask) (placed_from k rows)) ≡ filter test rows
 told_from test mask k [] told = refl
 told_from test mask k (r ∷ rows) told =
@@ -223,7 +235,8 @@ told_from test mask k (r ∷ rows) told =
     subst (λ (n : ℕ). (bit_at mask n ≡ 1) ↔ IsTrue (test row)) e (told (suc i) row at)))
 
 -- where nothing more is asked of the candidates, these are the chosen rows
-pub all_candidates : (choice : Choice) (schema : Schema) (plan : PlanView) (asked : Option Shape) (mask : ℕ) (rows : List Row) → asked ≡ recheck_by choice plan → asked ≡ None → length rows ≤ 64
+pub all_candidates : (choice : Choice) (schema : Schema) (plan : PlanView) (asked : Option Shape) (mask : ℕ) (rows : List Row)
+    → asked ≡ recheck_by choice plan → asked ≡ None → length rows ≤ 64
     → ((i : ℕ) (row : Row) → i < 64 → slice_get rows i ≡ Some row → (bit_at mask i ≡ 1) ↔ IsTrue (is_candidate choice schema plan.covering.boxes row))
     → rows_at mask rows ≡ filter (is_chosen choice schema plan) rows
 all_candidates choice schema plan asked mask rows is none few told =

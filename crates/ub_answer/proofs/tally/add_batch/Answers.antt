@@ -16,12 +16,18 @@ pub loop-place-preserved : goal.loop-place-preserved
 loop-place-preserved g c =
     let before = c.loop-place.invariant in
     let schema = c.args.schema.now in
+    let items = c.args.items.now in
     let rows : List Row = g.B.RowBatch.rows c.args.batch.now in
-    let within : c.loop-place.place < length c.loop-place.tally = let a = before.long in let b = c.loop-place-test.true in let f = c.requires.few in omega arith in
+    let first = c.args.tally.now in
+    let cells = c.loop-place.tally in
+    let place = c.loop-place.place in
+    let below = c.loop-place-test.true in
+    let changed : Item → Cell → Cell = λ item cell. with_part (group_cell schema [] (all_of rows) item) item cell in
+    let within : place < length cells = let long = before.long in let few = c.requires.few in omega arith in
     record {
-      done = cells-next (λ (item : Item) (cell : Cell). with_part (group_cell schema [] (all_of rows) item) item cell) c.args.items.now c.args.tally.now c.loop-place.tally c.loop-place.place
-          c.with_part.result _ _ c.loop-place-test.true within before.done before.rest (by_part _ _ _ _ _ c.with_part.ensures c.part_of-part.ensures.cell);
-      rest = rest-next c.args.tally.now c.loop-place.tally c.loop-place.place c.with_part.result within before.rest;
-      long = length-set c.loop-place.tally c.loop-place.place c.with_part.result ∙ before.long;
-      small = items-next (λ (item : Item). IsSmallOf schema rows item) c.args.items.now c.loop-place.place _ c.loop-place-test.true before.small c.part_of-part.ensures.small;
+      done = cells-next changed items first cells place c.with_part.result _ _ below within before.done before.rest
+          (by_part _ _ _ _ _ c.with_part.ensures c.part_of-part.ensures.cell);
+      rest = rest-next first cells place c.with_part.result within before.rest;
+      long = length-set cells place c.with_part.result ∙ before.long;
+      small = items-next (λ (item : Item). IsSmallOf schema rows item) items place _ below before.small c.part_of-part.ensures.small;
     }

@@ -51,4 +51,5 @@ returns-clause-values c =
     let mask = c.args.mask in
     let past : length rows ≤ c.loop-place.place = rw (sym c.len-place-end.ensures.len) c.loop-place-test.false in
     let end = at_end mask rows c.loop-place.place past in
-    ap (λ (n : ℕ). take n c.loop-place.values) (sym (c.loop-place.invariant.many ∙ ap length end)) ∙ c.loop-place.invariant.so_far ∙ ap (λ (rs : List Row). map value rs) end
+    ap (λ (n : ℕ). take n c.loop-place.values) (sym (c.loop-place.invariant.many ∙ ap length end)) ∙ c.loop-place.invariant.so_far
+    ∙ ap (λ (rs : List Row). map value rs) end

@@ -25,7 +25,8 @@ returns-in-Totals-clause-told g c taken held =
 
 -- rows or groups aren't one entry of all rows
 not_one : (schema : Schema) (q : Asked) (taken : List Row) (t : Collected)
-    → ((rows : CollectedRows) × (t ≡ Rows rows)) ⊎ ((groups : CollectedGroups) × (t ≡ Groups groups)) → HasTaken schema q taken t → false ≡ is_one_entry q
+    → ((rows : CollectedRows) × (t ≡ Rows rows)) ⊎ ((groups : CollectedGroups) × (t ≡ Groups groups)) → HasTaken schema q taken t
+    → false ≡ is_one_entry q
 not_one schema q taken t (inl (rows, is)) held = no_entry-rows q (subst (λ (t : Collected). HasTaken schema q taken t) is held).0
 not_one schema q taken t (inr (groups, is)) held = no_entry-groups q (subst (λ (t : Collected). HasTaken schema q taken t) is held).0
 

@@ -17,4 +17,5 @@ some_more false schema q before old new taken more so_far next first has = next 
 
 pub returns : goal.returns
 returns g c before taken so_far =
-    some_more c.take_batch.result c.args.schema.now (asked c.args.query.now) before c.args.self.now c.take_batch.new.self taken (g.B.RowBatch.rows c.args.batch.now) so_far c.take_batch.ensures.gathered
+    some_more c.take_batch.result c.args.schema.now (asked c.args.query.now) before c.args.self.now c.take_batch.new.self taken
+    (g.B.RowBatch.rows c.args.batch.now) so_far c.take_batch.ensures.gathered
