@@ -78,11 +78,6 @@ fn is_one_box() -> bool {
     }
 }
 
-#[test]
-fn one_box(rt: HostRuntime) {
-    assert!(rt; is_one_box());
-}
-
 // Addresses, and the nearest ones at or above them of the boxes from (6,3) to (6,3) and from (2,2)
 // to (3,3).
 static NEXT: &[(u128, Option<u128>)] = &[(13, Some(13)), (16, Some(45)), (46, None)];
@@ -112,11 +107,6 @@ fn are_two_boxes() -> bool {
     have_values(&boxes, SPAN) & lead_on(&boxes)
 }
 
-#[test]
-fn several_boxes(rt: HostRuntime) {
-    assert!(rt; are_two_boxes());
-}
-
 // Whether the last address is its own neighbour in the box of all points.
 fn is_whole() -> bool {
     let last = Some(u128::MAX);
@@ -130,8 +120,10 @@ fn is_whole() -> bool {
 
 // There is no box from the last point to the first.
 #[test]
-fn the_whole_space(rt: HostRuntime) {
+fn boxes_and_their_neighbours(rt: HostRuntime) {
     let turned = box_between(4, &[4294967295; 4], &[0; 4]);
+    assert!(rt; is_one_box());
+    assert!(rt; are_two_boxes());
     assert!(rt; is_whole() & turned.is_none());
 }
 

@@ -94,11 +94,6 @@ fn lengths_right() -> usize {
     right
 }
 
-#[test]
-fn takes_whole_pages_alone(rt: HostRuntime) {
-    all_right(&rt, lengths_right(), LENGTHS.len());
-}
-
 // What a store begins with.
 #[derive(Clone, Copy)]
 enum Start {
@@ -344,11 +339,6 @@ fn first_wrong(alloc: Global) -> &'static str {
     ""
 }
 
-#[test]
-fn answers_calls(rt: HostRuntime) {
-    none_wrong(&rt, first_wrong(rt.alloc()));
-}
-
 // What is written is what is read, over any honest medium.
 fn write_and_read<M: Medium>(
     store: &mut FileStore<M>,
@@ -380,8 +370,11 @@ fn is_given_back(alloc: Global) -> bool {
     is_read && is_left(store.into_medium(), Ok(GIVEN_BACK))
 }
 
+// Whole pages alone are taken, calls are answered, and the medium is given back.
 #[test]
-fn gives_back_the_medium(rt: HostRuntime) {
+fn stores_over_media(rt: HostRuntime) {
+    all_right(&rt, lengths_right(), LENGTHS.len());
+    none_wrong(&rt, first_wrong(rt.alloc()));
     assert!(rt; is_given_back(rt.alloc()));
 }
 

@@ -1,6 +1,5 @@
 // Headers, directories and pages of an index that are written and read, and pages that are refused.
-use crate::samples::{is_plane, page_of, plane};
-use std::process::Abort;
+use crate::samples::{is_plane, none_wrong, page_of, plane};
 use ub_page::{
     Draft, Entry, Head, Page, check_index, entry_at, first_at, read_directory, read_head,
     read_header, read_index, slot_in, write_directory, write_header, write_index,
@@ -78,12 +77,14 @@ fn is_kept(place: usize, byte: u8, levels: u32, signed: u32) -> bool {
     (draft.page() == &page) & (read.levels == levels) & (read.schema.signed() == signed)
 }
 
-#[test]
-fn headers_keep_levels_and_masks(rt: HostRuntime) {
-    assert!(rt; is_header_page(&page_of(HEADER, &[])));
+// Whether all of them are.
+fn are_kept() -> bool {
     for (place, byte, levels, signed) in KEPT {
-        assert!(rt; is_kept(*place, *byte, *levels, *signed), "{place} {byte}");
+        if !is_kept(*place, *byte, *levels, *signed) {
+            return false;
+        }
     }
+    true
 }
 
 // An entry of a region from this address on, which a page keeps.
@@ -142,12 +143,6 @@ fn is_directory_page(schema: &Schema, page: &Page) -> bool {
     }
 }
 
-#[test]
-fn directories(rt: HostRuntime) {
-    let schema = plane().expect(&rt, "a table");
-    assert!(rt; is_directory_page(&schema, &page_of(DIRECTORY, &[])));
-}
-
 // The bytes of a page of an index that leads to the same regions.
 const INDEX: &[(usize, u8)] = &[
     (0, 0x49),
@@ -196,18 +191,18 @@ fn is_looked_into(page: &Page) -> bool {
         & (first_at(page, 2).z == 13)
 }
 
-#[test]
-fn index_pages(rt: HostRuntime) {
-    let schema = plane().expect(&rt, "a table");
-    let page = page_of(INDEX, &[]);
-    assert!(rt; is_index_page(&schema, &page) & is_looked_into(&page));
+// Whether keys fall to their slots.
+fn fall_to_slots(page: &Page) -> bool {
     for (z, number, slot) in SLOTS {
         let key = Key {
             z: *z,
             number: *number,
         };
-        assert!(rt; slot_in(&page, 3, &key) == *slot, "{z}");
+        if slot_in(page, 3, &key) != *slot {
+            return false;
+        }
     }
+    true
 }
 
 // What a page is read as.
@@ -354,27 +349,56 @@ fn is_refused(kind: Kind, schema: &Schema, page: &Page, fault: PageFault) -> boo
     is_checked & (told == Some(fault))
 }
 
-// Asserts that each of these bytes has the page refused so.
-fn all_refused(rt: &impl Abort, schema: &Schema, faults: &Faults) {
+// At which of these bytes the page isn't refused so first; 4096 where it is for all.
+fn first_taken(schema: &Schema, faults: &Faults) -> usize {
     let mut page = page_of(faults.bytes, faults.before);
     for (place, byte, fault) in faults.rows {
         let at = *place % 4096;
         let old = page[at];
         page[at] = *byte;
-        assert!(rt;
-            is_refused(faults.kind, schema, &page, *fault),
-            "{place} {byte}: {fault}"
-        );
+        if !is_refused(faults.kind, schema, &page, *fault) {
+            return at;
+        }
         if !faults.are_kept {
             page[at] = old;
         }
     }
+    4096
+}
+
+// The same of all of them.
+fn first_taken_of_all(schema: &Schema) -> usize {
+    for faults in FAULTS {
+        let at = first_taken(schema, faults);
+        if at < 4096 {
+            return at;
+        }
+    }
+    4096
+}
+
+// What goes wrong first over a plane; no text where nothing does.
+fn first_wrong(schema: &Schema) -> &'static str {
+    let index = page_of(INDEX, &[]);
+    if !is_header_page(&page_of(HEADER, &[])) {
+        "a header"
+    } else if !are_kept() {
+        "levels and masks of headers"
+    } else if !is_directory_page(schema, &page_of(DIRECTORY, &[])) {
+        "a directory"
+    } else if !is_index_page(schema, &index) | !is_looked_into(&index) {
+        "a page of an index"
+    } else if !fall_to_slots(&index) {
+        "slots"
+    } else {
+        ""
+    }
 }
 
 #[test]
-fn pages_with_a_wrong_byte_are_refused(rt: HostRuntime) {
+fn pages_are_written_and_read_or_refused(rt: HostRuntime) {
     let schema = plane().expect(&rt, "a table");
-    for faults in FAULTS {
-        all_refused(&rt, &schema, faults);
-    }
+    none_wrong(&rt, first_wrong(&schema));
+    let at = first_taken_of_all(&schema);
+    assert!(rt; at == 4096, "byte {at}");
 }

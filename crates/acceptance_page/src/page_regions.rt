@@ -1,6 +1,6 @@
 // Regions that are written and read. Which pages are refused, and why, is text of `tree_transcripts` ('What the reader of a region
 // refuses').
-use crate::samples::{page_of, plane, region_page, row, table};
+use crate::samples::{none_wrong, page_of, plane, region_page, row, table};
 use ub_page::{Draft, Page, RegionPage};
 use ub_table::{Key, PageFault, Row, Schema};
 
@@ -107,14 +107,6 @@ fn takes_in(region: &mut RegionPage, schema: &Schema) -> bool {
     is_empty & is_low & is_high & refused & is_region(region, Key { z: 0, number: 0 }, &[])
 }
 
-// One region takes in one page after the other.
-#[test]
-fn takes_in_one_page_after_the_other(rt: HostRuntime) {
-    let schema = plane().expect(&rt, "a table");
-    let mut region = RegionPage::empty(schema.shape());
-    assert!(rt; takes_in(&mut region, &schema));
-}
-
 // Whether the region of the first page tells its keys, and its second row.
 fn tells_keys(region: &RegionPage) -> bool {
     if region.len() != 2 {
@@ -144,12 +136,6 @@ fn tells_all(schema: &Schema) -> bool {
     }
 }
 
-#[test]
-fn gives_rows_and_keys(rt: HostRuntime) {
-    let schema = plane().expect(&rt, "a table");
-    assert!(rt; tells_all(&schema));
-}
-
 // 64 rows of a table of four dimensions and four measures, in the order of their keys.
 fn widest_rows() -> [Row; 64] {
     let mut rows = [row(16_777_215, 0, 0, 0); 64];
@@ -164,14 +150,34 @@ fn widest_rows() -> [Row; 64] {
     rows
 }
 
-#[test]
-fn holds_full_pages(rt: HostRuntime) {
-    let schema = table(b"abcdefgh", 4, 64).expect(&rt, "a table");
+// Whether a full page is written and read.
+fn holds_full_pages(schema: &Schema) -> bool {
     let rows = widest_rows();
     let first = Key {
         z: 0,
         number: 16_777_215,
     };
     let page = region_page(4, 4, first, &rows);
-    assert!(rt; is_read(&schema, &page, first, &rows) && is_written(&schema, &page));
+    is_read(schema, &page, first, &rows) && is_written(schema, &page)
+}
+
+// What goes wrong first of a plane, and of the widest table; no text where nothing does.
+fn first_wrong(plane: &Schema, widest: &Schema) -> &'static str {
+    let mut region = RegionPage::empty(plane.shape());
+    if !takes_in(&mut region, plane) {
+        "one page after the other is taken in"
+    } else if !tells_all(plane) {
+        "rows and keys"
+    } else if !holds_full_pages(widest) {
+        "full pages"
+    } else {
+        ""
+    }
+}
+
+#[test]
+fn regions_are_written_and_read(rt: HostRuntime) {
+    let schema = plane().expect(&rt, "a plane");
+    let widest = table(b"abcdefgh", 4, 64).expect(&rt, "a table");
+    none_wrong(&rt, first_wrong(&schema, &widest));
 }

@@ -1,7 +1,7 @@
 // The rows of a region in memory, which are put in, taken out, split and joined.
 ghost use Rattle.std.specs.Prelude.{◌≤◌};
 
-use crate::samples::{all_right, row};
+use crate::samples::{none_wrong, row};
 use ub_region::RegionPage;
 use ub_table::{Key, Row};
 use ub_zaddr::Shape;
@@ -131,24 +131,14 @@ fn are_halves(
     true
 }
 
-// How many of the halves are right, up to the first that aren't.
-fn halves_right(shape: Shape, right: &mut RegionPage) -> usize {
-    let mut count = 0usize;
+// Whether all of the halves are right.
+fn are_all_halves(shape: Shape, right: &mut RegionPage) -> bool {
     for (places, left, first) in HALVES {
         if !are_halves(shape, right, places, *left, key(first.0, first.1)) {
-            return count;
+            return false;
         }
-        count = count.wrapping_add(1);
     }
-    count
-}
-
-#[test]
-fn halves_of_a_page_and_a_row(rt: HostRuntime) {
-    let shape = Shape::new(4).expect(&rt, "four dimensions");
-    let line = Shape::new(1).expect(&rt, "a line");
-    let mut right = region_of(line, &FOUR);
-    all_right(&rt, halves_right(shape, &mut right), HALVES.len());
+    true
 }
 
 // Whether a right half that is split again begins where it did, and also once rows are taken out of
@@ -172,13 +162,12 @@ fn is_split_again(first: &mut RegionPage, second: &mut RegionPage, third: &mut R
         & is_region(first, ORIGIN, &[1, 2, 3, 5, 6])
 }
 
-#[test]
-fn halves_of_a_half(rt: HostRuntime) {
-    let shape = Shape::new(4).expect(&rt, "four dimensions");
+// Whether a half of a page of four dimensions is.
+fn is_half_split(shape: Shape) -> bool {
     let mut first = region_of(shape, &[1, 2, 3]);
     let mut second = region_of(shape, &FOUR);
     let mut third = region_of(shape, &[]);
-    assert!(rt; is_split_again(&mut first, &mut second, &mut third));
+    is_split_again(&mut first, &mut second, &mut third)
 }
 
 // The row at an index of a line: their numbers begin with 1, and they are at every second address.
@@ -227,12 +216,14 @@ fn is_full_page_split(line: Shape, index: usize) -> bool
     is_line(&left, ORIGIN, 1, 32) && join(&mut left, &right, 64) && is_line(&left, ORIGIN, 1, 64)
 }
 
-#[test]
-fn halves_of_a_full_page(rt: HostRuntime) {
-    let line = Shape::new(1).expect(&rt, "a line");
+// Whether it is at each end, beside these, and in the middle.
+fn are_full_pages_split(line: Shape) -> bool {
     for index in [0, 1, 32, 33, 63, 64] {
-        assert!(rt; is_full_page_split(line, index), "{index}");
+        if !is_full_page_split(line, index) {
+            return false;
+        }
     }
+    true
 }
 
 // Whether a row is taken out of a region of FOUR, and put in again.
@@ -247,12 +238,14 @@ fn is_taken_out(shape: Shape, index: usize) -> bool {
     is_out && is_region(&region, ORIGIN, &FOUR)
 }
 
-#[test]
-fn rows_taken_out_and_put_in(rt: HostRuntime) {
-    let shape = Shape::new(4).expect(&rt, "four dimensions");
+// Whether each of them is.
+fn is_each_taken_out(shape: Shape) -> bool {
     for index in 0..4usize {
-        assert!(rt; is_taken_out(shape, index), "{index}");
+        if !is_taken_out(shape, index) {
+            return false;
+        }
     }
+    true
 }
 
 // Keys, whether a row of each is taken out of those that are left, and the places of the others: by
@@ -271,20 +264,14 @@ static REMOVALS: &[(u128, u32, bool, &[usize])] = &[
 ];
 
 // Whether rows are taken out by their keys, where they are, and only then.
-fn are_taken_out(region: &mut RegionPage) -> bool {
+fn are_taken_out(shape: Shape) -> bool {
+    let mut region = region_of(shape, &[0, 2, 3, 4]);
     for (z, number, is_there, left) in REMOVALS {
-        if region.remove(&key(*z, *number)) != *is_there || !is_region(region, ORIGIN, left) {
+        if region.remove(&key(*z, *number)) != *is_there || !is_region(&region, ORIGIN, left) {
             return false;
         }
     }
     true
-}
-
-#[test]
-fn rows_taken_out_by_key(rt: HostRuntime) {
-    let shape = Shape::new(4).expect(&rt, "four dimensions");
-    let mut region = region_of(shape, &[0, 2, 3, 4]);
-    assert!(rt; are_taken_out(&mut region));
 }
 
 // Numbers of rows, and of rows that pages hold, and whether the first are few then.
@@ -325,14 +312,12 @@ fn are_joined(before: &mut RegionPage, region: &mut RegionPage, next: &RegionPag
         & is_region(next, ORIGIN, &[5])
 }
 
-#[test]
-fn few_rows_joined(rt: HostRuntime) {
-    let shape = Shape::new(4).expect(&rt, "four dimensions");
+// Whether regions of one row each are.
+fn are_single_rows_joined(shape: Shape) -> bool {
     let mut before = region_of(shape, &[0]);
     let mut region = region_of(shape, &[2]);
     let next = region_of(shape, &[5]);
-    assert!(rt; are_told_few(shape));
-    assert!(rt; are_joined(&mut before, &mut region, &next));
+    are_joined(&mut before, &mut region, &next)
 }
 
 // Whether the rows of some places stand behind those of others.
@@ -355,10 +340,44 @@ static APPENDED: &[(&[usize], &[usize], &[usize])] = &[
     (&[0, 1, 2], &[6], &[0, 1, 2, 6]),
 ];
 
-#[test]
-fn rows_appended(rt: HostRuntime) {
-    let shape = Shape::new(4).expect(&rt, "four dimensions");
+// Whether those of these places do.
+fn are_all_appended(shape: Shape) -> bool {
     for (places, next, all) in APPENDED {
-        assert!(rt; are_appended(shape, places, next, all));
+        if !are_appended(shape, places, next, all) {
+            return false;
+        }
     }
+    true
+}
+
+// What goes wrong first; no text where nothing does.
+fn first_wrong() -> &'static str {
+    let (Ok(shape), Ok(line)) = (Shape::new(4), Shape::new(1)) else {
+        return "shapes";
+    };
+    let mut right = region_of(line, &FOUR);
+    if !are_all_halves(shape, &mut right) {
+        "halves of a page and a row"
+    } else if !is_half_split(shape) {
+        "halves of a half"
+    } else if !are_full_pages_split(line) {
+        "halves of a full page"
+    } else if !is_each_taken_out(shape) {
+        "rows taken out and put in"
+    } else if !are_taken_out(shape) {
+        "rows taken out by key"
+    } else if !are_told_few(shape) {
+        "few rows"
+    } else if !are_single_rows_joined(shape) {
+        "few rows joined"
+    } else if !are_all_appended(shape) {
+        "rows appended"
+    } else {
+        ""
+    }
+}
+
+#[test]
+fn rows_are_put_in_and_taken_out(rt: HostRuntime) {
+    none_wrong(&rt, first_wrong());
 }

@@ -163,18 +163,8 @@ fn stores_right(alloc: Global) -> usize {
     right
 }
 
-#[test]
-fn fails_at_one_call_alone(rt: HostRuntime) {
-    all_right(&rt, stores_right(rt.alloc()), CALLS.len());
-    fail_once(&mut store_failing_at(rt.alloc(), 1));
-}
-
 // What is put is what is brought and lent, cached or not.
-fn put_and_bring(
-    pager: &mut Pager<FaultyStore<MemStore>>,
-    n: u32,
-    page: &Page,
-) -> Result<(), StoreFault>
+fn put_and_bring<S: PageStore>(pager: &mut Pager<S>, n: u32, page: &Page) -> Result<(), StoreFault>
     requires { IsHonest pager.old.store }
     ensures stored { OnOk result (slice_get pager.new.store.pages n ≡ Some page.now) }
     ensures cached { OnOk result (IsCached pager.new n) }
@@ -330,8 +320,11 @@ fn pagers_right(alloc: Global) -> usize {
     right
 }
 
+// A store fails at one call alone; a pager lends pages, and notes those of regions.
 #[test]
-fn lends_pages_and_notes_those_of_regions(rt: HostRuntime) {
+fn stores_and_pagers(rt: HostRuntime) {
+    all_right(&rt, stores_right(rt.alloc()), CALLS.len());
+    fail_once(&mut store_failing_at(rt.alloc(), 1));
     all_right(&rt, pagers_right(rt.alloc()), DEEDS.len());
 }
 

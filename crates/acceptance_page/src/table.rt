@@ -1,5 +1,5 @@
 // Names, columns, schemas, rows and keys.
-use crate::samples::{all_right, is_plane, plane, signed_table, table};
+use crate::samples::{is_plane, none_wrong, plane, signed_table, table};
 use ub_table::columns::MAX_COLUMNS;
 use ub_table::{Columns, Key, Name, PageFault, Row, Schema, is_keyword};
 
@@ -27,22 +27,15 @@ fn keeps(text: &[u8]) -> bool {
     }
 }
 
-// How many of the texts are right, up to the first that isn't.
-fn texts_right() -> usize {
-    let mut right = 0usize;
+// Whether each of the texts is one.
+fn are_texts() -> bool {
     for (text, is_name, is_key) in TEXTS {
         let bytes = text.as_bytes();
         if (keeps(bytes) != *is_name) | (is_keyword(bytes) != *is_key) {
-            return right;
+            return false;
         }
-        right = right.wrapping_add(1);
     }
-    right
-}
-
-#[test]
-fn takes_names(rt: HostRuntime) {
-    all_right(&rt, texts_right(), TEXTS.len());
+    true
 }
 
 // Whether columns of these two names are held in their order.
@@ -78,37 +71,25 @@ fn holds_columns(schema: &Schema) -> bool {
     }
 }
 
-// How many of these are refused so, up to the first that isn't.
-fn refusals_right(name: Name) -> usize {
-    let mut right = 0usize;
+// Whether all of them are refused so.
+fn are_refused(name: Name) -> bool {
     for (page_rows, signed, fault) in REFUSED {
         if !is_refused(name, *page_rows, *signed, *fault) {
-            return right;
+            return false;
         }
-        right = right.wrapping_add(1);
     }
-    right
+    true
 }
 
-// The table of the plane; one of two columns of a name is refused for its count of rows, or its mask, before its names.
-#[test]
-fn takes_columns_and_schemas(rt: HostRuntime) {
-    let schema = plane().expect(&rt, "a table");
-    assert!(rt; is_plane(&schema) & holds_columns(&schema));
-    all_right(&rt, refusals_right(*schema.name()), REFUSED.len());
-}
-
-#[test]
-fn orders_keys(rt: HostRuntime) {
+// Whether keys are in their order.
+fn are_ordered() -> bool {
     let first = Key { z: 1, number: 8 };
     let low = Key { z: 1, number: 9 };
     let high = Key {
         z: 1 << 100,
         number: 1,
     };
-    assert!(rt;
-        low.is_before(&high) & !high.is_before(&low) & first.is_before(&low) & !low.is_before(&low)
-    );
+    low.is_before(&high) & !high.is_before(&low) & first.is_before(&low) & !low.is_before(&low)
 }
 
 // A row, and its values in the columns of a table of two dimensions and two measures.
@@ -167,12 +148,6 @@ fn are_fitted(schema: &Schema) -> bool {
     true
 }
 
-#[test]
-fn reads_columns_and_tells_which_numbers_fit(rt: HostRuntime) {
-    let schema = table(b"xymn", 2, 2).expect(&rt, "a table");
-    assert!(rt; are_read(&schema, &VALUES) & are_fitted(&schema));
-}
-
 // A mask has bits for the dimensions alone.
 static MASKS: &[(u32, u32, bool)] = &[
     (1, 0, true),
@@ -196,21 +171,14 @@ fn is_mask(dims: u32, signed: u32, is_taken: bool) -> bool {
     }
 }
 
-// How many of the masks are right, up to the first that isn't.
-fn masks_right() -> usize {
-    let mut right = 0usize;
+// Whether each of the masks is.
+fn are_masks() -> bool {
     for (dims, signed, is_taken) in MASKS {
         if !is_mask(*dims, *signed, *is_taken) {
-            return right;
+            return false;
         }
-        right = right.wrapping_add(1);
     }
-    right
-}
-
-#[test]
-fn takes_masks_of_its_dimensions(rt: HostRuntime) {
-    all_right(&rt, masks_right(), MASKS.len());
+    true
 }
 
 // Values of a signed dimension, and the coordinates that stand for them; and numbers that it doesn't have: those next to its
@@ -244,22 +212,57 @@ fn is_signed(schema: &Schema, dim: usize, number: i128, coordinate: Option<u32>)
         & (fits(schema, dim, number) == coordinate.is_some())
 }
 
-// How many of the signed numbers are right, up to the first that isn't.
-fn signed_right(schema: &Schema) -> usize {
-    let mut right = 0usize;
+// Whether each of the signed numbers is.
+fn are_signed(schema: &Schema) -> bool {
     for (number, coordinate) in SIGNED {
         if !is_signed(schema, 1, *number, *coordinate) {
-            return right;
+            return false;
         }
-        right = right.wrapping_add(1);
     }
-    right
+    true
 }
 
-// A table of two dimensions of which the second is signed, and of two measures.
+// What goes wrong first of a plane, of a table of two dimensions and two measures, and of one whose second dimension is signed.
+fn first_wrong_of(plane: &Schema, table: &Schema, signed: &Schema) -> &'static str {
+    if !is_plane(plane) {
+        "a plane"
+    } else if !holds_columns(plane) {
+        "columns"
+    } else if !are_refused(*plane.name()) {
+        "two columns of a name: the count of rows, or the mask, is refused before"
+    } else if !are_read(table, &VALUES) | !are_fitted(table) {
+        "columns that are read, and numbers that fit"
+    } else if !are_read(signed, &SIGNED_VALUES) | !are_fitted(signed) {
+        "the same of a signed dimension"
+    } else if !are_signed(signed) {
+        "signed numbers"
+    } else {
+        ""
+    }
+}
+
+// What goes wrong first; no text where nothing does.
+fn first_wrong() -> &'static str {
+    if !are_texts() {
+        return "names";
+    }
+    if !are_ordered() {
+        return "keys";
+    }
+    if !are_masks() {
+        return "masks";
+    }
+    match (
+        plane(),
+        table(b"xymn", 2, 2),
+        signed_table(b"xymn", 2, 2, 2),
+    ) {
+        (Ok(first), Ok(second), Ok(third)) => first_wrong_of(&first, &second, &third),
+        _ => "tables",
+    }
+}
+
 #[test]
-fn reads_columns_by_which_are_signed(rt: HostRuntime) {
-    let schema = signed_table(b"xymn", 2, 2, 2).expect(&rt, "a table");
-    assert!(rt; are_fitted(&schema) & are_read(&schema, &SIGNED_VALUES));
-    all_right(&rt, signed_right(&schema), SIGNED.len());
+fn names_columns_schemas_rows_and_keys(rt: HostRuntime) {
+    none_wrong(&rt, first_wrong());
 }

@@ -1,4 +1,4 @@
-use Rattle.std.proofs.Common.{◌≡◌, ◌∙◌, ◌+◌, ◌-◌, ◌++◌, ap, arith, drop, length, take}
+use Rattle.std.proofs.Common.{◌≡◌, ◌+◌, ◌-◌, arith, length}
 use Rattle.acceptance_page.proofs.FakeFacts.{put_within}
 use Rattle.acceptance_page.proofs.file_fake.copy_at.Goals as goal
 
