@@ -10,14 +10,14 @@ use ub_tree::{Tree, TreeFault};
 
 type Store = FileStore<MemMedium>;
 
-// The load of the five rows makes 20 calls of its store, and closing three. Then the table is opened with two calls; the INSERT
-// reads the region of its row, marks the table and writes the region. So the 29th call is the first of the closing, which syncs,
-// writes the header and syncs. The 32nd is the first of the opening after it.
+// The load of the five rows makes 10 calls of its store, and closing three. Then the table is opened with two calls; the INSERT
+// reads the region of its row, marks the table and writes the region. So the 19th call is the first of the closing, which syncs,
+// writes the header and syncs. The 22nd is the first of the opening after it.
 static CLOSINGS: [(u64, Option<TreeFault>); 5] = [
-    (29, UNCLEAN),
-    (30, UNCLEAN),
-    (31, None),
-    (32, Some(TreeFault::Store(StoreFault::Device))),
+    (19, UNCLEAN),
+    (20, UNCLEAN),
+    (21, None),
+    (22, Some(TreeFault::Store(StoreFault::Device))),
     (0, None),
 ];
 

@@ -5,12 +5,9 @@ use ub_load::{LoadFault, load};
 use ub_store::{FaultyStore, MemStore, StoreFault};
 use ub_tree::TreeFault;
 
-// How many calls of its store the load of five rows makes, two on a page: six for the table with no rows (the first page is
-// added, and marked as that of a changed table; two pages are added, and the first region and the root of the index are written).
-// The first row reads the root and the region and writes the region, the second one writes it, which is cached. The third one finds
-// it full, adds a page and writes both and the root, and so does the fourth. The fifth row goes to the region that the third one
-// made: that is read, and written.
-const CALLS: u64 = 6 + 3 + 1 + 4 + 4 + 2;
+// How many calls of its store the load of five rows makes, two on a page: the first page is added, and marked as that of a changed
+// table; then each of the three regions has a page added and written, and so has the index, which is one leaf.
+const CALLS: u64 = 2 + 3 * 2 + 2;
 
 // Whether a load ends with the device's fault where its store fails at this call.
 fn is_ended(alloc: Global, call: u64) -> bool {
