@@ -21,9 +21,9 @@ pub fn ask<S: PageStore>(alloc: Global, tree: &mut Tree<S>, line: &str) -> Reply
             say(alloc, "ok")
         }
         head @ ("SELECT" | "EXPLAIN" | "DELETE") => answer_by(alloc, tree, head, line, 0),
-        "sweep" => {
+        head @ ("sweep" | "hand") => {
             let turns = words.short();
-            answer_by(alloc, tree, "sweep", words.rest, turns)
+            answer_by(alloc, tree, head, words.rest, turns)
         }
         "seek" => found(alloc, tree.seek(words.number(), None)),
         "span" => span(alloc, tree, &mut words),

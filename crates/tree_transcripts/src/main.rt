@@ -1,7 +1,7 @@
 //! Tests of trees over stores, and of queries and sweeps over trees, as a text on standard input: tables as they are spelled byte for
 //! byte, what is done to a tree over their pages, and what that answers. Each line is tried, those that are answered otherwise are
 //! printed with their numbers and what they were answered, and at last how many were right and how many wrong. With a wrong one the
-//! status is 1.
+//! status is 1. tests/README.md, 'Adding a case', walks through a line; docs/FORMATS.md says how pages are spelled.
 //!
 //!     # ..                a comment, as an empty line is
 //!
@@ -29,6 +29,8 @@
 //!     SELECT .., EXPLAIN .., DELETE ..
 //!                         by the plan of the query: the pages and the rows, the lines, and how many rows are gone
 //!     sweep N SELECT ..   N turns of its sweep: what each gives, and in brackets how many pages were read, and how many rows are held
+//!     hand N SELECT ..    N turns so; then twice what it hands over of the regions that are left, by the numbers of their rows, and
+//!                         behind them a fault; and N turns more
 //!     size                how many pages the store has that the tree left
 //!     same NAME           whether it has the pages of that table, byte for byte, and no other; `same NAME with HURTS`
 //!     bytes PAGE@AT ITEMS whether a page of it has these bytes
@@ -70,10 +72,12 @@ mod tables;
 mod trial;
 mod words;
 
+use bench::Answering;
 use player::Player;
 use std::alloc::{AllocError, Global};
 use std::io;
 use std::process::ExitCode;
+use tables::Store;
 use trial::Trial;
 
 fn main(rt: HostRuntime) -> ExitCode {
@@ -86,14 +90,19 @@ fn main(rt: HostRuntime) -> ExitCode {
 // Plays the text of standard input, and gives whether all its lines are right.
 fn play(rt: &HostRuntime) -> io::Result<bool> {
     let text = io::read_to_string(rt.alloc(), rt.reader())?;
-    let (told, is_right) = judged(rt.alloc(), text.as_str())?;
+    let trial: Trial<Store> = Trial::new(rt.alloc());
+    let (told, is_right) = judged(rt.alloc(), trial, text.as_str())?;
     println!(rt; "{told}")?;
     Ok(is_right)
 }
 
-// What is printed of the lines of a text, and whether all are right.
-fn judged(alloc: Global, text: &str) -> Result<(String, bool), AllocError> {
-    let mut player = Player::new(alloc, Trial::new(alloc));
+// What is printed of the lines of a text, which this one answers, and whether all are right.
+fn judged<A: Answering>(
+    alloc: Global,
+    answering: A,
+    text: &str,
+) -> Result<(String, bool), AllocError> {
+    let mut player = Player::new(alloc, answering);
     for line in text.split('\n') {
         player.take(line);
     }

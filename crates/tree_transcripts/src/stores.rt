@@ -6,6 +6,12 @@ use crate::words::cut;
 use std::alloc::Global;
 use ub_store::{Page, PageStore, StoreFault};
 
+/// Stores that are made of their pages, and fail at one call, or at none.
+pub trait Failing {
+    /// One of these pages that fails at its k-th call, or at none where k is 0; none of more pages than there may be.
+    fn of(pages: Vec<Page>, k: u64) -> Option<Self>;
+}
+
 /// What a line on a store is answered.
 pub fn look<S: PageStore>(alloc: Global, tables: &Tables, store: &mut S, line: &str) -> Reply {
     let (head, words) = cut(line);

@@ -1,10 +1,20 @@
 use crate::bytes::put_items;
+use crate::stores::Failing;
 use crate::words::{Words, cut};
 use std::alloc::Global;
 use ub_store::{FaultyStore, MAX_PAGES, MemStore, Page};
 
 /// A store in memory that fails at one call, or at none.
 pub type Store = FaultyStore<MemStore>;
+
+impl Failing for FaultyStore<MemStore> {
+    fn of(pages: Vec<Page>, k: u64) -> Option<FaultyStore<MemStore>> {
+        if pages.len() > MAX_PAGES as usize {
+            return None;
+        }
+        Some(FaultyStore::new(MemStore::of(pages), k))
+    }
+}
 
 // The pages of a table that has a name.
 #[derive(Drop)]
@@ -109,12 +119,4 @@ fn put_hurt(alloc: Global, pages: &mut [Page], words: &str) -> bool {
         },
         _ => words.is_empty(),
     }
-}
-
-/// A store of these pages, that fails at its k-th call.
-pub fn store_of(pages: Vec<Page>, k: u64) -> Option<Store> {
-    if pages.len() > MAX_PAGES as usize {
-        return None;
-    }
-    Some(FaultyStore::new(MemStore::of(pages), k))
 }

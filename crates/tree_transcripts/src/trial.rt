@@ -1,32 +1,60 @@
 use crate::asking::ask;
 use crate::bench::Answering;
-use crate::reply::{NONE, Reply, UNKNOWN, say, words_of};
-use crate::stores::{has_pages, is_due, look, pages_of};
-use crate::tables::{Store, Tables, store_of};
+use crate::reply::{NONE, Reply, UNKNOWN, release, say, words_of};
+use crate::stores::{Failing, has_pages, is_due, look, pages_of};
+use crate::tables::Tables;
 use crate::words::{Words, cut};
 use std::alloc::{AllocError, Global};
-use ub_store::{FaultyStore, MemStore, Page, Rejected};
+use ub_store::{Page, PageStore, Rejected};
 use ub_table::{Name, PageFault, Schema};
 use ub_tree::{ReadFault, Tree, TreeFault};
 
 /// A tree, or the store that it left, and the tables that stores are made of.
 #[derive(Drop)]
-pub struct Trial {
+pub struct Trial<S: PageStore + Failing> {
     alloc: Global,
     tables: Tables,
-    tree: Option<Tree<Store>>,
-    store: Option<Store>,
-    old: Option<Old>,
+    tree: Option<Tree<S>>,
+    store: Option<S>,
+    old: Option<Old<S>>,
 }
 
 // The store of the old table that was upgraded, and the pages that it had before.
 #[derive(Drop)]
-struct Old {
-    store: Store,
+struct Old<S: PageStore + Failing> {
+    store: S,
     pages: Vec<Page>,
 }
 
-impl Answering for Trial {
+// What a line is about.
+#[derive(Clone, Copy)]
+enum Kind {
+    Table,
+    // The store that the tree left, or that of the old table.
+    Look,
+    Old,
+    Begin,
+    Create,
+    Bring,
+    Close,
+    Tree,
+}
+
+// What a line is about, by its first word.
+fn kind_of(head: &str) -> Kind {
+    match head {
+        "table" | "page" | "pages" => Kind::Table,
+        "size" | "same" | "bytes" | "due" => Kind::Look,
+        "old" => Kind::Old,
+        "store" | "open" | "again" => Kind::Begin,
+        "create" => Kind::Create,
+        "bring" => Kind::Bring,
+        "close" => Kind::Close,
+        _ => Kind::Tree,
+    }
+}
+
+impl<S: PageStore + Failing> Answering for Trial<S> {
     fn answer(&mut self, line: &str) -> Result<String, AllocError> {
         let reply = self.reply(line);
         words_of(self.alloc, reply)
@@ -34,7 +62,7 @@ impl Answering for Trial {
 }
 
 // Whether the store of the old table has its pages still, or else whether it fails at its next call.
-fn look_old(alloc: Global, old: &mut Option<Old>, words: &str) -> Reply {
+fn look_old<S: PageStore + Failing>(alloc: Global, old: &mut Option<Old<S>>, words: &str) -> Reply {
     let Some(old) = old else {
         return say(alloc, NONE);
     };
@@ -44,11 +72,6 @@ fn look_old(alloc: Global, old: &mut Option<Old>, words: &str) -> Reply {
         is_due(&mut old.store)
     };
     say(alloc, if is_so { "yes" } else { "no" })
-}
-
-// Lets a tree go.
-fn release(_tree: Option<Tree<Store>>) {
-    // It is dropped here, and by no other step.
 }
 
 // The schema of the plane, or of the line.
@@ -61,9 +84,9 @@ fn schema_of(word: &str) -> Result<Schema, PageFault> {
     }
 }
 
-impl Trial {
+impl<S: PageStore + Failing> Trial<S> {
     /// One with no tables, no tree and no store.
-    pub fn new(alloc: Global) -> Trial {
+    pub fn new(alloc: Global) -> Trial<S> {
         Trial {
             alloc,
             tables: Tables::new(alloc),
@@ -76,15 +99,15 @@ impl Trial {
     // What a line is answered.
     fn reply(&mut self, line: &str) -> Reply {
         let (head, words) = cut(line);
-        match head {
-            "table" | "page" | "pages" => self.take_line(line),
-            "size" | "same" | "bytes" | "due" => self.look(line),
-            "old" => look_old(self.alloc, &mut self.old, words),
-            "store" | "open" | "again" => self.begin(head, words),
-            "create" => self.create(words),
-            "bring" => self.bring(words),
-            "close" => self.close(),
-            _ => match &mut self.tree {
+        match kind_of(head) {
+            Kind::Table => self.take_line(line),
+            Kind::Look => self.look(line),
+            Kind::Old => look_old(self.alloc, &mut self.old, words),
+            Kind::Begin => self.begin(head, words),
+            Kind::Create => self.create(words),
+            Kind::Bring => self.bring(words),
+            Kind::Close => self.close(),
+            Kind::Tree => match &mut self.tree {
                 Some(tree) => ask(self.alloc, tree, line),
                 None => say(self.alloc, NONE),
             },
@@ -140,7 +163,7 @@ impl Trial {
     fn hold(&mut self, pages: Option<Vec<Page>>, k: u64) -> bool {
         release(self.tree.take());
         self.store = match pages {
-            Some(pages) => store_of(pages, k),
+            Some(pages) => S::of(pages, k),
             None => None,
         };
         self.store.is_some()
@@ -163,13 +186,18 @@ impl Trial {
         let Ok(schema) = schema_of(words.word()) else {
             return say(self.alloc, UNKNOWN);
         };
-        let store = FaultyStore::new(MemStore::new(self.alloc), words.fault());
+        let Some(store) = S::of(Vec::new(self.alloc), words.fault()) else {
+            return say(self.alloc, UNKNOWN);
+        };
+        if store.pages() != 0 {
+            return say(self.alloc, UNKNOWN);
+        }
         let made = Tree::create(self.alloc, store, &schema);
         self.take(made)
     }
 
     // Takes a tree, or the store that is handed back in its place.
-    fn take(&mut self, made: Result<Tree<Store>, Rejected<Store, TreeFault>>) -> Reply {
+    fn take(&mut self, made: Result<Tree<S>, Rejected<S, TreeFault>>) -> Reply {
         match made {
             Ok(tree) => {
                 release(self.tree.replace(tree));
@@ -180,7 +208,7 @@ impl Trial {
     }
 
     // Takes the store that is handed back.
-    fn take_back(&mut self, refused: Rejected<Store, TreeFault>) -> Reply {
+    fn take_back(&mut self, refused: Rejected<S, TreeFault>) -> Reply {
         self.store = Some(refused.store);
         Err(ReadFault::Tree(refused.fault))
     }
@@ -213,9 +241,14 @@ impl Trial {
 
     // Upgrades the old table, over a new store that fails at its n-th call.
     fn upgrade(&mut self, n: u64) -> Reply {
+        let Some(new) = S::of(Vec::new(self.alloc), n) else {
+            return say(self.alloc, UNKNOWN);
+        };
+        if new.pages() != 0 {
+            return say(self.alloc, UNKNOWN);
+        }
         match &mut self.old {
             Some(old) => {
-                let new = FaultyStore::new(MemStore::new(self.alloc), n);
                 let made = Tree::upgrade(self.alloc, &mut old.store, new);
                 self.take(made)
             }
@@ -225,9 +258,9 @@ impl Trial {
 }
 
 // The old table of this name, whose store fails at its k-th call.
-fn old_of(tables: &Tables, table: &str, k: u64) -> Option<Old> {
+fn old_of<S: PageStore + Failing>(tables: &Tables, table: &str, k: u64) -> Option<Old<S>> {
     match (tables.pages(table), tables.pages(table)) {
-        (Some(stored), Some(pages)) => match store_of(stored, k) {
+        (Some(stored), Some(pages)) => match S::of(stored, k) {
             Some(store) => Some(Old { store, pages }),
             None => None,
         },
