@@ -80,16 +80,16 @@ def damages(whole):
 
 
 def nine(whole):
-    """The nine damages of the table of five rows, whose root is page 2 and whose regions are on the pages 1, 4 and 3: their name, the
+    """The nine damages of the table of five rows, whose root is page 4 and whose regions are on the pages 1, 2 and 3: their name, the
     file, what is told of all rows, and of the plan."""
-    root = 2 * PAGE
-    first = entry_bytes(ORIGIN, 2) + bytes(48)
+    root = 4 * PAGE
+    first = entry_bytes(ORIGIN, 4) + bytes(48)
     yield "state", replaced(whole, (5, b"\1")), "Unclean page 0", "Unclean page 0"
     yield "root 0", replaced(whole, (24, number_bytes(0))), "BadCount page 0", "BadCount page 0"
     yield "root 1", replaced(whole, (24, number_bytes(1))), "WrongKind page 1", "WrongKind page 1"
-    yield "level 2", replaced(whole, (28, number_bytes(2))), "BadCount page 2", "BadCount page 2"
+    yield "level 2", replaced(whole, (28, number_bytes(2))), "BadCount page 4", "BadCount page 4"
     one = replaced(whole, (28, number_bytes(2)), (root + 1, b"\2\0\1"), (root + 16, first))
-    yield "a root that names itself", one, "BadCount page 2", "BadCount page 2"
+    yield "a root that names itself", one, "BadCount page 4", "BadCount page 4"
     yield "second entry to page 1", replaced(whole, (root + 16 + 24 + 20, number_bytes(1))), "OutOfRegion page 1", None
     yield "second entry to page 9", replaced(whole, (root + 16 + 24 + 20, number_bytes(9))), "NoPage", None
     yield "cut to two pages", whole[: 2 * PAGE], "NoPage", "NoPage"
