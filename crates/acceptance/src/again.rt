@@ -1,10 +1,9 @@
 // A script that is run twice over one tree, whose store fails once. Where the device ends the first run, the whole texts of the
 // statements before stand and nothing more; the second run writes all texts.
-use crate::worked::{DATA, SCRIPT, TEXTS, are};
+use crate::worked::{SCRIPT, TEXTS, closed, ended};
 use std::alloc::Global;
-use ub_load::load;
-use ub_script::{Over, RunFault, Summary, run};
-use ub_store::{FaultyStore, MemStore, StoreFault};
+use ub_script::{RunFault, Summary};
+use ub_store::{FaultyStore, MemStore, PageStore, StoreFault};
 use ub_tree::{Tree, TreeFault};
 
 type Store = FaultyStore<MemStore>;
@@ -28,21 +27,18 @@ static RUNS: [(u64, Result<Summary, RunFault>, usize); 4] = [
 
 // The closed table, opened over a store that fails at its k-th call.
 fn opened(alloc: Global, k: u64) -> Option<Tree<Store>> {
-    let made = load(alloc, DATA, 2, 2, b"t", 0, MemStore::new(alloc)).ok()?;
-    let store = made.close().ok()?;
+    let store = closed(alloc, MemStore::new(alloc))?;
     Tree::open(alloc, FaultyStore::new(store, k)).ok()
 }
 
 // Whether a run over this tree ends so, and writes the texts of so many statements.
-fn runs(
+fn runs<S: PageStore>(
     alloc: Global,
-    tree: &mut Tree<Store>,
+    tree: &mut Tree<S>,
     wanted: Result<Summary, RunFault>,
     count: usize,
 ) -> bool {
-    let mut out = Over::new(Vec::new(alloc));
-    let ended = run(alloc, tree, SCRIPT, &mut out);
-    ended == wanted && are(out.into_inner().as_slice(), &TEXTS[..count.min(7)])
+    ended(alloc, tree, SCRIPT, &TEXTS[..count.min(7)]) == Some(wanted)
 }
 
 // Whether the first run over a store that fails at its k-th call ends so, and two more are done.

@@ -2,10 +2,10 @@
 // can show it.
 ghost use Rattle.ub_tree.specs.Change.{Suits};
 
-use crate::worked::are;
+use crate::worked::ended;
 use std::alloc::Global;
-use ub_script::{Over, put_rows, run};
-use ub_store::{FaultyStore, MemStore, StoreFault};
+use ub_script::put_rows;
+use ub_store::{FaultyStore, MemStore, PageStore, StoreFault};
 use ub_table::{Name, PageFault, Row, Schema};
 use ub_tree::{Tree, TreeFault};
 
@@ -57,7 +57,7 @@ fn row(x: u32, y: u32, m: i64) -> Row
 }
 
 // Puts the five rows in.
-fn put_five(alloc: Global, tree: &mut Tree<Store>) -> Option<Result<(), TreeFault>> {
+fn put_five<S: PageStore>(alloc: Global, tree: &mut Tree<S>) -> Option<Result<(), TreeFault>> {
     let schema = tree.schema();
     if schema.dims() != 2 || schema.measures() != 1 {
         return None;
@@ -73,10 +73,11 @@ fn put_five(alloc: Global, tree: &mut Tree<Store>) -> Option<Result<(), TreeFaul
 }
 
 // Whether this is what a query of all rows writes, and the tree has failed where that is nothing.
-fn shows(alloc: Global, tree: &mut Tree<Store>, text: &str) -> bool {
-    let mut out = Over::new(Vec::new(alloc));
-    let ended = run(alloc, tree, b"SELECT * FROM t;", &mut out);
-    ended.is_ok() != tree.has_failed() && are(out.into_inner().as_slice(), &[text])
+fn shows<S: PageStore>(alloc: Global, tree: &mut Tree<S>, text: &str) -> bool {
+    match ended(alloc, tree, b"SELECT * FROM t;", &[text]) {
+        Some(end) => end.is_ok() != tree.has_failed(),
+        None => false,
+    }
 }
 
 // A table of no rows over a store whose k-th call fails.

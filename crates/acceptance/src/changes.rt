@@ -1,10 +1,8 @@
 // A table in a file of pages to which a script adds a row, and which isn't closed then: the file is told to be unclean.
-use crate::worked::{DATA, are};
+use crate::worked::{closed, ended};
 use std::alloc::Global;
 use ub_file::{FileStore, MemMedium};
-use ub_load::load;
-use ub_script::{Over, run};
-use ub_store::StoreFault;
+use ub_store::{PageStore, StoreFault};
 use ub_table::PageFault;
 use ub_tree::{Tree, TreeFault};
 
@@ -29,20 +27,20 @@ const UNCLEAN: Option<TreeFault> = Some(TreeFault::Page {
 // The closed table, on a medium that fails at its k-th call.
 fn loaded(alloc: Global, k: u64) -> Option<Store> {
     let medium = MemMedium::new(Vec::new(alloc), 0, k);
-    let store = FileStore::open(medium).ok()?;
-    let tree = load(alloc, DATA, 2, 2, b"t", 0, store).ok()?;
-    tree.close().ok()
+    closed(alloc, FileStore::open(medium).ok()?)
 }
 
 // Whether a script adds a row to the table of this tree.
-fn adds(alloc: Global, tree: &mut Tree<Store>) -> bool {
-    let mut out = Over::new(Vec::new(alloc));
-    let ended = run(alloc, tree, b"INSERT INTO t VALUES (3, 0, 6);", &mut out);
-    ended.is_ok() && are(out.into_inner().as_slice(), &["-- inserted 6\n"])
+fn adds<S: PageStore>(alloc: Global, tree: &mut Tree<S>) -> bool {
+    let script = b"INSERT INTO t VALUES (3, 0, 6);";
+    matches!(
+        ended(alloc, tree, script, &["-- inserted 6\n"]),
+        Some(Ok(_))
+    )
 }
 
 // Why a store isn't opened, if it isn't.
-fn refusal(alloc: Global, store: Store) -> Option<TreeFault> {
+fn refusal<S: PageStore>(alloc: Global, store: S) -> Option<TreeFault> {
     match Tree::open(alloc, store) {
         Ok(_) => None,
         Err(refused) => Some(refused.fault),
@@ -50,7 +48,7 @@ fn refusal(alloc: Global, store: Store) -> Option<TreeFault> {
 }
 
 // Why the store isn't opened once more that is left of this tree, whether its closing ends well or not.
-fn refusal_after(alloc: Global, tree: Tree<Store>) -> Option<TreeFault> {
+fn refusal_after<S: PageStore>(alloc: Global, tree: Tree<S>) -> Option<TreeFault> {
     match tree.close() {
         Ok(store) => refusal(alloc, store),
         Err(refused) => refusal(alloc, refused.store),

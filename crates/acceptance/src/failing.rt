@@ -1,17 +1,19 @@
 // A tree into which a row couldn't be put, since a write of its store failed, answers no query and explains none.
-use crate::worked::are;
+use crate::worked::ended;
 use std::alloc::Global;
-use ub_script::{Over, RunFault, run};
-use ub_store::{FaultyStore, MemStore, StoreFault};
+use ub_script::RunFault;
+use ub_store::{FaultyStore, MemStore, PageStore, StoreFault};
 use ub_table::{Name, PageFault, Schema};
 use ub_tree::{Tree, TreeFault};
 
-// Creation makes six calls of the store. The insertion of a row reads the root of the index and the region, and writes the region.
-const READ_ROOT: u64 = 7;
-
-const READ: u64 = 8;
-
-const WRITE: u64 = 9;
+// Creation makes six calls of the store. The insertion of a row reads the root of the index and the region, and writes the region. So
+// where the k-th call fails: whether the row isn't put in, and whether all scripts are refused then.
+static CALLS: [(u64, bool, bool); 4] = [
+    (7, true, false),
+    (8, true, false),
+    (9, true, true),
+    (10, false, false),
+];
 
 // A script, and what is written before it ends as Failed.
 static SCRIPTS: [(&[u8], &str); 8] = [
@@ -33,22 +35,10 @@ fn schema() -> Result<Schema, PageFault> {
     Schema::new(Name::new(b"t")?, &[Name::new(b"x")?], 1, 2, 0)
 }
 
-// Whether a script over a tree ends as Failed, and writes just this.
-fn is_refused(
-    alloc: Global,
-    tree: &mut Tree<FaultyStore<MemStore>>,
-    script: &[u8],
-    text: &str,
-) -> bool {
-    let mut out = Over::new(Vec::new(alloc));
-    let ended = run(alloc, tree, script, &mut out);
-    ended == Err(RunFault::Tree(TreeFault::Failed)) && are(out.into_inner().as_slice(), &[text])
-}
-
-// Whether all of them do.
-fn are_refused(alloc: Global, tree: &mut Tree<FaultyStore<MemStore>>) -> bool {
+// Whether each script over a tree ends as Failed, and writes just its text.
+fn are_refused<S: PageStore>(alloc: Global, tree: &mut Tree<S>) -> bool {
     for (script, text) in &SCRIPTS {
-        if !is_refused(alloc, tree, script, text) {
+        if ended(alloc, tree, script, &[*text]) != Some(Err(RunFault::Tree(TreeFault::Failed))) {
             return false;
         }
     }
@@ -56,7 +46,7 @@ fn are_refused(alloc: Global, tree: &mut Tree<FaultyStore<MemStore>>) -> bool {
 }
 
 // Whether a row isn't put into a tree of one dimension, since the device fails.
-fn is_missed(tree: &mut Tree<FaultyStore<MemStore>>) -> bool {
+fn is_missed<S: PageStore>(tree: &mut Tree<S>) -> bool {
     if tree.schema().dims() != 1 || tree.schema().measures() != 0 {
         return false;
     }
@@ -72,8 +62,10 @@ fn told(alloc: Global, k: u64) -> Option<(bool, bool)> {
 
 #[test]
 fn is_not_asked(rt: HostRuntime) {
-    assert!(rt; told(rt.alloc(), READ_ROOT) == Some((true, false)));
-    assert!(rt; told(rt.alloc(), READ) == Some((true, false)));
-    assert!(rt; told(rt.alloc(), WRITE) == Some((true, true)));
-    assert!(rt; told(rt.alloc(), WRITE + 1) == Some((false, false)));
+    for (k, is_missed, are_refused) in &CALLS {
+        assert!(rt;
+            told(rt.alloc(), *k) == Some((*is_missed, *are_refused)),
+            "call {k}"
+        );
+    }
 }

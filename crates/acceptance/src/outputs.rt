@@ -1,10 +1,9 @@
 // A write that fails isn't tried again, of whatever kind its error is, and however long the text is.
-use crate::worked::{DATA, SCRIPT, TEXTS};
+use crate::worked::{SCRIPT, TEXTS, table};
 use std::alloc::{AllocError, Global};
 use std::io::{self, Write};
-use ub_load::load;
-use ub_script::{OutFault, Over, RunFault, Summary, put_all, run};
-use ub_store::MemStore;
+use ub_script::{Over, RunFault, Summary, put_all, run};
+use ub_store::{MemStore, PageStore};
 use ub_tree::Tree;
 
 /// Takes so many bytes, then says once that it was interrupted, and would take all that comes after that.
@@ -58,27 +57,28 @@ fn text(alloc: Global, length: usize) -> Vec<u8> {
     bytes
 }
 
-// Whether a text of so many bytes is broken off where there is room for so many, in so many calls.
-fn is_broken_off(alloc: Global, length: usize, room: usize, calls: u64) -> bool {
+// How long texts are, for how many bytes there is room, how often the writer is called, and whether all of the text is written.
+static TEXTS_IN_ROOM: [(usize, usize, u64, bool); 4] = [
+    (1, 0, 1, false),
+    (100_000, 0, 1, false),
+    (100_000, 70_000, 2, false),
+    (100_000, 100_000, 1, true),
+];
+
+// Whether such a text is written so, and else broken off.
+fn is_written(alloc: Global, length: usize, room: usize, calls: u64, is_whole: bool) -> bool {
     let mut out = Over::new(Interrupted::new(room));
     let ended = put_all(&mut out, text(alloc, length).as_slice());
     let writer = out.into_inner();
-    ended == Err(OutFault {}) && writer.taken == room && writer.calls == calls
+    ended.is_ok() == is_whole && writer.taken == room && writer.calls == calls
 }
 
 #[test]
 fn is_not_tried_again(rt: HostRuntime) {
-    assert!(rt; is_broken_off(rt.alloc(), 1, 0, 1));
-    assert!(rt; is_broken_off(rt.alloc(), 100_000, 0, 1));
-    assert!(rt; is_broken_off(rt.alloc(), 100_000, 70_000, 2));
-}
-
-#[test]
-fn is_whole_where_there_is_room(rt: HostRuntime) {
-    let mut out = Over::new(Interrupted::new(100_000));
-    let ended = put_all(&mut out, text(rt.alloc(), 100_000).as_slice());
-    let writer = out.into_inner();
-    assert!(rt; ended.is_ok() && writer.taken == 100_000 && writer.calls == 1);
+    for (length, room, calls, is_whole) in &TEXTS_IN_ROOM {
+        let is_so = is_written(rt.alloc(), *length, *room, *calls, *is_whole);
+        assert!(rt; is_so, "{length} {room}");
+    }
 }
 
 /// How a writer refuses a call.
@@ -131,9 +131,9 @@ fn whole(alloc: Global) -> Result<Vec<u8>, AllocError> {
 
 // Whether a run of the worked script, over a writer whose call that is due is refused, is cut off there and makes no call more;
 // where as many calls are made as the text has bytes, it is done.
-fn is_cut_off(
+fn is_cut_off<S: PageStore>(
     alloc: Global,
-    tree: &mut Tree<MemStore>,
+    tree: &mut Tree<S>,
     text: &[u8],
     due: usize,
     how: Refusal,
@@ -160,7 +160,12 @@ fn is_cut_off(
 }
 
 // How many calls in turn, from the first one to the one after all of them, were refused so, up to the first that wasn't.
-fn count_cut_off(alloc: Global, tree: &mut Tree<MemStore>, text: &[u8], how: Refusal) -> usize {
+fn count_cut_off<S: PageStore>(
+    alloc: Global,
+    tree: &mut Tree<S>,
+    text: &[u8],
+    how: Refusal,
+) -> usize {
     for due in 1..=text.len() + 1 {
         if !is_cut_off(alloc, tree, text, due, how) {
             return due - 1;
@@ -172,7 +177,7 @@ fn count_cut_off(alloc: Global, tree: &mut Tree<MemStore>, text: &[u8], how: Ref
 // Whether all of them were, over the worked table, if memory is there.
 fn is_cut_off_everywhere(alloc: Global, how: Refusal) -> Option<bool> {
     let text = whole(alloc).ok()?;
-    let mut tree = load(alloc, DATA, 2, 2, b"t", 0, MemStore::new(alloc)).ok()?;
+    let mut tree = table(alloc, MemStore::new(alloc)).ok()?;
     let right = count_cut_off(alloc, &mut tree, text.as_slice(), how);
     Some(right == text.as_slice().len() + 1)
 }

@@ -1,9 +1,10 @@
 // A table of one signed dimension: where its regions begin and end, which are coordinates, and that a file keeps which dimensions
 // are signed.
+use crate::worked::ended;
 use std::alloc::Global;
 use ub_load::load;
-use ub_script::{Over, RunFault, Summary, run};
-use ub_store::MemStore;
+use ub_script::{RunFault, Summary};
+use ub_store::{MemStore, PageStore};
 use ub_tree::Tree;
 
 // The third row finds no room beside the coordinates 2147483647 and 2147483648 of the first two: it has 0, so the second one begins
@@ -20,7 +21,7 @@ static SPANS: [(u128, u128, u128); 4] = [
 
 const SCRIPT: &[u8] = b"SELECT x, m FROM t WHERE x < 0 ORDER BY x;";
 
-const TEXT: &[u8] = b"x,m\n-2147483648,30\n-1,10\n-- rows 2, pages 1\n";
+const TEXT: &str = "x,m\n-2147483648,30\n-1,10\n-- rows 2, pages 1\n";
 
 const DONE: Result<Summary, RunFault> = Ok(Summary {
     statements: 1,
@@ -33,7 +34,7 @@ fn loaded(alloc: Global) -> Option<Tree<MemStore>> {
 }
 
 // Whether the region whose span holds a coordinate begins and ends there.
-fn spans(tree: &mut Tree<MemStore>, z: u128, from: u128, to: u128) -> bool {
+fn spans<S: PageStore>(tree: &mut Tree<S>, z: u128, from: u128, to: u128) -> bool {
     match tree.seek(z, None) {
         Ok(Some(region)) => region.from == from && region.to == to,
         _ => false,
@@ -41,7 +42,7 @@ fn spans(tree: &mut Tree<MemStore>, z: u128, from: u128, to: u128) -> bool {
 }
 
 // The first coordinate whose region begins or ends elsewhere, if there is one.
-fn first_other(tree: &mut Tree<MemStore>) -> Option<u128> {
+fn first_other<S: PageStore>(tree: &mut Tree<S>) -> Option<u128> {
     for (z, from, to) in &SPANS {
         if !spans(tree, *z, *from, *to) {
             return Some(*z);
@@ -50,11 +51,22 @@ fn first_other(tree: &mut Tree<MemStore>) -> Option<u128> {
     None
 }
 
+// Whether a tree's table has two regions that begin and end so.
+fn are_spans<S: PageStore>(tree: &mut Tree<S>) -> bool {
+    tree.regions() == 2 && tree.schema().signed() == 1 && first_other(tree).is_none()
+}
+
+// Whether the table's regions do.
+fn are_of_coordinates(alloc: Global) -> bool {
+    match loaded(alloc) {
+        Some(mut tree) => are_spans(&mut tree),
+        None => false,
+    }
+}
+
 #[test]
 fn its_regions_are_of_coordinates(rt: HostRuntime) {
-    let mut tree = loaded(rt.alloc()).expect(&rt, "a table");
-    assert!(rt; tree.regions() == 2 && tree.schema().signed() == 1);
-    assert!(rt; first_other(&mut tree).is_none());
+    assert!(rt; are_of_coordinates(rt.alloc()));
 }
 
 // The table, closed and opened again.
@@ -63,14 +75,17 @@ fn reopened(alloc: Global) -> Option<Tree<MemStore>> {
     Tree::open(alloc, store).ok()
 }
 
-// Whether a script over the table writes this.
-fn is_written(alloc: Global, tree: &mut Tree<MemStore>) -> bool {
-    let mut out = Over::new(Vec::new(alloc));
-    run(alloc, tree, SCRIPT, &mut out) == DONE && out.into_inner().as_slice() == TEXT
+// Whether it is signed still, and a script over it writes this.
+fn is_signed_still(alloc: Global) -> bool {
+    match reopened(alloc) {
+        Some(mut tree) => {
+            tree.schema().signed() == 1 && ended(alloc, &mut tree, SCRIPT, &[TEXT]) == Some(DONE)
+        }
+        None => false,
+    }
 }
 
 #[test]
 fn it_is_signed_still_where_it_is_opened(rt: HostRuntime) {
-    let mut tree = reopened(rt.alloc()).expect(&rt, "a table");
-    assert!(rt; tree.schema().signed() == 1 && is_written(rt.alloc(), &mut tree));
+    assert!(rt; is_signed_still(rt.alloc()));
 }

@@ -1,4 +1,12 @@
-// The worked table of five rows, which has three regions with two rows a page, and worked statements on it.
+// The worked table of five rows, which has three regions with two rows a page, and worked statements on it; and scripts over any table.
+ghost use Rattle.std.specs.Prelude.{◌≡◌};
+ghost use Rattle.ub_store.specs.Facts.{page_count};
+
+use std::alloc::Global;
+use ub_load::{LoadFault, load};
+use ub_script::{Over, RunFault, Summary, run};
+use ub_store::PageStore;
+use ub_tree::Tree;
 
 pub(crate) const DATA: &[u8] = b"x,y,m\n1,1,10\n2,3,20\n3,0,5\n0,2,7\n2,3,1\n";
 
@@ -25,6 +33,21 @@ pub(crate) static TEXTS: [&str; 7] = [
     "x,y,m\n2,3,20\n3,0,5\n2,3,1\n-- rows 3, pages 3\n",
 ];
 
+// The worked table in a store that has no pages.
+pub(crate) fn table<S: PageStore>(alloc: Global, store: S) -> Result<Tree<S>, LoadFault>
+    requires { page_count (S.facts store) ≡ 0 }
+{
+    load(alloc, DATA, 2, 2, b"t", 0, store)
+}
+
+// The same, closed.
+pub(crate) fn closed<S: PageStore>(alloc: Global, store: S) -> Option<S>
+    requires { page_count (S.facts store) ≡ 0 }
+{
+    let made = table(alloc, store).ok()?;
+    made.close().ok()
+}
+
 // Whether these bytes are texts, one after the other.
 pub(crate) fn are(bytes: &[u8], texts: &[&str]) -> bool {
     let mut rest = bytes;
@@ -35,4 +58,16 @@ pub(crate) fn are(bytes: &[u8], texts: &[&str]) -> bool {
         }
     }
     rest.is_empty()
+}
+
+// How a script over a tree ends, if it writes these texts, one after the other, and no more.
+pub(crate) fn ended<S: PageStore>(
+    alloc: Global,
+    tree: &mut Tree<S>,
+    script: &[u8],
+    texts: &[&str],
+) -> Option<Result<Summary, RunFault>> {
+    let mut out = Over::new(Vec::new(alloc));
+    let end = run(alloc, tree, script, &mut out);
+    are(out.into_inner().as_slice(), texts).then_some(end)
 }
