@@ -15,6 +15,9 @@ use ub_planning::Plan;
 use ub_query::{Cond, Query};
 use ub_table::Schema;
 
+// So many columns of a page are asked by lanes in no more time than each of its rows is for one comparison.
+const COLUMNS_FOR_A_COMPARISON: usize = 4;
+
 /// By what the rows that a plan takes are told from the others of a page. On a sound tree both tell the same rows, and these
 /// are the selected ones (`law::chosen_are_selected`).
 #[derive(Clone, Copy, PartialEq, Eq, Debug)]
@@ -26,16 +29,18 @@ pub enum Choice {
 }
 
 impl Choice {
-    /// What costs less. The boxes ask each coordinate of a page once for each box, and the condition asks a value of each row once
-    /// for each of its comparisons. An exact condition can have a thousand boxes, so the boxes are asked only where they and
-    /// their dimensions are no more than the comparisons. Without a condition nothing is asked.
+    /// What costs less. The boxes ask each column of coordinates once for each box, by lanes, and the condition asks a value of each
+    /// row once for each of its comparisons. An exact condition can have a thousand boxes, so the boxes are asked only where they
+    /// and their dimensions are no more than `COLUMNS_FOR_A_COMPARISON` times the comparisons. Without a condition nothing is asked.
     pub fn of(plan: &Plan, schema: &Schema) -> Choice
         requires { IsPosed (length schema.now.columns) plan.now.asked }
         ensures { IsFit schema.now plan.now result }
     {
         let dims = schema.dims() as usize;
         let asked_of_boxes = plan.boxes().len().saturating_mul(dims);
-        if asked_of_boxes <= comparisons_of(plan.query()) && have_dims(plan.boxes(), dims) {
+        let asked_of_rows = comparisons_of(plan.query());
+        let is_cheap = asked_of_boxes <= asked_of_rows.saturating_mul(COLUMNS_FOR_A_COMPARISON);
+        if is_cheap && have_dims(plan.boxes(), dims) {
             Choice::Boxes
         } else {
             Choice::Condition
