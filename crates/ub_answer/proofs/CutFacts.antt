@@ -3,7 +3,7 @@ use Rattle.std.proofs.Common.{◌≡◌, ◌<◌, ◌≤◌, ◌+◌, ◌*◌, m
 use Rattle.std.proofs.lemmas.Bool.{cases_lt}
 use Rattle.std.proofs.Math.Nat.{mul-le-mul_left, mul-le-mul_right}
 use Rattle.std.proofs.Math.Seq.{take-append_seam, drop-append_seam}
-use Rattle.std.proofs.lemmas.List.{length-append, length-drop, length-map, length-take-le, take-append-le, drop-append-le, drop-drop, drop-take, take-take}
+use Rattle.std.proofs.lemmas.List.{length-append, length-drop, length-take-le, take-append-le, drop-append-le, drop-drop, drop-take, take-take}
 use Rattle.std.specs.List.{AllByRecursion, flat_map}
 use Rattle.ub_answer.specs.inner.Cut.{cut}
 
@@ -102,10 +102,6 @@ pub values-all : {A B : Type 0} (f : A → B) (xs : List A) (i : ℕ) (front all
     → all ≡ front ++ map f (take i xs) → all ≡ front ++ map f xs
 values-all f xs i front all past is = is ∙ ap (λ (ys : List _). front ++ map f ys) (take-all i xs past)
 
--- those in front stay
-pub front-stays : {B : Type 0} (front rest all : List B) → all ≡ front ++ rest → take (length front) all ≡ front
-front-stays front rest all is = ap (take (length front)) is ∙ take-append_seam front rest
-
 -- ---- one piece more
 
 -- pieces of another length are none
@@ -124,32 +120,12 @@ as-wide (suc count) width other xs long wide =
     let same = one-width (suc count) width other xs long wide (omega arith) in
     subst (λ (w : ℕ). (length xs ≡ suc count * w) × (cut (suc count) width xs ≡ cut (suc count) w xs)) same (long, refl)
 
-next-count : (count : ℕ) → suc count + 1 ≡ suc (suc count)
-next-count count = omega arith
-
-pub cut-more : {E : Type 0} (count width : ℕ) (xs ys : List E) → length xs ≡ count * width → length ys ≡ width → cut (count + 1) width (xs ++ ys) ≡ cut count width xs ++ ys ∷ []
-unfolding cut
-cut-more zero width [] ys long wide = ap (λ (zs : List _). zs ∷ []) (take-all width ys (omega arith))
-cut-more zero width (x ∷ xs) ys long wide = absurd (omega arith)
-cut-more (suc count) width xs ys long wide =
-    let more : suc count * width ≡ width + count * width = omega arith in
-    let within : width ≤ length xs = omega arith in
-    let rest : length (drop width xs) ≡ count * width = omega (arith, length-drop width xs) in
-    let later : cut (suc count) width (drop width xs ++ ys) ≡ cut count width (drop width xs) ++ ys ∷ [] = rw add-one at (cut-more count width (drop width xs) ys rest wide) in
-    let whole : cut (suc (suc count)) width (xs ++ ys) ≡ take width xs ∷ (cut count width (drop width xs) ++ ys ∷ []) =
-    ap (λ (piece : List _). piece ∷ cut (suc count) width (drop width (xs ++ ys))) (take-append-le width xs ys within)
-    ∙ ap (λ (zs : List _). take width xs ∷ cut (suc count) width zs) (drop-append-le width xs ys within) ∙ ap (λ (pieces : List (List _)). take width xs ∷ pieces) later in
-    subst (λ (n : ℕ). cut n width (xs ++ ys) ≡ cut (suc count) width xs ++ ys ∷ []) (sym (next-count count)) whole
-
 -- there are no more pieces than elements
 pub few-pieces : (count width whole : ℕ) → whole ≡ count * width → 1 ≤ width → count ≤ whole
 few-pieces count width whole is some = let more : count * 1 ≤ count * width = mul-le-mul_left count some in omega arith
 
 pub more-long : (count width old new : ℕ) → old ≡ count * width → new ≡ old + width → new ≡ (count + 1) * width
 more-long count width old new is more = let next : (count + 1) * width ≡ count * width + width = omega arith in omega arith
-
-pub row-long : {A B : Type 0} (f : A → B) (xs : List B) (items : List A) (ys : List B) → ys ≡ xs ++ map f items → length ys ≡ length xs + length items
-row-long f xs items ys is = ap length is ∙ length-append xs (map f items) ∙ ap (λ (n : ℕ). length xs + n) (length-map items f)
 
 -- ---- pieces of two wholes, and the first of some pieces
 

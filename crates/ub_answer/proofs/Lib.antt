@@ -9,3 +9,4 @@ pub mod EntryFacts
 pub mod GroupedFacts
 pub mod GatheredFacts
 pub mod ShapedFacts
+pub mod ResultFacts

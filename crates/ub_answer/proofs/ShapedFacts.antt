@@ -14,7 +14,7 @@ use Rattle.ub_table.specs.declared.row.Row.{Row}
 use Rattle.ub_table.specs.declared.schema.Schema.{Schema}
 
 -- each of the lines of some rows has as many cells as there are items
-lines-wide : (schema : Schema) (items : List Item) (rows : List Row) → AllByRecursion (λ cells. length cells ≡ length items) (lines schema items rows)
+pub lines-wide : (schema : Schema) (items : List Item) (rows : List Row) → AllByRecursion (λ cells. length cells ≡ length items) (lines schema items rows)
 lines-wide schema items [] = tt
 lines-wide schema items (row ∷ rows) = (length-map items (row_cell schema row), lines-wide schema items rows)
 

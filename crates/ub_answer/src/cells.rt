@@ -1,12 +1,10 @@
 ghost use Rattle.std.specs.Prelude.{◌≡◌, ◌+◌, ◌≤◌, length, take, drop};
 
-use crate::rows::push_row;
 use std::alloc::{AllocError, Global};
 use std::marker::Model;
-use ub_query::{Cell, Item};
-use ub_table::{Row, Schema};
+use ub_query::Cell;
 
-/// The rows of an answer: all cells in one vector, row after row. A contract sees the list of rows.
+/// Rows of cells, all of them in one vector, row after row. A contract sees the list of rows.
 #[derive(Drop)]
 pub struct Cells {
     cells: Vec<Cell>,
@@ -27,13 +25,11 @@ impl Model for Cells {
 }
 
 impl Cells {
-    ghost use Rattle.std.specs.Prelude.{◌≡◌, ◌==◌, ◌≤◌, ◌<◌, ◌*◌, ◌++◌, ◌∷◌, [], Some, length, map, slice_get, is_ok, if◌then◌else◌};
+    ghost use Rattle.std.specs.Prelude.{◌≡◌, ◌==◌, ◌<◌, ◌*◌, ◌++◌, [], Some, length, slice_get, slice_index_or, is_ok, if◌then◌else◌};
     ghost use Rattle.std.specs.List.{All, AllByRecursion};
     ghost use Rattle.ub_answer.specs.Shaped.{HaveOneWidth};
     ghost use Rattle.ub_answer.specs.inner.Cut.{cut};
-    ghost use Rattle.ub_query.specs.Cells as sql;
     ghost use Rattle.ub_query.specs.Meaning.{limited};
-    ghost use Rattle.ub_query.specs.Posed.{IsItemOver};
 
     /// So many rows of so many cells each, which stand one after the other.
     pub fn new(cells: Vec<Cell>, width: usize, count: usize) -> Cells
@@ -56,29 +52,6 @@ impl Cells {
             cells: Vec::new(alloc),
             width: 0,
             count: 0,
-        }
-    }
-
-    /// Puts the cells of a row for some items after the rows that there are, which have as many cells each. Where memory is
-    /// refused the rows stay as they were.
-    pub fn push_row(&mut self, schema: &Schema, items: &[Item], row: &Row) -> Result<(), AllocError>
-        requires over { All (λ item. IsItemOver (length schema.now.columns) item) items.now }
-        requires some { 1 ≤ length items.now }
-        requires wide { AllByRecursion (λ cells. length cells ≡ length items.now) self.old }
-        ensures { self.new ≡ (if is_ok result
-            then self.old ++ map (sql.row_cell schema.now row.now) items.now ∷ [] else self.old) }
-    {
-        let whole = self.cells.as_slice().len();
-        match push_row(&mut self.cells, schema, items, row) {
-            Ok(()) => {
-                self.width = items.len();
-                self.count += 1;
-                Ok(())
-            }
-            Err(refused) => {
-                self.cells.truncate(whole);
-                Err(refused)
-            }
         }
     }
 
@@ -118,6 +91,22 @@ impl Cells {
         ensures { result ≡ (length self.now == 0) }
     {
         self.count == 0
+    }
+
+    /// How many cells each row has.
+    pub fn width(&self) -> usize
+        ensures { All (λ cells. length cells ≡ result) self.now }
+    {
+        self.width
+    }
+
+    /// The cell at a place of a row, both counted from 0.
+    pub fn cell(&self, index: usize, place: usize) -> Cell
+        requires row { index < length self.now }
+        requires place { place < length (slice_index_or self.now index []) }
+        ensures { slice_get (slice_index_or self.now index []) place ≡ Some result }
+    {
+        self.row(index)[place]
     }
 
     /// The cells of a row, counted from 0.

@@ -12,8 +12,8 @@ ghost use Rattle.ub_query.specs.Posed.{IsPosed};
 ghost use Rattle.ub_query.specs.Shape.{Shape, asked};
 ghost use Rattle.ub_table.specs.Table.{Table, IsInOrder};
 
-use crate::cells::Cells;
 use crate::groups::CollectedGroups;
+use crate::result_set::ResultSet;
 use crate::rows::CollectedRows;
 use crate::tally::MAX_ITEMS;
 use crate::totals::CollectedTotals;
@@ -99,7 +99,7 @@ impl Gathering {
     /// query's shape.
     ///
     /// Until then a query with GROUP BY holds one entry for each group of the rows taken.
-    pub fn finish(self, schema: &Schema, query: &Query) -> Result<Cells, AllocError>
+    pub fn finish(self, schema: &Schema, query: &Query) -> Result<ResultSet, AllocError>
         requires { IsPosed (length schema.now.columns) (asked query.now) }
         ensures answer { (table : Table) (filter : Option Shape) (taken : List _)
             → table.schema ≡ schema.now → IsInOrder table.rows
@@ -117,7 +117,7 @@ impl Gathering {
     {
         let Gathering { alloc, collected } = self;
         match collected {
-            Collected::Rows(rows) => rows.finish(alloc, schema, query),
+            Collected::Rows(rows) => Ok(rows.finish(schema, query)),
             Collected::Totals(totals) => totals.finish(alloc, query),
             Collected::Groups(groups) => groups.finish(alloc, query),
         }

@@ -15,6 +15,7 @@ ghost use Rattle.ub_table.specs.Table.{Table};
 
 use crate::cells::Cells;
 use crate::order::{arrange, compare_by};
+use crate::result_set::ResultSet;
 use crate::tally::{MAX_ITEMS, Tally, add_row, tally_of_none};
 use smallvec::SmallVec;
 use std::alloc::{AllocError, Global};
@@ -74,7 +75,7 @@ impl CollectedGroups {
     }
 
     /// The answer: the groups in the order asked, the first n where LIMIT n stands, each as its cells.
-    pub fn finish(self, alloc: Global, query: &Query) -> Result<Cells, AllocError>
+    pub fn finish(self, alloc: Global, query: &Query) -> Result<ResultSet, AllocError>
         requires { length query.now.items ≤ MAX_ITEMS }
         ensures answer { (table : Table) (filter : Option Shape) (taken : List _)
             → query.now.group ≢ [] → length taken < many
@@ -205,7 +206,7 @@ fn cells_of_entries(
     alloc: Global,
     items: &[Item],
     entries: &[(&Values, &Tally)],
-) -> Result<Cells, AllocError>
+) -> Result<ResultSet, AllocError>
     requires { length items.now ≤ MAX_ITEMS }
     ensures lines { IfOk result (λ cells. cells ≡ spec.entry_lines items.now entries.now) }
     ensures wide { IfOk result (AllByRecursion (λ cells. length cells ≡ length items.now)) }
@@ -214,7 +215,7 @@ fn cells_of_entries(
     for entry in entries {
         push_cells(&mut cells, entry.1, items.len())?;
     }
-    Ok(Cells::new(cells, items.len(), entries.len()))
+    Ok(ResultSet::of_cells(Cells::new(cells, items.len(), entries.len())))
 }
 
 // Puts so many cells of a group after those that there are.

@@ -2,22 +2,21 @@ ghost use Rattle.std.specs.Prelude.{◌≡◌, ◌+◌, ◌≤◌, ◌∷◌, �
 ghost use Rattle.std.specs.List.{All};
 ghost use Rattle.std.specs.declared.cmp.Ordering.TheVariants.{Less};
 ghost use Rattle.std.specs.List.Sorted.{IsPermutation};
-ghost use Rattle.ub_answer.specs.Held.{StayFew, lines, most_held};
+ghost use Rattle.ub_answer.specs.Held.{StayFew, most_held};
 ghost use Rattle.ub_answer.specs.Shaped.{IsShaped};
 ghost use Rattle.ub_answer.specs.inner.Compare.{row_cmp};
 ghost use Rattle.ub_answer.specs.inner.Kept.{HoldsRows, IsArranged};
-ghost use Rattle.ub_query.specs.Cells as sql;
 ghost use Rattle.ub_query.specs.Groups.{selected};
 ghost use Rattle.ub_query.specs.Meaning.{IsRowMeaning, limited};
 ghost use Rattle.ub_query.specs.Posed.{IsItemOver};
 ghost use Rattle.ub_query.specs.Shape.{Shape, asked};
 ghost use Rattle.ub_table.specs.Table.{Table, IsInOrder};
 
-use crate::cells::Cells;
 use crate::order::{arrange, compare_rows};
-use crate::values::row_cell;
+use crate::result_set::ResultSet;
+use crate::tally::MAX_ITEMS;
 use std::alloc::{AllocError, Global};
-use ub_query::{Cell, Item, Query, SortKey};
+use ub_query::{Query, SortKey};
 use ub_table::{Row, Schema};
 
 /// The rows that a query of rows was given, or with LIMIT n not many more than n of them.
@@ -80,22 +79,22 @@ impl CollectedRows {
         }
     }
 
-    /// The answer: the rows in the order asked, the first n where LIMIT n stands, each as its cells.
-    pub fn finish(self, alloc: Global, schema: &Schema, query: &Query) -> Result<Cells, AllocError>
+    /// The answer: the rows in the order asked, the first n where LIMIT n stands. Takes no memory.
+    pub fn finish(self, schema: &Schema, query: &Query) -> ResultSet
         requires items { All (λ item. IsItemOver (length schema.now.columns) item) query.now.items }
+        requires few { length query.now.items ≤ MAX_ITEMS }
         requires keys { All (λ key. IsItemOver (length schema.now.columns) key.item)
             query.now.order }
         ensures answer { (table : Table) (filter : Option Shape) (taken : List _)
             → table.schema ≡ schema.now → IsInOrder table.rows
             → IsPermutation (selected table filter) taken
             → HoldsRows schema.now query.now.order query.now.limit taken self.rows.items self.last
-            → IfOk result (λ cells. IsRowMeaning table
-            (record (asked query.now) { filter = filter }) cells) }
-        ensures shaped { IfOk result (IsShaped (asked query.now)) }
+            → IsRowMeaning table (record (asked query.now) { filter = filter }) result }
+        ensures shaped { IsShaped (asked query.now) result }
     {
         let mut rows = self.rows;
         arrange_rows(&mut rows, schema, query.order.as_slice(), query.limit);
-        cells_of_rows(alloc, schema, query.items.as_slice(), rows.as_slice())
+        ResultSet::of_rows(rows, schema, query.items.as_slice())
     }
 }
 
@@ -126,39 +125,4 @@ fn most_held(limit: u64) -> u64
     ensures { result ≡ most_held limit }
 {
     limit.saturating_mul(2).max(64)
-}
-
-// Each row reduced to the cells of the items.
-fn cells_of_rows(
-    alloc: Global,
-    schema: &Schema,
-    items: &[Item],
-    rows: &[Row],
-) -> Result<Cells, AllocError>
-    requires { All (λ item. IsItemOver (length schema.now.columns) item) items.now }
-    ensures { IfOk result (λ cells. cells ≡ lines schema.now items.now rows.now) }
-{
-    let mut cells = Vec::new(alloc);
-    for row in rows {
-        push_row(&mut cells, schema, items, row)?;
-    }
-    Ok(Cells::new(cells, items.len(), rows.len()))
-}
-
-/// Puts the cells of a row after those that there are; where memory is refused, some of them.
-pub fn push_row(
-    cells: &mut Vec<Cell>,
-    schema: &Schema,
-    items: &[Item],
-    row: &Row,
-) -> Result<(), AllocError>
-    requires { All (λ item. IsItemOver (length schema.now.columns) item) items.now }
-    ensures done { OnOk result
-        (cells.new.items ≡ cells.old.items ++ map (sql.row_cell schema.now row.now) items.now) }
-    ensures front { take (length cells.old.items) cells.new.items ≡ cells.old.items }
-{
-    for item in items {
-        cells.push(row_cell(schema, row, *item))?;
-    }
-    Ok(())
 }

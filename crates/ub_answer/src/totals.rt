@@ -11,6 +11,7 @@ ghost use Rattle.ub_query.specs.Shape.{Shape, asked};
 ghost use Rattle.ub_table.specs.Table.{Table};
 
 use crate::cells::Cells;
+use crate::result_set::ResultSet;
 use crate::tally::{MAX_ITEMS, Tally, add_batch, add_row, tally_of_none};
 use std::alloc::{AllocError, Global};
 use ub_query::{Query, RowBatch};
@@ -57,7 +58,7 @@ impl CollectedTotals {
     }
 
     /// The answer: one row, also of no rows, and none where LIMIT 0 stands.
-    pub fn finish(self, alloc: Global, query: &Query) -> Result<Cells, AllocError>
+    pub fn finish(self, alloc: Global, query: &Query) -> Result<ResultSet, AllocError>
         requires few { length query.now.items ≤ MAX_ITEMS }
         ensures answer { (table : Table) (filter : Option Shape) (taken : List _)
             → query.now.group ≡ [] → length taken < many
@@ -70,7 +71,7 @@ impl CollectedTotals {
         let width = query.items.as_slice().len();
         let count = one_within(query.limit);
         let cells = Vec::from_slice(alloc, &self.tally[..width * count])?;
-        Ok(Cells::new(cells, width, count))
+        Ok(ResultSet::of_cells(Cells::new(cells, width, count)))
     }
 }
 

@@ -1,8 +1,8 @@
 -- Each group puts its line behind those before, and all of them are cut into lines again.
-use Rattle.std.proofs.Common.{◌≡◌, ◌*◌, ◌++◌, ◌∙◌, ℕ, Bor, List, ap, arith, length, take}
+use Rattle.std.proofs.Common.{◌≡◌, ◌*◌, ◌++◌, ◌∙◌, ℕ, Bor, List, ap, arith, length, subst, sym, take}
 use Rattle.std.proofs.lemmas.Result.{IfOk-from_err}
 use Rattle.std.proofs.lemmas.List.{take_all}
-use Rattle.std.specs.List.{flat_map}
+use Rattle.std.specs.List.{AllByRecursion, flat_map}
 use Rattle.ub_answer.proofs.CutFacts.{more-long, pieces-next}
 use Rattle.ub_answer.specs.declared.groups.Values.{Values}
 use Rattle.ub_answer.specs.inner.Cut.{cut}
@@ -38,7 +38,8 @@ pub returns-clause-lines : goal.returns-clause-lines
 returns-clause-lines c =
     let all = take_all c.loop-entry.entry-index c.args.entries.now c.loop-entry-test.false in
     let whole = c.loop-entry.invariant.cells ∙ ap (flat_map (λ (e : Bor Values × Bor (List Cell)). take (length c.args.items.now) e.1.now)) all in
-    c.new.ensures.rows ∙ ap (cut (length c.args.entries.now) (length c.args.items.now)) whole
+    c.of_cells.ensures ∙ c.new.ensures.rows ∙ ap (cut (length c.args.entries.now) (length c.args.items.now)) whole
 
 pub returns-clause-wide : goal.returns-clause-wide
-returns-clause-wide c = c.new.ensures.wide
+returns-clause-wide c =
+    subst (λ (rows : List (List Cell)). AllByRecursion (λ cells. length cells ≡ length c.args.items.now) rows) (sym c.of_cells.ensures) c.new.ensures.wide

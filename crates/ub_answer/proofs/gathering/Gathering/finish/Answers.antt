@@ -13,7 +13,7 @@ pub returns-in-Rows-clause-answer : goal.returns-in-Rows-clause-answer
 unfolding IsGathered
 returns-in-Rows-clause-answer c table filter taken of order numbered moved held =
     let h = subst (λ (t : Collected). HasTaken c.args.schema.now (asked c.args.query.now) taken t) c.in-Rows.is held in
-    IfOk-weaker c.finish.result _ _ (λ cells means. inr (h.0, means)) (c.finish.ensures.answer table filter taken of order moved h.1)
+    inr (h.0, c.finish.ensures.answer table filter taken of order moved h.1)
 
 pub returns-in-Totals-clause-answer : goal.returns-in-Totals-clause-answer
 unfolding IsGathered
