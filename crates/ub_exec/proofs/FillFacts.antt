@@ -1,14 +1,15 @@
 -- The rows of a sweep that was begun, put in one after the other until the limit is filled or none is left.
 use Rattle.std.proofs.Common.{◌≡◌, ◌<◌, ◌≤◌, ◌++◌, ◌∷◌, inr, ℕ, Bool, List, [], Option, Some, None, Result, Ok, Err, IfOk, IfSome, ◌∙◌, length, map, refl, sym, ap, subst}
-use Rattle.std.proofs.lemmas.List.{length-map}
+use Rattle.std.proofs.lemmas.List.{length-map, map-append}
 use Rattle.std.specs.List.{AllByRecursion}
 use Rattle.std.specs.Prelude.{OnErr, OnOk}
 use Rattle.std.specs.Result.{IsErrAnd}
+use Rattle.ub_answer.specs.Held.{lines}
 use Rattle.ub_answer.specs.Shaped.{IsShaped}
 use Rattle.ub_exec.proofs.BreakFacts.{swept_after, swept_before}
 use Rattle.ub_exec.proofs.ComeFacts.{BreaksOff, ComesOn, HasComeOn, HasComeOn-begun, HasComeOn-more, IsAtWork, IsBegunOver, swept_broken, swept_first, swept_full, swept_whole}
 use Rattle.ub_exec.proofs.NotedFacts.{is_swept, notes_none, notes_ok, notes_then, swept_err}
-use Rattle.ub_exec.proofs.SweptFacts.{HasSwept, HasSwept-none, HasSwept-more, begun_fetches, few_more, few_none, noted_more, wide_more, ended_fetched, ended_answered, filled_fetched, filled_answered, swept_kind}
+use Rattle.ub_exec.proofs.SweptFacts.{HasSwept, HasSwept-none, HasSwept-more, begun_fetches, few_more, few_none, noted_more, wide_more, ended_fetched, ended_answered, filled_fetched, filled_answered, filled_is, left_is, swept_kind}
 use Rattle.ub_exec.specs.Answers.{IsAnswer, IsReady, IsSwept, begun}
 use Rattle.ub_exec.specs.Reading.{IsFilled, NotesPages, ReadsSwept}
 use Rattle.ub_exec.specs.Sweeping.{Fills, IsBegun}
@@ -16,14 +17,56 @@ use Rattle.ub_exec.specs.Visits.{HasFetched, HasFetchedFirst, fetches_then}
 use Rattle.ub_planning.specs.Plan.{PlanView}
 use Rattle.ub_planning.specs.Visits.{Event}
 use Rattle.ub_query.specs.Cells.{row_cell}
+use Rattle.ub_query.specs.Posed.{IsPosed}
+use Rattle.ub_query.specs.Shape.{Asked}
 use Rattle.ub_query.specs.declared.cell.Cell.{Cell}
+use Rattle.ub_query.specs.declared.query.Item.{Item}
 use Rattle.ub_table.specs.declared.row.Row.{Row}
+use Rattle.ub_table.specs.declared.schema.Schema.{Schema}
 use Rattle.ub_tetris.specs.Sweep.{HasBegun, HasBroken, HasStepped, IsStarted, IsSweepOf, IsSweeping, SweepView, rows_left}
 use Rattle.ub_tetris.specs.Sweep as sweep
 use Rattle.ub_tree.proofs.Laws.{Keeps, Keeps-by, Keeps-more, Keeps-none}
 use Rattle.ub_tree.specs.Reading.{ReadsTree}
 use Rattle.ub_tree.specs.View.{TreeView}
 use Rattle.ub_tree.specs.declared.read_fault.ReadFault.{ReadFault}
+
+-- ---- rows and their lines
+
+-- one row more is one line more
+pub lines_more : (schema new : Schema) (items : List Item) (rows more : List Row) (row : Row) → more ≡ rows ++ row ∷ [] → new ≡ schema
+    → lines schema items more ≡ lines schema items rows ++ map (row_cell new row) items ∷ []
+lines_more schema new items rows more row is same =
+    ap (lines schema items) is ∙ map-append (λ (r : Row). map (row_cell schema r) items) rows (row ∷ [])
+    ∙ ap (λ (s : Schema). lines schema items rows ++ map (row_cell s row) items ∷ []) (sym same)
+
+-- the lines of the rows that are held
+abbrev pub held : PlanView → TreeView → List Row → List (List Cell)
+held p start rows = lines start.schema p.asked.items rows
+
+held_long : (p : PlanView) (start : TreeView) (rows : List Row) (count : ℕ) → count ≡ length rows → count ≡ length (held p start rows)
+held_long p start rows count is = is ∙ sym (length-map rows (λ (r : Row). map (row_cell start.schema r) p.asked.items))
+
+-- they are fewer than the limit says, or as many, by the names that the code has for the query and their number
+pub left_by : (q : Asked) (p : PlanView) (start : TreeView) (count : ℕ) (rows : List Row) → q ≡ p.asked → count ≡ length rows → IfSome q.limit (λ most. count < most)
+    → IfSome p.asked.limit (λ most. length (held p start rows) < most)
+left_by q p start count rows same long left = left_is q p.asked count (held p start rows) same (held_long p start rows count long) left
+
+pub filled_by : (q : Asked) (p : PlanView) (start : TreeView) (count : ℕ) (rows : List Row) → q ≡ p.asked → count ≡ length rows → IsFilled q.limit count
+    → IsFilled p.asked.limit (length (held p start rows))
+filled_by q p start count rows same long full = filled_is q p.asked count (held p start rows) same (held_long p start rows count long) full
+
+-- the lines of a result, by the names that the code has for its schema and its query
+pub result_is : (cells : List (List Cell)) (schema seen : Schema) (q asked : Asked) (rows : List Row) → cells ≡ lines seen asked.items rows → seen ≡ schema → asked ≡ q
+    → cells ≡ lines schema q.items rows
+result_is cells schema seen q asked rows is seen_is asked_is =
+    is ∙ ap (λ (s : Schema). lines s asked.items rows) seen_is ∙ ap (λ (q : Asked). lines schema q.items rows) asked_is
+
+-- the query is posed over the schema, by these names
+pub posed_as : (schema seen : Schema) (q asked : Asked) → seen ≡ schema → asked ≡ q → IsPosed (length schema.columns) q → IsPosed (length seen.columns) asked
+posed_as schema seen q asked seen_is asked_is posed =
+    subst (λ (s : Schema). IsPosed (length s.columns) asked) (sym seen_is) (subst (λ (q : Asked). IsPosed (length schema.columns) q) (sym asked_is) posed)
+
+-- ---- turn by turn
 
 -- so far as it has come
 pub record HasFilled (p : PlanView) (start now : TreeView) (first s : SweepView) (cells : List (List Cell)) : Type 0 where

@@ -11,7 +11,7 @@ use crate::grouping::swept_groups;
 use crate::sweeping::swept_rows;
 use crate::walking::walk;
 use std::alloc::Global;
-use ub_answer::{Cells, Gathering};
+use ub_answer::{Gathering, ResultSet};
 use ub_filter::Choice;
 use ub_planning::{Kind, Plan};
 use ub_query::Query;
@@ -22,7 +22,7 @@ use ub_tree::{ReadFault, Tree, TreeFault};
 #[derive(Drop)]
 pub struct Answer {
     /// The rows of the result, in order.
-    pub rows: Cells,
+    pub rows: ResultSet,
     /// How many region pages were fetched.
     pub fetched: u64,
 }
@@ -57,7 +57,7 @@ fn result_rows<S: PageStore>(
     alloc: Global,
     tree: &mut Tree<S>,
     plan: &Plan,
-) -> Result<Cells, ReadFault>
+) -> Result<ResultSet, ReadFault>
     requires { IsPosed (length tree.old.schema.columns) plan.now.asked }
     ensures { Executes plan.now tree.old tree.new result (λ cells. cells) }
 {
@@ -72,7 +72,11 @@ fn result_rows<S: PageStore>(
 }
 
 // The rows of the result by a sweep. The trace begins anew.
-fn swept<S: PageStore>(alloc: Global, tree: &mut Tree<S>, plan: &Plan) -> Result<Cells, ReadFault>
+fn swept<S: PageStore>(
+    alloc: Global,
+    tree: &mut Tree<S>,
+    plan: &Plan,
+) -> Result<ResultSet, ReadFault>
     requires { IsPosed (length tree.old.schema.columns) plan.now.asked }
     ensures { ExecutesSwept (IsSwept plan.now.kind) plan.now tree.old tree.new result }
 {
@@ -96,7 +100,7 @@ fn scanned_rows<S: PageStore>(
     alloc: Global,
     tree: &mut Tree<S>,
     plan: &Plan,
-) -> Result<Cells, ReadFault>
+) -> Result<ResultSet, ReadFault>
     requires { IsPosed (length tree.old.schema.columns) plan.now.asked }
     ensures done { IsReady tree.old plan.now → ¬ IsSwept plan.now.kind
         → Answers plan.now tree.old tree.old tree.new result (λ cells. cells) }
@@ -109,7 +113,7 @@ fn scanned_rows<S: PageStore>(
 {
     let query = plan.query();
     if asks_for_none(query) {
-        return Ok(Cells::none(alloc));
+        return Ok(ResultSet::none(alloc));
     }
     let mut gathering = Gathering::new(alloc, tree.schema(), query);
     let choice = Choice::of(plan, tree.schema());

@@ -10,7 +10,7 @@ ghost use Rattle.ub_table.specs.Table.{IsInOrder};
 
 use crate::sweeping::is_filled;
 use std::alloc::{AllocError, Global};
-use ub_answer::{Cells, Gathering};
+use ub_answer::{Cells, Gathering, ResultSet};
 use ub_planning::Plan;
 use ub_query::Query;
 use ub_store::PageStore;
@@ -25,7 +25,7 @@ pub(crate) fn swept_groups<S: PageStore>(
     alloc: Global,
     tree: &mut Tree<S>,
     plan: &Plan,
-) -> Result<Cells, ReadFault>
+) -> Result<ResultSet, ReadFault>
     requires { IsPosed (length tree.old.schema.columns) plan.now.asked }
     ensures { ExecutesSwept (IsSwept plan.now.kind × (plan.now.asked.group ≢ [])) plan.now tree.old
         tree.new result }
@@ -42,7 +42,7 @@ fn all_groups<S: PageStore>(
     alloc: Global,
     tree: &mut Tree<S>,
     plan: &Plan,
-) -> Result<Cells, ReadFault>
+) -> Result<ResultSet, ReadFault>
     requires posed { IsPosed (length tree.old.schema.columns) plan.now.asked }
     requires whole { plan.now.asked.limit ≡ None }
     ensures { ExecutesSwept (IsSwept plan.now.kind × (plan.now.asked.group ≢ [])) plan.now tree.old
@@ -62,7 +62,7 @@ fn first_groups<S: PageStore>(
     alloc: Global,
     tree: &mut Tree<S>,
     plan: &Plan,
-) -> Result<Cells, ReadFault>
+) -> Result<ResultSet, ReadFault>
     requires { IsPosed (length tree.old.schema.columns) plan.now.asked }
     ensures { ExecutesSwept (IsSwept plan.now.kind × (plan.now.asked.group ≢ [])) plan.now tree.old
         tree.new result }
@@ -72,12 +72,12 @@ fn first_groups<S: PageStore>(
     let mut groups = Cells::none(alloc);
     while !is_filled(query.limit, groups.len()) {
         let Some(rows) = sweep.next_value(tree, plan)? else {
-            return Ok(groups);
+            return Ok(ResultSet::of_cells(groups));
         };
         let more = groups_of(alloc, tree.schema(), query, rows.as_slice())?;
         groups.extend(&more, query.limit)?;
     }
-    Ok(groups)
+    Ok(ResultSet::of_cells(groups))
 }
 
 // The groups of some rows, which are in order of number: what the query means on a table that has just these rows, all of which
@@ -98,5 +98,5 @@ fn groups_of(
     for row in rows {
         gathering.take(schema, query, row)?;
     }
-    gathering.finish(schema, query)
+    gathering.finish(schema, query)?.into_cells(alloc)
 }

@@ -21,6 +21,6 @@ mod walking;
 
 pub use deleting::delete;
 pub use executing::{Answer, execute};
-pub use ub_answer::Cells;
+pub use ub_answer::ResultSet;
 pub use ub_planning::Plan;
 pub use ub_tree::ReadFault as ExecFault;

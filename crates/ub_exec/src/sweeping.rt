@@ -1,27 +1,31 @@
-ghost use Rattle.std.specs.Prelude.{◌≡◌, ◌<◌, ℕ, true, false, [], length, IfOk, IfSome, OnErr};
+ghost use Rattle.std.specs.Prelude.{◌≡◌, ◌<◌, ◌++◌, ◌∷◌, ℕ, true, false, [], length, IfOk, IfSome, OnErr, OnOk};
+ghost use Rattle.ub_answer.specs.Held.{lines};
 ghost use Rattle.ub_exec.specs.Answers.{IsSwept};
 ghost use Rattle.ub_exec.specs.Calls.{ExecutesSwept};
 ghost use Rattle.ub_exec.specs.Reading.{IsFilled, NotesPages, ReadsSwept};
 ghost use Rattle.ub_exec.specs.Sweeping.{Fills, IsBegun};
 ghost use Rattle.ub_exec.specs.Visits.{HasFetchedFirst};
 ghost use Rattle.ub_query.specs.Posed.{IsPosed};
+ghost use Rattle.ub_query.specs.Shape.{asked};
 ghost use Rattle.ub_tetris.specs.Sweep.{HasBegun};
 ghost use Rattle.ub_tree.specs.Reading.{ReadsTree};
 
-use std::alloc::Global;
-use ub_answer::Cells;
+use std::alloc::{AllocError, Global};
+use ub_answer::ResultSet;
 use ub_planning::Plan;
+use ub_query::Query;
 use ub_store::PageStore;
+use ub_table::{Row, Schema};
 use ub_tetris::Sweep;
 use ub_tree::{ReadFault, Tree};
 
-/// The rows of the result by a sweep of rows, each put in as the sweep gives it. Once the limit is filled no more is asked of
-/// the sweep, so that no region is fetched for a row that isn't asked for. The trace begins anew.
+/// The rows of the result by a sweep of rows, each held as the sweep gives it. Once the limit is filled no more is asked of the
+/// sweep, so that no region is fetched for a row that isn't asked for. The trace begins anew.
 pub(crate) fn swept_rows<S: PageStore>(
     alloc: Global,
     tree: &mut Tree<S>,
     plan: &Plan,
-) -> Result<Cells, ReadFault>
+) -> Result<ResultSet, ReadFault>
     requires { IsPosed (length tree.old.schema.columns) plan.now.asked }
     ensures { ExecutesSwept (IsSwept plan.now.kind × (plan.now.asked.group ≡ [])) plan.now tree.old
         tree.new result }
@@ -39,7 +43,7 @@ fn filled_rows<S: PageStore>(
     sweep: &mut Sweep,
     tree: &mut Tree<S>,
     plan: &Plan,
-) -> Result<Cells, ReadFault>
+) -> Result<ResultSet, ReadFault>
     requires posed { IsPosed (length tree.old.schema.columns) plan.now.asked }
     requires begun { IsBegun plan.now tree.old sweep.old }
     ensures fills { IfOk result (Fills plan.now tree.old tree.new sweep.old) }
@@ -50,15 +54,31 @@ fn filled_rows<S: PageStore>(
     ensures effect { ReadsTree tree.old tree.new result }
 {
     let query = plan.query();
-    let mut rows = Cells::none(alloc);
+    let mut rows = Vec::new(alloc);
     while !is_filled(query.limit, rows.len()) {
         match sweep.next(tree, plan) {
-            Ok(Some(row)) => rows.push_row(tree.schema(), query.items.as_slice(), &row)?,
-            Ok(None) => return Ok(rows),
+            Ok(Some(row)) => hold_row(&mut rows, row)?,
+            Ok(None) => return Ok(result_of(rows, tree.schema(), query)),
             Err(fault) => return Err(ReadFault::from(fault)),
         }
     }
-    Ok(rows)
+    Ok(result_of(rows, tree.schema(), query))
+}
+
+// Puts a row after those that are held.
+fn hold_row(rows: &mut Vec<Row>, row: Row) -> Result<(), AllocError>
+    ensures { OnOk result (rows.new.items ≡ rows.old.items ++ row ∷ []) }
+{
+    rows.push(row)?;
+    Ok(())
+}
+
+// These rows as the result of a query.
+fn result_of(rows: Vec<Row>, schema: &Schema, query: &Query) -> ResultSet
+    requires { IsPosed (length schema.now.columns) (asked query.now) }
+    ensures { result ≡ lines schema.now (asked query.now).items rows.items }
+{
+    ResultSet::of_rows(rows, schema, query.items.as_slice())
 }
 
 /// Whether so many rows, or groups, are as many as the limit says. No count of the tree is asked how often a sweep is asked for

@@ -1,4 +1,4 @@
-use Rattle.std.proofs.Common.{◌≡◌, ◌∙◌, inl, inr, List, None, Some, Ok, Err, length, ap, refl, subst, sym}
+use Rattle.std.proofs.Common.{◌≡◌, ◌≢◌, ◌∙◌, [], inl, inr, List, None, Some, Ok, Err, length, ap, refl, subst, sym}
 use Rattle.ub_exec.proofs.AskFacts.{begun_err, begun_ok, broke, came}
 use Rattle.ub_exec.proofs.BreakFacts.{ready_begun}
 use Rattle.ub_exec.proofs.ComeFacts.{HasComeOn-more, HasComeOn-none, swept_broken, swept_first, swept_full, swept_whole}
@@ -15,7 +15,8 @@ use Rattle.ub_query.specs.declared.cell.Cell.{Cell}
 use Rattle.ub_table.specs.declared.schema.Schema.{Schema}
 use Rattle.ub_tree.proofs.Laws.{Keeps-by, Keeps-more, begun_traced, reads_by, unchanged_trace}
 use Rattle.ub_tree.specs.View.{TreeView}
-use Rattle.ub_exec.specs.Answers.{begun}
+use Rattle.ub_exec.specs.Answers.{IsSwept, begun}
+use Rattle.ub_exec.specs.Calls.{ExecutesSwept}
 use Rattle.ub_exec.proofs.grouping.first_groups.Goals as goal
 
 pub loop-query-init : goal.loop-query-init
@@ -93,6 +94,7 @@ returns g c =
     let plan = c.args.plan.now in
     let start = c.args.tree.now in
     let full = filled_is (asked c.query-query.result.now) plan.asked c.len.result c.loop-query.groups c.query-query.ensures c.len.ensures (c.is_filled.ensures.filled c.loop-query-test.false) in
+    subst (λ (cells : List (List Cell)). ExecutesSwept (IsSwept plan.kind × (plan.asked.group ≢ [])) plan start c.loop-query.tree (Ok cells)) (sym c.of_cells-2.ensures) (
     record {
       done = λ ready of.
           let both = filled_groups plan start c.loop-query.tree (length start.schema.columns) c.requires c.loop-query.sweep c.loop-query.groups inv.kept inv.come ready of.0 of.1 full inv.fetches in
@@ -102,6 +104,7 @@ returns g c =
       notes = notes_ok tt _ (begun start) c.loop-query.tree inv.notes;
       effect = record { same = inv.kept.traced; faults = tt };
     }
+    )
 
 -- no row is left
 pub returns-in_default : goal.returns-in_default
@@ -116,6 +119,7 @@ returns-in_default g c =
     let traced = traced_begun start t inv.kept.traced in
     let kept = Keeps-more _ _ _ inv.kept (Keeps-by t new turn.effect.same) in
     let left = left_is (asked c.query-query.result.now) plan.asked c.len.result c.loop-query.groups c.query-query.ensures c.len.ensures (c.is_filled.ensures.left c.loop-query-test.true) in
+    subst (λ (cells : List (List Cell)). ExecutesSwept (IsSwept plan.kind × (plan.asked.group ≢ [])) plan start new (Ok cells)) (sym c.of_cells.ensures) (
     record {
       done = λ ready of.
           let both = ended_groups plan start t (length start.schema.columns) c.requires c.loop-query.sweep c.loop-query.groups inv.kept inv.come ready of.0 of.1 left
@@ -128,6 +132,7 @@ returns-in_default g c =
       notes = notes_then {A = Unit {0}} tt (Ok _) (begun start) t new traced inv.notes (notes_ok _ _ t new turn.notes);
       effect = record { same = kept.traced; faults = tt };
     }
+    )
 
 pub returns-in_err-sweep : goal.returns-in_err-sweep
 returns-in_err-sweep g c =
