@@ -2,7 +2,9 @@
 use Rattle.std.proofs.Common.{◌≡◌, ◌<◌, ◌+◌, ◌==◌, ℕ, zero, suc, List, [], ◌∷◌, ◌++◌, length, take, map, Some, Bool, true, false, if◌then◌else◌, slice_get, slice_index_or, refl, sym, ap, ◌∙◌, append_assoc, add-one, arith}
 use Rattle.std.proofs.lemmas.Bool.{eqb-true}
 use Rattle.std.proofs.lemmas.List.{flat_map_more, take_all}
+use Rattle.std.proofs.lemmas.Option.{slice_get-map}
 use Rattle.std.specs.List.{flat_map, join_with_byte}
+use Rattle.std.specs.Option.{option_map}
 use Rattle.ub_query.specs.declared.cell.Cell.{Cell}
 use Rattle.ub_script.specs.Text.{comma_line, row_line}
 
@@ -29,6 +31,9 @@ pub made_at : {X : Type 0} (f : X → List ℕ) (xs : List X) (i : ℕ) (d : X) 
 made_at f [] i d h = absurd (omega arith)
 made_at f (x ∷ xs) zero d h = refl
 made_at f (x ∷ xs) (suc i) d h = made_at f xs i d (omega arith)
+
+pub made_of : {X : Type 0} (f : X → List ℕ) (xs : List X) (i : ℕ) (x : X) → slice_get xs i ≡ Some x → slice_get (map f xs) i ≡ Some (f x)
+made_of f xs i x h = slice_get-map f xs i ∙ ap (option_map f) h
 
 -- a line with one more piece, after the text before it
 pub line_next : (before text next : List ℕ) (xs : List (List ℕ)) (i : ℕ) (piece more : List ℕ) (first : Bool)

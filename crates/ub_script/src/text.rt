@@ -1,4 +1,4 @@
-ghost use Rattle.std.specs.Prelude.{◌≡◌, ◌<◌, [], ◌∷◌, ◌++◌, length, map, decimal, codes, if◌then◌else◌, IfOk, OnOk};
+ghost use Rattle.std.specs.Prelude.{◌≡◌, ◌<◌, [], ◌∷◌, ◌++◌, length, map, slice_index_or, decimal, codes, if◌then◌else◌, IfOk, OnOk};
 ghost use Rattle.std.specs.List.{All, flat_map};
 ghost use Rattle.ub_query.specs.Cells as sql;
 ghost use Rattle.ub_query.specs.Posed.{IsItemOver};
@@ -6,7 +6,7 @@ ghost use Rattle.ub_query.specs.Shape.{asked};
 ghost use Rattle.ub_script.specs.Text as spec;
 
 use std::alloc::{AllocError, Global};
-use ub_answer::Cells;
+use ub_answer::ResultSet;
 use ub_parser::{Aggregate, Item, Query, SqlFault};
 use ub_plan::{push_number, push_signed};
 use ub_query::Cell;
@@ -40,7 +40,7 @@ pub fn answer_text(
     alloc: Global,
     schema: &Schema,
     query: &Query,
-    rows: &Cells,
+    rows: &ResultSet,
     pages: u64,
 ) -> Result<Vec<u8>, AllocError>
     requires { All (λ item. IsItemOver (length schema.now.columns) item) query.now.items }
@@ -156,22 +156,24 @@ fn keyword_of(aggregate: Aggregate) -> &'static [u8]
 }
 
 // Puts a line for each row of cells.
-fn push_rows(text: &mut Vec<u8>, rows: &Cells) -> Result<(), AllocError>
+fn push_rows(text: &mut Vec<u8>, rows: &ResultSet) -> Result<(), AllocError>
     ensures { OnOk result (text.new.items ≡ text.old.items ++ flat_map spec.row_line rows.now) }
 {
     for index in 0..rows.len() {
-        push_row(text, rows.row(index))?;
+        push_row(text, rows, index)?;
     }
     Ok(())
 }
 
-// Puts the line of a row of cells.
-fn push_row(text: &mut Vec<u8>, cells: &[Cell]) -> Result<(), AllocError>
-    ensures { OnOk result (text.new.items ≡ text.old.items ++ spec.row_line cells.now) }
+// Puts the line of a row, of which each cell is made here, where no cells are held.
+fn push_row(text: &mut Vec<u8>, rows: &ResultSet, index: usize) -> Result<(), AllocError>
+    requires { index < length rows.now }
+    ensures { OnOk result
+        (text.new.items ≡ text.old.items ++ spec.row_line (slice_index_or rows.now index [])) }
 {
-    for (place, cell) in cells.iter().enumerate() {
+    for place in 0..rows.width() {
         push_comma(text, place == 0)?;
-        push_cell(text, *cell)?;
+        push_cell(text, rows.cell(index, place))?;
     }
     text.push(b'\n')?;
     Ok(())
