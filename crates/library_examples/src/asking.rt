@@ -1,5 +1,5 @@
 // A query over any tree: planned, and carried out.
-ghost use Rattle.std.specs.Prelude.{◌≡◌, length, IfOk};
+ghost use Rattle.std.specs.Prelude.{◌≡◌, ◌<◌, length, IfOk};
 ghost use Rattle.ub_exec.specs.Answers.{IsAnswer};
 ghost use Rattle.ub_query.specs.Posed.{IsPosed};
 ghost use Rattle.ub_query.specs.Shape.{asked};
@@ -7,7 +7,7 @@ ghost use Rattle.ub_tree.specs.View.{IsSound};
 
 use crate::trips::{COLUMNS, tree_of, trips};
 use std::alloc::{AllocError, Global};
-use ub_exec::{Answer, execute};
+use ub_exec::{Answer, ResultSet, execute};
 use ub_planning::plan;
 use ub_query::{Cell, Cond, Item, Items, Query, SortKey};
 use ub_store::{MemStore, PageStore};
@@ -49,12 +49,19 @@ pub fn answer<S: PageStore>(
 }
 
 // Adds the cells of a row as a line, with commas between them.
-fn add_row(alloc: Global, lines: &mut String, cells: &[Cell]) -> Result<(), AllocError> {
-    for (i, cell) in cells.iter().enumerate() {
-        if i != 0 {
+fn add_row(
+    alloc: Global,
+    lines: &mut String,
+    rows: &ResultSet,
+    index: usize,
+) -> Result<(), AllocError>
+    requires { index < length rows.now }
+{
+    for place in 0..rows.width() {
+        if place != 0 {
             lines.push(',')?;
         }
-        if let Cell::Number(number) = cell {
+        if let Cell::Number(number) = rows.cell(index, place) {
             lines.push_str(format!(in alloc; "{number}")?.as_str())?;
         }
     }
@@ -69,7 +76,7 @@ pub fn first_trips<S: PageStore>(alloc: Global, tree: &mut Tree<S>) -> Result<St
     let answer = answer(alloc, tree, &query)?;
     let mut lines = String::new(alloc);
     for i in 0..answer.rows.len() {
-        add_row(alloc, &mut lines, answer.rows.row(i))?;
+        add_row(alloc, &mut lines, &answer.rows, i)?;
     }
     let (fetched, regions) = (answer.fetched, tree.regions());
     lines.push_str(format!(in alloc; "pages {fetched} of {regions}\n")?.as_str())?;
