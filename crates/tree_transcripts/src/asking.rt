@@ -1,43 +1,40 @@
 use crate::queries::answer_by;
-use crate::regions::{meet, span};
-use crate::reply::{NONE, Reply, UNKNOWN, say};
-use crate::words::{Words, add_word};
+use crate::regions::{meet, seek, span};
+use crate::reply::UNKNOWN;
+use crate::told::Told;
+use crate::words::Words;
 use std::alloc::Global;
 use ub_store::PageStore;
 use ub_table::{Key, Schema};
-use ub_tree::{Region, Tree, TreeFault};
+use ub_tree::{Tree, TreeFault};
 
-/// What a line on a tree is answered.
-pub fn ask<S: PageStore>(alloc: Global, tree: &mut Tree<S>, line: &str) -> Reply {
+/// Puts what a line on a tree is answered.
+pub fn ask<S: PageStore>(alloc: Global, tree: &mut Tree<S>, line: &str, told: &mut Told) {
     let mut words = Words::new(line);
-    let reply = match words.word() {
-        "insert" => insert(alloc, tree, &mut words),
-        "fill" => fill(alloc, tree, words.short()),
-        "empty" => empty(alloc, tree, words.short()),
-        "remove" => gone(alloc, tree.remove(key_of(&mut words))),
-        "check" => done(alloc, tree.check()),
-        "begin" => {
-            tree.begin();
-            say(alloc, "ok")
-        }
-        head @ ("SELECT" | "EXPLAIN" | "DELETE") => answer_by(alloc, tree, head, line, 0),
+    match words.word() {
+        "insert" => insert(tree, &mut words, told),
+        "fill" => told.answer(fill(tree, words.short()), "ok", UNKNOWN),
+        "empty" => told.answer(empty(tree, words.short()), "ok", "no"),
+        "remove" => told.answer(tree.remove(key_of(&mut words)), "yes", "no"),
+        "check" => told.answer(tree.check().and(Ok(true)), "ok", "no"),
+        "begin" => begin(tree, told),
+        head @ ("SELECT" | "EXPLAIN" | "DELETE") => answer_by(alloc, tree, head, line, 0, told),
         head @ ("sweep" | "hand") => {
             let turns = words.short();
-            answer_by(alloc, tree, head, words.rest, turns)
+            answer_by(alloc, tree, head, words.rest, turns, told);
         }
-        "seek" => found(alloc, tree.seek(words.number(), None)),
-        "span" => span(alloc, tree, &mut words),
-        "walk" => meet(alloc, tree, 0, true),
-        "meet" => meet(alloc, tree, words.short(), false),
-        "count" => count(alloc, tree.rows(), tree.regions(), tree.has_failed()),
-        "shape" => shape(alloc, tree.schema()),
-        "trace" => trace(alloc, tree.trace()),
-        _ => say(alloc, UNKNOWN),
-    };
-    if words.is_wrong {
-        return say(alloc, UNKNOWN);
+        "seek" => seek(tree, words.number(), told),
+        "span" => span(tree, &mut words, told),
+        "walk" => meet(tree, 0, true, told),
+        "meet" => meet(tree, words.short(), false, told),
+        "count" => count(tree, told),
+        "shape" => shape(tree.schema(), told),
+        "trace" => trace(tree.trace(), told),
+        _ => words.is_wrong = true,
     }
-    reply
+    if words.is_wrong {
+        told.put(UNKNOWN);
+    }
 }
 
 // The key of an address and a number, by the words for them.
@@ -48,92 +45,96 @@ fn key_of(words: &mut Words<'_>) -> Key {
     }
 }
 
-// Whether a row was there that was to be taken out.
-fn gone(alloc: Global, removed: Result<bool, TreeFault>) -> Reply {
-    say(alloc, if removed? { "yes" } else { "no" })
-}
-
-// What was done, unless it was refused.
-fn done(alloc: Global, ended: Result<(), TreeFault>) -> Reply {
-    ended?;
-    say(alloc, "ok")
-}
-
-// Whether there is a region that was sought.
-fn found(alloc: Global, sought: Result<Option<Region>, TreeFault>) -> Reply {
-    say(alloc, if sought?.is_some() { "ok" } else { NONE })
+// Lets the trace begin anew.
+fn begin<S: PageStore>(tree: &mut Tree<S>, told: &mut Told) {
+    tree.begin();
+    told.put("ok");
 }
 
 // Puts in a row, by the words for its values: its number.
-fn insert<S: PageStore>(alloc: Global, tree: &mut Tree<S>, words: &mut Words<'_>) -> Reply {
+fn insert<S: PageStore>(tree: &mut Tree<S>, words: &mut Words<'_>, told: &mut Told) {
     let x = words.short();
-    if words.rest.is_empty() {
-        return put(alloc, tree, &[x], &[]);
+    let given = if words.rest.is_empty() {
+        put(tree, &[x], &[])
+    } else {
+        put(tree, &[x, words.short()], &[words.signed()])
+    };
+    match given {
+        Ok(Some(number)) => told.number(number as u128),
+        Ok(None) => told.put(UNKNOWN),
+        Err(fault) => told.fault(fault),
     }
-    let y = words.short();
-    let measure = words.signed();
-    put(alloc, tree, &[x, y], &[measure])
 }
 
 // Puts in a row of these values, where the table's rows have so many: its number.
-fn put<S: PageStore>(alloc: Global, tree: &mut Tree<S>, dims: &[u32], measures: &[i64]) -> Reply {
+fn put<S: PageStore>(
+    tree: &mut Tree<S>,
+    dims: &[u32],
+    measures: &[i64],
+) -> Result<Option<u32>, TreeFault> {
     let schema = tree.schema();
     if schema.dims() as usize != dims.len() || schema.measures() as usize != measures.len() {
-        return say(alloc, UNKNOWN);
+        return Ok(None);
     }
-    let number = tree.insert(dims, measures)?;
-    Ok(format!(in alloc; "{number}")?)
+    Ok(Some(tree.insert(dims, measures)?))
 }
 
-// Puts in so many rows, at 0, 1, .. of the first dimension, and at 0 of another one.
-fn fill<S: PageStore>(alloc: Global, tree: &mut Tree<S>, count: u32) -> Reply {
+// Puts in so many rows, at 0, 1, .. of the first dimension, and at 0 of another one, and gives whether the table has such rows.
+fn fill<S: PageStore>(tree: &mut Tree<S>, count: u32) -> Result<bool, TreeFault> {
     let dims = (tree.schema().dims() as usize).min(2);
     let measures = (tree.schema().measures() as usize).min(1);
+    let mut is_well = true;
     for x in 0..count {
         let point = [x, 0];
-        put(alloc, tree, &point[..dims], &[0][..measures])?;
+        is_well &= put(tree, &point[..dims], &[0][..measures])?.is_some();
     }
-    say(alloc, "ok")
+    Ok(is_well)
 }
 
-// Takes so many rows out of a table of one dimension, the first one first, each of which must be there.
-fn empty<S: PageStore>(alloc: Global, tree: &mut Tree<S>, count: u32) -> Reply {
-    let mut number = 0u32;
+// Takes so many rows out of a table of one dimension, the first one first, and gives whether each was there.
+fn empty<S: PageStore>(tree: &mut Tree<S>, count: u32) -> Result<bool, TreeFault> {
+    let mut is_well = true;
     for x in 0..count {
-        number = number.saturating_add(1);
         let key = Key {
-            z: u128::from(x),
-            number,
+            z: x as u128,
+            number: x.saturating_add(1),
         };
-        if !tree.remove(key)? {
-            return Ok(format!(in alloc; "no row {number}")?);
-        }
+        is_well &= tree.remove(key)?;
     }
-    say(alloc, "ok")
+    Ok(is_well)
 }
 
 // How many rows and regions there are, and whether the tree has failed.
-fn count(alloc: Global, rows: u32, regions: u32, has_failed: bool) -> Reply {
-    let failed = if has_failed { " failed" } else { "" };
-    Ok(format!(in alloc; "rows {rows} regions {regions}{failed}")?)
+fn count<S: PageStore>(tree: &Tree<S>, told: &mut Told) {
+    told.put("rows ");
+    told.number(tree.rows() as u128);
+    told.put(" regions ");
+    told.number(tree.regions() as u128);
+    if tree.has_failed() {
+        told.put(" failed");
+    }
 }
 
 // How many dimensions, measures and columns there are, and how many rows on a page.
-fn shape(alloc: Global, schema: &Schema) -> Reply {
-    let (dims, measures) = (schema.dims(), schema.measures());
-    let (columns, rows) = (schema.columns().len(), schema.page_rows());
-    Ok(format!(in alloc; "dims {dims} measures {measures} columns {columns} page-rows {rows}")?)
+fn shape(schema: &Schema, told: &mut Told) {
+    told.put("dims ");
+    told.number(schema.dims() as u128);
+    told.put(" measures ");
+    told.number(schema.measures() as u128);
+    told.put(" columns ");
+    told.number(schema.columns().len() as u128);
+    told.put(" page-rows ");
+    told.number(schema.page_rows() as u128);
 }
 
 // The pages of a trace.
-fn trace(alloc: Global, pages: &[u32]) -> Reply {
-    let mut words = String::new(alloc);
+fn trace(pages: &[u32], told: &mut Told) {
+    if pages.is_empty() {
+        told.put("none");
+    }
+    told.begin();
     for page in pages {
-        let word = format!(in alloc; "{page}")?;
-        add_word(&mut words, " ", word.as_str())?;
+        told.part(" ");
+        told.number(*page as u128);
     }
-    if words.is_empty() {
-        words.push_str("none")?;
-    }
-    Ok(words)
 }

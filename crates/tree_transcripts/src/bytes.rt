@@ -1,49 +1,39 @@
-use std::alloc::Global;
 use ub_store::Page;
 
-// The bytes of the items so far, and whether one of them was no item; `turn` is how often a step is added to a number.
+// A page in which items are put from an offset on, and whether one of them was no item, or had no room; `turn` is how often a step is
+// added to a number.
 #[derive(Drop)]
 struct Spelled {
-    bytes: Vec<u8>,
+    page: Page,
+    at: usize,
     turn: u128,
     is_wrong: bool,
 }
 
 /// Puts the bytes of items into a page, from an offset on, and gives whether these are items, and there is room.
-pub fn put_items(alloc: Global, page: &mut Page, at: usize, items: &str, turn: u32) -> bool {
+pub fn put_items(page: &mut Page, at: usize, items: &str, turn: u32) -> bool {
     let mut spelled = Spelled {
-        bytes: Vec::new(alloc),
-        turn: u128::from(turn),
+        page: *page,
+        at,
+        turn: turn as u128,
         is_wrong: false,
     };
     for item in items.split_whitespace() {
         spelled.add(item);
     }
-    !spelled.is_wrong && put_bytes(page, at, spelled.bytes.as_slice())
-}
-
-// Puts bytes into a page, and gives whether there is room.
-fn put_bytes(page: &mut Page, at: usize, bytes: &[u8]) -> bool {
-    let mut next = at;
-    for byte in bytes {
-        if next >= page.len() {
-            return false;
-        }
-        page[next] = *byte;
-        next = next.saturating_add(1);
-    }
-    true
+    *page = spelled.page;
+    !spelled.is_wrong
 }
 
 impl Spelled {
     // Adds an item.
     fn add(&mut self, item: &str) {
         if let Some(text) = item.strip_prefix('\'') {
-            return self.text(text, 0);
+            return self.text(text.as_bytes(), 0);
         }
         if let Some(name) = item.strip_prefix('.') {
             self.put(1, name.len() as u128);
-            return self.text(name, 32);
+            return self.text(name.as_bytes(), 32);
         }
         match item.strip_prefix('e') {
             Some(entries) => self.entries(entries),
@@ -52,10 +42,10 @@ impl Spelled {
     }
 
     // Adds a text, and zeros up to so many bytes.
-    fn text(&mut self, text: &str, room: usize) {
-        self.is_wrong |= self.bytes.extend_from_slice(text.as_bytes()).is_err();
+    fn text(&mut self, text: &[u8], room: usize) {
+        self.bytes(text);
         for _ in text.len()..room {
-            self.put(1, 0);
+            self.byte(0);
         }
     }
 
@@ -102,7 +92,24 @@ impl Spelled {
     fn put(&mut self, width: u128, number: u128) {
         let bytes = number.to_be_bytes();
         let from = 16u128.saturating_sub(width) as usize;
-        self.is_wrong |= self.bytes.extend_from_slice(&bytes[from..]).is_err();
+        self.bytes(&bytes[from..]);
+    }
+
+    // Adds bytes.
+    fn bytes(&mut self, bytes: &[u8]) {
+        for byte in bytes {
+            self.byte(*byte);
+        }
+    }
+
+    // Adds a byte, where there is room.
+    fn byte(&mut self, byte: u8) {
+        if self.at < self.page.len() {
+            self.page[self.at] = byte;
+            self.at += 1;
+        } else {
+            self.is_wrong = true;
+        }
     }
 
     // A number, or one and a step that is added so often, and another one that is added for each page before.

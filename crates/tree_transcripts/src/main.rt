@@ -52,10 +52,10 @@
 //! Some of these are told by lines that are asked in turn, and that a text may have too:
 //!
 //!     store NAME          how many pages a store of them has, which is taken and not opened; `store NAME fail K`
-//!     bring K N NAME      upgrades the table over an old store that fails at its K-th call, and a new one that fails at its N-th; `bring`
-//!                         does it once more with the same old store, and a new one that doesn't fail
-//!     old kept, old due   whether the old store has its pages still, and whether it fails at its next call; `due` asks that of the store
-//!                         that the tree left
+//!     due                 whether the store that the tree left fails at its next call
+//!     bring K N           upgrades the table `old` over an old store that fails at its K-th call, and a new one that fails at its N-th;
+//!                         `bring` does it once more with the same old store, and a new one that doesn't fail
+//!     old LINE            what a line on a store is answered of the old one: `old due`, `old same NAME`
 #![tactic(auto)]
 
 mod asking;
@@ -69,15 +69,17 @@ mod regions;
 mod reply;
 mod stores;
 mod tables;
+mod told;
 mod trial;
 mod words;
 
 use bench::Answering;
 use player::Player;
-use std::alloc::{AllocError, Global};
+use std::alloc::Global;
 use std::io;
 use std::process::ExitCode;
 use tables::Store;
+use told::Told;
 use trial::Trial;
 
 fn main(rt: HostRuntime) -> ExitCode {
@@ -90,21 +92,18 @@ fn main(rt: HostRuntime) -> ExitCode {
 // Plays the text of standard input, and gives whether all its lines are right.
 fn play(rt: &HostRuntime) -> io::Result<bool> {
     let text = io::read_to_string(rt.alloc(), rt.reader())?;
+    let mut told = Told::new(rt.alloc());
     let trial: Trial<Store> = Trial::new(rt.alloc());
-    let (told, is_right) = judged(rt.alloc(), trial, text.as_str())?;
-    println!(rt; "{told}")?;
+    let is_right = judge(rt.alloc(), trial, text.as_str(), &mut told);
+    rt.println(told.as_str())?;
     Ok(is_right)
 }
 
-// What is printed of the lines of a text, which this one answers, and whether all are right.
-fn judged<A: Answering>(
-    alloc: Global,
-    answering: A,
-    text: &str,
-) -> Result<(String, bool), AllocError> {
+// Puts what is printed of the lines of a text, which this one answers, and gives whether all are right.
+fn judge<A: Answering>(alloc: Global, answering: A, text: &str, told: &mut Told) -> bool {
     let mut player = Player::new(alloc, answering);
     for line in text.split('\n') {
         player.take(line);
     }
-    player.end()
+    player.end(told)
 }

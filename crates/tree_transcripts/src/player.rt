@@ -1,14 +1,7 @@
 use crate::bench::{Answering, Bench};
-use crate::calls::{Call, call_of};
+use crate::told::Told;
 use crate::words::cut;
-use std::alloc::{AllocError, Global};
-
-// The calls of a block up to now, and the name of its table.
-#[derive(Drop)]
-struct Block<'a> {
-    name: &'a str,
-    calls: Vec<Call<'a>>,
-}
+use std::alloc::Global;
 
 /// Takes the lines of a text, and holds what they are answered against what they say.
 #[derive(Drop)]
@@ -17,30 +10,29 @@ pub struct Player<'a, A: Answering> {
     // The tables that are hurt by the lines that follow, and what is told of the new table where they are upgraded.
     names: &'a str,
     left: &'a str,
-    block: Option<Block<'a>>,
+    // The table of the block that hasn't ended, and its lines up to now.
+    block: Option<&'a str>,
+    lines: Told,
     number: u64,
     right: usize,
     wrong: u64,
     // What is told of the lines that were wrong.
-    told: String,
+    told: Told,
 }
 
 impl<'a, A: Answering> Player<'a, A> {
     /// One before the first line, who has this one's answers.
     pub fn new(alloc: Global, answering: A) -> Player<'a, A> {
         Player {
-            bench: Bench {
-                alloc,
-                answering,
-                is_out: false,
-            },
+            bench: Bench::new(alloc, answering),
             names: "",
             left: "",
             block: None,
+            lines: Told::new(alloc),
             number: 0,
             right: 0,
             wrong: 0,
-            told: String::new(alloc),
+            told: Told::new(alloc),
         }
     }
 
@@ -50,22 +42,23 @@ impl<'a, A: Answering> Player<'a, A> {
         if line.is_empty() || line.starts_with('#') {
             return;
         }
-        match &mut self.block {
-            Some(block) if line != "end" => {
-                self.bench.is_out |= block.calls.push(call_of(line)).is_err();
+        match self.block {
+            Some(_) if line != "end" => {
+                self.lines.put(line);
+                self.lines.put("\n");
             }
-            Some(_) => self.end_block(),
+            Some(name) => self.end_block(name),
             None => self.take_alone(line),
         }
     }
 
     // Ends a block, and judges its lines.
-    fn end_block(&mut self) {
-        if let Some(block) = self.block.take() {
-            let is_so = self.bench.plays(block.name, block.calls.as_slice());
-            let told = if is_so { "" } else { "other calls" };
-            self.judge(block.name, told, "", block.calls.len());
-        }
+    fn end_block(&mut self, name: &str) {
+        let is_so = self.bench.plays(name, self.lines.as_str());
+        let count = self.lines.as_str().lines().count();
+        self.judge(name, is_so, count);
+        self.block = None;
+        self.lines.set("");
     }
 
     // Takes a line that stands in no block.
@@ -73,13 +66,10 @@ impl<'a, A: Answering> Player<'a, A> {
         let (head, words) = cut(line);
         match head {
             "checks" => (self.names, self.left) = (words, ""),
-            "upgrades" => (self.names, self.left) = words
-                .split_once(" left ")
-                .unwrap_or((words, "")),
-            "calls" => {
-                let calls = Vec::new(self.bench.alloc);
-                self.block = Some(Block { name: words, calls });
+            "upgrades" => {
+                (self.names, self.left) = words.split_once(" left ").unwrap_or((words, ""));
             }
+            "calls" => self.block = Some(words),
             _ => self.ask(line),
         }
     }
@@ -88,69 +78,79 @@ impl<'a, A: Answering> Player<'a, A> {
     fn ask(&mut self, line: &str) {
         let (asked, wanted) = line.split_once(" -> ").unwrap_or((line, "ok"));
         let (head, words) = cut(asked);
-        let told = match head {
+        let is_so = match head {
             "hurt" => return self.hurt_all(words, wanted),
-            "upgrade" => self.bench.upgrade(words),
-            "ends" => self.bench.end(words, wanted),
-            "stops" => self.bench.stop(words),
-            _ => self.bench.told(asked, ""),
+            "upgrade" => self.upgrades(words, wanted),
+            "ends" => self.bench.ends(words, wanted),
+            "stops" => wanted == "ok" && self.bench.stops(words),
+            _ => self.bench.is_so(asked, wanted),
         };
-        let lines = usize::from(asked.len() < line.len());
-        self.judge(line, told.as_str(), wanted, lines);
+        self.judge(line, is_so, usize::from(asked.len() < line.len()));
+    }
+
+    // Whether the upgrade of a table tells this.
+    fn upgrades(&mut self, table: &str, wanted: &str) -> bool {
+        self.bench.words.set(table);
+        self.bench.upgrades(wanted, "")
     }
 
     // Takes a line that hurts tables in each of these ways.
     fn hurt_all(&mut self, hurts: &str, wanted: &str) {
         for hurt in hurts.split(';') {
-            let told = self.hurt(hurt, wanted);
-            self.judge(hurt, told.as_str(), wanted, 1);
+            let is_so = self.hurt(hurt, wanted);
+            self.judge(hurt, is_so, 1);
         }
     }
 
-    // What is told of the tables that are hurt so: what it tells of the last, or of the first of which something else is told.
-    fn hurt(&mut self, hurts: &str, wanted: &str) -> String {
-        let mut told = String::new(self.bench.alloc);
+    // Whether this is told of each of the tables that are hurt so.
+    fn hurt(&mut self, hurts: &str, wanted: &str) -> bool {
+        let mut is_so = !self.names.is_empty();
         for name in self.names.split_whitespace() {
-            if told.is_empty() || told.as_str() == wanted {
-                let table = format!(in self.bench.alloc; "{name} with {hurts}");
-                let table = self.bench.text(table);
-                told = self.hurt_table(table.as_str());
+            if is_so {
+                self.bench.words.set(name);
+                self.bench.words.put(" with ");
+                self.bench.words.put(hurts);
+                is_so = self.hurt_table(wanted);
             }
         }
-        told
+        is_so
     }
 
-    // What is told of one of them.
-    fn hurt_table(&mut self, table: &str) -> String {
+    // Whether it is told of one of them, for which the words stand.
+    fn hurt_table(&mut self, wanted: &str) -> bool {
         if self.left.is_empty() {
-            return self.bench.check(table);
+            self.bench.checks(wanted)
+        } else {
+            self.bench.upgrades(wanted, self.left)
         }
-        let told = self.bench.upgrade(table);
-        self.bench.told_if(told, "open", "", self.left)
     }
 
-    // Holds what was told of a line against what is wanted: so many lines are right, or it is wrong, and is told with its number.
-    fn judge(&mut self, line: &str, told: &str, wanted: &str, lines: usize) {
-        if told == wanted {
+    // Counts so many lines as right, or one as wrong, which is told with its number, and with what was answered.
+    fn judge(&mut self, line: &str, is_so: bool, lines: usize) {
+        if is_so {
             self.right = self.right.saturating_add(lines);
             return;
         }
         self.wrong = self.wrong.saturating_add(1);
-        let words = format!(in self.bench.alloc; "{}: {line}\n    {told}\n", self.number);
-        let words = self.bench.text(words);
-        self.bench.is_out |= self.told.push_str(words.as_str()).is_err();
+        self.told.number(self.number as u128);
+        self.told.put(": ");
+        self.told.put(line);
+        self.told.put("\n    ");
+        self.told.put(self.bench.told.as_str());
+        self.told.put("\n");
     }
 
-    /// What is printed at the end, and whether no line was wrong; a block that hasn't ended is.
-    pub fn end(&mut self) -> Result<(String, bool), AllocError> {
+    /// Puts what is printed at the end, and gives whether no line was wrong; a block that hasn't ended is.
+    pub fn end(&mut self, told: &mut Told) -> bool {
         if self.block.is_some() {
-            self.judge("calls", "no end", "", 0);
+            self.judge("no end", false, 0);
         }
-        if self.bench.is_out {
-            return Err(AllocError);
-        }
-        let (told, right, wrong) = (self.told.as_str(), self.right, self.wrong);
-        let words = format!(in self.bench.alloc; "{told}{right} right, {wrong} wrong")?;
-        Ok((words, wrong == 0))
+        told.put(self.told.as_str());
+        told.number(self.right as u128);
+        told.put(" right, ");
+        told.number(self.wrong as u128);
+        told.put(" wrong");
+        let is_out = self.lines.is_out() || self.told.is_out() || self.bench.is_out();
+        self.wrong == 0 && !is_out && !told.is_out()
     }
 }

@@ -1,6 +1,6 @@
-use crate::reply::{NONE, Reply, UNKNOWN, say};
+use crate::reply::{NONE, UNKNOWN};
+use crate::told::Told;
 use crate::words::Words;
-use std::alloc::{AllocError, Global};
 use ub_bigmin::ZBox;
 use ub_page::RegionPage;
 use ub_store::PageStore;
@@ -8,55 +8,63 @@ use ub_table::{Key, Schema};
 use ub_tree::{Region, Tree, TreeFault};
 use ub_zaddr::{Point, Shape, last};
 
+/// Whether there is a region that ends at an address or later.
+pub fn seek<S: PageStore>(tree: &mut Tree<S>, z: u128, told: &mut Told) {
+    match tree.seek(z, None) {
+        Ok(Some(_)) => told.put("ok"),
+        Ok(None) => told.put(NONE),
+        Err(fault) => told.fault(fault),
+    }
+}
+
 /// The span of the region that ends at an address or later, and its first row and its last, read from its page or from another one.
 /// The word for the last address is `last`; `span least on 1` is the least key alone, with no search before it.
-pub fn span<S: PageStore>(alloc: Global, tree: &mut Tree<S>, words: &mut Words<'_>) -> Reply {
-    let Some(region) = sought(tree, words)? else {
-        return say(alloc, NONE);
-    };
-    let page = match words.word() {
-        "on" => words.short(),
-        _ => region.page,
-    };
-    held(alloc, tree, &Region { page, ..region })
+pub fn span<S: PageStore>(tree: &mut Tree<S>, words: &mut Words<'_>, told: &mut Told) {
+    match sought(tree, words) {
+        Ok(Some(region)) => {
+            let page = match words.word() {
+                "on" => words.short(),
+                _ => region.page,
+            };
+            held(tree, &Region { page, ..region }, told);
+        }
+        Ok(None) => told.put(NONE),
+        Err(fault) => told.fault(fault),
+    }
 }
 
 // The span of a region, and the first row and the last that its page has.
-fn held<S: PageStore>(alloc: Global, tree: &mut Tree<S>, region: &Region) -> Reply {
+fn held<S: PageStore>(tree: &mut Tree<S>, region: &Region, told: &mut Told) {
     let mut held = tree.empty_region();
-    tree.read_region(region, &mut held)?;
-    Ok(told(alloc, region, last_of(tree.schema()), &held)?)
+    match tree.read_region(region, &mut held) {
+        Ok(()) => span_of(region, last_of(tree.schema()), &held, told),
+        Err(fault) => told.fault(fault),
+    }
 }
 
 // The words for them, where this is the last address.
-fn told(
-    alloc: Global,
-    region: &Region,
-    end: u128,
-    held: &RegionPage,
-) -> Result<String, AllocError> {
-    let to = address(alloc, region.to, end)?;
-    let rows = rows(alloc, held)?;
-    format!(in alloc; "{}..{to} {rows}", region.from)
-}
-
-// An address, or the word for the last one.
-fn address(alloc: Global, z: u128, end: u128) -> Result<String, AllocError> {
-    if z == end {
-        String::from_str(alloc, "last")
+fn span_of(region: &Region, end: u128, held: &RegionPage, told: &mut Told) {
+    told.number(region.from);
+    told.put("..");
+    if region.to == end {
+        told.put("last ");
     } else {
-        format!(in alloc; "{z}")
+        told.number(region.to);
+        told.put(" ");
     }
+    rows(held, told);
 }
 
 // The numbers of the first row and the last of a region.
-fn rows(alloc: Global, held: &RegionPage) -> Result<String, AllocError> {
+fn rows(held: &RegionPage, told: &mut Told) {
     let count = held.len();
     if count == 0 {
-        return String::from_str(alloc, "no row");
+        return told.put("no row");
     }
-    let (first, end) = (held.row(0).number, held.row(count - 1).number);
-    format!(in alloc; "rows {first}..{end}")
+    told.put("rows ");
+    told.number(held.row(0).number as u128);
+    told.put("..");
+    told.number(held.row(count - 1).number as u128);
 }
 
 // The first region whose span ends at an address or later, by the word for that, or the region of the least key alone, on no page.
@@ -88,26 +96,32 @@ fn last_of(schema: &Schema) -> u128 {
     last(schema.shape())
 }
 
-// The first region after another one that meets the box; where all regions are walked, `Full` if it isn't the first of all.
-fn next_region<S: PageStore>(
-    tree: &mut Tree<S>,
-    corner: ZBox,
-    after: Option<&Region>,
-    is_walk: bool,
-) -> Result<Option<Region>, TreeFault> {
-    let met = tree.next_meeting(&[corner], after)?;
-    if is_walk && tree.seek(0, after)? != met {
-        return Err(TreeFault::Full);
-    }
-    Ok(met)
-}
-
 /// How many regions follow each other that meet the box from a corner with these coordinates on, and where the first and the last of
 /// them begin; where all are walked, each is also the first one after the one before it.
-pub fn meet<S: PageStore>(alloc: Global, tree: &mut Tree<S>, low: u32, is_walk: bool) -> Reply {
+pub fn meet<S: PageStore>(tree: &mut Tree<S>, low: u32, is_walk: bool, told: &mut Told) {
     let Some(corner) = box_from(low) else {
-        return say(alloc, UNKNOWN);
+        return told.put(UNKNOWN);
     };
+    match walked(tree, corner, is_walk) {
+        Ok((count, first, end)) => {
+            told.number(count as u128);
+            told.put(" of ");
+            told.number(tree.regions() as u128);
+            told.put(" from ");
+            told.number(first);
+            told.put(" to ");
+            told.number(end);
+        }
+        Err(fault) => told.fault(fault),
+    }
+}
+
+// The same of a box, as numbers.
+fn walked<S: PageStore>(
+    tree: &mut Tree<S>,
+    corner: ZBox,
+    is_walk: bool,
+) -> Result<(u32, u128, u128), TreeFault> {
     let mut after: Option<Region> = None;
     let (mut count, mut first, mut end) = (0u32, 0, 0);
     for turn in 0..=tree.regions() {
@@ -121,8 +135,21 @@ pub fn meet<S: PageStore>(alloc: Global, tree: &mut Tree<S>, low: u32, is_walk: 
         end = region.from;
         after = Some(region);
     }
-    let all = tree.regions();
-    Ok(format!(in alloc; "{count} of {all} from {first} to {end}")?)
+    Ok((count, first, end))
+}
+
+// The first region after another one that meets the box; where all regions are walked, `Full` if it isn't the first of all.
+fn next_region<S: PageStore>(
+    tree: &mut Tree<S>,
+    corner: ZBox,
+    after: Option<&Region>,
+    is_walk: bool,
+) -> Result<Option<Region>, TreeFault> {
+    let met = tree.next_meeting(&[corner], after)?;
+    if is_walk && tree.seek(0, after)? != met {
+        return Err(TreeFault::Full);
+    }
+    Ok(met)
 }
 
 // The box of the points of two dimensions both of whose coordinates are at least this.

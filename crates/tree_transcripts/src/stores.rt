@@ -1,7 +1,8 @@
 // What is answered of a store that stands by itself.
 use crate::bytes::put_items;
-use crate::reply::{Reply, say};
+use crate::reply::NONE;
 use crate::tables::Tables;
+use crate::told::Told;
 use crate::words::cut;
 use std::alloc::Global;
 use ub_store::{Page, PageStore, StoreFault};
@@ -12,25 +13,22 @@ pub trait Failing {
     fn of(pages: Vec<Page>, k: u64) -> Option<Self>;
 }
 
-/// What a line on a store is answered.
-pub fn look<S: PageStore>(alloc: Global, tables: &Tables, store: &mut S, line: &str) -> Reply {
+/// Puts what a line on a store is answered.
+pub fn look<S: PageStore>(tables: &Tables, store: &mut Option<S>, line: &str, told: &mut Told) {
+    let Some(store) = store else {
+        return told.put(NONE);
+    };
     let (head, words) = cut(line);
     let is_so = match head {
-        "size" => return count_pages(alloc, store),
+        "size" => return told.number(store.pages() as u128),
         "same" => is_same(tables, store, words),
-        "bytes" => has_bytes(alloc, store, words),
+        "bytes" => has_bytes(store, words),
         _ => is_due(store),
     };
-    say(alloc, if is_so { "yes" } else { "no" })
+    told.put(if is_so { "yes" } else { "no" });
 }
 
-// How many pages a store has.
-fn count_pages<S: PageStore>(alloc: Global, store: &S) -> Reply {
-    let count = store.pages();
-    Ok(format!(in alloc; "{count}")?)
-}
-
-// Whether a store has the pages of a table.
+// Whether a store has the pages of a table, and no other.
 fn is_same<S: PageStore>(tables: &Tables, store: &mut S, words: &str) -> bool {
     match tables.pages(words) {
         Some(pages) => has_pages(store, pages.as_slice()),
@@ -38,8 +36,8 @@ fn is_same<S: PageStore>(tables: &Tables, store: &mut S, words: &str) -> bool {
     }
 }
 
-/// Whether a store has these pages, and no other.
-pub fn has_pages<S: PageStore>(store: &mut S, pages: &[Page]) -> bool {
+// Whether a store has these pages, and no other.
+fn has_pages<S: PageStore>(store: &mut S, pages: &[Page]) -> bool {
     let mut n = 0u32;
     let mut is_so = store.pages() as usize == pages.len();
     for page in pages {
@@ -57,26 +55,20 @@ fn has_page<S: PageStore>(store: &mut S, n: u32, wanted: &Page) -> bool {
     }
 }
 
-/// Whether a store fails at its next call.
-pub fn is_due<S: PageStore>(store: &mut S) -> bool {
+// Whether a store fails at its next call.
+fn is_due<S: PageStore>(store: &mut S) -> bool {
     store.read_page(0) == Err(StoreFault::Device)
 }
 
 // Whether a page of a store has these bytes, by the words for the page, the offset, and them.
-fn has_bytes<S: PageStore>(alloc: Global, store: &mut S, words: &str) -> bool {
+fn has_bytes<S: PageStore>(store: &mut S, words: &str) -> bool {
     let (place, items) = cut(words);
     let (n, at) = place.split_once('@').unwrap_or(("", ""));
     let Ok(page) = store.read_page(n.parse::<u32>().unwrap_or(u32::MAX)) else {
         return false;
     };
     let mut wanted = page;
-    put_items(
-        alloc,
-        &mut wanted,
-        at.parse::<usize>().unwrap_or(4096),
-        items,
-        0,
-    ) && page == wanted
+    put_items(&mut wanted, at.parse::<usize>().unwrap_or(4096), items, 0) && page == wanted
 }
 
 /// The pages of a store.

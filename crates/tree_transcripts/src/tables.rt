@@ -41,16 +41,13 @@ impl Tables {
 
     /// Takes a line that begins a table, or adds pages to the last one, and gives whether it is such a line.
     pub fn take(&mut self, line: &str) -> bool {
-        let (head, words) = cut(line);
-        match head {
-            "table" => self.begin(words),
-            "page" => self.add(1, words),
-            _ => {
-                let mut words = Words::new(words);
-                let count = words.short();
-                !words.is_wrong && self.add(count, words.rest)
-            }
-        }
+        let mut words = Words::new(line);
+        let count = match words.word() {
+            "table" => return self.begin(words.rest),
+            "page" => 1,
+            _ => words.short(),
+        };
+        !words.is_wrong && self.add(count, words.rest)
     }
 
     // Begins a table, of no pages or of another one's, in place of one of this name.
@@ -74,7 +71,7 @@ impl Tables {
         let mut is_well = true;
         for turn in 0..count {
             let mut page = [0; 4096];
-            is_well &= put_items(self.alloc, &mut page, 0, items, turn);
+            is_well &= put_items(&mut page, 0, items, turn);
             is_well &= table.pages.push(page).is_ok();
         }
         is_well
@@ -91,30 +88,26 @@ impl Tables {
         found
     }
 
-    /// The pages of a table in which some bytes are others, by the words for both.
+    /// The pages of a table in which some bytes are others, by the words for both: its name is the first word, and with commas between
+    /// them the words for the bytes stand behind `with`.
     pub fn pages(&self, words: &str) -> Option<Vec<Page>> {
-        let (name, hurts) = words.split_once(" with ").unwrap_or((words, ""));
-        self.hurt(name, hurts)
-    }
-
-    /// The same by its name, and the words for the bytes, with commas between them.
-    pub fn hurt(&self, name: &str, hurts: &str) -> Option<Vec<Page>> {
-        let mut pages = Vec::from_slice(self.alloc, self.named(name)?).ok()?;
+        let (front, hurts) = words.split_once(" with ").unwrap_or((words, ""));
+        let mut pages = Vec::from_slice(self.alloc, self.named(cut(front).0)?).ok()?;
         let mut is_well = true;
         for words in hurts.split(',') {
-            is_well &= put_hurt(self.alloc, pages.as_mut_slice(), words.trim());
+            is_well &= put_hurt(pages.as_mut_slice(), words.trim());
         }
         if is_well { Some(pages) } else { None }
     }
 }
 
 // Puts items into a page, by the words for the page, the offset, and them; or nothing where there are no words.
-fn put_hurt(alloc: Global, pages: &mut [Page], words: &str) -> bool {
+fn put_hurt(pages: &mut [Page], words: &str) -> bool {
     let (place, items) = cut(words);
     let (number, at) = place.split_once('@').unwrap_or(("", ""));
     match (number.parse::<usize>(), at.parse::<usize>()) {
         (Ok(number), Ok(at)) => match pages.get_mut(number) {
-            Some(page) => put_items(alloc, page, at, items, 0),
+            Some(page) => put_items(page, at, items, 0),
             None => false,
         },
         _ => words.is_empty(),

@@ -1,20 +1,10 @@
-use std::alloc::AllocError;
-
 /// A line's first word, and what stands after the space behind it.
 pub fn cut(line: &str) -> (&str, &str) {
     line.split_once(' ').unwrap_or((line, ""))
 }
 
-/// Adds a word to others, with this between them.
-pub fn add_word(words: &mut String, between: &str, word: &str) -> Result<(), AllocError> {
-    if !words.is_empty() {
-        words.push_str(between)?;
-    }
-    words.push_str(word)
-}
-
 /// The words of a line that are still to be read, and whether one of those that were read isn't what it should be.
-#[derive(Clone, Copy)]
+#[derive(Drop)]
 pub struct Words<'a> {
     pub rest: &'a str,
     pub is_wrong: bool,
