@@ -11,11 +11,9 @@ fn points(shape: Shape) -> Option<[Point; COUNT]> {
     let dims = shape.dims() as usize;
     let first = Point::new(shape, &low[..dims]).ok()?;
     let mut all = [first; COUNT];
-    for i in 0..COUNT {
+    for point in all.iter_mut() {
         let (low, _high) = numbers.corners();
-        if let Ok(point) = Point::new(shape, &low[..dims]) {
-            all[i] = point;
-        }
+        *point = Point::new(shape, &low[..dims]).unwrap_or(first);
     }
     Some(all)
 }
@@ -24,8 +22,8 @@ fn points(shape: Shape) -> Option<[Point; COUNT]> {
 fn numbers(shape: Shape) -> [u128; COUNT] {
     let mut numbers = Generator::new(9);
     let mut all = [0u128; COUNT];
-    for i in 0..COUNT {
-        all[i] = numbers.address() & last(shape);
+    for z in all.iter_mut() {
+        *z = numbers.address() & last(shape);
     }
     all
 }

@@ -1,13 +1,14 @@
-use crate::model::{Model, ORIGIN};
+use crate::model::{Model, key_on};
 use crate::numbers::Numbers;
-use crate::plane::{Store, address, created, put};
+use crate::places::address;
+use crate::plane::Plane;
 use crate::trouble::Trouble;
 use std::alloc::Global;
 use ub_page::RegionPage;
 use ub_table::Key;
-use ub_tree::{Region, Tree, TreeFault};
+use ub_tree::TreeFault;
 
-/// What a tree has.
+/// What a table has.
 #[derive(Clone, Copy)]
 pub struct Left {
     /// How many rows it counts.
@@ -20,143 +21,106 @@ pub struct Left {
     pub checksum: u128,
 }
 
-/// Reads the region after this one, or the first where there is none, and tells whether it is there.
-pub fn read_next(
-    tree: &mut Tree<Store>,
-    region: &mut Option<Region>,
-    page: &mut RegionPage,
-) -> Result<bool, TreeFault> {
-    *region = tree.seek(0, region.as_ref())?;
-    match region {
-        Some(next) => {
-            tree.read_region(next, page)?;
-            Ok(true)
-        }
-        None => Ok(false),
-    }
-}
-
-// Whether a region of the model is that of the page: with its first key and its rows.
-fn is_read(model: &Model, region: usize, page: &RegionPage) -> bool {
-    let first = page.first();
-    if model.region_of(&first) != region || !model.firsts.contains(&first) {
+// Whether the last call is due once more: it was refused memory, and the table is as it was.
+fn is_due_again<P: Plane>(plane: &mut P, model: &Model) -> bool {
+    if !matches!(plane.fault(), Some(TreeFault::Memory)) {
         return false;
     }
-    for i in 0..page.len() {
-        let row = page.row(i);
-        let key = Key {
-            z: address(row.dims[0], row.dims[1]),
-            number: row.number,
-        };
-        if !model.keys.contains(&key) || model.region_of(&key) != region {
-            return false;
-        }
-    }
-    page.len() == model.size(region)
+    plane.forget();
+    model.is_in(plane)
 }
 
-/// Whether the tree has the regions and the rows of the model.
-pub fn is_like(tree: &mut Tree<Store>, model: &Model) -> Result<bool, TreeFault> {
-    let mut page = tree.empty_region();
-    let mut region: Option<Region> = None;
-    let mut count = 0usize;
-    for _ in 0..tree.regions() {
-        if !read_next(tree, &mut region, &mut page)? {
-            return Ok(false);
-        }
-        count = count.wrapping_add(1);
-        if !is_read(model, count, &page) {
-            return Ok(false);
-        }
+// Puts a row in, in the table and in the model, and tells whether neither was refused that.
+fn put<P: Plane>(plane: &mut P, model: &mut Model, x: u32, y: u32) -> bool {
+    let mut number = plane.put(x, y);
+    if is_due_again(plane, model) {
+        number = plane.put(x, y);
     }
-    Ok(count == model.firsts.len() && tree.rows() as usize == model.keys.len())
+    if number == 0 {
+        return false;
+    }
+    model.insert(Key {
+        z: address(x, y),
+        number,
+    });
+    !model.is_out
 }
 
-// Puts a row in, once more where memory was refused, if the tree is as it was then; else it answers Full.
-fn put_again(tree: &mut Tree<Store>, model: &Model, x: u32, y: u32) -> Result<u32, TreeFault> {
-    match put(tree, x, y) {
-        Err(TreeFault::Memory) if is_like(tree, model)? => put(tree, x, y),
-        Err(TreeFault::Memory) => Err(TreeFault::Full),
-        answer => answer,
+// Takes out the row that was put in after so many others, or one that isn't there, and tells whether the table and the model answered
+// alike.
+fn take_out<P: Plane>(plane: &mut P, model: &mut Model, place: usize) -> bool {
+    let key = model.row(place);
+    let mut is_there = plane.take_out(key);
+    if is_due_again(plane, model) {
+        is_there = plane.take_out(key);
     }
+    plane.fault().is_none() && is_there == model.remove_at(place)
 }
 
-// Takes a row out, once more where memory was refused, if the tree is as it was then; else it answers Full.
-fn remove_again(tree: &mut Tree<Store>, model: &Model, key: &Key) -> Result<bool, TreeFault> {
-    match tree.remove(*key) {
-        Err(TreeFault::Memory) if is_like(tree, model)? => tree.remove(*key),
-        Err(TreeFault::Memory) => Err(TreeFault::Full),
-        answer => answer,
-    }
-}
-
-/// Puts a row in at random, or takes one out, in the tree and in the model. Gives whether they answered alike.
-pub fn change(
-    tree: &mut Tree<Store>,
-    model: &mut Model,
-    numbers: &mut Numbers,
-) -> Result<bool, TreeFault> {
+/// Puts a row in at random, or takes one out, in the table and in the model. Gives whether they answered alike.
+pub fn change<P: Plane>(plane: &mut P, model: &mut Model, numbers: &mut Numbers) -> bool {
     if numbers.below(5) < 3 {
         let x = numbers.coordinate();
         let y = numbers.coordinate();
-        let number = put_again(tree, model, x, y)?;
-        model.insert(Key {
-            z: address(x, y),
-            number,
-        })?;
-        return Ok(true);
+        return put(plane, model, x, y);
     }
-    let place = numbers.below(model.keys.len() as u64) as usize;
-    let key = model.keys.get(place).copied().unwrap_or(ORIGIN);
-    let is_there = remove_again(tree, model, &key)?;
-    Ok(is_there == model.remove(place))
+    let place = numbers.below(model.rows() as u64) as usize;
+    take_out(plane, model, place)
 }
 
 // The checksum with the rows of a region's page.
 fn with_rows(page: &RegionPage, sum: u128) -> u128 {
     let mut sum = sum;
     for i in 0..page.len() {
-        let row = page.row(i);
-        let z = address(row.dims[0], row.dims[1]);
-        sum = sum.rotate_left(7) ^ (u128::from(row.number) << 6) ^ z;
+        let key = key_on(page, i);
+        sum = sum.rotate_left(7) ^ (u128::from(key.number) << 6) ^ key.z;
     }
     sum
 }
 
-/// What the tree has, its regions read one after the other.
-pub fn left_in(tree: &mut Tree<Store>) -> Result<Left, TreeFault> {
-    let mut page = tree.empty_region();
-    let mut region: Option<Region> = None;
+/// What the table has, its regions read one after the other, up to one that is refused.
+pub fn left_in<P: Plane>(plane: &mut P) -> Left {
     let mut left = Left {
-        rows: tree.rows(),
-        regions: tree.regions(),
+        rows: plane.rows(),
+        regions: plane.regions(),
         count: 0,
         checksum: 0,
     };
+    plane.rewind();
     for _ in 0..left.regions {
-        if !read_next(tree, &mut region, &mut page)? {
+        if !plane.read_next() {
             break;
         }
-        left.count = left.count.wrapping_add(page.len());
-        left.checksum = with_rows(&page, left.checksum);
+        left.count = left.count.wrapping_add(plane.page().len());
+        left.checksum = with_rows(plane.page(), left.checksum);
     }
-    Ok(left)
+    left
 }
 
-// What so many changes at random of a tree and the model leave, which are compared after each one.
-fn changed(tree: &mut Tree<Store>, model: &mut Model, changes: u32) -> Result<Left, Trouble> {
-    let mut numbers = Numbers::new(u64::from(tree.schema().page_rows()));
+// Whether the table is like the model after each of so many changes at random.
+fn is_changed<P: Plane>(plane: &mut P, model: &mut Model, page_rows: u32, changes: u32) -> bool {
+    let mut numbers = Numbers::new(u64::from(page_rows));
     for _ in 0..changes {
-        if !change(tree, model, &mut numbers)? || !is_like(tree, model)? {
-            return Err(Trouble::Wrong);
+        if !change(plane, model, &mut numbers) || !model.is_in(plane) {
+            return false;
         }
     }
-    Ok(left_in(tree)?)
+    true
 }
 
-/// So many changes at random of a table with so many rows on a page, the tree compared with the definition after each one.
-pub fn changed_at_random(alloc: Global, page_rows: u32, changes: u32) -> Result<Left, Trouble> {
-    let mut model = Model::new(alloc, page_rows)?;
-    let mut tree = created(alloc, page_rows, 0)?;
-    changed(&mut tree, &mut model, changes)
+/// What so many changes at random leave of a table with so many rows on a page, which is compared with the definition after each one.
+pub fn changed_at_random<P: Plane>(
+    alloc: Global,
+    page_rows: u32,
+    changes: u32,
+) -> Result<Left, Trouble> {
+    let mut model = Model::new(alloc, page_rows);
+    let mut plane = P::create(alloc, page_rows, 0)?;
+    let is_right = is_changed(&mut plane, &mut model, page_rows, changes);
+    let left = left_in(&mut plane);
+    if is_right && plane.fault().is_none() {
+        Ok(left)
+    } else {
+        Err(Trouble::of(model.is_out, plane.fault()))
+    }
 }

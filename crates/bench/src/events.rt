@@ -8,9 +8,13 @@ const SPANS: u128 = 4400;
 /// The box between two corners of four dimensions, of which the shape's are taken.
 pub fn box_between(shape: Shape, low: &[u32; 4], high: &[u32; 4]) -> Option<ZBox> {
     let dims = shape.dims() as usize;
-    let lo = Point::new(shape, &low[..dims]).ok()?;
-    let hi = Point::new(shape, &high[..dims]).ok()?;
-    ZBox::new(shape, &lo, &hi)
+    match (
+        Point::new(shape, &low[..dims]),
+        Point::new(shape, &high[..dims]),
+    ) {
+        (Ok(low), Ok(high)) => ZBox::new(shape, &low, &high),
+        _ => None,
+    }
 }
 
 /// The checksum of the least values of one box in spans of addresses that follow one another, as regions do, in the first

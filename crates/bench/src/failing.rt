@@ -1,10 +1,10 @@
-use crate::changes::{change, is_like, left_in};
+use crate::changes::{change, left_in};
 use crate::model::Model;
 use crate::numbers::Numbers;
-use crate::plane::{Store, created, put};
+use crate::plane::Plane;
 use crate::trouble::Trouble;
 use std::alloc::Global;
-use ub_tree::{Tree, TreeFault};
+use ub_tree::TreeFault;
 
 /// Before which call of the store a run of no failing call must come.
 const MOST_CALLS: u64 = 200;
@@ -12,52 +12,68 @@ const MOST_CALLS: u64 = 200;
 /// How many changes are made in each run.
 const CHANGES: u32 = 12;
 
-// Whether a tree whose store failed in a change counts as before, and does no more unless only a read failed.
-fn is_left(tree: &mut Tree<Store>, model: &Model, regions: u32) -> Result<bool, TreeFault> {
-    if tree.regions() != regions || tree.rows() as usize != model.keys.len() {
-        return Ok(false);
-    }
-    if !tree.has_failed() {
-        return is_like(tree, model);
-    }
-    Ok(
-        matches!(put(tree, 0, 0), Err(TreeFault::Failed))
-            && matches!(left_in(tree), Err(TreeFault::Failed)),
-    )
+// Whether the last call was refused since the table had failed before. Forgets that.
+fn is_stopped<P: Plane>(plane: &mut P) -> bool {
+    let is_so = matches!(plane.fault(), Some(TreeFault::Failed));
+    plane.forget();
+    is_so
 }
 
-// Whether a tree is left as it should be where a call of its store fails. `None` where no call failed.
-fn changed(tree: &mut Tree<Store>, model: &mut Model) -> Result<Option<bool>, TreeFault> {
+// Whether a table whose store failed in a change counts as before, and does no more unless only a read failed.
+fn is_left<P: Plane>(plane: &mut P, model: &Model, regions: u32) -> bool {
+    plane.forget();
+    if plane.regions() != regions || plane.rows() as usize != model.rows() {
+        return false;
+    }
+    if !plane.has_failed() {
+        return model.is_in(plane);
+    }
+    plane.put(0, 0);
+    let is_put_stopped = is_stopped(plane);
+    left_in(plane);
+    is_put_stopped & is_stopped(plane)
+}
+
+// Whether a call of its store failed in a change that wasn't made, before which the table had so many regions, and all is left as it should be.
+fn has_failed<P: Plane>(plane: &mut P, model: &Model, regions: u32) -> Result<bool, Trouble> {
+    let is_right = match plane.fault() {
+        None | Some(TreeFault::Memory) => false,
+        Some(_) => is_left(plane, model, regions),
+    };
+    if is_right {
+        Ok(true)
+    } else {
+        Err(Trouble::of(model.is_out, plane.fault()))
+    }
+}
+
+// Whether a call of its store failed in one of some changes, and all is left as it should be.
+fn changed<P: Plane>(plane: &mut P, model: &mut Model) -> Result<bool, Trouble> {
     let mut numbers = Numbers::new(7);
     for _ in 0..CHANGES {
-        let regions = tree.regions();
-        match change(tree, model, &mut numbers) {
-            Ok(true) => {}
-            Ok(false) => return Ok(Some(false)),
-            Err(TreeFault::Memory) => return Err(TreeFault::Memory),
-            Err(_) => return Ok(Some(is_left(tree, model, regions)?)),
+        let regions = plane.regions();
+        if !change(plane, model, &mut numbers) {
+            return has_failed(plane, model, regions);
         }
     }
-    Ok(None)
+    Ok(false)
 }
 
-// The same of a tree over a store whose k-th call fails.
-fn fails_well(alloc: Global, k: u64) -> Result<Option<bool>, TreeFault> {
-    let mut model = Model::new(alloc, 2)?;
-    match created(alloc, 2, k) {
-        Ok(mut tree) => changed(&mut tree, &mut model),
-        Err(TreeFault::Store(_)) => Ok(Some(true)),
-        Err(fault) => Err(fault),
+// The same of a table over a store whose k-th call fails.
+fn fails_well<P: Plane>(alloc: Global, k: u64) -> Result<bool, Trouble> {
+    let mut model = Model::new(alloc, 2);
+    match P::create(alloc, 2, k) {
+        Ok(mut plane) => changed(&mut plane, &mut model),
+        Err(TreeFault::Store(_)) => Ok(true),
+        Err(fault) => Err(Trouble::Tree(fault)),
     }
 }
 
 /// How many calls of the store were made to fail, each in a run of its own: all that the runs make.
-pub fn failing_calls(alloc: Global) -> Result<u64, Trouble> {
+pub fn failing_calls<P: Plane>(alloc: Global) -> Result<u64, Trouble> {
     for k in 1..MOST_CALLS {
-        match fails_well(alloc, k)? {
-            Some(true) => {}
-            Some(false) => return Err(Trouble::Wrong),
-            None => return Ok(k.wrapping_sub(1)),
+        if !fails_well::<P>(alloc, k)? {
+            return Ok(k.wrapping_sub(1));
         }
     }
     Err(Trouble::Wrong)

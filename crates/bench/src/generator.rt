@@ -23,11 +23,6 @@ impl Generator {
         (self.number() >> 32) as u32
     }
 
-    /// A point of three dimensions.
-    pub fn point(&mut self) -> [u32; 3] {
-        [self.coordinate(), self.coordinate(), self.coordinate()]
-    }
-
     /// Two corners of a box of four dimensions.
     pub fn corners(&mut self) -> ([u32; 4], [u32; 4]) {
         let mut low = [0u32; 4];

@@ -1,11 +1,10 @@
+use crate::model::Model;
 use crate::numbers::Numbers;
-use crate::plane::{Store, accepted, created, on_line, put};
-use crate::spaces::Spaces;
+use crate::places::address;
+use crate::plane::Plane;
 use crate::trouble::Trouble;
-use std::alloc::{AllocError, Global};
-use ub_store::PageStore;
+use std::alloc::Global;
 use ub_table::Key;
-use ub_tree::{Tree, TreeFault};
 
 /// In which order rows are put in, or taken out.
 #[derive(Clone, Copy)]
@@ -35,7 +34,7 @@ impl Order {
     }
 
     // Which row, of so many, is taken out after so many: each once, where their number isn't a multiple of 7919.
-    fn place(self, after: usize, rows: usize) -> usize {
+    fn place(self, after: u32, rows: u32) -> u32 {
         match self {
             Order::Ascending => after,
             Order::Descending => rows.wrapping_sub(after).wrapping_sub(1),
@@ -43,6 +42,20 @@ impl Order {
             Order::Random => 0,
         }
     }
+}
+
+/// How a table is tried: so many rows are put in, in this order, two on a page, and taken out in that one; and each time that so
+/// many more have come or gone it is compared with the definition.
+#[derive(Clone, Copy)]
+pub struct Course {
+    /// How many rows.
+    pub rows: u32,
+    /// In which order they come.
+    pub order: Order,
+    /// In which order they go.
+    pub then: Order,
+    /// How many come or go from one comparison to the next.
+    pub between: u32,
 }
 
 /// What a table came to.
@@ -56,149 +69,74 @@ pub struct Levels {
     pub levels_left: u32,
 }
 
-// Right, or else the trouble.
-fn sure(is_right: bool) -> Result<(), Trouble> {
-    if is_right {
-        Ok(())
-    } else {
-        Err(Trouble::Wrong)
+impl Course {
+    // Whether the table is to be compared after so many changes.
+    fn is_due(&self, after: u32) -> bool {
+        self.between > 0 && after % self.between == 0
     }
 }
 
-// The number that four bytes of a page spell, from this offset on.
-fn number_at(page: &[u8; 4096], at: usize) -> u32 {
-    let mut number = 0u32;
-    for i in 0..4usize {
-        let place = at.wrapping_add(i);
-        if place < page.len() {
-            number = number
-                .wrapping_mul(256)
-                .wrapping_add(u32::from(page[place]));
-        }
-    }
-    number
-}
-
-// How many levels the index of a closed table has, by its header.
-fn levels_in(store: &mut Store) -> Result<u32, Trouble> {
-    match store.read_page(0) {
-        Ok(page) => Ok(number_at(&page, 28)),
-        Err(fault) => Err(Trouble::Tree(TreeFault::Store(fault))),
-    }
-}
-
-// Notes a key after the others.
-fn note(keys: &mut Vec<Key>, key: Key) -> Result<(), AllocError> {
-    keys.push(key)?;
-    Ok(())
-}
-
-// Puts so many rows in, in this order, and lists their keys.
-fn fill(
-    tree: &mut Tree<Store>,
-    spaces: &mut Spaces,
-    keys: &mut Vec<Key>,
-    order: Order,
-    rows: u32,
-    between: u32,
-) -> Result<(), Trouble> {
+// Puts all rows in, and tells whether the table is as the definition says.
+fn fill<P: Plane>(plane: &mut P, model: &mut Model, course: &Course) -> bool {
     let mut numbers = Numbers::new(34);
-    for after in 0..rows {
-        let x = order.coordinate(after, rows, &mut numbers);
-        let number = put(tree, x, 0)?;
-        let key = Key {
-            z: on_line(x),
+    for after in 0..course.rows {
+        let x = course.order.coordinate(after, course.rows, &mut numbers);
+        let number = plane.put(x, 0);
+        model.insert(Key {
+            z: address(x, 0),
             number,
-        };
-        spaces.insert(key)?;
-        note(keys, key)?;
-        if between > 0 && after % between == 0 {
-            sure(spaces.are_in(tree)?)?;
+        });
+        if course.is_due(after) && !model.is_in(plane) {
+            return false;
         }
     }
-    sure(spaces.are_in(tree)?)
+    model.is_in(plane)
 }
 
-// Takes all of them out, in this order.
-fn empty(
-    tree: &mut Tree<Store>,
-    spaces: &mut Spaces,
-    keys: &[Key],
-    order: Order,
-    between: u32,
-) -> Result<(), Trouble> {
-    for after in 0..keys.len() {
-        let place = order.place(after, keys.len());
-        if place < keys.len() {
-            let key = keys[place];
-            sure(tree.remove(key)? && spaces.remove(&key))?;
+// Takes all of them out, and tells the same.
+fn empty<P: Plane>(plane: &mut P, model: &mut Model, course: &Course) -> bool {
+    for after in 0..course.rows {
+        let key = model.row(course.then.place(after, course.rows) as usize);
+        if !plane.take_out(key) || !model.remove(&key) {
+            return false;
         }
-        if between > 0 && after % between as usize == 0 {
-            sure(spaces.are_in(tree)?)?;
+        if course.is_due(after) && !model.is_in(plane) {
+            return false;
         }
     }
-    sure(spaces.are_in(tree)? && tree.rows() == 0)
+    plane.rows() == 0 && model.is_in(plane)
 }
 
-// A store with the closed table of so many rows that were put in in this order, two on a page.
-fn filled(
+// What a table of no rows comes to, with this model of it.
+fn compared<P: Plane>(
     alloc: Global,
-    spaces: &mut Spaces,
-    keys: &mut Vec<Key>,
-    table: (Order, u32),
-    between: u32,
-) -> Result<Store, Trouble> {
-    let (order, rows) = table;
-    let mut tree = created(alloc, 2, 0)?;
-    fill(&mut tree, spaces, keys, order, rows, between)?;
-    Ok(accepted(tree.close())?)
-}
-
-// A store with the closed table of no rows that is left when all of them were taken out in that order.
-fn emptied(
-    alloc: Global,
-    store: Store,
-    spaces: &mut Spaces,
-    keys: &[Key],
-    order: Order,
-    between: u32,
-) -> Result<Store, Trouble> {
-    let mut tree = accepted(Tree::open(alloc, store))?;
-    empty(&mut tree, spaces, keys, order, between)?;
-    Ok(accepted(tree.close())?)
-}
-
-// What such a table comes to, with these lists for its regions and its keys.
-fn compared(
-    alloc: Global,
-    spaces: &mut Spaces,
-    keys: &mut Vec<Key>,
-    table: (Order, u32),
-    then: Order,
-    between: u32,
+    plane: P,
+    model: &mut Model,
+    course: &Course,
 ) -> Result<Levels, Trouble> {
-    let mut store = filled(alloc, spaces, keys, table, between)?;
-    let regions = spaces.regions();
-    let levels = levels_in(&mut store)?;
-    let mut store = emptied(alloc, store, spaces, keys.as_slice(), then, between)?;
+    let mut plane = plane;
+    if !fill(&mut plane, model, course) {
+        return Err(Trouble::of(model.is_out, plane.fault()));
+    }
+    let regions = model.regions();
+    let mut full = plane.reopen(alloc)?;
+    if !empty(&mut full, model, course) {
+        return Err(Trouble::of(model.is_out, full.fault()));
+    }
+    let levels = full.levels();
+    let emptied = full.reopen(alloc)?;
     Ok(Levels {
         regions,
         levels,
-        regions_left: spaces.regions(),
-        levels_left: levels_in(&mut store)?,
+        regions_left: model.regions(),
+        levels_left: emptied.levels(),
     })
 }
 
-/// How many levels the index of a table gets into which so many rows are put in this order, two on a page, and how many are left when
-/// they are taken out in that order. The tree is compared with the definition each time that so many rows more have come or gone,
-/// and is closed and opened when all are in.
-pub fn tried(
-    alloc: Global,
-    table: (Order, u32),
-    then: Order,
-    between: u32,
-) -> Result<Levels, Trouble> {
-    let mut spaces = Spaces::new(alloc)?;
-    let mut keys = Vec::new(alloc);
-    compared(alloc, &mut spaces, &mut keys, table, then, between)
+/// How many levels the index of a table gets when its rows are put in, and how many are left when they are taken out. It is closed
+/// and opened when all are in, and again when all are out.
+pub fn tried<P: Plane>(alloc: Global, course: &Course) -> Result<Levels, Trouble> {
+    let mut model = Model::new(alloc, 2);
+    let plane = P::create(alloc, 2, 0)?;
+    compared(alloc, plane, &mut model, course)
 }

@@ -1,17 +1,11 @@
-ghost use Rattle.std.specs.Prelude.{◌≤◌};
-
 use ub_table::{Name, PageFault, Schema};
 
-/// A table of so many dimensions, and of a measure where it has one, with 64 rows on a page.
-pub fn table(dims: u32, has_measure: bool) -> Result<Schema, PageFault>
-    requires { dims ≤ 4 }
-{
-    let letters = b"xyzt";
-    let dimensions = dims as usize;
-    let mut columns = [Name::new(b"m")?; 5];
-    for i in 0..dimensions {
-        columns[i] = Name::new(&letters[i..i + 1])?;
+/// A table of so many dimensions, of so many columns, five at the most, and of so many rows on a page.
+pub fn table(dims: u32, columns: usize, page_rows: u32) -> Result<Schema, PageFault> {
+    let name = Name::new(b"t")?;
+    let mut names = [name; 5];
+    for (column, letter) in names.iter_mut().zip(b"xyzwm") {
+        *column = Name::new(&[*letter]).unwrap_or(name);
     }
-    let count = dimensions + usize::from(has_measure);
-    Schema::new(Name::new(b"t")?, &columns[..count], dims, 64, 0)
+    Schema::new(name, &names[..columns.min(5)], dims, page_rows, 0)
 }

@@ -1,20 +1,24 @@
 use std::alloc::AllocError;
-use std::io;
-use thiserror::Error;
 use ub_tree::TreeFault;
 
 /// Why a trial ended early.
-#[derive(Debug, Drop, Error)]
+#[derive(Clone, Copy)]
 pub enum Trouble {
-    /// The tree isn't as the definition says, or isn't left as it should be.
-    #[error("Wrong")]
+    /// The table isn't as the definition says, or isn't left as it should be.
     Wrong,
-    /// The tree refused what it should have done.
-    #[error("{0}")]
+    /// The table refused what it should have done.
     Tree(TreeFault),
-    /// A line wasn't written.
-    #[error("Output")]
-    Output,
+}
+
+impl Trouble {
+    /// What is told of a table that isn't right: want of memory where its definition was refused that, or this refusal.
+    pub fn of(is_out: bool, fault: Option<TreeFault>) -> Trouble {
+        match fault {
+            _ if is_out => Trouble::Tree(TreeFault::Memory),
+            Some(fault) => Trouble::Tree(fault),
+            None => Trouble::Wrong,
+        }
+    }
 }
 
 impl From<TreeFault> for Trouble {
@@ -26,11 +30,5 @@ impl From<TreeFault> for Trouble {
 impl From<AllocError> for Trouble {
     fn from(_fault: AllocError) -> Trouble {
         Trouble::Tree(TreeFault::Memory)
-    }
-}
-
-impl From<io::Error> for Trouble {
-    fn from(_fault: io::Error) -> Trouble {
-        Trouble::Output
     }
 }
