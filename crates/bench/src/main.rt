@@ -62,15 +62,22 @@ fn number(word: &str) -> Option<u64> {
 }
 
 // Prints a checksum of the masks of a page that is read so many times.
-fn tell_pages<R: Print>(rt: &R, dims: u64, times: u64) -> io::Result<()> {
-    match read_and_filter(dims.clamp(1, 4) as u32, times) {
+fn tell_pages<R: Print>(rt: &R, dims: Option<u64>, times: Option<u64>) -> io::Result<()> {
+    let dims = dims.unwrap_or(2).clamp(1, 4) as u32;
+    match read_and_filter(dims, times.unwrap_or(1)) {
         Ok(sum) => println!(rt; "{sum}"),
         Err(fault) => println!(rt; "! {fault}"),
     }
 }
 
 // Prints the checksum of so many calls, for each number of dimensions or for the one asked.
-fn tell_checksums<R: Print>(rt: &R, calls: u64, only: Option<u64>, word: &str) -> io::Result<()> {
+fn tell_checksums<R: Print>(
+    rt: &R,
+    calls: Option<u64>,
+    only: Option<u64>,
+    word: &str,
+) -> io::Result<()> {
+    let calls = calls.unwrap_or(1000);
     for dims in 1..=4u32 {
         let is_asked = only.unwrap_or(u64::from(dims)) == u64::from(dims);
         if let Ok(shape) = Shape::new(dims)
@@ -94,10 +101,8 @@ fn is_done<R: Print + AllocGlobal>(rt: &R, line: &str) -> io::Result<bool> {
     let (third, _) = cut(rest);
     match first {
         "trial" => try_tables::<MemPlanar, R>(rt, second),
-        "pages" => tell_pages(rt, number(second).unwrap_or(2), number(third).unwrap_or(1)).and(Ok(
-            true,
-        )),
-        _ => tell_checksums(rt, number(first).unwrap_or(1000), number(second), third).and(Ok(true)),
+        "pages" => tell_pages(rt, number(second), number(third)).and(Ok(true)),
+        _ => tell_checksums(rt, number(first), number(second), third).and(Ok(true)),
     }
 }
 
