@@ -2,22 +2,31 @@
 // and one way of a jump beside the other.
 ghost use Rattle.std.specs.Prelude.{◌≡◌, ◌<◌, length, All, IfOk, IfSome};
 
-use crate::samples::all_right;
+use crate::samples::{Case, all_hold, holds};
 use ub_bigmin::laws::{next_by_bits, next_by_words, prev_by_bits, prev_by_words};
 use ub_bigmin::{ZBox, greatest_value, least_value, next_in_any};
 use ub_zaddr::{Point, Shape, ZFault, interleave};
 
-// Addresses, whether the box from (2,2) to (6,3) holds them, and the nearest ones of it at or above
-// and at or below them.
-static NEIGHBOURS: &[(u128, bool, Option<u128>, Option<u128>)] = &[
-    (19, false, Some(36), Some(15)),
-    (0, false, Some(12), None),
-    (46, false, None, Some(45)),
-    (11, false, Some(12), None),
-    (12, true, Some(12), Some(12)),
-    (45, true, Some(45), Some(45)),
-    (u128::MAX, false, None, Some(45)),
+// An address, whether the box from (2,2) to (6,3) holds it, and the nearest ones of it at or above and at or below it.
+struct Neighbours(u128, bool, Option<u128>, Option<u128>);
+
+static NEIGHBOURS: &[Neighbours] = &[
+    Neighbours(19, false, Some(36), Some(15)),
+    Neighbours(0, false, Some(12), None),
+    Neighbours(46, false, None, Some(45)),
+    Neighbours(11, false, Some(12), None),
+    Neighbours(12, true, Some(12), Some(12)),
+    Neighbours(45, true, Some(45), Some(45)),
+    Neighbours(u128::MAX, false, None, Some(45)),
 ];
+
+impl Case<ZBox> for Neighbours {
+    fn holds(&self, zbox: &ZBox) -> bool {
+        (zbox.holds(self.0) == self.1)
+            & (zbox.next_in_box(self.0) == self.2)
+            & (zbox.prev_in_box(self.0) == self.3)
+    }
+}
 
 // Spans, and the least and the greatest first coordinate that this box has there.
 static SPANS: &[(u128, u128, Option<u32>, Option<u32>)] = &[
@@ -28,7 +37,7 @@ static SPANS: &[(u128, u128, Option<u32>, Option<u32>)] = &[
 ];
 
 // The box of so many dimensions between two corners.
-fn box_between(dims: u32, lo: &[u32], hi: &[u32]) -> Option<ZBox>
+pub(crate) fn box_between(dims: u32, lo: &[u32], hi: &[u32]) -> Option<ZBox>
     ensures { IfSome result (λ b. length b.lo ≡ dims) }
 {
     let Ok(shape) = Shape::new(dims) else {
@@ -40,17 +49,8 @@ fn box_between(dims: u32, lo: &[u32], hi: &[u32]) -> Option<ZBox>
     ZBox::new(shape, &lo, &hi)
 }
 
-// Whether this box has the corners (2,2) and (6,3), holds what lies between them, and leads to its
-// neighbours.
-fn is_as_told(zbox: &ZBox) -> bool {
-    for (z, is_held, next, prev) in NEIGHBOURS {
-        if (zbox.holds(*z) != *is_held)
-            | (zbox.next_in_box(*z) != *next)
-            | (zbox.prev_in_box(*z) != *prev)
-        {
-            return false;
-        }
-    }
+// Whether a box has the corners (2,2) and (6,3).
+fn has_corners(zbox: &ZBox) -> bool {
     (zbox.lo().values() == [2, 2].as_slice())
         & (zbox.hi().values() == [6, 3].as_slice())
         & (zbox.shape().dims() == 2)
@@ -70,10 +70,10 @@ fn have_values(boxes: &[ZBox], spans: &[(u128, u128, Option<u32>, Option<u32>)])
     true
 }
 
-// Whether the box from (2,2) to (6,3) is as told.
-fn is_one_box() -> bool {
+// Whether the box from (2,2) to (6,3) has them.
+fn has_spans() -> bool {
     match box_between(2, &[2, 2], &[6, 3]) {
-        Some(zbox) => is_as_told(&zbox) & have_values(&[zbox], SPANS),
+        Some(zbox) => have_values(&[zbox], SPANS),
         None => false,
     }
 }
@@ -121,10 +121,14 @@ fn is_whole() -> bool {
 // There is no box from the last point to the first.
 #[test]
 fn boxes_and_their_neighbours(rt: HostRuntime) {
+    let zbox = box_between(2, &[2, 2], &[6, 3]).expect(&rt, "a box");
+    all_hold(&rt, "neighbours", &zbox, NEIGHBOURS);
+    holds(&rt, "corners", has_corners(&zbox));
+    holds(&rt, "spans", has_spans());
+    holds(&rt, "two boxes", are_two_boxes());
+    holds(&rt, "the last address", is_whole());
     let turned = box_between(4, &[4294967295; 4], &[0; 4]);
-    assert!(rt; is_one_box());
-    assert!(rt; are_two_boxes());
-    assert!(rt; is_whole() & turned.is_none());
+    holds(&rt, "no box", turned.is_none());
 }
 
 // The coordinates of the boxes that both ways of a jump are compared on: each up to 7, and those at
@@ -180,59 +184,46 @@ fn box_among(shape: Shape, values: &[u32], low: usize, high: usize) -> Option<ZB
     ZBox::new(shape, &lo, &hi)
 }
 
-// In how many boxes with these coordinates from one lower corner, and from how many addresses there
-// both ways agree.
-fn agreements_from(shape: Shape, values: &[u32], points: usize, low: usize) -> u64
-    requires { 0 < length values.now }
+// How many dimensions and which coordinates points have, how many of them are corners, from which to which pair of corners boxes are
+// taken (the number of the lower one, times how many there are, and that of the upper one), and how often both ways agree there.
+struct Agreement(u32, &'static [u32], usize, usize, usize, u64);
+
+// 36 pairs of corners up to 7 in each of two dimensions, and the 65 addresses up to 64; 10 pairs at the ends in each of three, 4
+// coordinates there, and the address 64; and in four dimensions, where the lower corner has the least of the 4 coordinates in the last
+// one, 4 pairs there, and 10 in the others; then 3, 2 and 1 pairs.
+static AGREEMENTS: &[Agreement] = &[
+    Agreement(2, &SMALL, 64, 0, 64 * 64, 84240),
+    Agreement(3, &ENDS, 64, 0, 64 * 64, 65000),
+    Agreement(4, &ENDS, 256, 0, 64 * 256, 1028000),
+    Agreement(4, &ENDS, 256, 64 * 256, 256 * 256, 1542000),
+];
+
+// In how many of these boxes, and from how many addresses there both ways agree.
+fn agreements(shape: Shape, values: &[u32], points: usize, from: usize, to: usize) -> u64
+    requires values { 0 < length values.now }
+    requires points { 0 < points }
 {
     let mut count = 0u64;
-    for high in 0..points {
-        if let Some(zbox) = box_among(shape, values, low, high) {
+    for pair in from..to {
+        if let Some(zbox) = box_among(shape, values, pair / points, pair % points) {
             count = count.wrapping_add(agreements_in(&zbox, values, points));
         }
     }
     count
 }
 
-// The same from each of the lower corners from one number to another.
-fn agreements(dims: u32, values: &[u32], points: usize, from: usize, to: usize) -> u64 {
-    let Ok(shape) = Shape::new(dims) else {
-        return 0;
-    };
-    let mut count = 0u64;
-    if !values.is_empty() {
-        for low in from..to {
-            count = count.wrapping_add(agreements_from(shape, values, points, low));
+impl Case<()> for Agreement {
+    fn holds(&self, _: &()) -> bool {
+        match Shape::new(self.0) {
+            Ok(shape) if !self.1.is_empty() && self.2 != 0 => {
+                agreements(shape, self.1, self.2, self.3, self.4) == self.5
+            }
+            _ => false,
         }
     }
-    count
-}
-
-// Numbers of dimensions, coordinates, how many points are corners, the first and the last lower
-// corner, and how often both ways agree there: 36 pairs of corners up to 7 in each of two
-// dimensions, and the 65 addresses up to 64; 10 pairs at the ends in each of three, 4 coordinates
-// there, and the address 64; and in four dimensions, where the lower corner has the least of the 4
-// coordinates in the last one, 4 pairs there, and 10 in the others; then 3, 2 and 1 pairs.
-static AGREEMENTS: &[(u32, &[u32], usize, usize, usize, u64)] = &[
-    (2, &SMALL, 64, 0, 64, 84240),
-    (3, &ENDS, 64, 0, 64, 65000),
-    (4, &ENDS, 256, 0, 64, 1028000),
-    (4, &ENDS, 256, 64, 256, 1542000),
-];
-
-// How many of these counts are right, up to the first that isn't.
-fn counts_right() -> usize {
-    let mut right = 0usize;
-    for (dims, values, points, from, to, count) in AGREEMENTS {
-        if agreements(*dims, values, *points, *from, *to) != *count {
-            return right;
-        }
-        right = right.wrapping_add(1);
-    }
-    right
 }
 
 #[test]
 fn words_and_bits_agree(rt: HostRuntime) {
-    all_right(&rt, counts_right(), AGREEMENTS.len());
+    all_hold(&rt, "how often they agree", &(), AGREEMENTS);
 }

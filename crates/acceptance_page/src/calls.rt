@@ -29,7 +29,10 @@ fn answer<S: PageStore>(store: &mut S, call: Call) -> Answer {
     match call {
         Call::Pages => Ok(store.pages()),
         Call::Extend => store.extend(),
-        Call::Read(n) => Ok(byte_of(&store.read_page(n)?)),
+        Call::Read(n) => match store.read_page(n) {
+            Ok(page) => Ok(byte_of(&page)),
+            Err(fault) => Err(fault),
+        },
         Call::Write(n, byte) => store.write_page(n, &[byte; 4096]).and(Ok(0)),
         Call::Sync => store.sync().and(Ok(0)),
     }
@@ -37,8 +40,8 @@ fn answer<S: PageStore>(store: &mut S, call: Call) -> Answer {
 
 // Whether each of the calls is answered so.
 pub(crate) fn answers<S: PageStore>(store: &mut S, calls: &[(Call, Answer)]) -> bool {
-    for (call, wanted) in calls {
-        if answer(store, *call) != *wanted {
+    for asked in calls {
+        if answer(store, asked.0) != asked.1 {
             return false;
         }
     }
@@ -55,9 +58,6 @@ pub(crate) fn made_answers<S: PageStore>(made: Result<S, StoreFault>, wanted: Ma
             Ok(calls) => answers(&mut store, calls),
             Err(_) => false,
         },
-        Err(fault) => match wanted {
-            Ok(_) => false,
-            Err(wanted) => fault == wanted,
-        },
+        Err(fault) => wanted.err() == Some(fault),
     }
 }

@@ -4,7 +4,7 @@ ghost use Rattle.std.specs.Prelude.{◌≡◌, ◌<◌, IfOk};
 ghost use Rattle.ub_store.specs.Facts.{IsHonest};
 
 use crate::calls::{Answer, Call, Made, answers, byte_of, made_answers};
-use crate::samples::{all_right, none_wrong};
+use crate::samples::{Case, all_hold, holds};
 use std::alloc::{Alloc, Global};
 use std::os::unix::fs::FileExt;
 use std::rt::Files;
@@ -62,36 +62,28 @@ impl RawFile for Refusing {
     }
 }
 
-// Lengths in bytes, and whether a medium of each is a store.
-static LENGTHS: &[(u64, bool)] = &[
-    (0, true),
-    (4096, true),
-    (8192, true),
-    (17592186040320, true),
-    (1, false),
-    (100, false),
-    (2048, false),
-    (4095, false),
-    (4097, false),
-    (17592186040321, false),
-    (17592186044416, false),
+// A length in bytes, and whether a medium of it is a store.
+struct Length(u64, bool);
+
+static LENGTHS: &[Length] = &[
+    Length(0, true),
+    Length(4096, true),
+    Length(8192, true),
+    Length(17592186040320, true),
+    Length(1, false),
+    Length(100, false),
+    Length(2048, false),
+    Length(4095, false),
+    Length(4097, false),
+    Length(17592186040321, false),
+    Length(17592186044416, false),
 ];
 
-// Whether a medium of so many bytes is a store.
-fn is_store(bytes: u64) -> bool {
-    FileStore::open(HostFile::new(Refusing, bytes, Opened::Found)).is_ok()
-}
-
-// How many of the lengths are right, up to the first that isn't.
-fn lengths_right() -> usize {
-    let mut right = 0usize;
-    for (bytes, is_right) in LENGTHS {
-        if is_store(*bytes) != *is_right {
-            return right;
-        }
-        right = right.wrapping_add(1);
+impl Case<()> for Length {
+    fn holds(&self, _: &()) -> bool {
+        let file = HostFile::new(Refusing, self.0, Opened::Found);
+        FileStore::open(file).is_ok() == self.1
     }
-    right
 }
 
 // What a store begins with.
@@ -114,11 +106,12 @@ fn medium_of(alloc: Global, start: Start, k: u64) -> Result<MemMedium, StoreFaul
     }
 }
 
-// The store on it.
-fn store_on(medium: MemMedium, start: Start) -> Result<FileStore<MemMedium>, StoreFault> {
-    let made = match start {
-        Start::Created => FileStore::create(medium),
-        _ => FileStore::open(medium),
+// The store on a medium, which is created or opened.
+fn store_on<M: Medium>(medium: M, is_created: bool) -> Result<FileStore<M>, StoreFault> {
+    let made = if is_created {
+        FileStore::create(medium)
+    } else {
+        FileStore::open(medium)
     };
     match made {
         Ok(store) => Ok(store),
@@ -126,22 +119,24 @@ fn store_on(medium: MemMedium, start: Start) -> Result<FileStore<MemMedium>, Sto
     }
 }
 
-// Whether this is left of a medium: another store that answers calls so, or why it is none.
-fn is_left(medium: MemMedium, left: Made) -> bool {
-    made_answers(store_on(medium, Start::Zeros(0)), left)
+// Whether a store answers these calls so, and this is left of its medium: another store that answers calls so, or why it is none.
+fn answers_and_leaves<M: Medium>(
+    store: FileStore<M>,
+    calls: &[(Call, Answer)],
+    left: Made,
+) -> bool {
+    let mut store = store;
+    answers(&mut store, calls) & made_answers(store_on(store.into_medium(), false), left)
 }
 
-// Whether the store answers these calls so and this is left then, or there is none.
-fn is_played(medium: MemMedium, start: Start, calls: Made, left: Made) -> bool {
-    match store_on(medium, start) {
-        Ok(mut store) => match calls {
-            Ok(calls) => answers(&mut store, calls) && is_left(store.into_medium(), left),
+// Whether a store that is made is such a one, or there is none for this fault.
+fn is_played<M: Medium>(made: Result<FileStore<M>, StoreFault>, calls: Made, left: Made) -> bool {
+    match made {
+        Ok(store) => match calls {
+            Ok(calls) => answers_and_leaves(store, calls, left),
             Err(_) => false,
         },
-        Err(fault) => match calls {
-            Ok(_) => false,
-            Err(wanted) => fault == wanted,
-        },
+        Err(fault) => calls.err() == Some(fault),
     }
 }
 
@@ -154,9 +149,23 @@ const CREATED: &[(Call, Answer)] = &[
 
 // What a store begins with, the call of its medium that fails, the calls of the store with their
 // answers, or why there is none, and what is left then.
-static SCRIPTS: &[(&str, Start, u64, Made, Made)] = &[
-    (
-        "no pages",
+struct Script(Start, u64, Made, Made);
+
+impl Case<Global> for Script {
+    fn holds(&self, alloc: &Global) -> bool {
+        match medium_of(*alloc, self.0, self.1) {
+            Ok(medium) => {
+                let is_created = matches!(self.0, Start::Created);
+                is_played(store_on(medium, is_created), self.2, self.3)
+            }
+            Err(_) => false,
+        }
+    }
+}
+
+static SCRIPTS: &[Script] = &[
+    // no pages
+    Script(
         Start::Zeros(0),
         0,
         Ok(&[
@@ -166,8 +175,8 @@ static SCRIPTS: &[(&str, Start, u64, Made, Made)] = &[
         ]),
         Ok(&[(Call::Pages, Ok(0))]),
     ),
-    (
-        "three pages",
+    // three pages
+    Script(
         Start::Zeros(3),
         0,
         Ok(&[
@@ -182,8 +191,8 @@ static SCRIPTS: &[(&str, Start, u64, Made, Made)] = &[
         ]),
         Ok(&[(Call::Pages, Ok(3)), (Call::Read(1), Ok(7))]),
     ),
-    (
-        "two pages that grow",
+    // two pages that grow
+    Script(
         Start::Zeros(2),
         0,
         Ok(&[
@@ -194,8 +203,8 @@ static SCRIPTS: &[(&str, Start, u64, Made, Made)] = &[
         ]),
         Ok(&[(Call::Pages, Ok(3))]),
     ),
-    (
-        "no call fails",
+    // no call fails
+    Script(
         Start::Zeros(1),
         0,
         Ok(&[
@@ -206,8 +215,8 @@ static SCRIPTS: &[(&str, Start, u64, Made, Made)] = &[
         ]),
         Ok(&[(Call::Pages, Ok(2)), (Call::Read(0), Ok(7))]),
     ),
-    (
-        "the read fails",
+    // the read fails
+    Script(
         Start::Zeros(1),
         1,
         Ok(&[
@@ -218,8 +227,8 @@ static SCRIPTS: &[(&str, Start, u64, Made, Made)] = &[
         ]),
         Ok(&[(Call::Pages, Ok(2)), (Call::Read(0), Ok(7))]),
     ),
-    (
-        "the write fails",
+    // the write fails
+    Script(
         Start::Zeros(1),
         2,
         Ok(&[
@@ -230,8 +239,8 @@ static SCRIPTS: &[(&str, Start, u64, Made, Made)] = &[
         ]),
         Ok(&[(Call::Pages, Ok(2)), (Call::Read(0), Ok(0))]),
     ),
-    (
-        "the growth fails",
+    // the growth fails
+    Script(
         Start::Zeros(1),
         3,
         Ok(&[
@@ -242,8 +251,8 @@ static SCRIPTS: &[(&str, Start, u64, Made, Made)] = &[
         ]),
         Err(StoreFault::BadSize),
     ),
-    (
-        "the sync fails",
+    // the sync fails
+    Script(
         Start::Zeros(1),
         4,
         Ok(&[
@@ -256,8 +265,8 @@ static SCRIPTS: &[(&str, Start, u64, Made, Made)] = &[
     ),
     // A failed growth of this medium leaves half a page, which is no page; the next one is put in
     // its place.
-    (
-        "growth after a failed one",
+    // growth after a failed one
+    Script(
         Start::Zeros(1),
         1,
         Ok(&[
@@ -270,74 +279,56 @@ static SCRIPTS: &[(&str, Start, u64, Made, Made)] = &[
         ]),
         Ok(&[(Call::Pages, Ok(2))]),
     ),
-    (
-        "half a page is left",
+    // half a page is left
+    Script(
         Start::Zeros(1),
         1,
         Ok(&[(Call::Extend, Err(StoreFault::Device))]),
         Err(StoreFault::BadSize),
     ),
-    (
-        "a byte and no page",
+    // a byte and no page
+    Script(
         Start::Part(0, 1),
         0,
         Err(StoreFault::BadSize),
         Err(StoreFault::BadSize),
     ),
-    (
-        "100 bytes and no page",
+    // 100 bytes and no page
+    Script(
         Start::Part(0, 100),
         0,
         Err(StoreFault::BadSize),
         Err(StoreFault::BadSize),
     ),
-    (
-        "a page and a byte",
+    // a page and a byte
+    Script(
         Start::Part(1, 1),
         0,
         Err(StoreFault::BadSize),
         Err(StoreFault::BadSize),
     ),
-    (
-        "a page and 2048 bytes",
+    // a page and 2048 bytes
+    Script(
         Start::Part(1, 2048),
         0,
         Err(StoreFault::BadSize),
         Err(StoreFault::BadSize),
     ),
-    (
-        "created with no pages",
+    // created with no pages
+    Script(
         Start::Created,
         0,
         Ok(CREATED),
         Ok(&[(Call::Pages, Ok(1)), (Call::Read(0), Ok(0))]),
     ),
-    (
-        "creation fails",
+    // creation fails
+    Script(
         Start::Created,
         1,
         Err(StoreFault::Device),
         Err(StoreFault::Device),
     ),
 ];
-
-// Whether the store on a new medium is played so.
-fn is_answered(alloc: Global, start: Start, k: u64, calls: Made, left: Made) -> bool {
-    match medium_of(alloc, start, k) {
-        Ok(medium) => is_played(medium, start, calls, left),
-        Err(_) => false,
-    }
-}
-
-// What the first script shows that goes otherwise; no text where all go so.
-fn first_wrong(alloc: Global) -> &'static str {
-    for (shown, start, k, calls, left) in SCRIPTS {
-        if !is_answered(alloc, *start, *k, *calls, *left) {
-            return shown;
-        }
-    }
-    ""
-}
 
 // What is written is what is read, over any honest medium.
 fn write_and_read<M: Medium>(
@@ -367,15 +358,16 @@ fn is_given_back(alloc: Global) -> bool {
         Ok(page) => byte_of(&page) == 7,
         Err(_) => false,
     };
-    is_read && is_left(store.into_medium(), Ok(GIVEN_BACK))
+    is_read & made_answers(store_on(store.into_medium(), false), Ok(GIVEN_BACK))
 }
 
 // Whole pages alone are taken, calls are answered, and the medium is given back.
 #[test]
 fn stores_over_media(rt: HostRuntime) {
-    all_right(&rt, lengths_right(), LENGTHS.len());
-    none_wrong(&rt, first_wrong(rt.alloc()));
-    assert!(rt; is_given_back(rt.alloc()));
+    let alloc = rt.alloc();
+    all_hold(&rt, "lengths", &(), LENGTHS);
+    all_hold(&rt, "media", &alloc, SCRIPTS);
+    holds(&rt, "a medium that is given back", is_given_back(alloc));
 }
 
 // Calls of a store that is made in a file, and of the same once it is opened again.
@@ -519,25 +511,12 @@ where
     }
 }
 
-// How many of the deeds are right, up to the first that isn't.
-fn deeds_right<R: Files + Alloc>(rt: &R, path: &str) -> usize
-where
-    R::File: FileExt,
-{
-    let mut right = 0usize;
-    for deed in DEEDS {
-        if !is_done(rt, path, deed) {
-            return right;
-        }
-        right = right.wrapping_add(1);
-    }
-    right
-}
-
 // The path is one that no other run of these tests takes, and nothing stands there at first.
 #[test]
 fn stores_in_files(rt: HostRuntime) {
     let id = process::id(rt.process());
     let path = format!(in rt.alloc(); "/tmp/hablozen-{id}.ub").expect(&rt, "memory");
-    all_right(&rt, deeds_right(&rt, path.as_str()), DEEDS.len());
+    for (i, deed) in DEEDS.iter().enumerate() {
+        assert!(rt; is_done(&rt, path.as_str(), deed), "deed {i}");
+    }
 }

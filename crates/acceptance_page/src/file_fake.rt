@@ -7,7 +7,7 @@ ghost use Rattle.ub_file.specs.Raw.{put_at, with_length, IsUntouched};
 ghost use Rattle.ub_store.specs.Facts.{raised};
 
 use crate::calls::{Answer, Call, answers};
-use crate::samples::none_wrong;
+use crate::samples::{Case, all_hold};
 use std::alloc::Global;
 use std::io;
 use ub_file::{FileStore, HostFile, Opened, RawFile};
@@ -224,31 +224,45 @@ struct Start {
     k: u64,
 }
 
-// Whether the store on such a file answers these calls so, and this is left of the file.
-fn is_played(alloc: Global, start: &Start, calls: &[(Call, Answer)], left: &Left) -> bool {
-    let Ok(file) = FakeFile::new(alloc, start.length, start.kind, start.k) else {
-        return false;
-    };
-    let file = HostFile::new(file, start.length as u64, Opened::Found);
-    match FileStore::open(file) {
-        Ok(mut store) => {
-            answers(&mut store, calls) && is_left(&store.into_medium().into_file(), left)
+// Whether a store that is opened answers these calls so, and this is left of its file.
+fn is_played(store: FileStore<HostFile<FakeFile>>, script: &Script) -> bool {
+    let mut store = store;
+    answers(&mut store, script.calls) & is_left(&store.into_medium().into_file(), &script.left)
+}
+
+// A file of zeros, calls of the store on it with their answers, and what is left of it.
+struct Script {
+    start: Start,
+    calls: &'static [(Call, Answer)],
+    left: Left,
+}
+
+impl Case<Global> for Script {
+    fn holds(&self, alloc: &Global) -> bool {
+        let start = &self.start;
+        match FakeFile::new(*alloc, start.length, start.kind, start.k) {
+            Ok(file) => {
+                let file = HostFile::new(file, start.length as u64, Opened::Found);
+                match FileStore::open(file) {
+                    Ok(store) => is_played(store, self),
+                    Err(_) => false,
+                }
+            }
+            Err(_) => false,
         }
-        Err(_) => false,
     }
 }
 
-// Files of zeros, calls of the store on each with their answers, and what is left of it. Page n is what stands from
-// byte 4096 * n on.
-static SCRIPTS: &[(&str, Start, &[(Call, Answer)], Left)] = &[
-    (
-        "no call is refused",
-        Start {
+// Page n is what stands from byte 4096 * n on.
+static SCRIPTS: &[Script] = &[
+    // no call is refused
+    Script {
+        start: Start {
             length: 12288,
             kind: Kind::Sync,
             k: 0,
         },
-        &[
+        calls: &[
             (Call::Write(2, 8), Ok(0)),
             (Call::Write(1, 7), Ok(0)),
             (Call::Read(2), Ok(8)),
@@ -256,7 +270,7 @@ static SCRIPTS: &[(&str, Start, &[(Call, Answer)], Left)] = &[
             (Call::Extend, Ok(3)),
             (Call::Read(3), Ok(0)),
         ],
-        Left {
+        left: Left {
             length: 16384,
             bytes: &[
                 (0, 0),
@@ -272,203 +286,193 @@ static SCRIPTS: &[(&str, Start, &[(Call, Answer)], Left)] = &[
             synced_bytes: &[(4096, 0), (8192, 0)],
             counts: [3, 0, 0],
         },
-    ),
-    (
-        "all lasts once it is synced",
-        Start {
+    },
+    // all lasts once it is synced
+    Script {
+        start: Start {
             length: 8192,
             kind: Kind::Sync,
             k: 0,
         },
-        &[
+        calls: &[
             (Call::Write(1, 7), Ok(0)),
             (Call::Sync, Ok(0)),
             (Call::Write(0, 6), Ok(0)),
         ],
-        Left {
+        left: Left {
             length: 8192,
             bytes: &[(0, 6), (4095, 6), (4096, 7)],
             synced: 8192,
             synced_bytes: &[(0, 0), (4095, 0), (4096, 7), (8191, 7)],
             counts: [2, 0, 0],
         },
-    ),
-    (
-        "the second read is refused",
-        Start {
+    },
+    // the second read is refused
+    Script {
+        start: Start {
             length: 8192,
             kind: Kind::Read,
             k: 2,
         },
-        &[
+        calls: &[
             (Call::Read(0), Ok(0)),
             (Call::Read(1), Err(StoreFault::Device)),
             (Call::Read(1), Ok(0)),
             (Call::Read(2), Err(StoreFault::NoPage)),
         ],
-        Left {
+        left: Left {
             length: 8192,
             bytes: &[],
             synced: 8192,
             synced_bytes: &[],
             counts: [0, 1, 0],
         },
-    ),
-    (
-        "the first write is refused, and leaves half a page",
-        Start {
+    },
+    // the first write is refused, and leaves half a page
+    Script {
+        start: Start {
             length: 12288,
             kind: Kind::Write,
             k: 1,
         },
-        &[
+        calls: &[
             (Call::Write(1, 7), Err(StoreFault::Device)),
             (Call::Read(2), Ok(0)),
         ],
-        Left {
+        left: Left {
             length: 12288,
             bytes: &[(4095, 0), (4096, 7), (6143, 7), (6144, 0), (8192, 0)],
             synced: 12288,
             synced_bytes: &[(4096, 0)],
             counts: [1, 0, 1],
         },
-    ),
-    (
-        "the second write is refused, and the third is not",
-        Start {
+    },
+    // the second write is refused, and the third is not
+    Script {
+        start: Start {
             length: 8192,
             kind: Kind::Write,
             k: 2,
         },
-        &[
+        calls: &[
             (Call::Write(0, 5), Ok(0)),
             (Call::Write(1, 7), Err(StoreFault::Device)),
             (Call::Write(1, 9), Ok(0)),
             (Call::Read(1), Ok(9)),
         ],
-        Left {
+        left: Left {
             length: 8192,
             bytes: &[(0, 5), (4095, 5), (4096, 9), (8191, 9)],
             synced: 8192,
             synced_bytes: &[(0, 0)],
             counts: [3, 0, 1],
         },
-    ),
+    },
     // The file is half a page longer than the store, which sees one page.
-    (
-        "the first growth is refused",
-        Start {
+    // the first growth is refused
+    Script {
+        start: Start {
             length: 4096,
             kind: Kind::Length,
             k: 1,
         },
-        &[
+        calls: &[
             (Call::Extend, Err(StoreFault::Device)),
             (Call::Pages, Ok(1)),
             (Call::Read(1), Err(StoreFault::NoPage)),
         ],
-        Left {
+        left: Left {
             length: 6144,
             bytes: &[(4096, 0), (6143, 0)],
             synced: 4096,
             synced_bytes: &[],
             counts: [1, 0, 1],
         },
-    ),
-    (
-        "growth after a refused one",
-        Start {
+    },
+    // growth after a refused one
+    Script {
+        start: Start {
             length: 4096,
             kind: Kind::Length,
             k: 1,
         },
-        &[
+        calls: &[
             (Call::Extend, Err(StoreFault::Device)),
             (Call::Extend, Ok(1)),
             (Call::Pages, Ok(2)),
             (Call::Read(1), Ok(0)),
         ],
-        Left {
+        left: Left {
             length: 8192,
             bytes: &[(4096, 0), (8191, 0)],
             synced: 4096,
             synced_bytes: &[],
             counts: [2, 0, 1],
         },
-    ),
+    },
     // The length is set to that of the one page before it is made to last.
-    (
-        "sync after a refused growth",
-        Start {
+    // sync after a refused growth
+    Script {
+        start: Start {
             length: 4096,
             kind: Kind::Length,
             k: 1,
         },
-        &[
+        calls: &[
             (Call::Extend, Err(StoreFault::Device)),
             (Call::Sync, Ok(0)),
             (Call::Sync, Ok(0)),
         ],
-        Left {
+        left: Left {
             length: 4096,
             bytes: &[],
             synced: 4096,
             synced_bytes: &[],
             counts: [2, 0, 1],
         },
-    ),
-    (
-        "the first sync is refused",
-        Start {
+    },
+    // the first sync is refused
+    Script {
+        start: Start {
             length: 4096,
             kind: Kind::Sync,
             k: 1,
         },
-        &[
+        calls: &[
             (Call::Write(0, 7), Ok(0)),
             (Call::Sync, Err(StoreFault::Device)),
         ],
-        Left {
+        left: Left {
             length: 4096,
             bytes: &[(0, 7), (4095, 7)],
             synced: 4096,
             synced_bytes: &[(0, 0), (4095, 0)],
             counts: [1, 0, 1],
         },
-    ),
-    (
-        "the second sync is not",
-        Start {
+    },
+    // the second sync is not
+    Script {
+        start: Start {
             length: 4096,
             kind: Kind::Sync,
             k: 1,
         },
-        &[
+        calls: &[
             (Call::Write(0, 7), Ok(0)),
             (Call::Sync, Err(StoreFault::Device)),
             (Call::Sync, Ok(0)),
         ],
-        Left {
+        left: Left {
             length: 4096,
             bytes: &[(0, 7)],
             synced: 4096,
             synced_bytes: &[(0, 7), (4095, 7)],
             counts: [1, 0, 1],
         },
-    ),
+    },
 ];
-
-// What the first script shows that goes otherwise; no text where all go so.
-fn first_wrong(alloc: Global) -> &'static str {
-    for (shown, start, calls, left) in SCRIPTS {
-        if !is_played(alloc, start, calls, left) {
-            return shown;
-        }
-    }
-    ""
-}
 
 #[test]
 fn calls_the_file_once_at_its_bytes(rt: HostRuntime) {
-    none_wrong(&rt, first_wrong(rt.alloc()));
+    all_hold(&rt, "a file", &rt.alloc(), SCRIPTS);
 }

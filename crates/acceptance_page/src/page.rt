@@ -1,5 +1,5 @@
 // Headers, directories and pages of an index that are written and read, and pages that are refused.
-use crate::samples::{is_plane, none_wrong, page_of, plane};
+use crate::samples::{Case, all_hold, holds, is_plane, page_of, plane};
 use ub_page::{
     Draft, Entry, Head, Page, check_index, entry_at, first_at, read_directory, read_head,
     read_header, read_index, slot_in, write_directory, write_header, write_index,
@@ -55,36 +55,29 @@ fn is_header_page(page: &Page) -> bool {
     (draft.page() == page) & (numbers == [6, 5, 3, 4, 1]) & !read.unclean & is_plane(&read.schema)
 }
 
-// A byte of a header that is changed, and the level of the root and the mask of the signed
-// dimensions that are read then.
-static KEPT: &[(usize, u8, u32, u32)] = &[
-    (31, 2, 2, 0),
-    (31, 16, 16, 0),
-    (9, 0, 1, 0),
-    (9, 1, 1, 1),
-    (9, 2, 1, 2),
-    (9, 3, 1, 3),
+// A byte of a header that is changed, and the level of the root and the mask of the signed dimensions that are read then.
+struct Kept(usize, u8, u32, u32);
+
+static KEPT: &[Kept] = &[
+    Kept(31, 2, 2, 0),
+    Kept(31, 16, 16, 0),
+    Kept(9, 0, 1, 0),
+    Kept(9, 1, 1, 1),
+    Kept(9, 2, 1, 2),
+    Kept(9, 3, 1, 3),
 ];
 
-// Whether such a header is read, and written so.
-fn is_kept(place: usize, byte: u8, levels: u32, signed: u32) -> bool {
-    let page = page_of(HEADER, &[(place, byte)]);
-    let Ok(read) = read_header(&page) else {
-        return false;
-    };
-    let mut draft = Draft::new();
-    write_header(&read, &mut draft);
-    (draft.page() == &page) & (read.levels == levels) & (read.schema.signed() == signed)
-}
-
-// Whether all of them are.
-fn are_kept() -> bool {
-    for (place, byte, levels, signed) in KEPT {
-        if !is_kept(*place, *byte, *levels, *signed) {
+// Such a header is read, and written so.
+impl Case<()> for Kept {
+    fn holds(&self, _: &()) -> bool {
+        let page = page_of(HEADER, &[(self.0, self.1)]);
+        let Ok(read) = read_header(&page) else {
             return false;
-        }
+        };
+        let mut draft = Draft::new();
+        write_header(&read, &mut draft);
+        (draft.page() == &page) & (read.levels == self.2) & (read.schema.signed() == self.3)
     }
-    true
 }
 
 // An entry of a region from this address on, which a page keeps.
@@ -125,9 +118,9 @@ fn is_written(schema: &Schema, page: &Page) -> bool {
     let longer = page_of(LONGER, &[]);
     let mut draft = Draft::new();
     rewrite(schema, &longer, &mut draft)
-        && draft.page() == &longer
-        && rewrite(schema, page, &mut draft)
-        && draft.page() == page
+        & (draft.page() == &longer)
+        & rewrite(schema, page, &mut draft)
+        & (draft.page() == page)
 }
 
 // Whether the page is read as that directory, and written so over another one.
@@ -155,15 +148,27 @@ const INDEX: &[(usize, u8)] = &[
     (87, 2),
 ];
 
-// Keys, each with the slot of that page to which it falls.
-const SLOTS: &[(u128, u32, usize)] = &[
-    (0, 0, 0),
-    (9, 5, 0),
-    (10, 0, 1),
-    (12, 1, 1),
-    (13, 0, 2),
-    (99, 0, 2),
+// The address and the number of a key, and the slot of that page to which it falls.
+struct Slot(u128, u32, usize);
+
+static SLOTS: &[Slot] = &[
+    Slot(0, 0, 0),
+    Slot(9, 5, 0),
+    Slot(10, 0, 1),
+    Slot(12, 1, 1),
+    Slot(13, 0, 2),
+    Slot(99, 0, 2),
 ];
+
+impl Case<Page> for Slot {
+    fn holds(&self, page: &Page) -> bool {
+        let key = Key {
+            z: self.0,
+            number: self.1,
+        };
+        slot_in(page, 3, &key) == self.2
+    }
+}
 
 // The last address of the plane.
 const LAST: u128 = 0xffff_ffff_ffff_ffff;
@@ -176,7 +181,7 @@ fn is_index_page(schema: &Schema, page: &Page) -> bool {
     write_index(&entries, 1, &mut draft);
     match read_index(schema, page) {
         Ok(index) => {
-            draft.page() == page && index.entries() == entries.as_slice() && index.level() == 1
+            (draft.page() == page) & (index.entries() == entries.as_slice()) & (index.level() == 1)
         }
         Err(_) => false,
     }
@@ -189,20 +194,6 @@ fn is_looked_into(page: &Page) -> bool {
         & (check_index(LAST, page) == head)
         & (entry_at(page, 1) == entry(10, 3))
         & (first_at(page, 2).z == 13)
-}
-
-// Whether keys fall to their slots.
-fn fall_to_slots(page: &Page) -> bool {
-    for (z, number, slot) in SLOTS {
-        let key = Key {
-            z: *z,
-            number: *number,
-        };
-        if slot_in(page, 3, &key) != *slot {
-            return false;
-        }
-    }
-    true
 }
 
 // What a page is read as.
@@ -349,56 +340,38 @@ fn is_refused(kind: Kind, schema: &Schema, page: &Page, fault: PageFault) -> boo
     is_checked & (told == Some(fault))
 }
 
-// At which of these bytes the page isn't refused so first; 4096 where it is for all.
-fn first_taken(schema: &Schema, faults: &Faults) -> usize {
-    let mut page = page_of(faults.bytes, faults.before);
-    for (place, byte, fault) in faults.rows {
-        let at = *place % 4096;
-        let old = page[at];
-        page[at] = *byte;
-        if !is_refused(faults.kind, schema, &page, *fault) {
-            return at;
+impl Case<Schema> for Faults {
+    fn holds(&self, schema: &Schema) -> bool {
+        let mut page = page_of(self.bytes, self.before);
+        for row in self.rows {
+            let at = row.0 % 4096;
+            let old = page[at];
+            page[at] = row.1;
+            if !is_refused(self.kind, schema, &page, row.2) {
+                return false;
+            }
+            if !self.are_kept {
+                page[at] = old;
+            }
         }
-        if !faults.are_kept {
-            page[at] = old;
-        }
+        true
     }
-    4096
 }
 
-// The same of all of them.
-fn first_taken_of_all(schema: &Schema) -> usize {
-    for faults in FAULTS {
-        let at = first_taken(schema, faults);
-        if at < 4096 {
-            return at;
-        }
-    }
-    4096
-}
-
-// What goes wrong first over a plane; no text where nothing does.
-fn first_wrong(schema: &Schema) -> &'static str {
-    let index = page_of(INDEX, &[]);
-    if !is_header_page(&page_of(HEADER, &[])) {
-        "a header"
-    } else if !are_kept() {
-        "levels and masks of headers"
-    } else if !is_directory_page(schema, &page_of(DIRECTORY, &[])) {
-        "a directory"
-    } else if !is_index_page(schema, &index) | !is_looked_into(&index) {
-        "a page of an index"
-    } else if !fall_to_slots(&index) {
-        "slots"
-    } else {
-        ""
-    }
+#[test]
+fn headers_are_written_and_read(rt: HostRuntime) {
+    holds(&rt, "a header", is_header_page(&page_of(HEADER, &[])));
+    all_hold(&rt, "levels and masks of headers", &(), KEPT);
 }
 
 #[test]
 fn pages_are_written_and_read_or_refused(rt: HostRuntime) {
     let schema = plane().expect(&rt, "a table");
-    none_wrong(&rt, first_wrong(&schema));
-    let at = first_taken_of_all(&schema);
-    assert!(rt; at == 4096, "byte {at}");
+    let directory = page_of(DIRECTORY, &[]);
+    holds(&rt, "a directory", is_directory_page(&schema, &directory));
+    let index = page_of(INDEX, &[]);
+    holds(&rt, "an index", is_index_page(&schema, &index));
+    holds(&rt, "an index in its place", is_looked_into(&index));
+    all_hold(&rt, "slots", &index, SLOTS);
+    all_hold(&rt, "bytes that are refused", &schema, FAULTS);
 }

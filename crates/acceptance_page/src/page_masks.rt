@@ -1,11 +1,10 @@
 // Masks of regions of every length and every number of dimensions, row by row beside membership.
-ghost use Rattle.std.specs.Prelude.{◌≡◌, ◌≤◌, length, IfSome};
+ghost use Rattle.std.specs.Prelude.{◌≤◌};
 
-use crate::samples::{all_right, region_page, row, table};
-use ub_bigmin::ZBox;
+use crate::bigmin::box_between;
+use crate::samples::{holds, region_page, row, table};
 use ub_page::RegionPage;
 use ub_table::{Key, Row, Schema};
-use ub_zaddr::Point;
 
 // The least coordinate, the two in the middle, and the greatest.
 const VALUES: [u32; 4] = [0, 2_147_483_647, 2_147_483_648, 4_294_967_295];
@@ -64,21 +63,10 @@ fn corners(number: usize) -> ([u32; 4], [u32; 4]) {
     (lo, hi)
 }
 
-// The box between these corners in the space of a table.
-fn box_in(schema: &Schema, lo: &[u32; 4], hi: &[u32; 4]) -> Option<ZBox>
-    ensures { IfSome result (λ b. length b.lo ≡ schema.now.dims) }
-{
-    let shape = schema.shape();
-    let dims = schema.dims() as usize;
-    let lo = Point::new(shape, &lo[..dims]).ok()?;
-    let hi = Point::new(shape, &hi[..dims]).ok()?;
-    ZBox::new(shape, &lo, &hi)
-}
-
 // The mask for these corners of the region whose page has these rows, if as many are read.
 fn mask(schema: &Schema, rows: &[Row], lo: &[u32; 4], hi: &[u32; 4]) -> Option<u64> {
-    let zbox = box_in(schema, lo, hi)?;
     let (dims, measures) = (schema.dims() as usize, schema.measures() as usize);
+    let zbox = box_between(schema.dims(), &lo[..dims], &hi[..dims])?;
     let page = region_page(dims, measures, Key { z: 0, number: 0 }, rows);
     match RegionPage::read(schema, &page) {
         Ok(region) if region.len() == rows.len() => Some(region.mask(&zbox)),
@@ -116,42 +104,29 @@ fn are_as_told(schema: &Schema, rows: &[Row]) -> bool {
     true
 }
 
-// With how many of the first rows the masks are as told, from none on, up to the first that aren't.
-fn lengths_right(schema: &Schema, rows: &[Row; 64]) -> usize {
+// Whether the masks of the first rows are as told, of as many as there can be, and as few.
+fn are_as_told_in(schema: &Schema, rows: &[Row; 64]) -> bool {
     for len in 0..=64usize {
         if !are_as_told(schema, &rows[..len]) {
-            return len;
+            return false;
         }
     }
-    65
+    true
 }
 
-// The same in a table of so many dimensions.
-fn lengths_right_in(dims: u32) -> usize
-    requires { dims ≤ 4 }
-{
-    match table(&b"xyzw"[..dims as usize], dims, 64) {
-        Ok(schema) => lengths_right(&schema, &rows_of(dims)),
-        Err(_) => 0,
-    }
-}
-
-// Whether the mask of the rows (1,1) and (0,2) tells of the second alone, which has a first coordinate of 0.
-fn tells_the_second() -> bool {
-    match table(b"xy", 2, 64) {
-        Ok(schema) => {
-            let rows = [row(1, 1, 1, 0), row(4, 0, 2, 0)];
-            mask(&schema, &rows, &[0; 4], &[0, 3, 0, 0]) == Some(0b10)
-        }
-        Err(_) => false,
-    }
-}
-
-// The first rows, as many as there can be, and as few.
 #[test]
 fn masks_are_membership(rt: HostRuntime) {
     for dims in 1..=4u32 {
-        all_right(&rt, lengths_right_in(dims), 65);
+        let schema = table(&b"xyzw"[..dims as usize], dims, 64).expect(&rt, "a table");
+        holds(&rt, "masks", are_as_told_in(&schema, &rows_of(dims)));
     }
-    assert!(rt; tells_the_second());
+}
+
+// The mask of the rows (1,1) and (0,2) tells of the second alone, which has a first coordinate of 0.
+#[test]
+fn a_mask_tells_the_second(rt: HostRuntime) {
+    let schema = table(b"xy", 2, 64).expect(&rt, "a table");
+    let rows = [row(1, 1, 1, 0), row(4, 0, 2, 0)];
+    let told = mask(&schema, &rows, &[0; 4], &[0, 3, 0, 0]);
+    holds(&rt, "a mask", told == Some(0b10));
 }

@@ -1,6 +1,6 @@
 // Regions that are written and read. Which pages are refused, and why, is text of `tree_transcripts` ('What the reader of a region
 // refuses').
-use crate::samples::{none_wrong, page_of, plane, region_page, row, table};
+use crate::samples::{holds, page_of, plane, region_page, row, table};
 use ub_page::{Draft, Page, RegionPage};
 use ub_table::{Key, PageFault, Row, Schema};
 
@@ -38,12 +38,15 @@ const HIGH: &[(usize, u8)] = &[
 
 // Whether a region has this first key and these rows.
 fn is_region(region: &RegionPage, first: Key, rows: &[Row]) -> bool {
+    if region.len() != rows.len() {
+        return false;
+    }
     for i in 0..region.len() {
-        if rows.get(i) != Some(&region.row(i)) {
+        if rows[i] != region.row(i) {
             return false;
         }
     }
-    region.len() == rows.len() && region.first() == first
+    region.first() == first
 }
 
 // Whether this first key and these rows are read from a page.
@@ -71,10 +74,12 @@ fn is_written(schema: &Schema, page: &Page) -> bool {
     let longer = region_page(2, 1, Key { z: 0, number: 0 }, &rows);
     let mut draft = Draft::new();
     match table(b"xym", 2, 4) {
-        Ok(larger) => rewrite(&larger, &longer, &mut draft)
-            && draft.page() == &longer
-            && rewrite(schema, page, &mut draft)
-            && draft.page() == page,
+        Ok(larger) => {
+            rewrite(&larger, &longer, &mut draft)
+                & (draft.page() == &longer)
+                & rewrite(schema, page, &mut draft)
+                & (draft.page() == page)
+        }
         Err(_) => false,
     }
 }
@@ -91,9 +96,9 @@ fn is_kept(
     let page = page_of(bytes, &[]);
     let first = Key { z, number: 0 };
     is_written(schema, &page)
-        && is_read(schema, &page, first, rows)
-        && region.fill(schema, &page).is_ok()
-        && is_region(region, first, rows)
+        & is_read(schema, &page, first, rows)
+        & region.fill(schema, &page).is_ok()
+        & is_region(region, first, rows)
 }
 
 // Whether a region of no rows takes in a page, then another one, and has no rows once a page is refused.
@@ -119,21 +124,29 @@ fn tells_keys(region: &RegionPage) -> bool {
         & (region.key(1) == keys[1])
 }
 
-// Whether the region of the first page tells its keys, and where rows go in, by address and number, and of which it has the key.
-fn tells_all(schema: &Schema) -> bool {
-    match RegionPage::read(schema, &page_of(LOW, &[])) {
-        Ok(region) => {
-            tells_keys(&region)
-                & (region.place_of(&row(9, 1, 0, 0)) == Some(0))
-                & (region.place_of(&row(0, 1, 1, 0)) == Some(0))
-                & region.place_of(&row(1, 1, 1, 0)).is_none()
-                & (region.place_of(&row(2, 1, 1, 0)) == Some(1))
-                & (region.place_of(&row(3, 0, 2, 0)) == Some(1))
-                & region.place_of(&row(4, 0, 2, 0)).is_none()
-                & (region.place_of(&row(1, 2, 0, 0)) == Some(2))
+// Numbers and coordinates of rows, and where each goes into the region of the first page, by address and number: nowhere, where the region
+// has the key.
+static PLACES: &[(u32, u32, u32, Option<usize>)] = &[
+    (9, 1, 0, Some(0)),
+    (0, 1, 1, Some(0)),
+    (1, 1, 1, None),
+    (2, 1, 1, Some(1)),
+    (3, 0, 2, Some(1)),
+    (4, 0, 2, None),
+    (1, 2, 0, Some(2)),
+];
+
+// Whether rows go there.
+fn tells_places(schema: &Schema) -> bool {
+    let Ok(region) = RegionPage::read(schema, &page_of(LOW, &[])) else {
+        return false;
+    };
+    for place in PLACES {
+        if region.place_of(&row(place.0, place.1, place.2, 0)) != place.3 {
+            return false;
         }
-        Err(_) => false,
     }
+    tells_keys(&region)
 }
 
 // 64 rows of a table of four dimensions and four measures, in the order of their keys.
@@ -161,23 +174,13 @@ fn holds_full_pages(schema: &Schema) -> bool {
     is_read(schema, &page, first, &rows) && is_written(schema, &page)
 }
 
-// What goes wrong first of a plane, and of the widest table; no text where nothing does.
-fn first_wrong(plane: &Schema, widest: &Schema) -> &'static str {
-    let mut region = RegionPage::empty(plane.shape());
-    if !takes_in(&mut region, plane) {
-        "one page after the other is taken in"
-    } else if !tells_all(plane) {
-        "rows and keys"
-    } else if !holds_full_pages(widest) {
-        "full pages"
-    } else {
-        ""
-    }
-}
-
 #[test]
 fn regions_are_written_and_read(rt: HostRuntime) {
     let schema = plane().expect(&rt, "a plane");
+    let mut region = RegionPage::empty(schema.shape());
+    let is_right = takes_in(&mut region, &schema);
+    holds(&rt, "one page after the other is taken in", is_right);
+    holds(&rt, "keys and places", tells_places(&schema));
     let widest = table(b"abcdefgh", 4, 64).expect(&rt, "a table");
-    none_wrong(&rt, first_wrong(&schema, &widest));
+    holds(&rt, "full pages", holds_full_pages(&widest));
 }

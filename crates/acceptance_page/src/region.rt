@@ -1,7 +1,8 @@
 // The rows of a region in memory, which are put in, taken out, split and joined.
 ghost use Rattle.std.specs.Prelude.{◌≤◌};
 
-use crate::samples::{none_wrong, row};
+use crate::samples::{Case, all_hold, row};
+use std::mem::swap;
 use ub_region::RegionPage;
 use ub_table::{Key, Row};
 use ub_zaddr::Shape;
@@ -22,24 +23,38 @@ const SAMPLES: [(u32, [u32; 4], u128); 7] = [
     (4, [0, 16, 0, 5], 262_401),
 ];
 
-// The places in SAMPLES of a page's rows and of one more, how many of them stay in the left half,
-// and the first key of the right one: two, three and four rows on a page.
-static HALVES: &[(&[usize], usize, (u128, u32))] = &[
-    (&[0, 1, 2], 2, (362, 0)),
-    (&[1, 2, 3], 2, (362, 5)),
-    (&[2, 3, 4], 2, (362, 6)),
-    (&[3, 4, 5], 2, (32_770, 0)),
-    (&[0, 1, 2, 6], 2, (362, 0)),
-    (&[1, 2, 3, 4], 2, (362, 5)),
-    (&[0, 1, 2, 5, 6], 3, (32_770, 0)),
-    (&[1, 2, 3, 4, 5], 3, (362, 6)),
+// The places in SAMPLES of a page's rows and of one more, whichever of them is put in among the others, how many of them stay in the left
+// half, and the first key of the right one.
+struct Halves(&'static [usize], usize, Key);
+
+// Two, three and four rows on a page.
+static HALVES: &[Halves] = &[
+    Halves(&[0, 1, 2], 2, Key { z: 362, number: 0 }),
+    Halves(&[1, 2, 3], 2, Key { z: 362, number: 5 }),
+    Halves(&[2, 3, 4], 2, Key { z: 362, number: 6 }),
+    Halves(
+        &[3, 4, 5],
+        2,
+        Key {
+            z: 32_770,
+            number: 0,
+        },
+    ),
+    Halves(&[0, 1, 2, 6], 2, Key { z: 362, number: 0 }),
+    Halves(&[1, 2, 3, 4], 2, Key { z: 362, number: 5 }),
+    Halves(
+        &[0, 1, 2, 5, 6],
+        3,
+        Key {
+            z: 32_770,
+            number: 0,
+        },
+    ),
+    Halves(&[1, 2, 3, 4, 5], 3, Key { z: 362, number: 6 }),
 ];
 
 // Four places.
-const FOUR: [usize; 4] = [0, 1, 3, 6];
-
-// Those that are left where the first of them is taken out, the second, the third, the last.
-const THREE: [[usize; 3]; 4] = [[1, 3, 6], [0, 3, 6], [0, 1, 6], [0, 1, 3]];
+const FOUR: &[usize] = &[0, 1, 3, 6];
 
 // The key of an address and a number.
 fn key(z: u128, number: u32) -> Key {
@@ -59,11 +74,22 @@ fn sample(place: usize) -> (Row, u128) {
     (row, z)
 }
 
-// Puts the row of a place in, where there is room for it.
-fn put(region: &mut RegionPage, index: usize, place: usize) {
-    if region.len() < 64 && index <= region.len() {
-        region.insert_at(index, &sample(place).0);
+// Puts a row in at an index, where there is room for it.
+fn put(region: &mut RegionPage, index: usize, row: &Row) -> bool {
+    if 64 <= region.len() || region.len() < index {
+        return false;
     }
+    region.insert_at(index, row);
+    true
+}
+
+// Takes the row at an index out, where there is one.
+fn take_out(region: &mut RegionPage, index: usize) -> bool {
+    if region.len() <= index {
+        return false;
+    }
+    region.remove_at(index);
+    true
 }
 
 // A region of the rows of these places.
@@ -71,7 +97,7 @@ fn region_of(shape: Shape, places: &[usize]) -> RegionPage {
     let mut region = RegionPage::empty(shape);
     for place in places {
         let end = region.len();
-        put(&mut region, end, *place);
+        put(&mut region, end, &sample(*place).0);
     }
     region
 }
@@ -105,69 +131,31 @@ fn join(region: &mut RegionPage, next: &RegionPage, page_rows: u32) -> bool {
     page_rows <= 64 && next.shape() == region.shape() && region.join(next, page_rows)
 }
 
-// Whether the rows of these places are split so, whichever of them is put in among the others. The
-// region of the right half was another one before.
-fn are_halves(
-    shape: Shape,
-    right: &mut RegionPage,
-    places: &[usize],
-    count: usize,
-    first: Key,
-) -> bool {
-    let count = count.min(places.len());
-    for index in 0..places.len() {
-        let mut left = region_of(shape, &places[..index]);
-        for place in &places[index + 1..] {
-            let end = left.len();
-            put(&mut left, end, *place);
-        }
-        if !split(&mut left, index, &sample(places[index]).0, right)
-            || !is_region(&left, ORIGIN, &places[..count])
-            || !is_region(right, first, &places[count..])
-        {
-            return false;
-        }
-    }
-    true
-}
-
-// Whether all of the halves are right.
-fn are_all_halves(shape: Shape, right: &mut RegionPage) -> bool {
-    for (places, left, first) in HALVES {
-        if !are_halves(shape, right, places, *left, key(first.0, first.1)) {
-            return false;
-        }
-    }
-    true
-}
-
-// Whether a right half that is split again begins where it did, and also once rows are taken out of
-// it, put in and joined.
-fn is_split_again(first: &mut RegionPage, second: &mut RegionPage, third: &mut RegionPage) -> bool {
-    let begin = key(362, 5);
-    if !split(first, 3, &sample(4).0, second) || !split(second, 2, &sample(6).0, third) {
+// Whether the rows of these places are split so where the one at this index is put in among the others. The region of the right half was
+// another one before.
+fn are_halves(shape: Shape, halves: &Halves, index: usize) -> bool {
+    let places = halves.0;
+    let count = halves.1.min(places.len());
+    if places.len() <= index {
         return false;
     }
-    let is_right = is_region(first, ORIGIN, &[1, 2])
-        & is_region(second, begin, &[3, 4])
-        & is_region(third, key(262_401, 0), &[6])
-        & second.remove(&key(362, 6))
-        & is_region(second, begin, &[3]);
-    put(second, 1, 5);
-    is_right
-        & is_region(second, begin, &[3, 5])
-        & join(second, third, 3)
-        & is_region(second, begin, &[3, 5, 6])
-        & join(first, second, 5)
-        & is_region(first, ORIGIN, &[1, 2, 3, 5, 6])
+    let mut left = region_of(shape, places);
+    let mut right = region_of(shape, FOUR);
+    take_out(&mut left, index)
+        & split(&mut left, index, &sample(places[index]).0, &mut right)
+        & is_region(&left, ORIGIN, &places[..count])
+        & is_region(&right, halves.2, &places[count..])
 }
 
-// Whether a half of a page of four dimensions is.
-fn is_half_split(shape: Shape) -> bool {
-    let mut first = region_of(shape, &[1, 2, 3]);
-    let mut second = region_of(shape, &FOUR);
-    let mut third = region_of(shape, &[]);
-    is_split_again(&mut first, &mut second, &mut third)
+impl Case<Shape> for Halves {
+    fn holds(&self, shape: &Shape) -> bool {
+        for index in 0..self.0.len() {
+            if !are_halves(*shape, self, index) {
+                return false;
+            }
+        }
+        true
+    }
 }
 
 // The row at an index of a line: their numbers begin with 1, and they are at every second address.
@@ -191,193 +179,282 @@ fn is_line(region: &RegionPage, first: Key, from: usize, count: usize) -> bool
     region.len() == count && region.first() == first
 }
 
-// Whether a page of 64 rows is split by a 65th one at an index, and the halves are joined only once
-// they have a row less.
-fn is_full_page_split(line: Shape, index: usize) -> bool
-    requires { index ≤ 64 }
-{
-    let mut left = RegionPage::empty(line);
-    let mut right = RegionPage::empty(line);
+// A region of 64 of the first 65 rows of the line, all but the one at an index.
+fn line_without(line: Shape, index: usize) -> RegionPage {
+    let mut region = RegionPage::empty(line);
     for i in 0..65usize {
-        let end = left.len();
-        if i != index && end < 64 {
-            left.insert_at(end, &on_line(i));
+        let end = region.len();
+        if i != index {
+            put(&mut region, end, &on_line(i));
         }
     }
-    if !split(&mut left, index, &on_line(index), &mut right)
-        || !is_line(&left, ORIGIN, 0, 33)
-        || !is_line(&right, key(66, 0), 33, 32)
-        || join(&mut left, &right, 64)
-        || left.len() == 0
-    {
-        return false;
+    region
+}
+
+// Where a page of 64 rows is split by a 65th one: the halves are joined only once they have a row less.
+struct Full(usize);
+
+// At each end, beside these, and in the middle.
+static FULL: &[Full] = &[Full(0), Full(1), Full(32), Full(33), Full(63), Full(64)];
+
+impl Case<Shape> for Full {
+    fn holds(&self, line: &Shape) -> bool {
+        let index = self.0.min(64);
+        let mut left = line_without(*line, index);
+        let mut right = RegionPage::empty(*line);
+        split(&mut left, index, &on_line(index), &mut right)
+            & is_line(&left, ORIGIN, 0, 33)
+            & is_line(&right, key(66, 0), 33, 32)
+            & !join(&mut left, &right, 64)
+            & take_out(&mut left, 0)
+            & is_line(&left, ORIGIN, 1, 32)
+            & join(&mut left, &right, 64)
+            & is_line(&left, ORIGIN, 1, 64)
     }
-    left.remove_at(0);
-    is_line(&left, ORIGIN, 1, 32) && join(&mut left, &right, 64) && is_line(&left, ORIGIN, 1, 64)
 }
 
-// Whether it is at each end, beside these, and in the middle.
-fn are_full_pages_split(line: Shape) -> bool {
-    for index in [0, 1, 32, 33, 63, 64] {
-        if !is_full_page_split(line, index) {
-            return false;
-        }
-    }
-    true
+// Three regions, the first of which is changed.
+#[derive(Drop)]
+struct Regions {
+    first: RegionPage,
+    second: RegionPage,
+    third: RegionPage,
 }
 
-// Whether a row is taken out of a region of FOUR, and put in again.
-fn is_taken_out(shape: Shape, index: usize) -> bool {
-    let mut region = region_of(shape, &FOUR);
-    if 4 <= index || region.len() <= index {
-        return false;
-    }
-    region.remove_at(index);
-    let is_out = is_region(&region, ORIGIN, &THREE[index]);
-    put(&mut region, index, FOUR[index]);
-    is_out && is_region(&region, ORIGIN, &FOUR)
+// A call of a region.
+enum Call {
+    // The first region is taken to be that of these places.
+    Take(&'static [usize]),
+    // The second region is the first from then on, the third the second, and the first the third.
+    Turn,
+    // The row of a place is put in at an index.
+    Put(usize, usize),
+    // The row at an index is taken out.
+    Out(usize),
+    // A row of this address and number is taken out, or there is none.
+    Remove(u128, u32, bool),
+    // Whether the rows are few where pages hold so many.
+    Few(u32, bool),
+    // With the row of a place at an index more, the right half of the rows goes to the second region.
+    Split(usize, usize),
+    // Whether the second region is joined where pages hold so many.
+    Join(u32, bool),
+    // The rows of these places are put behind.
+    Append(&'static [usize]),
+    // The first key, and the rows of these places.
+    Is(Key, &'static [usize]),
 }
 
-// Whether each of them is.
-fn is_each_taken_out(shape: Shape) -> bool {
-    for index in 0..4usize {
-        if !is_taken_out(shape, index) {
-            return false;
-        }
-    }
-    true
-}
-
-// Keys, whether a row of each is taken out of those that are left, and the places of the others: by
-// number and address both, among others of one address, and to the last one.
-static REMOVALS: &[(u128, u32, bool, &[usize])] = &[
-    (362, 7, false, &[0, 2, 3, 4]),
-    (20, 3, false, &[0, 2, 3, 4]),
-    (361, 3, false, &[0, 2, 3, 4]),
-    (362, 0, false, &[0, 2, 3, 4]),
-    (362, 5, true, &[0, 2, 4]),
-    (362, 5, false, &[0, 2, 4]),
-    (1, 7, true, &[2, 4]),
-    (362, 6, true, &[2]),
-    (362, 3, true, &[]),
-    (362, 3, false, &[]),
-];
-
-// Whether rows are taken out by their keys, where they are, and only then.
-fn are_taken_out(shape: Shape) -> bool {
-    let mut region = region_of(shape, &[0, 2, 3, 4]);
-    for (z, number, is_there, left) in REMOVALS {
-        if region.remove(&key(*z, *number)) != *is_there || !is_region(&region, ORIGIN, left) {
-            return false;
-        }
-    }
-    true
-}
-
-// Numbers of rows, and of rows that pages hold, and whether the first are few then.
-static FEW: &[(usize, u32, bool)] = &[
-    (0, 2, true),
-    (0, 3, true),
-    (1, 2, false),
-    (1, 3, false),
-    (1, 4, true),
-    (2, 4, false),
-    (2, 5, false),
-    (2, 6, true),
-];
-
-// Whether regions of so many rows are told to have few.
-fn are_told_few(shape: Shape) -> bool {
-    for (rows, page_rows, are_few) in FEW {
-        let region = region_of(shape, &FOUR[..*rows % 4]);
-        if region.are_few(*page_rows) != *are_few {
-            return false;
-        }
-    }
-    true
-}
-
-// Whether two regions of a row each are joined where a page holds two, and not where it holds one;
-// and the one before with these where it holds three, and not where it holds two.
-fn are_joined(before: &mut RegionPage, region: &mut RegionPage, next: &RegionPage) -> bool {
-    !join(region, next, 1)
-        & is_region(region, ORIGIN, &[2])
-        & join(region, next, 2)
-        & is_region(region, ORIGIN, &[2, 5])
-        & !join(before, region, 2)
-        & is_region(before, ORIGIN, &[0])
-        & join(before, region, 3)
-        & is_region(before, ORIGIN, &[0, 2, 5])
-        & is_region(region, ORIGIN, &[2, 5])
-        & is_region(next, ORIGIN, &[5])
-}
-
-// Whether regions of one row each are.
-fn are_single_rows_joined(shape: Shape) -> bool {
-    let mut before = region_of(shape, &[0]);
-    let mut region = region_of(shape, &[2]);
-    let next = region_of(shape, &[5]);
-    are_joined(&mut before, &mut region, &next)
-}
-
-// Whether the rows of some places stand behind those of others.
-fn are_appended(shape: Shape, places: &[usize], next: &[usize], all: &[usize]) -> bool {
-    let mut region = region_of(shape, places);
-    let next = region_of(shape, next);
+// Puts the rows of these places behind those of a region, where there is room for them.
+fn append(region: &mut RegionPage, places: &[usize]) -> bool {
+    let next = region_of(region.shape(), places);
     if next.shape() != region.shape() || 64 < region.len() + next.len() {
         return false;
     }
     region.append(&next);
-    is_region(&region, ORIGIN, all)
-}
-
-// Places of rows, of those that are put behind them, and of all of them.
-static APPENDED: &[(&[usize], &[usize], &[usize])] = &[
-    (&[], &[], &[]),
-    (&[0, 1], &[], &[0, 1]),
-    (&[], &[2, 6], &[2, 6]),
-    (&[0], &[1, 4, 5], &[0, 1, 4, 5]),
-    (&[0, 1, 2], &[6], &[0, 1, 2, 6]),
-];
-
-// Whether those of these places do.
-fn are_all_appended(shape: Shape) -> bool {
-    for (places, next, all) in APPENDED {
-        if !are_appended(shape, places, next, all) {
-            return false;
-        }
-    }
     true
 }
 
-// What goes wrong first; no text where nothing does.
-fn first_wrong() -> &'static str {
-    let (Ok(shape), Ok(line)) = (Shape::new(4), Shape::new(1)) else {
-        return "shapes";
-    };
-    let mut right = region_of(line, &FOUR);
-    if !are_all_halves(shape, &mut right) {
-        "halves of a page and a row"
-    } else if !is_half_split(shape) {
-        "halves of a half"
-    } else if !are_full_pages_split(line) {
-        "halves of a full page"
-    } else if !is_each_taken_out(shape) {
-        "rows taken out and put in"
-    } else if !are_taken_out(shape) {
-        "rows taken out by key"
-    } else if !are_told_few(shape) {
-        "few rows"
-    } else if !are_single_rows_joined(shape) {
-        "few rows joined"
-    } else if !are_all_appended(shape) {
-        "rows appended"
-    } else {
-        ""
+impl Regions {
+    // Whether a call is answered so.
+    fn answers(&mut self, call: &Call) -> bool {
+        match call {
+            Call::Take(places) => {
+                self.first = region_of(self.first.shape(), places);
+                true
+            }
+            Call::Turn => {
+                swap(&mut self.first, &mut self.second);
+                swap(&mut self.second, &mut self.third);
+                true
+            }
+            Call::Put(index, place) => put(&mut self.first, *index, &sample(*place).0),
+            Call::Out(index) => take_out(&mut self.first, *index),
+            Call::Remove(z, number, wanted) => self.first.remove(&key(*z, *number)) == *wanted,
+            Call::Few(page_rows, wanted) => self.first.are_few(*page_rows) == *wanted,
+            Call::Split(index, place) => {
+                let row = sample(*place).0;
+                split(&mut self.first, *index, &row, &mut self.second)
+            }
+            Call::Join(page_rows, wanted) => {
+                join(&mut self.first, &self.second, *page_rows) == *wanted
+            }
+            Call::Append(places) => append(&mut self.first, places),
+            Call::Is(first, places) => is_region(&self.first, *first, places),
+        }
     }
 }
 
+// Calls of three regions of a space of four dimensions that have no rows at first.
+struct Calls(&'static [Call]);
+
+impl Case<Shape> for Calls {
+    fn holds(&self, shape: &Shape) -> bool {
+        let mut regions = Regions {
+            first: RegionPage::empty(*shape),
+            second: RegionPage::empty(*shape),
+            third: RegionPage::empty(*shape),
+        };
+        for call in self.0 {
+            if !regions.answers(call) {
+                return false;
+            }
+        }
+        true
+    }
+}
+
+// Where the right half of a half begins.
+const BEGIN: Key = Key { z: 362, number: 5 };
+
+// A right half that is split again begins where it did, and also once rows are taken out of it, put in and joined. The region of a right
+// half was another one before.
+static SPLIT_AGAIN: &[Calls] = &[Calls(&[
+    Call::Take(FOUR),
+    Call::Turn,
+    Call::Turn,
+    Call::Take(&[1, 2, 3]),
+    Call::Split(3, 4),
+    Call::Is(ORIGIN, &[1, 2]),
+    Call::Turn,
+    Call::Split(2, 6),
+    Call::Is(BEGIN, &[3, 4]),
+    Call::Turn,
+    Call::Is(
+        Key {
+            z: 262_401,
+            number: 0,
+        },
+        &[6],
+    ),
+    Call::Turn,
+    Call::Is(ORIGIN, &[1, 2]),
+    Call::Turn,
+    Call::Remove(362, 6, true),
+    Call::Is(BEGIN, &[3]),
+    Call::Put(1, 5),
+    Call::Is(BEGIN, &[3, 5]),
+    Call::Join(3, true),
+    Call::Is(BEGIN, &[3, 5, 6]),
+    Call::Turn,
+    Call::Turn,
+    Call::Join(5, true),
+    Call::Is(ORIGIN, &[1, 2, 3, 5, 6]),
+])];
+
+// A row is taken out of a region, and put in again: the first of them, the second, the third, the last. And rows are taken out by their
+// keys, where they are, and only then: by number and address both, among others of one address, and to the last one.
+static TAKEN_OUT: &[Calls] = &[
+    Calls(&[
+        Call::Take(FOUR),
+        Call::Out(0),
+        Call::Is(ORIGIN, &[1, 3, 6]),
+        Call::Put(0, 0),
+        Call::Is(ORIGIN, FOUR),
+        Call::Out(1),
+        Call::Is(ORIGIN, &[0, 3, 6]),
+        Call::Put(1, 1),
+        Call::Is(ORIGIN, FOUR),
+        Call::Out(2),
+        Call::Is(ORIGIN, &[0, 1, 6]),
+        Call::Put(2, 3),
+        Call::Is(ORIGIN, FOUR),
+        Call::Out(3),
+        Call::Is(ORIGIN, &[0, 1, 3]),
+        Call::Put(3, 6),
+        Call::Is(ORIGIN, FOUR),
+    ]),
+    Calls(&[
+        Call::Take(&[0, 2, 3, 4]),
+        Call::Remove(362, 7, false),
+        Call::Is(ORIGIN, &[0, 2, 3, 4]),
+        Call::Remove(20, 3, false),
+        Call::Is(ORIGIN, &[0, 2, 3, 4]),
+        Call::Remove(361, 3, false),
+        Call::Is(ORIGIN, &[0, 2, 3, 4]),
+        Call::Remove(362, 0, false),
+        Call::Is(ORIGIN, &[0, 2, 3, 4]),
+        Call::Remove(362, 5, true),
+        Call::Is(ORIGIN, &[0, 2, 4]),
+        Call::Remove(362, 5, false),
+        Call::Is(ORIGIN, &[0, 2, 4]),
+        Call::Remove(1, 7, true),
+        Call::Is(ORIGIN, &[2, 4]),
+        Call::Remove(362, 6, true),
+        Call::Is(ORIGIN, &[2]),
+        Call::Remove(362, 3, true),
+        Call::Is(ORIGIN, &[]),
+        Call::Remove(362, 3, false),
+        Call::Is(ORIGIN, &[]),
+    ]),
+];
+
+// No row, one and two are told to be few, or not. Two regions of a row each are joined where a page holds two, and not where it holds one;
+// and the one before with these where it holds three, and not where it holds two.
+static FEW: &[Calls] = &[
+    Calls(&[
+        Call::Few(2, true),
+        Call::Few(3, true),
+        Call::Take(&[0]),
+        Call::Few(2, false),
+        Call::Few(3, false),
+        Call::Few(4, true),
+        Call::Take(&[0, 1]),
+        Call::Few(4, false),
+        Call::Few(5, false),
+        Call::Few(6, true),
+    ]),
+    Calls(&[
+        Call::Take(&[0]),
+        Call::Turn,
+        Call::Take(&[2]),
+        Call::Turn,
+        Call::Take(&[5]),
+        Call::Turn,
+        Call::Turn,
+        Call::Join(1, false),
+        Call::Is(ORIGIN, &[2]),
+        Call::Join(2, true),
+        Call::Is(ORIGIN, &[2, 5]),
+        Call::Turn,
+        Call::Turn,
+        Call::Join(2, false),
+        Call::Is(ORIGIN, &[0]),
+        Call::Join(3, true),
+        Call::Is(ORIGIN, &[0, 2, 5]),
+        Call::Turn,
+        Call::Is(ORIGIN, &[2, 5]),
+        Call::Turn,
+        Call::Is(ORIGIN, &[5]),
+    ]),
+];
+
+// The rows of some places stand behind those of others.
+static APPENDED: &[Calls] = &[Calls(&[
+    Call::Append(&[]),
+    Call::Is(ORIGIN, &[]),
+    Call::Take(&[0, 1]),
+    Call::Append(&[]),
+    Call::Is(ORIGIN, &[0, 1]),
+    Call::Take(&[]),
+    Call::Append(&[2, 6]),
+    Call::Is(ORIGIN, &[2, 6]),
+    Call::Take(&[0]),
+    Call::Append(&[1, 4, 5]),
+    Call::Is(ORIGIN, &[0, 1, 4, 5]),
+    Call::Take(&[0, 1, 2]),
+    Call::Append(&[6]),
+    Call::Is(ORIGIN, &[0, 1, 2, 6]),
+])];
+
 #[test]
 fn rows_are_put_in_and_taken_out(rt: HostRuntime) {
-    none_wrong(&rt, first_wrong());
+    let shape = Shape::new(4).expect(&rt, "four dimensions");
+    all_hold(&rt, "halves of a page and a row", &shape, HALVES);
+    all_hold(&rt, "halves of a half", &shape, SPLIT_AGAIN);
+    all_hold(&rt, "rows taken out and put in", &shape, TAKEN_OUT);
+    all_hold(&rt, "few rows, and few rows joined", &shape, FEW);
+    all_hold(&rt, "rows appended", &shape, APPENDED);
+    let line = Shape::new(1).expect(&rt, "one dimension");
+    all_hold(&rt, "halves of a full page", &line, FULL);
 }

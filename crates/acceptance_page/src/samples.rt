@@ -3,14 +3,22 @@ use std::process::Abort;
 use ub_page::Page;
 use ub_table::{Key, Name, PageFault, Row, Schema};
 
-// Asserts that all of so many are right; if not, the one behind the last right one isn't.
-pub(crate) fn all_right(rt: &impl Abort, right: usize, all: usize) {
-    assert!(rt; right == all, "{right} of {all} were right");
+// A row of a table of cases: what is asked of something, and what is to be answered.
+pub(crate) trait Case<T> {
+    // Whether it is answered so.
+    fn holds(&self, of: &T) -> bool;
 }
 
-// Asserts that none is wrong, by what the first one that is wrong shows.
-pub(crate) fn none_wrong(rt: &impl Abort, shown: &str) {
-    assert!(rt; shown.is_empty(), "{shown}");
+// Asserts that all cases hold of this, by what they show and the place of the first one that doesn't.
+pub(crate) fn all_hold<T, C: Case<T>>(rt: &impl Abort, shown: &str, of: &T, cases: &[C]) {
+    for (i, case) in cases.iter().enumerate() {
+        assert!(rt; case.holds(of), "{shown}: case {i}");
+    }
+}
+
+// Asserts that something is so, by what it shows.
+pub(crate) fn holds(rt: &impl Abort, shown: &str, is_so: bool) {
+    assert!(rt; is_so, "{shown}");
 }
 
 // A table t whose columns have these letters for names, and the first of them are its dimensions.
@@ -64,11 +72,15 @@ pub(crate) fn is_plane(schema: &Schema) -> bool {
 
 // Whether columns have these letters for names.
 fn are_named(columns: &[Name], letters: &[u8]) -> bool {
-    let mut is_so = columns.len() == letters.len();
-    for (i, column) in columns.iter().enumerate() {
-        is_so &= i < letters.len() && column.bytes() == &letters[i..=i];
+    if columns.len() != letters.len() {
+        return false;
     }
-    is_so
+    for i in 0..letters.len() {
+        if columns[i].bytes() != &letters[i..=i] {
+            return false;
+        }
+    }
+    true
 }
 
 // Puts these bytes into a page, one after the other.
@@ -119,6 +131,15 @@ impl Ink {
     }
 }
 
+// The bytes and the number of a row's column: its number, four coordinates, and four measures.
+fn cell_of(row: &Row, column: usize) -> (u32, u128) {
+    match column {
+        0 => (4, u128::from(row.number)),
+        1..=4 => (4, u128::from(row.dims[column - 1])),
+        _ => (8, word(row.measures[column.saturating_sub(5).min(3)])),
+    }
+}
+
 // The page of a region, by hand: so many dimensions and measures, the first key, and these rows, 64 at most.
 pub(crate) fn region_page(dims: usize, measures: usize, first: Key, rows: &[Row]) -> Page {
     let rows = &rows[..rows.len().min(64)];
@@ -132,17 +153,13 @@ pub(crate) fn region_page(dims: usize, measures: usize, first: Key, rows: &[Row]
     ink.put(1, rows.len() as u128);
     ink.put(16, first.z);
     ink.put(4, u128::from(first.number));
-    for row in rows {
-        ink.put(4, u128::from(row.number));
-    }
-    for dim in 0..dims.min(4) {
+    for column in 0..9usize {
+        let is_there = column <= dims || (5..5 + measures.min(4)).contains(&column);
         for row in rows {
-            ink.put(4, u128::from(row.dims[dim]));
-        }
-    }
-    for measure in 0..measures.min(4) {
-        for row in rows {
-            ink.put(8, word(row.measures[measure]));
+            if is_there {
+                let (width, number) = cell_of(row, column);
+                ink.put(width, number);
+            }
         }
     }
     ink.page

@@ -7,7 +7,7 @@ ghost use Rattle.ub_store.specs.Faulty.{faulty_facts, faulty_view};
 ghost use Rattle.ub_store.specs.View.{IsCached};
 
 use crate::calls::{Answer, Call, answers, byte_of};
-use crate::samples::all_right;
+use crate::samples::{Case, all_hold};
 use std::alloc::Global;
 use std::num::NonZeroUsize;
 use std::test::Fail;
@@ -77,10 +77,12 @@ fn fail_once(store: &mut FaultyStore<MemStore>)
     let _ = store.sync();
 }
 
-// Calls and their answers, where the k-th call fails: of a store in memory, and of one over such a
-// one (marked true), which passes each call on once.
-static CALLS: &[(bool, u64, &[(Call, Answer)])] = &[
-    (
+// Whether a store stands over one in memory, which it then passes each call on to once; which call of that one fails; calls, and their
+// answers.
+struct Calls(bool, u64, &'static [(Call, Answer)]);
+
+static CALLS: &[Calls] = &[
+    Calls(
         false,
         2,
         &[
@@ -91,7 +93,7 @@ static CALLS: &[(bool, u64, &[(Call, Answer)])] = &[
             (Call::Extend, Ok(1)),
         ],
     ),
-    (
+    Calls(
         false,
         0,
         &[
@@ -102,7 +104,7 @@ static CALLS: &[(bool, u64, &[(Call, Answer)])] = &[
             (Call::Sync, Ok(0)),
         ],
     ),
-    (
+    Calls(
         true,
         2,
         &[
@@ -111,7 +113,7 @@ static CALLS: &[(bool, u64, &[(Call, Answer)])] = &[
             (Call::Extend, Ok(1)),
         ],
     ),
-    (
+    Calls(
         true,
         2,
         &[
@@ -120,7 +122,7 @@ static CALLS: &[(bool, u64, &[(Call, Answer)])] = &[
             (Call::Sync, Ok(0)),
         ],
     ),
-    (
+    Calls(
         true,
         3,
         &[
@@ -130,7 +132,7 @@ static CALLS: &[(bool, u64, &[(Call, Answer)])] = &[
             (Call::Read(0), Ok(0)),
         ],
     ),
-    (
+    Calls(
         true,
         3,
         &[
@@ -142,25 +144,14 @@ static CALLS: &[(bool, u64, &[(Call, Answer)])] = &[
     ),
 ];
 
-// Whether such a store answers each of the calls so.
-fn are_answered(alloc: Global, is_over: bool, k: u64, calls: &[(Call, Answer)]) -> bool {
-    if is_over {
-        answers(&mut store_over_one_failing_at(alloc, k), calls)
-    } else {
-        answers(&mut store_failing_at(alloc, k), calls)
-    }
-}
-
-// How many of these stores answer so, up to the first that doesn't.
-fn stores_right(alloc: Global) -> usize {
-    let mut right = 0usize;
-    for (is_over, k, calls) in CALLS {
-        if !are_answered(alloc, *is_over, *k, calls) {
-            return right;
+impl Case<Global> for Calls {
+    fn holds(&self, alloc: &Global) -> bool {
+        if self.0 {
+            answers(&mut store_over_one_failing_at(*alloc, self.1), self.2)
+        } else {
+            answers(&mut store_failing_at(*alloc, self.1), self.2)
         }
-        right = right.wrapping_add(1);
     }
-    right
 }
 
 // What is put is what is brought and lent, cached or not.
@@ -247,22 +238,23 @@ fn done<S: PageStore>(pager: &mut Pager<S>, deed: Deed) -> Answer {
 
 // Whether each of the calls is answered so.
 fn does<S: PageStore>(pager: &mut Pager<S>, deeds: &[(Deed, Answer)]) -> bool {
-    for (deed, wanted) in deeds {
-        if done(pager, *deed) != *wanted {
+    for asked in deeds {
+        if done(pager, asked.0) != asked.1 {
             return false;
         }
     }
     true
 }
 
-// Calls and their answers, where the k-th call of the store fails, and the byte that page 1 is full
-// of in the end. Three pages were added, and a page of eights was put and brought: five calls.
-//
+// Which call of the store fails, the byte that page 1 is full of in the end, and calls of a pager with their answers. Three pages were
+// added, and a page of eights was put and brought: five calls.
+struct Deeds(u64, u8, &'static [(Deed, Answer)]);
+
 // In the first the page that was last put is lent. In the second a page that is brought twice is
 // read once, so that the seventh call is the sync; and the pages of regions that are brought since
 // the trace began are noted, and no others.
-static DEEDS: &[(u64, u8, &[(Deed, Answer)])] = &[
-    (
+static DEEDS: &[Deeds] = &[
+    Deeds(
         0,
         7,
         &[
@@ -276,7 +268,7 @@ static DEEDS: &[(u64, u8, &[(Deed, Answer)])] = &[
             (Deed::Pages, Ok(3)),
         ],
     ),
-    (
+    Deeds(
         7,
         0,
         &[
@@ -297,35 +289,32 @@ static DEEDS: &[(u64, u8, &[(Deed, Answer)])] = &[
     ),
 ];
 
-// Whether a new pager of three pages does this, and leaves page 1 full of this byte.
-fn are_done(alloc: Global, k: u64, left: u8, deeds: &[(Deed, Answer)]) -> bool {
-    let Ok(mut pager) = three_in_memory(alloc, k) else {
+// Whether a pager that is made does this, and leaves page 1 full of this byte.
+fn are_done<S: PageStore>(made: Result<Pager<S>, StoreFault>, deeds: &Deeds) -> bool
+    requires { IfOk made (λ pager. IsHonest pager.store) }
+{
+    let Ok(mut pager) = made else {
         return false;
     };
     let is_put = put_and_bring(&mut pager, 0, &[8; 4096]).is_ok();
-    let is_right = is_put && does(&mut pager, deeds);
-    let calls = [(Call::Read(1), Ok(u32::from(left)))];
-    answers(&mut pager.into_store(), &calls) && is_right
+    let is_right = is_put & does(&mut pager, deeds.2);
+    let calls = [(Call::Read(1), Ok(u32::from(deeds.1)))];
+    is_right & answers(&mut pager.into_store(), &calls)
 }
 
-// How many new pagers do this, up to the first that doesn't.
-fn pagers_right(alloc: Global) -> usize {
-    let mut right = 0usize;
-    for (k, left, deeds) in DEEDS {
-        if !are_done(alloc, *k, *left, deeds) {
-            return right;
-        }
-        right = right.wrapping_add(1);
+impl Case<Global> for Deeds {
+    fn holds(&self, alloc: &Global) -> bool {
+        are_done(three_in_memory(*alloc, self.0), self)
     }
-    right
 }
 
 // A store fails at one call alone; a pager lends pages, and notes those of regions.
 #[test]
 fn stores_and_pagers(rt: HostRuntime) {
-    all_right(&rt, stores_right(rt.alloc()), CALLS.len());
-    fail_once(&mut store_failing_at(rt.alloc(), 1));
-    all_right(&rt, pagers_right(rt.alloc()), DEEDS.len());
+    let alloc = rt.alloc();
+    all_hold(&rt, "calls of stores", &alloc, CALLS);
+    fail_once(&mut store_failing_at(alloc, 1));
+    all_hold(&rt, "calls of pagers", &alloc, DEEDS);
 }
 
 // What follows where memory was refused for the page 1: it was noted, and is brought in the next
@@ -339,7 +328,6 @@ const AGAIN: &[(Deed, Answer)] = &[
 // Whether a region's page is noted that memory is refused for, or isn't; and brought, in this call
 // or in the next.
 fn brings_at_last<S: PageStore>(pager: &mut Pager<S>) -> Result<bool, StoreFault> {
-    done(pager, Deed::Region(0))?;
     pager.begin();
     match done(pager, Deed::Region(1)) {
         Ok(byte) => Ok(byte == 0 && does(pager, &[(Deed::Noted, Ok(11))])),
@@ -348,16 +336,21 @@ fn brings_at_last<S: PageStore>(pager: &mut Pager<S>) -> Result<bool, StoreFault
     }
 }
 
-// The same of a new pager.
-fn brings_at_last_of_three(alloc: Global) -> Result<bool, StoreFault> {
-    let mut pager = three_in_memory(alloc, 0)?;
-    brings_at_last(&mut pager)
+// The same of a pager that is made, once it has brought another one.
+fn brings_both<S: PageStore>(made: Result<Pager<S>, StoreFault>) -> Result<bool, StoreFault> {
+    match made {
+        Ok(mut pager) => match done(&mut pager, Deed::Region(0)) {
+            Ok(_) => brings_at_last(&mut pager),
+            Err(fault) => Err(fault),
+        },
+        Err(fault) => Err(fault),
+    }
 }
 
 // The trace has room from the call before, so what memory is refused for is the page.
 // `tests/store_allocations.sh` makes each allocation of this test fail in turn.
 #[test]
 fn notes_a_page_that_memory_is_refused_for(rt: HostRuntime) -> Result<(), Fail> {
-    assert!(rt; brings_at_last_of_three(rt.alloc())?);
+    assert!(rt; brings_both(three_in_memory(rt.alloc(), 0))?);
     Ok(())
 }

@@ -1,22 +1,24 @@
 // Names, columns, schemas, rows and keys.
-use crate::samples::{is_plane, none_wrong, plane, signed_table, table};
+use crate::samples::{Case, all_hold, holds, is_plane, plane, signed_table, table};
 use ub_table::columns::MAX_COLUMNS;
 use ub_table::{Columns, Key, Name, PageFault, Row, Schema, is_keyword};
 
-// Texts, and whether each is a name, and a keyword.
-static TEXTS: &[(&str, bool, bool)] = &[
-    ("t", true, false),
-    ("_a9", true, false),
-    ("selects", true, false),
-    ("abcdefghijklmnopqrstuvwxyz_01234", true, false),
-    ("", false, false),
-    ("9a", false, false),
-    ("a-b", false, false),
-    ("abcdefghijklmnopqrstuvwxyz_012345", false, false),
-    ("select", false, true),
-    ("SeLeCt", false, true),
-    ("values", false, true),
-    ("BY", false, true),
+// A text, and whether it is a name, and a keyword.
+struct Text(&'static str, bool, bool);
+
+static TEXTS: &[Text] = &[
+    Text("t", true, false),
+    Text("_a9", true, false),
+    Text("selects", true, false),
+    Text("abcdefghijklmnopqrstuvwxyz_01234", true, false),
+    Text("", false, false),
+    Text("9a", false, false),
+    Text("a-b", false, false),
+    Text("abcdefghijklmnopqrstuvwxyz_012345", false, false),
+    Text("select", false, true),
+    Text("SeLeCt", false, true),
+    Text("values", false, true),
+    Text("BY", false, true),
 ];
 
 // Whether a text is a name that is kept.
@@ -27,15 +29,11 @@ fn keeps(text: &[u8]) -> bool {
     }
 }
 
-// Whether each of the texts is one.
-fn are_texts() -> bool {
-    for (text, is_name, is_key) in TEXTS {
-        let bytes = text.as_bytes();
-        if (keeps(bytes) != *is_name) | (is_keyword(bytes) != *is_key) {
-            return false;
-        }
+impl Case<()> for Text {
+    fn holds(&self, _: &()) -> bool {
+        let bytes = self.0.as_bytes();
+        (keeps(bytes) == self.1) & (is_keyword(bytes) == self.2)
     }
-    true
 }
 
 // Whether columns of these two names are held in their order.
@@ -50,17 +48,21 @@ fn are_held(names: &[Name]) -> bool {
     columns.as_slice() == names && Columns::from_slice(names).as_slice() == names
 }
 
-// Numbers of rows on a page and masks of signed dimensions, and why there is no table of two columns of a name with them.
-static REFUSED: &[(u32, u32, PageFault)] = &[
-    (65, 0, PageFault::BadCount),
-    (64, 4, PageFault::BadCount),
-    (64, 0, PageFault::BadName),
-    (64, 3, PageFault::BadName),
+// How many rows a page has, the mask of the signed dimensions, and why there is no table of two columns of a name with them: the count of
+// rows, or the mask, is refused before.
+struct Refused(u32, u32, PageFault);
+
+static REFUSED: &[Refused] = &[
+    Refused(65, 0, PageFault::BadCount),
+    Refused(64, 4, PageFault::BadCount),
+    Refused(64, 0, PageFault::BadName),
+    Refused(64, 3, PageFault::BadName),
 ];
 
-// Whether there is no table of two columns t with these.
-fn is_refused(t: Name, page_rows: u32, signed: u32, fault: PageFault) -> bool {
-    Schema::new(t, &[t, t], 2, page_rows, signed).err() == Some(fault)
+impl Case<Name> for Refused {
+    fn holds(&self, t: &Name) -> bool {
+        Schema::new(*t, &[*t, *t], 2, self.0, self.1).err() == Some(self.2)
+    }
 }
 
 // Whether the first two columns of a table are held as such.
@@ -69,16 +71,6 @@ fn holds_columns(schema: &Schema) -> bool {
         Some(names) => are_held(names),
         None => false,
     }
-}
-
-// Whether all of them are refused so.
-fn are_refused(name: Name) -> bool {
-    for (page_rows, signed, fault) in REFUSED {
-        if !is_refused(name, *page_rows, *signed, *fault) {
-            return false;
-        }
-    }
-    true
 }
 
 // Whether keys are in their order.
@@ -117,17 +109,18 @@ fn are_read(schema: &Schema, values: &[i64]) -> bool {
     true
 }
 
-// Numbers, and whether the first column of such a table, a dimension, and its last, a measure, can
-// hold them.
-static NUMBERS: &[(i128, bool, bool)] = &[
-    (-1, false, true),
-    (0, true, true),
-    (4_294_967_295, true, true),
-    (4_294_967_296, false, true),
-    (9_223_372_036_854_775_807, false, true),
-    (9_223_372_036_854_775_808, false, false),
-    (-9_223_372_036_854_775_808, false, true),
-    (-9_223_372_036_854_775_809, false, false),
+// A number, and whether the first column of such a table, a dimension, and its last, a measure, can hold it.
+struct Number(i128, bool, bool);
+
+static NUMBERS: &[Number] = &[
+    Number(-1, false, true),
+    Number(0, true, true),
+    Number(4_294_967_295, true, true),
+    Number(4_294_967_296, false, true),
+    Number(9_223_372_036_854_775_807, false, true),
+    Number(9_223_372_036_854_775_808, false, false),
+    Number(-9_223_372_036_854_775_808, false, true),
+    Number(-9_223_372_036_854_775_809, false, false),
 ];
 
 // Whether a column of a table, which it has, can hold a number.
@@ -135,134 +128,100 @@ fn fits(schema: &Schema, column: usize, number: i128) -> bool {
     column < schema.columns().len() && schema.fits(column, number)
 }
 
-// Whether the first and the last of the four columns of a table can hold these numbers.
-fn are_fitted(schema: &Schema) -> bool {
-    for (number, fits_dimension, fits_measure) in NUMBERS {
-        if fits(schema, 0, *number) != *fits_dimension
-            || schema.coordinate(0, *number).is_some() != *fits_dimension
-            || fits(schema, 3, *number) != *fits_measure
-        {
-            return false;
-        }
+impl Case<Schema> for Number {
+    fn holds(&self, schema: &Schema) -> bool {
+        (fits(schema, 0, self.0) == self.1)
+            & (schema.coordinate(0, self.0).is_some() == self.1)
+            & (fits(schema, 3, self.0) == self.2)
     }
-    true
 }
 
-// A mask has bits for the dimensions alone.
-static MASKS: &[(u32, u32, bool)] = &[
-    (1, 0, true),
-    (1, 1, true),
-    (1, 2, false),
-    (2, 3, true),
-    (2, 4, false),
-    (3, 7, true),
-    (3, 8, false),
-    (4, 15, true),
-    (4, 16, false),
-    (4, 1 << 31, false),
-    (1, u32::MAX, false),
+// How many dimensions there are, a mask, and whether there is a table with it: it has bits for the dimensions alone.
+struct Mask(u32, u32, bool);
+
+static MASKS: &[Mask] = &[
+    Mask(1, 0, true),
+    Mask(1, 1, true),
+    Mask(1, 2, false),
+    Mask(2, 3, true),
+    Mask(2, 4, false),
+    Mask(3, 7, true),
+    Mask(3, 8, false),
+    Mask(4, 15, true),
+    Mask(4, 16, false),
+    Mask(4, 1 << 31, false),
+    Mask(1, u32::MAX, false),
 ];
 
-// Whether there is a table of so many dimensions with this mask, which it then tells, or it is refused as BadCount.
-fn is_mask(dims: u32, signed: u32, is_taken: bool) -> bool {
-    match signed_table(b"xyzw", dims, 2, signed) {
-        Ok(schema) => is_taken && schema.signed() == signed && schema.copy().signed() == signed,
-        Err(fault) => !is_taken && fault == PageFault::BadCount,
-    }
-}
-
-// Whether each of the masks is.
-fn are_masks() -> bool {
-    for (dims, signed, is_taken) in MASKS {
-        if !is_mask(*dims, *signed, *is_taken) {
-            return false;
+// The mask is told by the table, or it is refused as BadCount.
+impl Case<()> for Mask {
+    fn holds(&self, _: &()) -> bool {
+        match signed_table(b"xyzw", self.0, 2, self.1) {
+            Ok(schema) => {
+                self.2 & (schema.signed() == self.1) & (schema.copy().signed() == self.1)
+            }
+            Err(fault) => !self.2 & (fault == PageFault::BadCount),
         }
     }
-    true
 }
 
-// Values of a signed dimension, and the coordinates that stand for them; and numbers that it doesn't have: those next to its
-// values, and the ends of 64 and of 128 bits.
-static SIGNED: &[(i128, Option<u32>)] = &[
-    (-2_147_483_648, Some(0)),
-    (-2_147_483_647, Some(1)),
-    (-1, Some(2_147_483_647)),
-    (0, Some(2_147_483_648)),
-    (1, Some(2_147_483_649)),
-    (2_147_483_647, Some(4_294_967_295)),
-    (-2_147_483_649, None),
-    (2_147_483_648, None),
-    (4_294_967_295, None),
-    (-9_223_372_036_854_775_808, None),
-    (9_223_372_036_854_775_807, None),
-    (-18_446_744_073_709_551_615, None),
-    (18_446_744_073_709_551_615, None),
-    (i128::MIN, None),
-    (i128::MAX, None),
+// A value of a signed dimension, and the coordinate that stands for it; or a number that it doesn't have: those next to its values, and
+// the ends of 64 and of 128 bits.
+struct Signed(i128, Option<u32>);
+
+static SIGNED: &[Signed] = &[
+    Signed(-2_147_483_648, Some(0)),
+    Signed(-2_147_483_647, Some(1)),
+    Signed(-1, Some(2_147_483_647)),
+    Signed(0, Some(2_147_483_648)),
+    Signed(1, Some(2_147_483_649)),
+    Signed(2_147_483_647, Some(4_294_967_295)),
+    Signed(-2_147_483_649, None),
+    Signed(2_147_483_648, None),
+    Signed(4_294_967_295, None),
+    Signed(-9_223_372_036_854_775_808, None),
+    Signed(9_223_372_036_854_775_807, None),
+    Signed(-18_446_744_073_709_551_615, None),
+    Signed(18_446_744_073_709_551_615, None),
+    Signed(i128::MIN, None),
+    Signed(i128::MAX, None),
 ];
 
-// Whether this dimension of a table has this number, for which that coordinate stands, or doesn't have it.
-fn is_signed(schema: &Schema, dim: usize, number: i128, coordinate: Option<u32>) -> bool {
-    let is_value = match coordinate {
-        Some(coordinate) => i128::from(schema.value(dim, coordinate)) == number,
-        None => true,
-    };
-    is_value
-        & (schema.coordinate(dim, number) == coordinate)
-        & (fits(schema, dim, number) == coordinate.is_some())
-}
-
-// Whether each of the signed numbers is.
-fn are_signed(schema: &Schema) -> bool {
-    for (number, coordinate) in SIGNED {
-        if !is_signed(schema, 1, *number, *coordinate) {
-            return false;
-        }
-    }
-    true
-}
-
-// What goes wrong first of a plane, of a table of two dimensions and two measures, and of one whose second dimension is signed.
-fn first_wrong_of(plane: &Schema, table: &Schema, signed: &Schema) -> &'static str {
-    if !is_plane(plane) {
-        "a plane"
-    } else if !holds_columns(plane) {
-        "columns"
-    } else if !are_refused(*plane.name()) {
-        "two columns of a name: the count of rows, or the mask, is refused before"
-    } else if !are_read(table, &VALUES) | !are_fitted(table) {
-        "columns that are read, and numbers that fit"
-    } else if !are_read(signed, &SIGNED_VALUES) | !are_fitted(signed) {
-        "the same of a signed dimension"
-    } else if !are_signed(signed) {
-        "signed numbers"
-    } else {
-        ""
-    }
-}
-
-// What goes wrong first; no text where nothing does.
-fn first_wrong() -> &'static str {
-    if !are_texts() {
-        return "names";
-    }
-    if !are_ordered() {
-        return "keys";
-    }
-    if !are_masks() {
-        return "masks";
-    }
-    match (
-        plane(),
-        table(b"xymn", 2, 2),
-        signed_table(b"xymn", 2, 2, 2),
-    ) {
-        (Ok(first), Ok(second), Ok(third)) => first_wrong_of(&first, &second, &third),
-        _ => "tables",
+// The second dimension of a table has the number, for which that coordinate stands, or doesn't have it.
+impl Case<Schema> for Signed {
+    fn holds(&self, schema: &Schema) -> bool {
+        let is_value = match self.1 {
+            Some(coordinate) => i128::from(schema.value(1, coordinate)) == self.0,
+            None => true,
+        };
+        is_value
+            & (schema.coordinate(1, self.0) == self.1)
+            & (fits(schema, 1, self.0) == self.1.is_some())
     }
 }
 
 #[test]
-fn names_columns_schemas_rows_and_keys(rt: HostRuntime) {
-    none_wrong(&rt, first_wrong());
+fn names_and_keys(rt: HostRuntime) {
+    all_hold(&rt, "names", &(), TEXTS);
+    holds(&rt, "keys", are_ordered());
+}
+
+#[test]
+fn columns_schemas_and_rows(rt: HostRuntime) {
+    all_hold(&rt, "masks", &(), MASKS);
+    let schema = plane().expect(&rt, "a plane");
+    holds(&rt, "a plane", is_plane(&schema));
+    holds(&rt, "columns", holds_columns(&schema));
+    all_hold(&rt, "two columns of a name", schema.name(), REFUSED);
+    let schema = table(b"xymn", 2, 2).expect(&rt, "a table");
+    holds(&rt, "values that are read", are_read(&schema, &VALUES));
+    all_hold(&rt, "numbers that fit", &schema, NUMBERS);
+}
+
+#[test]
+fn signed_dimensions(rt: HostRuntime) {
+    let schema = signed_table(b"xymn", 2, 2, 2).expect(&rt, "a table");
+    holds(&rt, "values", are_read(&schema, &SIGNED_VALUES));
+    all_hold(&rt, "the same numbers fit others", &schema, NUMBERS);
+    all_hold(&rt, "signed numbers", &schema, SIGNED);
 }

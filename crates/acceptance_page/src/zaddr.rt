@@ -1,5 +1,5 @@
 // Addresses of points, and the points of addresses.
-use crate::samples::all_right;
+use crate::samples::{Case, all_hold};
 use ub_zaddr::{Point, Shape, ZFault, interleave, last, spread};
 
 // What is asked of a shape.
@@ -13,28 +13,30 @@ enum Ask {
     At(u128),
 }
 
-// Numbers of dimensions, what is asked, and the address that is answered. The last addresses have
-// all ones; what no shape, no point of a line and no address on it is, is refused.
-static ANSWERS: &[(u32, Ask, Result<u128, ZFault>)] = &[
-    (2, Ask::Of([1, 0, 0, 0], 2), Ok(2)),
-    (2, Ask::Of([0, 1, 0, 0], 2), Ok(1)),
-    (2, Ask::Of([2, 3, 0, 0], 2), Ok(13)),
-    (2, Ask::Of([3, 5, 0, 0], 2), Ok(27)),
-    (3, Ask::Of([1, 2, 3, 0], 3), Ok(29)),
-    (3, Ask::Of([0, 0, 65536, 0], 3), Ok(281474976710656)),
-    (4, Ask::Of([1, 2, 3, 4], 4), Ok(362)),
-    (
+// How many dimensions a shape has, what is asked, and the address that is answered. The last addresses have all ones; what no shape, no
+// point of a line and no address on it is, is refused.
+struct Asked(u32, Ask, Result<u128, ZFault>);
+
+static ANSWERS: &[Asked] = &[
+    Asked(2, Ask::Of([1, 0, 0, 0], 2), Ok(2)),
+    Asked(2, Ask::Of([0, 1, 0, 0], 2), Ok(1)),
+    Asked(2, Ask::Of([2, 3, 0, 0], 2), Ok(13)),
+    Asked(2, Ask::Of([3, 5, 0, 0], 2), Ok(27)),
+    Asked(3, Ask::Of([1, 2, 3, 0], 3), Ok(29)),
+    Asked(3, Ask::Of([0, 0, 65536, 0], 3), Ok(281474976710656)),
+    Asked(4, Ask::Of([1, 2, 3, 4], 4), Ok(362)),
+    Asked(
         4,
         Ask::Of([2147483648, 0, 0, 0], 4),
         Ok(170141183460469231731687303715884105728),
     ),
-    (1, Ask::Of([7, 8, 0, 0], 2), Err(ZFault::WrongCount)),
-    (1, Ask::Last, Ok(4294967295)),
-    (4, Ask::Last, Ok(340282366920938463463374607431768211455)),
-    (0, Ask::Last, Err(ZFault::BadDims)),
-    (5, Ask::Last, Err(ZFault::BadDims)),
-    (1, Ask::At(4294967295), Ok(4294967295)),
-    (1, Ask::At(4294967296), Err(ZFault::TooLarge)),
+    Asked(1, Ask::Of([7, 8, 0, 0], 2), Err(ZFault::WrongCount)),
+    Asked(1, Ask::Last, Ok(4294967295)),
+    Asked(4, Ask::Last, Ok(340282366920938463463374607431768211455)),
+    Asked(0, Ask::Last, Err(ZFault::BadDims)),
+    Asked(5, Ask::Last, Err(ZFault::BadDims)),
+    Asked(1, Ask::At(4294967295), Ok(4294967295)),
+    Asked(1, Ask::At(4294967296), Err(ZFault::TooLarge)),
 ];
 
 // What is answered; 0 where the address of a point doesn't lead back to it.
@@ -58,19 +60,13 @@ fn answer(dims: u32, ask: Ask) -> Result<u128, ZFault> {
     }
 }
 
-// How many of the answers are right, up to the first that isn't.
-fn answers_right() -> usize {
-    let mut right = 0usize;
-    for (dims, ask, wanted) in ANSWERS {
-        if answer(*dims, *ask) != *wanted {
-            return right;
-        }
-        right = right.wrapping_add(1);
+impl Case<()> for Asked {
+    fn holds(&self, _: &()) -> bool {
+        answer(self.0, self.1) == self.2
     }
-    right
 }
 
 #[test]
 fn points_and_their_addresses(rt: HostRuntime) {
-    all_right(&rt, answers_right(), ANSWERS.len());
+    all_hold(&rt, "what is asked of shapes", &(), ANSWERS);
 }
