@@ -2,6 +2,7 @@
 ghost use Rattle.std.specs.Prelude.{◌≡◌, IfOk, length};
 ghost use Rattle.std.specs.List.{AllByRecursion};
 
+use crate::cases::{Case, all_hold};
 use std::alloc::{AllocError, Global};
 use ub_answer::Cells;
 use ub_query::Cell;
@@ -52,28 +53,28 @@ fn rows(alloc: Global, first: u8) -> Result<Cells, AllocError>
 
 // The number of the first row of two, or 0, that of the first row of those that are put after them, or 0, a limit, and the rows that stand
 // then: as many of them as the limit says, also where it is in the rows that there were.
-static CASES: [(u8, u8, Option<u64>, &[u8]); 7] = [
-    (1, 3, None, &[1, 2, 3, 4]),
-    (1, 3, Some(5), &[1, 2, 3, 4]),
-    (1, 3, Some(3), &[1, 2, 3]),
-    (1, 3, Some(1), &[1]),
-    (1, 3, Some(0), &[]),
-    (1, 0, None, &[1, 2]),
-    (0, 3, Some(3), &[3, 4]),
+struct Limited(u8, u8, Option<u64>, &'static [u8]);
+
+static LIMITED: &[Limited] = &[
+    Limited(1, 3, None, &[1, 2, 3, 4]),
+    Limited(1, 3, Some(5), &[1, 2, 3, 4]),
+    Limited(1, 3, Some(3), &[1, 2, 3]),
+    Limited(1, 3, Some(1), &[1]),
+    Limited(1, 3, Some(0), &[]),
+    Limited(1, 0, None, &[1, 2]),
+    Limited(0, 3, Some(3), &[3, 4]),
 ];
 
-// Whether these rows stand then.
-fn are_first(alloc: Global, first: u8, second: u8, limit: Option<u64>, numbers: &[u8]) -> bool {
-    let (Ok(mut cells), Ok(more)) = (rows(alloc, first), rows(alloc, second)) else {
-        return false;
-    };
-    extend(&mut cells, &more, limit).is_ok() & has(&cells, numbers)
+impl Case for Limited {
+    fn holds(&self, alloc: Global) -> bool {
+        let (Ok(mut cells), Ok(more)) = (rows(alloc, self.0), rows(alloc, self.1)) else {
+            return false;
+        };
+        extend(&mut cells, &more, self.2).is_ok() & has(&cells, self.3)
+    }
 }
 
 #[test]
 fn puts_rows_as_far_as_the_limit_goes(rt: HostRuntime) {
-    for (i, (first, second, limit, numbers)) in CASES.iter().enumerate() {
-        let is_so = are_first(rt.alloc(), *first, *second, *limit, numbers);
-        assert!(rt; is_so, "case {i}");
-    }
+    all_hold(&rt, rt.alloc(), "limits", LIMITED);
 }

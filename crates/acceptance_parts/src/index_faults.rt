@@ -112,24 +112,31 @@ fn leads(trial: &mut Trial, pages: Pages) -> bool {
     trial.answer(&Step::Lead(pages)) == Answer::Done
 }
 
+impl Made {
+    // Whether the step is answered so where this call of the store fails, the first of them being 1, or none for 0: if it is one of the
+    // step's, the fault comes, and then the same step does it.
+    fn is_made(&self, trial: &mut Trial, case: &Case, due: u64) -> bool {
+        let mut answer = trial.answer(&self.0);
+        if due != 0 && due <= self.2 {
+            if answer != DEVICE || (due <= self.3 && !leads(trial, case.before)) {
+                return false;
+            }
+            answer = trial.answer(&self.0);
+        }
+        answer == self.1
+    }
+}
+
 // Whether a case goes so over a store that fails at this call, or at the first after all that the steps make.
 fn goes_over(trial: &mut Trial, case: &Case, due: u64) -> bool {
     trial.answer(&Step::Store(case.pages, due, 4));
     let mut left = due;
-    for Made(step, wanted, calls, kept) in case.steps {
-        let mut answer = trial.answer(step);
-        if left != 0 && left <= *calls {
-            if answer != DEVICE || (left <= *kept && !leads(trial, case.before)) {
-                return false;
-            }
-            // A store fails once.
-            answer = trial.answer(step);
-            left = 0;
-        }
-        if answer != *wanted {
+    for made in case.steps {
+        if !made.is_made(trial, case, left) {
             return false;
         }
-        left = left.saturating_sub(*calls);
+        // A store fails once.
+        left = left.saturating_sub(made.2);
     }
     leads(trial, case.after) || (left != 0 && leads(trial, case.after))
 }

@@ -110,9 +110,9 @@ fn is_left(trial: &mut Trial, left: u32) -> bool {
 
 // The root of the regions that are left: the lowest that leads to all of them; and its level.
 fn root_over(left: u32) -> Answer {
-    for (level, root, count) in &LEVELS {
-        if left.wrapping_shr(*count) == 0 {
-            return Answer::Root(*root, *level);
+    for level in &LEVELS {
+        if left.wrapping_shr(level.2) == 0 {
+            return Answer::Root(level.1, level.0);
         }
     }
     Answer::Wrong

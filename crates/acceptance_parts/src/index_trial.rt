@@ -170,8 +170,8 @@ impl Trial {
     // How many of these steps are answered so, up to the first wrong one.
     fn count_right(&mut self, steps: &[(Step, Answer)]) -> u64 {
         let mut right = 0u64;
-        for (step, wanted) in steps {
-            if self.answer(step) != *wanted {
+        for asked in steps {
+            if self.answer(&asked.0) != asked.1 {
                 return right;
             }
             right = right.saturating_add(1);

@@ -1,13 +1,16 @@
 // How sources are cut into tokens.
+use crate::cases::{Case, all_hold};
 use std::alloc::Global;
 use ub_lexer::{Token, TokenKind, lex};
 
 // A token: its kind, where it begins, and where it ends.
 type Cut = (TokenKind, usize, usize);
 
-// Sources, and the tokens into which they are cut.
-static SOURCES: &[(&[u8], &[Cut])] = &[
-    (
+// A source, and the tokens into which it is cut.
+struct Source(&'static [u8], &'static [Cut]);
+
+static SOURCES: &[Source] = &[
+    Source(
         b"SELECT * FROM t WHERE x BETWEEN 2 AND 3;",
         &[
             (TokenKind::Word, 0, 6),
@@ -24,7 +27,7 @@ static SOURCES: &[(&[u8], &[Cut])] = &[
         ],
     ),
     // The longest token is taken.
-    (
+    Source(
         b"12ab a<=b!=c<>d",
         &[
             (TokenKind::Number, 0, 2),
@@ -39,7 +42,7 @@ static SOURCES: &[(&[u8], &[Cut])] = &[
         ],
     ),
     // Comments are left out.
-    (
+    Source(
         b"x--y\nz -1 - -1--",
         &[
             (TokenKind::Word, 0, 1),
@@ -52,7 +55,7 @@ static SOURCES: &[(&[u8], &[Cut])] = &[
         ],
     ),
     // Each other byte is bad.
-    (
+    Source(
         b"!\0\xff",
         &[
             (TokenKind::Bad, 0, 1),
@@ -76,17 +79,16 @@ fn are(tokens: &[Token], wanted: &[Cut]) -> bool {
     true
 }
 
-// Whether a source is cut into these tokens.
-fn is_cut(alloc: Global, source: &[u8], wanted: &[Cut]) -> bool {
-    match lex(alloc, source) {
-        Ok(tokens) => are(tokens.as_slice(), wanted),
-        Err(_) => false,
+impl Case for Source {
+    fn holds(&self, alloc: Global) -> bool {
+        match lex(alloc, self.0) {
+            Ok(tokens) => are(tokens.as_slice(), self.1),
+            Err(_) => false,
+        }
     }
 }
 
 #[test]
 fn cuts_sources_into_tokens(rt: HostRuntime) {
-    for (i, (source, wanted)) in SOURCES.iter().enumerate() {
-        assert!(rt; is_cut(rt.alloc(), source, wanted), "source {i}");
-    }
+    all_hold(&rt, rt.alloc(), "sources", SOURCES);
 }

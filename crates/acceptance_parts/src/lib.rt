@@ -12,6 +12,8 @@ mod answer;
 #[cfg(test)]
 mod boxes;
 #[cfg(test)]
+mod cases;
+#[cfg(test)]
 mod index_changes;
 #[cfg(test)]
 mod index_faults;

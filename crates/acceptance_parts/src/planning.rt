@@ -1,14 +1,9 @@
 // The plan of a query that no statement asks.
+use crate::cases::table;
 use std::alloc::{AllocError, Global};
 use ub_planning::{Kind, plan};
 use ub_query::{Item, Items, Query, SortKey};
-use ub_table::{Name, PageFault, Schema};
-
-// A table of two dimensions, x and y, and one measure.
-fn plane() -> Result<Schema, PageFault> {
-    let columns = [Name::new(b"x")?, Name::new(b"y")?, Name::new(b"m")?];
-    Schema::new(Name::new(b"t")?, &columns, 2, 2, 0)
-}
+use ub_table::Schema;
 
 // SELECT COUNT(*) FROM t ORDER BY x.
 fn counted(alloc: Global) -> Result<Query, AllocError> {
@@ -45,6 +40,6 @@ fn is_count_scanned(alloc: Global, schema: &Schema) -> bool {
 
 #[test]
 fn a_count_is_scanned_in_any_order(rt: HostRuntime) {
-    let schema = plane().expect(&rt, "a table");
+    let schema = table(b"xym", 2, 0).expect(&rt, "a table");
     assert!(rt; is_count_scanned(rt.alloc(), &schema));
 }

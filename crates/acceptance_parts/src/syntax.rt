@@ -1,4 +1,7 @@
 // The syntax that is built of statements, and a symbol that no statement has.
+ghost use Rattle.ub_lexer.specs.Tokens.{AreSpelled};
+
+use crate::cases::{Case, all_hold};
 use std::alloc::{AllocError, Global};
 use ub_lexer::{Token, TokenKind, lex};
 use ub_syntax::{
@@ -57,31 +60,34 @@ fn is_insert(insertion: &Insertion) -> bool {
             },
         },
     ];
-    insertion.table == word(12, 13)
-        && insertion.values.as_slice() == values.as_slice()
-        && insertion.close.from == 28
+    (insertion.table == word(12, 13))
+        & (insertion.values.as_slice() == values.as_slice())
+        & (insertion.close.from == 28)
+}
+
+// Whether it takes all of a table, by its * or DELETE, with a condition or without one, and says no more.
+fn takes_all(syntax: &Syntax, all: Token, table: Token, has_filter: bool) -> bool {
+    matches!(&syntax.selection, Selection::All(token) if *token == all)
+        & (syntax.table == table)
+        & (syntax.filter.is_some() == has_filter)
+        & syntax.group.as_slice().is_empty()
+        & syntax.order.as_slice().is_empty()
+        & syntax.limit.is_none()
 }
 
 // Whether it is that of DELETE FROM t, with a condition or without one.
 fn is_delete(syntax: &Syntax, has_filter: bool) -> bool {
-    !syntax.is_explained
-        && matches!(&syntax.selection, Selection::All(delete) if *delete == word(0, 6))
-        && syntax.table == word(12, 13)
-        && syntax.filter.is_some() == has_filter
-        && syntax.group.as_slice().is_empty()
-        && syntax.order.as_slice().is_empty()
-        && syntax.limit.is_none()
+    !syntax.is_explained & takes_all(syntax, word(0, 6), word(12, 13), has_filter)
 }
 
 // Whether it is that of EXPLAIN SELECT * FROM t.
 fn is_least(syntax: &Syntax) -> bool {
-    syntax.is_explained
-        && matches!(&syntax.selection, Selection::All(star) if star.from == 15)
-        && syntax.table == word(22, 23)
-        && syntax.filter.is_none()
-        && syntax.group.as_slice().is_empty()
-        && syntax.order.as_slice().is_empty()
-        && syntax.limit.is_none()
+    let star = Token {
+        kind: TokenKind::Star,
+        from: 15,
+        to: 16,
+    };
+    syntax.is_explained & takes_all(syntax, star, word(22, 23), false)
 }
 
 // Whether the items are COUNT(*) at 7 and SUM(m) at 17.
@@ -111,10 +117,10 @@ fn are_keys(order: &[OrderKey]) -> bool {
 // Whether it is a statement with each list.
 fn has_lists(syntax: &Syntax) -> bool {
     !syntax.is_explained
-        && are_items(&syntax.selection)
-        && syntax.group.as_slice() == [word(40, 41), word(43, 44)].as_slice()
-        && are_keys(syntax.order.as_slice())
-        && matches!(&syntax.limit, Some(limit) if limit.from == 77)
+        & are_items(&syntax.selection)
+        & (syntax.group.as_slice() == [word(40, 41), word(43, 44)].as_slice())
+        & are_keys(syntax.order.as_slice())
+        & matches!(&syntax.limit, Some(limit) if limit.from == 77)
 }
 
 // Whether it is (a=1 OR ((b=2 AND c=3) AND ((d=4 OR e=5) OR NOT NOT f=6))), as far as AND and OR go.
@@ -143,19 +149,22 @@ enum Built {
     Delete(bool),
 }
 
-static BUILT: [(&[u8], Built); 6] = [
-    (b"EXPLAIN SELECT * FROM t", Built::Least),
-    (
+// A source, and what its syntax is to be.
+struct Source(&'static [u8], Built);
+
+static BUILT: &[Source] = &[
+    Source(b"EXPLAIN SELECT * FROM t", Built::Least),
+    Source(
         b"SELECT COUNT(*), SUM(m) FROM t GROUP BY x, y ORDER BY x DESC, COUNT(*) LIMIT 5",
         Built::Lists,
     ),
-    (
+    Source(
         b"select * from t where a=1 or b=2 and c=3 and(d=4 or e=5 or not not f=6)",
         Built::Grouped,
     ),
-    (b"INSERT INTO t VALUES (10, -2)", Built::Insert),
-    (b"delete from t", Built::Delete(false)),
-    (
+    Source(b"INSERT INTO t VALUES (10, -2)", Built::Insert),
+    Source(b"delete from t", Built::Delete(false)),
+    Source(
         b"DELETE FROM t WHERE x = 1 OR NOT y = 2",
         Built::Delete(true),
     ),
@@ -176,57 +185,60 @@ fn is_so(sentence: &Sentence, built: Built) -> bool {
     }
 }
 
-// Whether the syntax that is built of a source is so.
-fn is_built(alloc: Global, source: &[u8], built: Built) -> bool {
-    match sentence_of(alloc, source) {
-        Ok(Some(sentence)) => is_so(&sentence, built),
-        _ => false,
+impl Case for Source {
+    fn holds(&self, alloc: Global) -> bool {
+        match sentence_of(alloc, self.0) {
+            Ok(Some(sentence)) => is_so(&sentence, self.1),
+            _ => false,
+        }
     }
 }
 
 #[test]
 fn statements_have_their_syntax(rt: HostRuntime) {
-    for (i, case) in BUILT.iter().enumerate() {
-        assert!(rt; is_built(rt.alloc(), case.0, case.1), "statement {i}");
-    }
+    all_hold(&rt, rt.alloc(), "statements", BUILT);
 }
 
-// The verdict on a source of one statement, if it has a token.
-fn verdict_on(alloc: Global, source: &[u8]) -> Result<Option<Verdict>, AllocError> {
-    let tokens = lex(alloc, source)?;
-    let tokens = tokens.as_slice();
-    if tokens.is_empty() {
-        return Ok(None);
-    }
-    Ok(Some(recognise(alloc, source, tokens)?))
-}
+// What an INSERT or a DELETE doesn't have, which is refused where it stands: a source, and this byte.
+struct Refused(&'static [u8], usize);
 
-// What an INSERT and a DELETE don't have is refused where it stands.
-static REFUSED: [(&[u8], usize); 9] = [
-    (b"EXPLAIN DELETE FROM t", 8),
-    (b"EXPLAIN INSERT INTO t VALUES (1)", 8),
-    (b"DELETE FROM t GROUP BY x", 14),
-    (b"DELETE FROM t LIMIT 1", 14),
-    (b"DELETE FROM t WHERE x = 1 ORDER BY x", 26),
-    (b"INSERT INTO t VALUES ()", 22),
-    (b"INSERT INTO t VALUES (1, )", 25),
-    (b"INSERT INTO t VALUES (1", 23),
-    (b"INSERT INTO t VALUES (1), (2)", 24),
+static REFUSED: &[Refused] = &[
+    Refused(b"EXPLAIN DELETE FROM t", 8),
+    Refused(b"EXPLAIN INSERT INTO t VALUES (1)", 8),
+    Refused(b"DELETE FROM t GROUP BY x", 14),
+    Refused(b"DELETE FROM t LIMIT 1", 14),
+    Refused(b"DELETE FROM t WHERE x = 1 ORDER BY x", 26),
+    Refused(b"INSERT INTO t VALUES ()", 22),
+    Refused(b"INSERT INTO t VALUES (1, )", 25),
+    Refused(b"INSERT INTO t VALUES (1", 23),
+    Refused(b"INSERT INTO t VALUES (1), (2)", 24),
 ];
 
-// Whether a source is refused at this byte.
-fn is_refused(alloc: Global, source: &[u8], at: usize) -> bool {
-    match verdict_on(alloc, source) {
-        Ok(verdict) => verdict == Some(Verdict::Syntax { at }),
+// Whether tokens of a source, of which there are some, are refused at this byte.
+fn is_refused(alloc: Global, source: &[u8], tokens: &[Token], at: usize) -> bool
+    requires { AreSpelled source.now tokens.now }
+{
+    if tokens.is_empty() {
+        return false;
+    }
+    match recognise(alloc, source, tokens) {
+        Ok(verdict) => verdict == Verdict::Syntax { at },
         Err(_) => false,
+    }
+}
+
+impl Case for Refused {
+    fn holds(&self, alloc: Global) -> bool {
+        match lex(alloc, self.0) {
+            Ok(tokens) => is_refused(alloc, self.0, tokens.as_slice(), self.1),
+            Err(_) => false,
+        }
     }
 }
 
 #[test]
 fn refuses_other_changes(rt: HostRuntime) {
-    for (source, at) in &REFUSED {
-        assert!(rt; is_refused(rt.alloc(), source, *at), "at {at}");
-    }
+    all_hold(&rt, rt.alloc(), "changes", REFUSED);
 }
 
 // Whether no part of a source is one too many.
