@@ -132,25 +132,26 @@ fn join(region: &mut RegionPage, next: &RegionPage, page_rows: u32) -> bool {
 }
 
 // Whether the rows of these places are split so where the one at this index is put in among the others. The region of the right half was
-// another one before.
-fn are_halves(shape: Shape, halves: &Halves, index: usize) -> bool {
+// one of another space before.
+fn are_halves(shape: Shape, other: Shape, halves: &Halves, index: usize) -> bool {
     let places = halves.0;
     let count = halves.1.min(places.len());
     if places.len() <= index {
         return false;
     }
     let mut left = region_of(shape, places);
-    let mut right = region_of(shape, FOUR);
+    let mut right = region_of(other, FOUR);
     take_out(&mut left, index)
         & split(&mut left, index, &sample(places[index]).0, &mut right)
         & is_region(&left, ORIGIN, &places[..count])
         & is_region(&right, halves.2, &places[count..])
 }
 
-impl Case<Shape> for Halves {
-    fn holds(&self, shape: &Shape) -> bool {
+// In a space, beside another one.
+impl Case<[Shape; 2]> for Halves {
+    fn holds(&self, shapes: &[Shape; 2]) -> bool {
         for index in 0..self.0.len() {
-            if !are_halves(*shape, self, index) {
+            if !are_halves(shapes[0], shapes[1], self, index) {
                 return false;
             }
         }
@@ -450,11 +451,11 @@ static APPENDED: &[Calls] = &[Calls(&[
 #[test]
 fn rows_are_put_in_and_taken_out(rt: HostRuntime) {
     let shape = Shape::new(4).expect(&rt, "four dimensions");
-    all_hold(&rt, "halves of a page and a row", &shape, HALVES);
+    let line = Shape::new(1).expect(&rt, "one dimension");
+    all_hold(&rt, "halves of a page and a row", &[shape, line], HALVES);
     all_hold(&rt, "halves of a half", &shape, SPLIT_AGAIN);
     all_hold(&rt, "rows taken out and put in", &shape, TAKEN_OUT);
     all_hold(&rt, "few rows, and few rows joined", &shape, FEW);
     all_hold(&rt, "rows appended", &shape, APPENDED);
-    let line = Shape::new(1).expect(&rt, "one dimension");
     all_hold(&rt, "halves of a full page", &line, FULL);
 }
