@@ -33,12 +33,12 @@ fn has(cells: &Cells, numbers: &[u8]) -> bool {
     true
 }
 
-// Puts rows of two cells after such ones.
-fn extend(cells: &mut Cells, more: &Cells, limit: Option<u64>) -> Result<(), AllocError>
+// Whether there are just these rows once rows of two cells are put after such ones.
+fn extend(cells: &mut Cells, more: &Cells, limit: Option<u64>, numbers: &[u8]) -> bool
     requires cells { AllByRecursion (λ cells. length cells ≡ 2) cells.old }
     requires more { AllByRecursion (λ cells. length cells ≡ 2) more.now }
 {
-    cells.extend(more, limit)
+    cells.extend(more, limit).is_ok() & has(cells, numbers)
 }
 
 // Those two rows, the second of which has the next number, or none where the first number is 0.
@@ -67,10 +67,10 @@ static LIMITED: &[Limited] = &[
 
 impl Case for Limited {
     fn holds(&self, alloc: Global) -> bool {
-        let (Ok(mut cells), Ok(more)) = (rows(alloc, self.0), rows(alloc, self.1)) else {
-            return false;
-        };
-        extend(&mut cells, &more, self.2).is_ok() & has(&cells, self.3)
+        match (rows(alloc, self.0), rows(alloc, self.1)) {
+            (Ok(mut cells), Ok(more)) => extend(&mut cells, &more, self.2, self.3),
+            _ => false,
+        }
     }
 }
 

@@ -1,7 +1,7 @@
 // The boxes of conditions, where they are many, and of a signed dimension; and how many points they have.
 use crate::cases::{Case, all_hold, table};
 use std::alloc::{AllocError, Global};
-use ub_boxes::{boxes, points, total};
+use ub_boxes::{Cover, boxes, points, total};
 use ub_query::{Cond, Operator};
 use ub_table::Schema;
 
@@ -210,17 +210,20 @@ static COVERED: &[Covered] = &[
     ),
 ];
 
-// Whether the boxes of a condition are so many, have so many points, and say all of it.
+// Whether a cover has so many boxes and points, and says all of its condition.
+fn is_cover(cover: &Cover, case: &Covered) -> bool {
+    (cover.boxes().len() == case.3)
+        & (total(cover.boxes().get(1..).unwrap_or(&[])) == Some(case.4))
+        & (total(cover.boxes()) == case.5)
+        & (points(cover) == case.5)
+        & cover.is_exact()
+        & !cover.is_wide()
+}
+
+// Whether the boxes of a condition are such a one.
 fn is_covered(alloc: Global, filter: Option<&Cond>, schema: &Schema, case: &Covered) -> bool {
     match boxes(alloc, filter, schema) {
-        Ok(cover) => {
-            (cover.boxes().len() == case.3)
-                & (total(cover.boxes().get(1..).unwrap_or(&[])) == Some(case.4))
-                & (total(cover.boxes()) == case.5)
-                & (points(&cover) == case.5)
-                & cover.is_exact()
-                & !cover.is_wide()
-        }
+        Ok(cover) => is_cover(&cover, case),
         Err(_) => false,
     }
 }

@@ -132,15 +132,20 @@ pub(crate) fn goes(rt: &impl Abort, alloc: Global, shown: &str, play: Play) {
     assert!(rt; right == size_of(play), "{shown}: {right} were right");
 }
 
-// How many parts of a play are right, up to the first wrong one.
-fn right_of(alloc: Global, play: Play) -> u64 {
-    let mut trial = Trial::new(alloc);
+// How many parts of a play on a trial are right, up to the first wrong one.
+fn right_on(trial: &mut Trial, play: Play) -> u64 {
     match play {
         Play::Steps(steps) => trial.count_right(steps),
-        Play::Damages(damages) => count_told(&mut trial, damages),
-        Play::Drops(level) => orders_right(&mut trial, level),
-        Play::Calls(case) => calls_right(&mut trial, case),
+        Play::Damages(damages) => count_told(trial, damages),
+        Play::Drops(level) => orders_right(trial, level),
+        Play::Calls(case) => calls_right(trial, case),
     }
+}
+
+// The same on a new one.
+fn right_of(alloc: Global, play: Play) -> u64 {
+    let mut trial = Trial::new(alloc);
+    right_on(&mut trial, play)
 }
 
 // How many parts a play has.

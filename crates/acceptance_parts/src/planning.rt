@@ -1,7 +1,7 @@
 // The plan of a query that no statement asks.
 use crate::cases::table;
 use std::alloc::{AllocError, Global};
-use ub_planning::{Kind, plan};
+use ub_planning::{Kind, Plan, plan};
 use ub_query::{Item, Items, Query, SortKey};
 use ub_table::Schema;
 
@@ -22,10 +22,15 @@ fn counted(alloc: Global) -> Result<Query, AllocError> {
     })
 }
 
+// Whether a plan is a scan.
+fn is_scan(plan: &Plan) -> bool {
+    matches!(plan.kind(), Kind::Scan)
+}
+
 // Whether a query of a table is scanned.
 fn is_scanned(alloc: Global, query: &Query, schema: &Schema) -> bool {
     match plan(alloc, query, schema) {
-        Ok(plan) => matches!(plan.kind(), Kind::Scan),
+        Ok(plan) => is_scan(&plan),
         Err(_) => false,
     }
 }
