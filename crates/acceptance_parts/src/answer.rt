@@ -65,11 +65,23 @@ static LIMITED: &[Limited] = &[
     Limited(0, 3, Some(3), &[3, 4]),
 ];
 
+impl Limited {
+    // Whether these rows stand once the second ones are put after the first.
+    fn stands(&self, alloc: Global, cells: &mut Cells) -> bool
+        requires { AllByRecursion (λ cells. length cells ≡ 2) cells.old }
+    {
+        match rows(alloc, self.1) {
+            Ok(more) => extend(cells, &more, self.2, self.3),
+            Err(_) => false,
+        }
+    }
+}
+
 impl Case for Limited {
     fn holds(&self, alloc: Global) -> bool {
-        match (rows(alloc, self.0), rows(alloc, self.1)) {
-            (Ok(mut cells), Ok(more)) => extend(&mut cells, &more, self.2, self.3),
-            _ => false,
+        match rows(alloc, self.0) {
+            Ok(mut cells) => self.stands(alloc, &mut cells),
+            Err(_) => false,
         }
     }
 }

@@ -231,9 +231,12 @@ fn is_covered(alloc: Global, filter: Option<&Cond>, schema: &Schema, case: &Cove
 impl Case for Covered {
     fn holds(&self, alloc: Global) -> bool {
         let dims = self.0.len().min(4) as u32;
-        match (table(self.0, dims, self.1), filter_of(alloc, self.2)) {
-            (Ok(schema), Ok(filter)) => is_covered(alloc, filter.as_ref(), &schema, self),
-            _ => false,
+        let Ok(schema) = table(self.0, dims, self.1) else {
+            return false;
+        };
+        match filter_of(alloc, self.2) {
+            Ok(filter) => is_covered(alloc, filter.as_ref(), &schema, self),
+            Err(_) => false,
         }
     }
 }

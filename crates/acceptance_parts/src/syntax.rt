@@ -185,11 +185,19 @@ fn is_so(sentence: &Sentence, built: Built) -> bool {
     }
 }
 
+// Whether there is a sentence, and it is so.
+fn is_there(sentence: Option<&Sentence>, built: Built) -> bool {
+    match sentence {
+        Some(sentence) => is_so(sentence, built),
+        None => false,
+    }
+}
+
 impl Case for Source {
     fn holds(&self, alloc: Global) -> bool {
         match sentence_of(alloc, self.0) {
-            Ok(Some(sentence)) => is_so(&sentence, self.1),
-            _ => false,
+            Ok(sentence) => is_there(sentence.as_ref(), self.1),
+            Err(_) => false,
         }
     }
 }
