@@ -51,13 +51,18 @@ pub(crate) fn answers<S: PageStore>(store: &mut S, calls: &[(Call, Answer)]) -> 
 // What becomes of a store: it answers these calls so, or there is none for this fault.
 pub(crate) type Made = Result<&'static [(Call, Answer)], StoreFault>;
 
+// Whether a store answers its calls so, where there is to be one.
+pub(crate) fn is_such<S: PageStore>(store: &mut S, wanted: Made) -> bool {
+    match wanted {
+        Ok(calls) => answers(store, calls),
+        Err(_) => false,
+    }
+}
+
 // Whether a store that is made is such a one.
 pub(crate) fn made_answers<S: PageStore>(made: Result<S, StoreFault>, wanted: Made) -> bool {
     match made {
-        Ok(mut store) => match wanted {
-            Ok(calls) => answers(&mut store, calls),
-            Err(_) => false,
-        },
+        Ok(mut store) => is_such(&mut store, wanted),
         Err(fault) => wanted.err() == Some(fault),
     }
 }

@@ -3,7 +3,7 @@
 ghost use Rattle.std.specs.Prelude.{◌≡◌, ◌<◌, IfOk};
 ghost use Rattle.ub_store.specs.Facts.{IsHonest};
 
-use crate::calls::{Answer, Call, Made, answers, byte_of, made_answers};
+use crate::calls::{Answer, Call, Made, byte_of, is_such, made_answers};
 use crate::samples::{Case, all_hold, holds};
 use std::alloc::{Alloc, Global};
 use std::os::unix::fs::FileExt;
@@ -119,23 +119,16 @@ fn store_on<M: Medium>(medium: M, is_created: bool) -> Result<FileStore<M>, Stor
     }
 }
 
-// Whether a store answers these calls so, and this is left of its medium: another store that answers calls so, or why it is none.
-fn answers_and_leaves<M: Medium>(
-    store: FileStore<M>,
-    calls: &[(Call, Answer)],
-    left: Made,
-) -> bool {
+// Whether a store is such a one, and this is left of its medium: another store that answers calls so, or why it is none.
+fn leaves<M: Medium>(store: FileStore<M>, calls: Made, left: Made) -> bool {
     let mut store = store;
-    answers(&mut store, calls) & made_answers(store_on(store.into_medium(), false), left)
+    is_such(&mut store, calls) & made_answers(store_on(store.into_medium(), false), left)
 }
 
 // Whether a store that is made is such a one, or there is none for this fault.
 fn is_played<M: Medium>(made: Result<FileStore<M>, StoreFault>, calls: Made, left: Made) -> bool {
     match made {
-        Ok(store) => match calls {
-            Ok(calls) => answers_and_leaves(store, calls, left),
-            Err(_) => false,
-        },
+        Ok(store) => leaves(store, calls, left),
         Err(fault) => calls.err() == Some(fault),
     }
 }
@@ -343,6 +336,16 @@ fn write_and_read<M: Medium>(
     store.read_page(n)
 }
 
+// Whether page 1 is written and read.
+fn is_kept<M: Medium>(store: &mut FileStore<M>) -> bool
+    requires { IsHonest (M.facts store.old) }
+{
+    match write_and_read(store, 1, &[7; 4096]) {
+        Ok(page) => byte_of(&page) == 7,
+        Err(_) => false,
+    }
+}
+
 // What the store of two pages answers then.
 const GIVEN_BACK: &[(Call, Answer)] = &[(Call::Pages, Ok(2)), (Call::Read(1), Ok(7))];
 
@@ -354,11 +357,7 @@ fn is_given_back(alloc: Global) -> bool {
     let Ok(mut store) = FileStore::open(zeros) else {
         return false;
     };
-    let is_read = match write_and_read(&mut store, 1, &[7; 4096]) {
-        Ok(page) => byte_of(&page) == 7,
-        Err(_) => false,
-    };
-    is_read & made_answers(store_on(store.into_medium(), false), Ok(GIVEN_BACK))
+    is_kept(&mut store) & made_answers(store_on(store.into_medium(), false), Ok(GIVEN_BACK))
 }
 
 // Whole pages alone are taken, calls are answered, and the medium is given back.
@@ -463,7 +462,7 @@ fn is_filled(rt: &impl Files, path: &str, count: usize) -> bool {
 // Whether a store that comes to the file is one, or refused, as is wanted.
 fn are_made<S: PageStore>(made: Result<S, Refusal>, wanted: Made) -> bool {
     match made {
-        Ok(store) => made_answers(Ok(store), wanted),
+        Ok(mut store) => is_such(&mut store, wanted),
         Err(refusal) => wanted.err() == Some(refusal.fault),
     }
 }
@@ -484,10 +483,15 @@ where
     is_cut & are_made(store, wanted)
 }
 
-// Whether a file holds a page of zeros and one of the byte 65.
+// Whether these are a page of zeros and one of the byte 65.
+fn are_two_pages(bytes: &[u8]) -> bool {
+    bytes.len() == 8192 && bytes[4095] == 0 && bytes[4096] == 65
+}
+
+// Whether a file holds them.
 fn holds_two_pages<R: Files + Alloc>(rt: &R, path: &str) -> bool {
     match fs::read(rt, path) {
-        Ok(bytes) => bytes.len() == 8192 && bytes[4095] == 0 && bytes[4096] == 65,
+        Ok(bytes) => are_two_pages(bytes.as_slice()),
         Err(_) => false,
     }
 }

@@ -336,13 +336,18 @@ fn brings_at_last<S: PageStore>(pager: &mut Pager<S>) -> Result<bool, StoreFault
     }
 }
 
-// The same of a pager that is made, once it has brought another one.
-fn brings_both<S: PageStore>(made: Result<Pager<S>, StoreFault>) -> Result<bool, StoreFault> {
+// The same once another page is brought.
+fn brings_both<S: PageStore>(pager: &mut Pager<S>) -> Result<bool, StoreFault> {
+    match done(pager, Deed::Region(0)) {
+        Ok(_) => brings_at_last(pager),
+        Err(fault) => Err(fault),
+    }
+}
+
+// The same of a pager that is made.
+fn brings_all<S: PageStore>(made: Result<Pager<S>, StoreFault>) -> Result<bool, StoreFault> {
     match made {
-        Ok(mut pager) => match done(&mut pager, Deed::Region(0)) {
-            Ok(_) => brings_at_last(&mut pager),
-            Err(fault) => Err(fault),
-        },
+        Ok(mut pager) => brings_both(&mut pager),
         Err(fault) => Err(fault),
     }
 }
@@ -351,6 +356,6 @@ fn brings_both<S: PageStore>(made: Result<Pager<S>, StoreFault>) -> Result<bool,
 // `tests/store_allocations.sh` makes each allocation of this test fail in turn.
 #[test]
 fn notes_a_page_that_memory_is_refused_for(rt: HostRuntime) -> Result<(), Fail> {
-    assert!(rt; brings_both(three_in_memory(rt.alloc(), 0))?);
+    assert!(rt; brings_all(three_in_memory(rt.alloc(), 0))?);
     Ok(())
 }
