@@ -1,11 +1,11 @@
-ghost use Rattle.std.specs.Prelude.{ℕ, length, IfSome};
+ghost use Rattle.std.specs.Prelude.{◌<◌, ℕ, length, IfSome};
 ghost use Rattle.ub_query.specs.Posed.{IsPosed};
 ghost use Rattle.ub_query.specs.Shape.{asked};
 
 use crate::reply::{NONE, UNKNOWN, release};
 use crate::told::Told;
 use std::alloc::{AllocError, Global};
-use ub_exec::{Answer, delete, execute};
+use ub_exec::{Answer, ResultSet, delete, execute};
 use ub_lexer::lex;
 use ub_parser::{Statement, parse};
 use ub_plan::explain;
@@ -104,17 +104,19 @@ fn answered(answer: &Answer, told: &mut Told) {
     if count < 9 {
         for i in 0..count {
             told.put(if i == 0 { ": " } else { " " });
-            cells(rows.row(i), told);
+            cells(rows, i, told);
         }
     }
 }
 
 // The cells of a row, with commas between them.
-fn cells(cells: &[Cell], told: &mut Told) {
-    for (i, cell) in cells.iter().enumerate() {
-        told.put(if i == 0 { "" } else { "," });
-        if let Cell::Number(number) = cell {
-            told.signed(*number);
+fn cells(rows: &ResultSet, index: usize, told: &mut Told)
+    requires { index < length rows.now }
+{
+    for place in 0..rows.width() {
+        told.put(if place == 0 { "" } else { "," });
+        if let Cell::Number(number) = rows.cell(index, place) {
+            told.signed(number);
         }
     }
 }
