@@ -8,14 +8,8 @@ ghost use Rattle.ub_journal.specs.Place.{IsHonest};
 use crate::disk::{Case, Disk, NONE, TORN, WHOLE};
 use crate::pages::{BACK_NEW, FRONT_NEW, GARBAGE, MARKED, MISMARKED, NEW, OLD, ZEROS, page_of};
 use std::alloc::{AllocError, Global};
+use std::mem;
 use ub_journal::{Change, Deed, Journal, Place, TornPlace, commit, heal, is_journal};
-
-// What was seen so far: how many images, and how many of them were healed.
-#[derive(Clone, Copy)]
-struct Tally {
-    images: u64,
-    healed: u64,
-}
 
 // The journal of a case.
 fn journal_of(alloc: Global, case: &Case) -> Result<Journal, AllocError> {
@@ -79,6 +73,35 @@ impl Disks {
     }
 }
 
+// What was seen so far: how many images, and how many of them were healed; those with a journal, which are to be healed; and whether
+// the images that were seen last are the new table alone, but for a draft.
+#[derive(Drop)]
+struct Seen {
+    images: u64,
+    healed: u64,
+    found: Disks,
+    is_new: bool,
+}
+
+impl Seen {
+    // Looks at what a crash may leave, and tells whether it is right.
+    fn look(&mut self, case: &Case, may_be_old: bool, all: &Disks) -> bool {
+        let mut right = !all.is_out;
+        self.is_new = true;
+        for bits in all.bits.as_slice() {
+            let disk = Disk { bits: *bits };
+            let image = disk.with_draft(NONE);
+            right &= disk.is_well(case, may_be_old) & disk.is_well_alone(case);
+            self.is_new &= image == case.after();
+            if disk.journal() != NONE {
+                self.found.add(image);
+            }
+        }
+        self.images = self.images.saturating_add(all.bits.len() as u64);
+        right
+    }
+}
+
 // The kind of the page that a call writes.
 fn kind_of(deed: &Deed) -> u32 {
     match deed {
@@ -116,16 +139,16 @@ fn drafted(case: &Case, journal: &Journal) -> u32 {
     if is_right(case, journal) { WHOLE } else { TORN }
 }
 
-// What is seen after a call.
-fn shown(case: &Case, deed: &Deed, seen: Disk) -> Disk {
+// What is shown after a call, where this is shown before it.
+fn shown_after(case: &Case, deed: &Deed, shown: Disk) -> Disk {
     match deed {
-        Deed::Write(n, _) => seen.with(*n, kind_of(deed)),
-        Deed::Mark => seen.with(0, MARKED),
-        Deed::Resize(count) => seen.sized(*count, ZEROS),
-        Deed::Draft(journal) => seen.with_draft(drafted(case, journal)),
-        Deed::Publish => seen.with_draft(NONE).with_journal(seen.draft()),
-        Deed::Remove => seen.with_journal(NONE),
-        Deed::Sync | Deed::SyncDraft | Deed::SyncFolder => seen,
+        Deed::Write(n, _) => shown.with(*n, kind_of(deed)),
+        Deed::Mark => shown.with(0, MARKED),
+        Deed::Resize(count) => shown.sized(*count, ZEROS),
+        Deed::Draft(journal) => shown.with_draft(drafted(case, journal)),
+        Deed::Publish => shown.with_draft(NONE).with_journal(shown.draft()),
+        Deed::Remove => shown.with_journal(NONE),
+        Deed::Sync | Deed::SyncDraft | Deed::SyncFolder => shown,
     }
 }
 
@@ -169,8 +192,8 @@ fn add_marks(disk: Disk, all: &mut Disks) {
 
 // What a crash may leave after a call of a disk that it might leave before: that one, unless the call is a sync of what it lacks, and
 // what the call may make of it.
-fn add_left(deed: &Deed, kind: u32, seen: &Disk, disk: Disk, all: &mut Disks) {
-    if lasts(deed, seen, &disk) {
+fn add_left(deed: &Deed, kind: u32, shown: &Disk, disk: Disk, all: &mut Disks) {
+    if lasts(deed, shown, &disk) {
         all.add(disk);
     }
     match deed {
@@ -188,161 +211,131 @@ fn add_left(deed: &Deed, kind: u32, seen: &Disk, disk: Disk, all: &mut Disks) {
 }
 
 // Whether a disk may be left as it is.
-fn lasts(deed: &Deed, seen: &Disk, disk: &Disk) -> bool {
+fn lasts(deed: &Deed, shown: &Disk, disk: &Disk) -> bool {
     match deed {
-        Deed::Sync => disk.alone() == seen.alone(),
-        Deed::SyncDraft => disk.draft() == seen.draft(),
-        Deed::SyncFolder => disk.journal() == seen.journal(),
+        Deed::Sync => disk.alone() == shown.alone(),
+        Deed::SyncDraft => disk.draft() == shown.draft(),
+        Deed::SyncFolder => disk.journal() == shown.journal(),
         _ => true,
     }
 }
 
-// Whether what a crash may leave is right; those with a journal are found.
-fn look(case: &Case, old: &Disk, may_be_old: bool, all: &Disks, found: &mut Disks) -> bool {
-    let mut right = !all.is_out;
-    for bits in all.bits.as_slice() {
-        let disk = Disk { bits: *bits };
-        let stands = disk.stands(case);
-        right &= stands == Some(old.applied(case)) || (may_be_old && stands == Some(*old));
-        right &= disk.is_well_alone(case, old);
-        if disk.journal() != NONE {
-            found.add(disk.with_draft(NONE));
-        }
-    }
-    right
-}
-
 // What a crash may leave after a call, of all that it might leave before.
-fn left_after(alloc: Global, deed: &Deed, seen: &Disk, all: &Disks) -> Disks {
+fn left_after(alloc: Global, deed: &Deed, shown: &Disk, all: &Disks) -> Disks {
     let kind = kind_of(deed);
     let mut left = Disks::new(alloc);
     for bits in all.bits.as_slice() {
-        add_left(deed, kind, seen, Disk { bits: *bits }, &mut left);
+        add_left(deed, kind, shown, Disk { bits: *bits }, &mut left);
     }
     left.settle();
     left
 }
 
-// Whether all of these are the new table alone, but for a draft.
-fn are_new(case: &Case, old: &Disk, all: &Disks) -> bool {
-    let mut right = true;
-    for bits in all.bits.as_slice() {
-        let disk = Disk { bits: *bits };
-        right &= disk.with_draft(NONE) == old.applied(case);
+// Whether all that a crash may leave after each of these calls is right, and at last only the new table.
+fn follow(alloc: Global, case: &Case, start: Disk, deeds: &[Deed], seen: &mut Seen) -> bool {
+    let may_be_old = start.journal() == NONE;
+    let mut shown = start;
+    let mut all = Disks::new(alloc);
+    all.add(start);
+    let mut right = seen.look(case, may_be_old, &all);
+    for deed in deeds {
+        all = left_after(alloc, deed, &shown, &all);
+        shown = shown_after(case, deed, shown);
+        right &= seen.look(case, may_be_old, &all);
     }
-    right
+    right && shown == case.after() && seen.is_new
 }
 
-// Whether all that a crash may leave after each of these calls is right, and at last only the new table.
-fn follow(
-    alloc: Global,
-    case: &Case,
-    old: &Disk,
-    start: &Disk,
-    deeds: &[Deed],
-    found: &mut Disks,
-    images: &mut u64,
-) -> bool {
-    let mut seen = *start;
-    let mut all = Disks::new(alloc);
-    all.add(seen);
-    let mut right = look(case, old, start.journal() == NONE, &all, found);
-    *images = images.saturating_add(1);
-    for deed in deeds {
-        all = left_after(alloc, deed, &seen, &all);
-        seen = shown(case, deed, seen);
-        right &= look(case, old, start.journal() == NONE, &all, found);
-        *images = images.saturating_add(all.bits.len() as u64);
+// Whether a journal is put into the file of a place, or healed where it stands there.
+fn is_put<P: Place>(place: &mut P, journal: &Journal, is_there: bool) -> bool
+    requires asks_nothing { ¬ (IsHonest (P.facts place.old)) }
+{
+    if is_there {
+        heal(place, journal).is_ok()
+    } else {
+        is_journal(journal) && commit(place, journal).is_ok()
     }
-    right && seen == old.applied(case) && are_new(case, old, &all)
+}
+
+// The same of the journal of a case.
+fn puts<P: Place>(alloc: Global, case: &Case, place: &mut P, is_there: bool) -> bool
+    requires asks_nothing { ¬ (IsHonest (P.facts place.old)) }
+{
+    match journal_of(alloc, case) {
+        Ok(journal) => is_put(place, &journal, is_there),
+        Err(_) => false,
+    }
 }
 
 // Whether the changes are put right from here on, or healed.
-fn play(
-    alloc: Global,
-    case: &Case,
-    old: &Disk,
-    start: &Disk,
-    found: &mut Disks,
-    images: &mut u64,
-) -> bool {
-    let (Ok(journal), Ok(mut place)) = (journal_of(alloc, case), place_of(alloc, case, start))
-    else {
-        return false;
-    };
-    let done = if start.journal() != NONE {
-        heal(&mut place, &journal)
-    } else if is_journal(&journal) {
-        commit(&mut place, &journal)
-    } else {
-        return false;
-    };
-    let right = follow(alloc, case, old, start, place.deeds(), found, images);
-    right && done.is_ok()
+fn play(alloc: Global, case: &Case, start: Disk, seen: &mut Seen) -> bool {
+    match place_of(alloc, case, &start) {
+        Ok(mut place) => {
+            let is_put = puts(alloc, case, &mut place, start.journal() != NONE);
+            is_put & follow(alloc, case, start, place.deeds(), seen)
+        }
+        Err(_) => false,
+    }
 }
 
-// Whether they are from each of these on. They are counted as healed.
-fn play_each(
-    alloc: Global,
-    case: &Case,
-    old: &Disk,
-    starts: &Disks,
-    found: &mut Disks,
-    tally: &mut Tally,
-) -> bool {
+// Whether all that was found so far is healed right. What is found then takes its place.
+fn heal_found(alloc: Global, case: &Case, seen: &mut Seen) -> bool {
+    let mut starts = mem::replace(&mut seen.found, Disks::new(alloc));
+    starts.settle();
     let mut right = !starts.is_out;
     for bits in starts.bits.as_slice() {
-        let start = Disk { bits: *bits };
-        right &= play(alloc, case, old, &start, found, &mut tally.images);
+        right &= play(alloc, case, Disk { bits: *bits }, seen);
     }
-    tally.healed = tally.healed.saturating_add(starts.bits.len() as u64);
+    seen.healed = seen.healed.saturating_add(starts.bits.len() as u64);
     right
 }
 
 // Whether a case is right: its changes are put, all that a crash may leave of that is healed, and all that it may leave of that.
-fn try_case(alloc: Global, case: &Case, rest: bool, tally: &mut Tally) -> bool {
-    let old = Disk::before(case, rest);
-    let mut first = Disks::new(alloc);
-    let mut second = Disks::new(alloc);
-    let mut third = Disks::new(alloc);
-    let mut right = play(alloc, case, &old, &old, &mut first, &mut tally.images);
-    first.settle();
-    right &= play_each(alloc, case, &old, &first, &mut second, tally);
-    second.settle();
-    right &= play_each(alloc, case, &old, &second, &mut third, tally);
-    right && !third.is_out
+fn try_case(alloc: Global, case: &Case, seen: &mut Seen) -> bool {
+    let right = play(alloc, case, case.before(), seen)
+        & heal_found(alloc, case, seen)
+        & heal_found(alloc, case, seen)
+        & !seen.found.is_out;
+    seen.found.bits.clear();
+    right
 }
 
 // Whether all cases with this many pages before are right.
-fn try_cases(alloc: Global, old: u32, tally: &mut Tally) -> bool {
+fn try_cases(alloc: Global, old: u32, seen: &mut Seen) -> bool {
     let mut right = true;
-    for count in 1..5u32 {
-        for mask in 0..8u8 {
-            let changed = [false, mask & 1 != 0, mask & 2 != 0, mask & 4 != 0];
+    for count in 1..5 {
+        for changes in 0..8 {
             let case = Case {
                 old,
+                rest: false,
                 count,
-                changed,
+                changed: 2 * changes,
             };
             if case.can_be() {
-                right &= try_case(alloc, &case, false, tally);
-                right &= try_case(alloc, &case, true, tally);
+                right &= try_case(alloc, &case, seen);
+                right &= try_case(alloc, &Case { rest: true, ..case }, seen);
             }
         }
     }
     right
 }
 
-#[test]
-fn every_crash_leaves_the_old_table_or_the_new_one(rt: HostRuntime) {
-    let mut tally = Tally {
+// Whether all cases are right, and as many images were seen and healed as there are.
+fn are_right(alloc: Global) -> bool {
+    let mut seen = Seen {
         images: 0,
         healed: 0,
+        found: Disks::new(alloc),
+        is_new: true,
     };
     let mut right = true;
-    for old in 1..4u32 {
-        right &= try_cases(rt.alloc(), old, &mut tally);
+    for old in 1..4 {
+        right &= try_cases(alloc, old, &mut seen);
     }
-    assert!(&rt; right);
-    assert!(&rt; tally.images == 716437 && tally.healed == 5542);
+    right && seen.images == 716437 && seen.healed == 5542
+}
+
+#[test]
+fn every_crash_leaves_the_old_table_or_the_new_one(rt: HostRuntime) {
+    assert!(rt; are_right(rt.alloc()));
 }

@@ -9,12 +9,14 @@ pub const WHOLE: u32 = 1;
 /// Something else.
 pub const TORN: u32 = 2;
 
-/// A change of a table: how many pages it has, how many it is to have, and which of the others than the first change.
+/// A change of a table: how many pages it has, and whether bytes stand after them, how many it is to have, and which of the others than
+/// the first change: a bit for each.
 #[derive(Clone, Copy)]
 pub struct Case {
     pub old: u32,
+    pub rest: bool,
     pub count: u32,
-    pub changed: [bool; 4],
+    pub changed: u32,
 }
 
 /// What stands there: the kinds of the table's pages, how many there are, whether bytes stand after them, what the draft is, and what
@@ -28,7 +30,7 @@ pub struct Disk {
 impl Case {
     /// Whether the page of this number changes.
     pub(crate) fn changes(&self, n: u32) -> bool {
-        n < 4 && self.changed[n as usize]
+        n < 4 && (self.changed >> n) & 1 == 1
     }
 
     /// Whether each page of the new table is one of the old one, or changes, and no other changes.
@@ -43,14 +45,19 @@ impl Case {
         }
         can
     }
+
+    /// The table of before, with nothing beside it.
+    pub(crate) fn before(&self) -> Disk {
+        Disk { bits: 0 }.sized(self.old, OLD).with_rest(self.rest)
+    }
+
+    /// The table that is to be, with nothing beside it.
+    pub(crate) fn after(&self) -> Disk {
+        self.before().applied(self)
+    }
 }
 
 impl Disk {
-    /// The table of before, with nothing beside it.
-    pub(crate) fn before(case: &Case, rest: bool) -> Disk {
-        Disk { bits: 0 }.sized(case.old, OLD).with_rest(rest)
-    }
-
     /// The kind of the page of this number.
     pub(crate) fn at(&self, n: u32) -> u32 {
         match n {
@@ -144,15 +151,11 @@ impl Disk {
 
     // Whether all pages but the first are the new ones, with no byte after them.
     fn has_back(&self, case: &Case) -> bool {
-        let mut back = self.count() == case.count && !self.rest();
-        for n in 1..case.count {
-            back &= self.at(n) == if case.changes(n) { NEW } else { OLD };
-        }
-        back
+        self.with(0, NEW).alone() == case.after()
     }
 
-    /// The table that the journal makes of this one, with nothing beside it.
-    pub(crate) fn applied(&self, case: &Case) -> Disk {
+    // The table that the journal makes of this one, with nothing beside it.
+    fn applied(&self, case: &Case) -> Disk {
         let mut disk = self.sized(case.count, ZEROS);
         for n in 1..case.count {
             if case.changes(n) {
@@ -171,8 +174,8 @@ impl Disk {
         whole && (self.has_front() || self.has_back(case))
     }
 
-    /// The table that this stands for, unless it stands for none.
-    pub(crate) fn stands(&self, case: &Case) -> Option<Disk> {
+    // The table that this stands for, unless it stands for none.
+    fn stands(&self, case: &Case) -> Option<Disk> {
         if self.journal() == NONE {
             return Some(self.alone());
         }
@@ -183,12 +186,17 @@ impl Disk {
         }
     }
 
-    /// Whether the file alone is that of before but for its mark, or refused, or all its pages but the first are new.
-    pub(crate) fn is_well_alone(&self, case: &Case, old: &Disk) -> bool {
-        let mut same = self.has_front() && self.count() == old.count() && self.rest() == old.rest();
-        for n in 1..4 {
-            same &= self.at(n) == old.at(n);
+    /// Whether this stands for the new table, or where it may, for the old one.
+    pub(crate) fn is_well(&self, case: &Case, may_be_old: bool) -> bool {
+        match self.stands(case) {
+            Some(table) => table == case.after() || (may_be_old && table == case.before()),
+            None => false,
         }
-        same || (self.count() > 0 && self.at(0) == MARKED) || self.has_back(case)
+    }
+
+    /// Whether the file alone is that of before but for its mark, or refused, or all its pages but the first are new.
+    pub(crate) fn is_well_alone(&self, case: &Case) -> bool {
+        let is_old = self.has_front() && self.with(0, OLD).alone() == case.before();
+        is_old || (self.count() > 0 && self.at(0) == MARKED) || self.has_back(case)
     }
 }

@@ -3,14 +3,14 @@
 use crate::calls::byte_of;
 use crate::pages::{page_from, page_of_numbers, tells};
 use std::alloc::{AllocError, Global};
-use ub_journal::{Journal, JournalFault, TornPlace, is_journal};
+use ub_journal::{Journal, JournalFault, Place, TornPlace, is_journal};
 use ub_journal_page::{read_journal, write_journal};
 use ub_keeping::ask;
 use ub_store::{MemStore, Page, PageStore, StoreFault};
 
 // The pages of a journal by hand: the table is to have 10 pages, of which 3 and 9 change besides the first. Both take all of their
 // bytes, so the first one goes on on the second page, behind which stands the other, which goes on on the third.
-const PAGES: [([u8; 16], u8); 6] = [
+static PAGES: [([u8; 16], u8); 6] = [
     (*b"UBTJ\0\0\0\x02\0\0\0\x0a\0\0\0\x02", 0),
     ([1; 16], 1),
     ([2; 16], 2),
@@ -20,7 +20,7 @@ const PAGES: [([u8; 16], u8); 6] = [
 ];
 
 // The same journal in version 1.
-const OLD_PAGES: [([u8; 16], u8); 6] = [
+static OLD_PAGES: [([u8; 16], u8); 6] = [
     (*b"UBTJ\0\0\0\x01\0\0\0\x0a\0\0\0\x02", 0),
     ([1; 16], 1),
     ([2; 16], 2),
@@ -30,7 +30,7 @@ const OLD_PAGES: [([u8; 16], u8); 6] = [
 ];
 
 // Bytes with which these pages spell no journal: the page, the offset, and the byte.
-const DAMAGES: &[(u32, usize, u8)] = &[
+static DAMAGES: &[(u32, usize, u8)] = &[
     (0, 0, b'V'),
     (0, 3, b'R'),
     (0, 7, 3),
@@ -59,7 +59,7 @@ const DAMAGES: &[(u32, usize, u8)] = &[
 ];
 
 // The same of the pages of version 1.
-const OLD_DAMAGES: &[(u32, usize, u8)] = &[
+static OLD_DAMAGES: &[(u32, usize, u8)] = &[
     (0, 0, b'V'),
     (0, 3, b'R'),
     (0, 7, 2),
@@ -86,14 +86,13 @@ fn add<S: PageStore>(store: &mut S, page: &Page) -> bool {
     }
 }
 
-// A store of the first so many of a journal's pages, or none where memory is refused.
-fn store_of(alloc: Global, pages: &[([u8; 16], u8); 6], count: usize) -> Option<MemStore> {
-    let mut store = MemStore::new(alloc);
+// Puts a journal's pages behind those of a store.
+fn add_pages<S: PageStore>(store: &mut S, pages: &[([u8; 16], u8)]) -> bool {
     let mut right = true;
-    for (front, rest) in &pages[..count.min(6)] {
-        right &= add(&mut store, &page_from(front, *rest));
+    for (front, rest) in pages {
+        right &= add(store, &page_from(front, *rest));
     }
-    right.then_some(store)
+    right
 }
 
 // Whether the pages of a store are told to be damaged.
@@ -128,10 +127,9 @@ fn is_whole<S: PageStore>(journal: &Journal, store: &S) -> bool {
 // Whether a journal is written as the pages of a store.
 fn is_written<S: PageStore>(alloc: Global, journal: &Journal, store: &mut S) -> bool {
     let mut bytes = Vec::new(alloc);
-    if !is_journal(journal) || write_journal(&mut bytes, journal).is_err() {
-        return false;
-    }
-    has_bytes(store, bytes.as_slice())
+    is_journal(journal)
+        && write_journal(&mut bytes, journal).is_ok()
+        && has_bytes(store, bytes.as_slice())
 }
 
 // Whether the pages of a store have these bytes, one behind the other, and no others.
@@ -145,28 +143,36 @@ fn has_bytes<S: PageStore>(store: &mut S, bytes: &[u8]) -> bool {
     right && store.pages() == n
 }
 
-// Whether these pages spell the journal, which is written as they stand, or in another version.
-fn is_read(alloc: Global, pages: &[([u8; 16], u8); 6], is_as_they_stand: bool) -> bool {
-    let Some(mut store) = store_of(alloc, pages, 6) else {
-        return false;
-    };
+// Whether these pages, in a store that has none, spell the journal, which is written as they stand, or in another version.
+fn is_read<S: PageStore>(
+    alloc: Global,
+    mut store: S,
+    pages: &[([u8; 16], u8)],
+    is_as_they_stand: bool,
+) -> bool {
+    let are_there = add_pages(&mut store, pages);
     match read_journal(alloc, &mut store) {
         Ok(journal) => {
-            is_whole(&journal, &store)
-                && is_written(alloc, &journal, &mut store) == is_as_they_stand
+            let is_written = is_written(alloc, &journal, &mut store);
+            are_there & is_whole(&journal, &store) & (is_written == is_as_they_stand)
         }
         Err(_) => false,
     }
 }
 
+// Whether the journal is read of both versions' pages.
+fn are_read(alloc: Global) -> bool {
+    is_read(alloc, MemStore::new(alloc), &PAGES, true)
+        & is_read(alloc, MemStore::new(alloc), &OLD_PAGES, false)
+}
+
 #[test]
 fn a_journal_is_read_in_both_versions_and_written_in_the_second(rt: HostRuntime) {
-    assert!(&rt; is_read(rt.alloc(), &PAGES, true));
-    assert!(&rt; is_read(rt.alloc(), &OLD_PAGES, false));
+    assert!(rt; are_read(rt.alloc()));
 }
 
 // Changes, each told by its number, how many bytes its page holds, and their byte; and whether a table of 10 pages can have them.
-const CHANGES: &[(&[(u32, u32, u8)], bool)] = &[
+static CHANGES: &[(&[(u32, u32, u8)], bool)] = &[
     (&[], true),
     // A page of zeros, one of 4096 bytes, and one of 100.
     (&[(3, 0, 7), (5, 4096, 7), (9, 100, 8)], true),
@@ -185,24 +191,15 @@ const CHANGES: &[(&[(u32, u32, u8)], bool)] = &[
     (&[(4, 1, 7), (3, 1, 7)], false),
 ];
 
-// Puts the bytes of a number behind others.
-fn put_number(bytes: &mut Vec<u8>, number: u32) -> bool {
-    let mut right = true;
-    for byte in number.to_be_bytes() {
-        right &= bytes.push(byte).is_ok();
-    }
-    right
-}
-
 // The bytes of changes, one behind the other.
 fn bytes_of(alloc: Global, changes: &[(u32, u32, u8)]) -> Option<Vec<u8>> {
     let mut bytes = Vec::new(alloc);
     let mut right = true;
     for (number, held, byte) in changes {
-        right &= put_number(&mut bytes, *number) & put_number(&mut bytes, *held);
-        for _ in 0..*held {
-            right &= bytes.push(*byte).is_ok();
-        }
+        right &= bytes.extend_from_slice(&number.to_be_bytes()).is_ok()
+            & bytes.extend_from_slice(&held.to_be_bytes()).is_ok();
+        let end = bytes.len().saturating_add(*held as usize);
+        right &= bytes.resize(end, *byte).is_ok();
     }
     right.then_some(bytes)
 }
@@ -221,37 +218,39 @@ fn add_bytes<S: PageStore>(store: &mut S, bytes: &[u8]) -> bool {
     right
 }
 
-// A store of a journal with so many changes, of which these are the bytes.
-fn packed_store(alloc: Global, count: u8, bytes: &[u8]) -> Option<MemStore> {
+// Puts the pages of a journal with these changes behind those of a store.
+fn add_packed<S: PageStore>(alloc: Global, store: &mut S, changes: &[(u32, u32, u8)]) -> bool {
     let mut head = page_from(b"UBTJ\0\0\0\x02\0\0\0\x0a\0\0\0\0", 0);
-    head[15] = count;
-    let mut store = MemStore::new(alloc);
-    let right = add_front(&mut store, &head) & add_bytes(&mut store, bytes);
-    right.then_some(store)
+    head[15] = changes.len().min(255) as u8;
+    match bytes_of(alloc, changes) {
+        Some(bytes) => add_front(store, &head) & add_bytes(store, bytes.as_slice()),
+        None => false,
+    }
 }
 
-// Whether the journal with these changes is read and written where a table can have them, and is told to be damaged otherwise; and
-// whether it is damaged with a page of zeros more.
-fn is_told(alloc: Global, changes: &[(u32, u32, u8)], can_have: bool) -> bool {
-    let Some(bytes) = bytes_of(alloc, changes) else {
-        return false;
-    };
-    let Some(mut store) = packed_store(alloc, changes.len().min(255) as u8, bytes.as_slice()) else {
-        return false;
-    };
+// Whether the journal with these changes, in a store that has no pages, is read and written where a table can have them, and is told to
+// be damaged otherwise; and whether it is damaged with a page of zeros more.
+fn is_told<S: PageStore>(
+    alloc: Global,
+    mut store: S,
+    changes: &[(u32, u32, u8)],
+    can_have: bool,
+) -> bool {
+    let is_there = add_packed(alloc, &mut store, changes);
     let right = match read_journal(alloc, &mut store) {
         Ok(journal) => {
             can_have && tells(&journal, changes) && is_written(alloc, &journal, &mut store)
         }
         Err(fault) => !can_have && fault == JournalFault::Damaged,
     };
-    right && add(&mut store, &[0; 4096]) && is_damaged(alloc, &mut store)
+    is_there & right & add(&mut store, &[0; 4096]) & is_damaged(alloc, &mut store)
 }
 
 #[test]
 fn pages_stand_without_the_zeros_behind_them(rt: HostRuntime) {
     for (changes, can_have) in CHANGES {
-        assert!(&rt; is_told(rt.alloc(), changes, *can_have));
+        let store = MemStore::new(rt.alloc());
+        assert!(&rt; is_told(rt.alloc(), store, changes, *can_have));
     }
 }
 
@@ -277,17 +276,22 @@ fn is_new<S: PageStore>(store: &mut S) -> bool {
     right
 }
 
-// Whether a table of these pages, with so many bytes after them, is read through the journal beside it: 2 where that can't be told.
-fn told_fit(alloc: Global, bytes: &[u8], mark: u8, rest: u16, journal: Journal) -> u8 {
-    let Ok(pages) = table_of(alloc, bytes, mark) else {
-        return 2;
-    };
-    match ask(
-        alloc,
-        TornPlace::new(alloc, pages, rest, Some(journal), false),
-    ) {
+// Whether what is found at a place is what the journal makes: 2 where that can't be told.
+fn found_fit<P: Place>(alloc: Global, place: P) -> u8 {
+    match ask(alloc, place) {
         Ok(mut found) => u8::from(is_new(&mut found)),
         Err(refused) => refused_fit(refused.fault),
+    }
+}
+
+// The same of a table of these pages, with so many bytes after them, and the journal beside it.
+fn told_fit(alloc: Global, bytes: &[u8], mark: u8, rest: u16, journal: Journal) -> u8 {
+    match table_of(alloc, bytes, mark) {
+        Ok(pages) => {
+            let place = TornPlace::new(alloc, pages, rest, Some(journal), false);
+            found_fit(alloc, place)
+        }
+        Err(_) => 2,
     }
 }
 
@@ -297,7 +301,7 @@ fn refused_fit(fault: StoreFault) -> u8 {
 }
 
 // Tables whose pages have one byte each, the mark of the first, how many bytes stand after them, and whether the journal is theirs.
-const TABLES: &[(&[u8], u8, u16, u8)] = &[
+static TABLES: &[(&[u8], u8, u16, u8)] = &[
     // The table of before, marked and not, with bytes after it.
     (&[1, 7, 7, 7, 7, 7, 7, 7, 7, 7], 1, 0, 1),
     (&[1, 7, 7, 7, 7, 7, 7, 7, 7, 7], 0, 9, 1),
@@ -315,17 +319,16 @@ const TABLES: &[(&[u8], u8, u16, u8)] = &[
     (&[8, 7, 7, 7, 7, 7, 7, 7, 7, 9], 8, 0, 0),
 ];
 
-// A store of a journal of version 1 with 1025 changes, of the pages 1 to 1025 of 2048.
-fn long_store(alloc: Global) -> Option<MemStore> {
-    let mut store = MemStore::new(alloc);
+// Puts the pages of a journal of version 1 with 1025 changes, of the pages 1 to 1025 of 2048, behind those of a store.
+fn add_long<S: PageStore>(store: &mut S) -> bool {
     let head = page_from(b"UBTJ\0\0\0\x01\0\0\x08\0\0\0\x04\x01", 0);
-    let mut right = add_front(&mut store, &head)
-        & add(&mut store, &page_of_numbers(1, 1024))
-        & add(&mut store, &page_of_numbers(1025, 1));
+    let mut right = add_front(store, &head)
+        & add(store, &page_of_numbers(1, 1024))
+        & add(store, &page_of_numbers(1025, 1));
     for i in 0..1025u32 {
-        right &= add(&mut store, &[(i & 255) as u8; 4096]);
+        right &= add(store, &[(i & 255) as u8; 4096]);
     }
-    right.then_some(store)
+    right
 }
 
 // Whether a journal has changes of the pages 1 to 1025, each page of its own byte.
@@ -348,22 +351,18 @@ fn is_long_read<S: PageStore>(alloc: Global, store: &mut S) -> bool {
     }
 }
 
-// Whether it is, and is damaged with these bytes.
-fn is_long_told(alloc: Global) -> bool {
-    match long_store(alloc) {
-        Some(mut store) => {
-            is_long_read(alloc, &mut store)
-                & is_damaged_with(alloc, &mut store, (3, 4095, 1))
-                & is_damaged_with(alloc, &mut store, (4, 3, 0))
-                & is_damaged_with(alloc, &mut store, (4, 7, 1))
-        }
-        None => false,
-    }
+// Whether it is, in a store that has no pages, and is damaged with these bytes.
+fn is_long_told<S: PageStore>(alloc: Global, mut store: S) -> bool {
+    add_long(&mut store)
+        & is_long_read(alloc, &mut store)
+        & is_damaged_with(alloc, &mut store, (3, 4095, 1))
+        & is_damaged_with(alloc, &mut store, (4, 3, 0))
+        & is_damaged_with(alloc, &mut store, (4, 7, 1))
 }
 
 #[test]
 fn numbers_go_on_on_a_second_page(rt: HostRuntime) {
-    assert!(&rt; is_long_told(rt.alloc()));
+    assert!(rt; is_long_told(rt.alloc(), MemStore::new(rt.alloc())));
 }
 
 // Of how many tables the journal is told to be theirs, or not, as it is, up to the first of which it is told otherwise.
@@ -382,36 +381,49 @@ fn count_fits<S: PageStore>(alloc: Global, store: &mut S) -> usize {
     right
 }
 
-// The same of the journal on pages.
-fn fits_of(alloc: Global) -> usize {
-    match store_of(alloc, &PAGES, 6) {
-        Some(mut store) => count_fits(alloc, &mut store),
-        None => 0,
+// The same of the journal on pages, in a store that has none.
+fn fits_of<S: PageStore>(alloc: Global, mut store: S) -> usize {
+    if add_pages(&mut store, &PAGES) {
+        count_fits(alloc, &mut store)
+    } else {
+        0
     }
 }
 
 #[test]
 fn a_journal_fits_its_table(rt: HostRuntime) {
-    let right = fits_of(rt.alloc());
-    assert!(&rt; right == TABLES.len(), "{right} tables were right");
+    let right = fits_of(rt.alloc(), MemStore::new(rt.alloc()));
+    assert!(rt; right == TABLES.len(), "{right} tables were right");
 }
 
-// Whether these pages are damaged with each of these bytes, with a page more, and with fewer, and spell a journal without that.
-fn are_refused(alloc: Global, pages: &[([u8; 16], u8); 6], damages: &[(u32, usize, u8)]) -> bool {
-    let Some(mut store) = store_of(alloc, pages, 6) else {
-        return false;
-    };
-    let mut right = true;
+// Whether these pages, in a store that has none, are damaged with each of these bytes and with a page more, and spell a journal without
+// that.
+fn are_refused_in<S: PageStore>(
+    alloc: Global,
+    mut store: S,
+    pages: &[([u8; 16], u8)],
+    damages: &[(u32, usize, u8)],
+) -> bool {
+    let mut right = add_pages(&mut store, pages);
     for damage in damages {
         right &= is_damaged_with(alloc, &mut store, *damage);
     }
-    right &= read_journal(alloc, &mut store).is_ok();
-    right &= add(&mut store, &[0; 4096]) && is_damaged(alloc, &mut store);
+    right
+        & read_journal(alloc, &mut store).is_ok()
+        & add(&mut store, &[0; 4096])
+        & is_damaged(alloc, &mut store)
+}
+
+// Whether these pages, in a store that has none, are damaged.
+fn are_damaged<S: PageStore>(alloc: Global, mut store: S, pages: &[([u8; 16], u8)]) -> bool {
+    add_pages(&mut store, pages) & is_damaged(alloc, &mut store)
+}
+
+// Whether pages are damaged with each of these bytes, with a page more, and with fewer, and spell a journal without that.
+fn are_refused(alloc: Global, pages: &[([u8; 16], u8); 6], damages: &[(u32, usize, u8)]) -> bool {
+    let mut right = are_refused_in(alloc, MemStore::new(alloc), pages, damages);
     for count in 0..6 {
-        right &= match store_of(alloc, pages, count) {
-            Some(mut store) => is_damaged(alloc, &mut store),
-            None => false,
-        };
+        right &= are_damaged(alloc, MemStore::new(alloc), &pages[..count]);
     }
     right
 }

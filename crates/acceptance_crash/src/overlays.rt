@@ -1,18 +1,18 @@
 // Changes that are held in memory over a table which is only read, and that are put into its file at the end. Each page is of one
 // byte, over and over.
 
-ghost use Rattle.std.specs.Prelude.{IfSome};
+ghost use Rattle.std.specs.Prelude.{IfOk};
 ghost use Rattle.ub_journal.specs.Image.{IsJournal};
 ghost use Rattle.ub_journal.specs.Place.{IsHonest};
 
 use crate::calls::{Answer, Call, answers, byte_of};
 use crate::pages::tells;
-use std::alloc::Global;
+use std::alloc::{AllocError, Global};
 use ub_journal::{Journal, Place, Tells, TornPlace, commit};
 use ub_overlay::{Changed, Overlay, Redo};
 use ub_store::{FaultyStore, MemStore, Page, PageStore, StoreFault};
 
-// Calls that make a table of two pages, of 1s and of 2s.
+// Calls that make a table of two pages, of 1s and of 2s, in a store that has none.
 static MADE: &[(Call, Answer)] = &[
     (Call::Extend, Ok(0)),
     (Call::Extend, Ok(1)),
@@ -20,18 +20,12 @@ static MADE: &[(Call, Answer)] = &[
     (Call::Write(1, 2), Ok(0)),
 ];
 
-// That table in memory.
-fn two_in_memory(alloc: Global) -> Option<MemStore> {
-    let mut store = MemStore::new(alloc);
-    answers(&mut store, MADE).then_some(store)
-}
-
-// The same as a file at rest, which promises nothing.
-fn two_on_disk(alloc: Global) -> Option<TornPlace>
-    ensures { IfSome result (λ place. ¬ (IsHonest (⟦<TornPlace as Place>⟧.facts place))) }
+// The same table as a file at rest, which promises nothing.
+fn two_on_disk(alloc: Global) -> Result<TornPlace, AllocError>
+    ensures { IfOk result (λ place. ¬ (IsHonest (⟦<TornPlace as Place>⟧.facts place))) }
 {
-    let pages = two_in_memory(alloc)?.into_pages();
-    Some(TornPlace::new(alloc, pages, 0, None, false))
+    let pages = Vec::from_slice(alloc, &[[1; 4096], [2; 4096]])?;
+    Ok(TornPlace::new(alloc, pages, 0, None, false))
 }
 
 // Calls of a store with these pages.
@@ -41,8 +35,11 @@ static TWO: &[(Call, Answer)] = &[
     (Call::Pages, Ok(2)),
 ];
 
-// Calls that write the second page, and add a third one.
+// Calls of these, which write the second one then, and add a third one.
 static CHANGE: &[(Call, Answer)] = &[
+    (Call::Read(0), Ok(1)),
+    (Call::Read(1), Ok(2)),
+    (Call::Pages, Ok(2)),
     (Call::Write(1, 7), Ok(0)),
     (Call::Extend, Ok(2)),
     (Call::Write(2, 8), Ok(0)),
@@ -60,9 +57,8 @@ static CHANGED: &[(Call, Answer)] = &[
 
 // Whether changes of two pages are read back.
 fn are_read_back<S: PageStore>(overlay: &mut Overlay<S>) -> bool {
-    let was_same = !overlay.is_changed() & answers(overlay, TWO);
-    let is_changed = answers(overlay, CHANGE) & overlay.is_changed();
-    was_same & is_changed & answers(overlay, CHANGED)
+    let is_changed = !overlay.is_changed() & answers(overlay, CHANGE) & overlay.is_changed();
+    is_changed & answers(overlay, CHANGED)
 }
 
 // Whether they are told of the pages that were changed.
@@ -87,14 +83,6 @@ fn stay_over<S: PageStore>(alloc: Global, below: S) -> bool {
     }
 }
 
-// The same over two pages.
-fn stay_in_memory(alloc: Global) -> bool {
-    match two_in_memory(alloc) {
-        Some(below) => stay_over(alloc, below),
-        None => false,
-    }
-}
-
 // Calls over a store whose second call fails: that is told once, and comes of no page that is held.
 static FAILING: &[(Call, Answer)] = &[
     (Call::Write(1, 7), Ok(0)),
@@ -109,15 +97,19 @@ static FAILING: &[(Call, Answer)] = &[
 ];
 
 // Whether they are answered so over two pages.
-fn tells_failures(alloc: Global) -> bool {
-    match two_in_memory(alloc) {
-        Some(below) => answers(
-            &mut Overlay::new(alloc, FaultyStore::new(below, 2)),
-            FAILING,
-        ),
-        None => false,
-    }
+fn tells_failures<S: PageStore>(alloc: Global, below: S) -> bool {
+    let below = FaultyStore::new(below, 2);
+    answers(&mut Overlay::new(alloc, below), FAILING)
 }
+
+// Calls that change all pages, and add a third one.
+static CHANGE_ALL: &[(Call, Answer)] = &[
+    (Call::Write(1, 7), Ok(0)),
+    (Call::Extend, Ok(2)),
+    (Call::Write(2, 8), Ok(0)),
+    (Call::Sync, Ok(0)),
+    (Call::Write(0, 6), Ok(0)),
+];
 
 // Whether the page of this number is seen, and is of this byte.
 fn shows<P: Place>(place: &mut P, n: u32, byte: u8) -> bool
@@ -128,15 +120,12 @@ fn shows<P: Place>(place: &mut P, n: u32, byte: u8) -> bool
     place.read_page(n, &mut page).is_ok() && byte_of(&page) == u32::from(byte)
 }
 
-// Whether a journal is put into a table's file, which then has these three pages.
-fn puts<P: Place, J: Tells>(place: &mut P, journal: &J, first: u8, second: u8, third: u8) -> bool
+// Whether a journal is put into a table's file, which then has these pages.
+fn puts<P: Place, J: Tells>(place: &mut P, journal: &J) -> bool
     requires journal { IsJournal (J.told journal.now) }
     requires asks_nothing { ¬ (IsHonest (P.facts place.old)) }
 {
-    if commit(place, journal).is_err() {
-        return false;
-    }
-    shows(place, 0, first) && shows(place, 1, second) && shows(place, 2, third)
+    commit(place, journal).is_ok() && shows(place, 0, 6) && shows(place, 1, 7) && shows(place, 2, 8)
 }
 
 // The same of the file of the table of two pages.
@@ -144,48 +133,32 @@ fn puts_on_disk<J: Tells>(alloc: Global, journal: &J) -> bool
     requires { IsJournal (J.told journal.now) }
 {
     match two_on_disk(alloc) {
-        Some(mut place) => puts(&mut place, journal, 6, 7, 8),
-        None => false,
+        Ok(mut place) => puts(&mut place, journal),
+        Err(_) => false,
     }
 }
 
-// Whether changes in memory over these pages are put into the file.
-fn are_put_over<S: PageStore>(alloc: Global, below: S) -> bool {
-    let mut overlay = Overlay::new(alloc, below);
-    let is_changed = answers(&mut overlay, CHANGE) & overlay.write_page(0, &[6; 4096]).is_ok();
+// Whether changed pages are put into the file.
+fn are_put<S: PageStore>(alloc: Global, overlay: Overlay<S>) -> bool {
     if overlay.pages() == 0 {
         return false;
     }
-    let Ok(parts) = overlay.into_parts() else {
-        return false;
-    };
-    let redo = Redo {
-        before: [1; 4096],
-        changed: parts.changed,
-    };
-    is_changed & puts_on_disk(alloc, &redo)
-}
-
-// The same over two pages.
-fn are_put(alloc: Global) -> bool {
-    match two_in_memory(alloc) {
-        Some(below) => are_put_over(alloc, below),
-        None => false,
+    match overlay.into_parts() {
+        Ok(parts) => {
+            let redo = Redo {
+                before: [1; 4096],
+                changed: parts.changed,
+            };
+            puts_on_disk(alloc, &redo)
+        }
+        Err(_) => false,
     }
 }
 
-// The pages that a journal stands for which cuts a table down to its first page, and changes that one.
-fn cut<S: PageStore>(alloc: Global, below: S) -> Result<Overlay<S>, StoreFault> {
-    let journal = Journal {
-        before: [1; 4096],
-        head: [5; 4096],
-        count: 1,
-        changes: Vec::new(alloc),
-    };
-    match Overlay::through(alloc, below, &journal) {
-        Ok(overlay) => Ok(overlay),
-        Err(_) => Err(StoreFault::Memory),
-    }
+// Whether changes in memory over two pages are.
+fn are_put_over<S: PageStore>(alloc: Global, below: S) -> bool {
+    let mut overlay = Overlay::new(alloc, below);
+    answers(&mut overlay, CHANGE_ALL) & are_put(alloc, overlay)
 }
 
 // Calls of what is read through that journal: a page that is added then is none that was cut.
@@ -198,38 +171,67 @@ static CUT: &[(Call, Answer)] = &[
     (Call::Pages, Ok(2)),
 ];
 
-// Whether they are answered so over these pages, which stay as they are.
-fn are_read_over<S: PageStore>(alloc: Global, below: S) -> bool {
-    match cut(alloc, below) {
-        Ok(mut overlay) => answers(&mut overlay, CUT) & answers(&mut overlay.into_store(), TWO),
+// Whether they are answered so, and the pages below stay as they are.
+fn are_read<S: PageStore>(mut overlay: Overlay<S>) -> bool {
+    answers(&mut overlay, CUT) & answers(&mut overlay.into_store(), TWO)
+}
+
+// Whether they are over two pages, which the journal cuts down to the first one, and that one is changed.
+fn are_read_through<S: PageStore>(alloc: Global, below: S) -> bool {
+    let journal = Journal {
+        before: [1; 4096],
+        head: [5; 4096],
+        count: 1,
+        changes: Vec::new(alloc),
+    };
+    match Overlay::through(alloc, below, &journal) {
+        Ok(overlay) => are_read(overlay),
         Err(_) => false,
     }
 }
 
-// The same over two pages.
-fn are_read_through(alloc: Global) -> bool {
-    match two_in_memory(alloc) {
-        Some(below) => are_read_over(alloc, below),
-        None => false,
-    }
+// What is tried over two pages.
+#[derive(Clone, Copy)]
+enum Trial {
+    StayOver,
+    TellFailures,
+    PutOver,
+    ReadThrough,
+}
+
+// Whether two pages are made in a store that has none, and this is right over them.
+fn is_right<S: PageStore>(alloc: Global, mut below: S, trial: Trial) -> bool {
+    let is_made = answers(&mut below, MADE);
+    is_made
+        & match trial {
+            Trial::StayOver => stay_over(alloc, below),
+            Trial::TellFailures => tells_failures(alloc, below),
+            Trial::PutOver => are_put_over(alloc, below),
+            Trial::ReadThrough => are_read_through(alloc, below),
+        }
+}
+
+// The same in memory.
+fn is_right_in_memory(alloc: Global, trial: Trial) -> bool {
+    is_right(alloc, MemStore::new(alloc), trial)
 }
 
 #[test]
 fn changes_stay_in_memory(rt: HostRuntime) {
-    assert!(rt; stay_in_memory(rt.alloc()));
+    assert!(rt; is_right_in_memory(rt.alloc(), Trial::StayOver));
 }
 
 #[test]
 fn a_failure_below_is_told_once(rt: HostRuntime) {
-    assert!(rt; tells_failures(rt.alloc()));
+    assert!(rt; is_right_in_memory(rt.alloc(), Trial::TellFailures));
 }
 
 #[test]
 fn changes_are_put_into_the_file(rt: HostRuntime) {
-    assert!(rt; are_put(rt.alloc()));
+    assert!(rt; is_right_in_memory(rt.alloc(), Trial::PutOver));
 }
 
 #[test]
 fn a_journal_is_read_through(rt: HostRuntime) {
-    assert!(rt; are_read_through(rt.alloc()));
+    assert!(rt; is_right_in_memory(rt.alloc(), Trial::ReadThrough));
 }
