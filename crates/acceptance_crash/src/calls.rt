@@ -19,18 +19,38 @@ pub(crate) type Answer = Result<u32, StoreFault>;
 
 /// The byte that a page is full of; 256 where it has two.
 pub(crate) fn byte_of(page: &Page) -> u32 {
-    if *page == [page[0]; 4096] {
-        u32::from(page[0])
-    } else {
-        256
+    let first = page[0];
+    for byte in page {
+        if *byte != first {
+            return 256;
+        }
+    }
+    u32::from(first)
+}
+
+/// Whether a store has this page at this number.
+pub(crate) fn has_page<S: PageStore>(store: &mut S, n: u32, page: &Page) -> bool {
+    match store.read_page(n) {
+        Ok(read) => read == *page,
+        Err(_) => false,
+    }
+}
+
+// What a page is read as.
+fn read<S: PageStore>(store: &mut S, n: u32) -> Answer {
+    match store.read_page(n) {
+        Ok(page) => Ok(byte_of(&page)),
+        Err(fault) => Err(fault),
     }
 }
 
 // What a page is read as into one that is lent.
 fn read_into<S: PageStore>(store: &mut S, n: u32) -> Answer {
     let mut page = [0; 4096];
-    store.read_into(n, &mut page)?;
-    Ok(byte_of(&page))
+    match store.read_into(n, &mut page) {
+        Ok(()) => Ok(byte_of(&page)),
+        Err(fault) => Err(fault),
+    }
 }
 
 // What a call answers.
@@ -38,7 +58,7 @@ fn answer<S: PageStore>(store: &mut S, call: Call) -> Answer {
     match call {
         Call::Pages => Ok(store.pages()),
         Call::Extend => store.extend(),
-        Call::Read(n) => Ok(byte_of(&store.read_page(n)?)),
+        Call::Read(n) => read(store, n),
         Call::Into(n) => read_into(store, n),
         Call::Write(n, byte) => store.write_page(n, &[byte; 4096]).and(Ok(0)),
         Call::Sync => store.sync().and(Ok(0)),

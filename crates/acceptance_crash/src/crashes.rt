@@ -34,10 +34,13 @@ fn journal_of(alloc: Global, case: &Case) -> Result<Journal, AllocError> {
 fn place_of(alloc: Global, case: &Case, disk: &Disk) -> Result<TornPlace, AllocError>
     ensures { IfOk result (λ place. ¬ (IsHonest (⟦<TornPlace as Place>⟧.facts place))) }
 {
-    let mut pages = Vec::new(alloc);
-    for n in 0..disk.count() {
-        pages.push(page_of(n, disk.at(n)))?;
-    }
+    let four = [
+        page_of(0, disk.at(0)),
+        page_of(1, disk.at(1)),
+        page_of(2, disk.at(2)),
+        page_of(3, disk.at(3)),
+    ];
+    let pages = Vec::from_slice(alloc, &four[..disk.count().min(4) as usize])?;
     let journal = match disk.journal() {
         NONE => None,
         _ => Some(journal_of(alloc, case)?),
@@ -70,6 +73,16 @@ impl Disks {
     fn settle(&mut self) {
         self.bits.sort_unstable();
         self.bits.dedup();
+    }
+
+    // Puts what a crash may leave after a call into the place of all that it might leave before.
+    fn go_on(&mut self, alloc: Global, deed: &Deed, shown: &Disk) {
+        let kind = kind_of(deed);
+        let before = mem::replace(&mut self.bits, Vec::new(alloc));
+        for bits in before.as_slice() {
+            add_left(deed, kind, shown, Disk { bits: *bits }, self);
+        }
+        self.settle();
     }
 }
 
@@ -118,20 +131,17 @@ fn kind_of(deed: &Deed) -> u32 {
 
 // Whether a journal is that of a case.
 fn is_right(case: &Case, journal: &Journal) -> bool {
-    let changes = journal.changes.as_slice();
     let mut right = (journal.before == page_of(0, OLD))
         & (journal.head == page_of(0, NEW))
-        & (journal.count == case.count);
-    let mut at = 0usize;
-    for n in 1..4 {
-        if case.changes(n) {
-            right &= at < changes.len()
-                && changes[at].number == n
-                && changes[at].page == page_of(n, NEW);
-            at = at.saturating_add(1);
-        }
+        & (journal.count == case.count)
+        & (journal.changes.len() == case.changed.count_ones() as usize);
+    let mut above = 0;
+    for change in journal.changes.as_slice() {
+        let n = change.number;
+        right &= (n > above) & case.changes(n) & (change.page == page_of(n, NEW));
+        above = n;
     }
-    right && at == changes.len()
+    right
 }
 
 // What the draft is that was written.
@@ -220,17 +230,6 @@ fn lasts(deed: &Deed, shown: &Disk, disk: &Disk) -> bool {
     }
 }
 
-// What a crash may leave after a call, of all that it might leave before.
-fn left_after(alloc: Global, deed: &Deed, shown: &Disk, all: &Disks) -> Disks {
-    let kind = kind_of(deed);
-    let mut left = Disks::new(alloc);
-    for bits in all.bits.as_slice() {
-        add_left(deed, kind, shown, Disk { bits: *bits }, &mut left);
-    }
-    left.settle();
-    left
-}
-
 // Whether all that a crash may leave after each of these calls is right, and at last only the new table.
 fn follow(alloc: Global, case: &Case, start: Disk, deeds: &[Deed], seen: &mut Seen) -> bool {
     let may_be_old = start.journal() == NONE;
@@ -239,7 +238,7 @@ fn follow(alloc: Global, case: &Case, start: Disk, deeds: &[Deed], seen: &mut Se
     all.add(start);
     let mut right = seen.look(case, may_be_old, &all);
     for deed in deeds {
-        all = left_after(alloc, deed, &shown, &all);
+        all.go_on(alloc, deed, &shown);
         shown = shown_after(case, deed, shown);
         right &= seen.look(case, may_be_old, &all);
     }
@@ -300,24 +299,14 @@ fn try_case(alloc: Global, case: &Case, seen: &mut Seen) -> bool {
     right
 }
 
-// Whether all cases with this many pages before are right.
-fn try_cases(alloc: Global, old: u32, seen: &mut Seen) -> bool {
-    let mut right = true;
-    for count in 1..5 {
-        for changes in 0..8 {
-            let case = Case {
-                old,
-                rest: false,
-                count,
-                changed: 2 * changes,
-            };
-            if case.can_be() {
-                right &= try_case(alloc, &case, seen);
-                right &= try_case(alloc, &Case { rest: true, ..case }, seen);
-            }
-        }
+// The case of a number below 192. Some can't be.
+fn case_of(n: u32) -> Case {
+    Case {
+        old: 1 + n / 64,
+        rest: n % 2 == 1,
+        count: 1 + n / 16 % 4,
+        changed: n % 16 & 14,
     }
-    right
 }
 
 // Whether all cases are right, and as many images were seen and healed as there are.
@@ -329,8 +318,9 @@ fn are_right(alloc: Global) -> bool {
         is_new: true,
     };
     let mut right = true;
-    for old in 1..4 {
-        right &= try_cases(alloc, old, &mut seen);
+    for n in 0..192 {
+        let case = case_of(n);
+        right &= !case.can_be() || try_case(alloc, &case, &mut seen);
     }
     right && seen.images == 716437 && seen.healed == 5542
 }

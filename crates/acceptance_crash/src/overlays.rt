@@ -55,10 +55,15 @@ static CHANGED: &[(Call, Answer)] = &[
     (Call::Write(3, 9), Err(StoreFault::NoPage)),
 ];
 
+// Whether each of these calls of an overlay is answered so.
+fn overlay_answers<S: PageStore>(overlay: &mut Overlay<S>, calls: &[(Call, Answer)]) -> bool {
+    answers(overlay, calls)
+}
+
 // Whether changes of two pages are read back.
 fn are_read_back<S: PageStore>(overlay: &mut Overlay<S>) -> bool {
-    let is_changed = !overlay.is_changed() & answers(overlay, CHANGE) & overlay.is_changed();
-    is_changed & answers(overlay, CHANGED)
+    let is_read = !overlay.is_changed() & overlay_answers(overlay, CHANGE);
+    is_read & overlay.is_changed() & overlay_answers(overlay, CHANGED)
 }
 
 // Whether they are told of the pages that were changed.
@@ -99,7 +104,7 @@ static FAILING: &[(Call, Answer)] = &[
 // Whether they are answered so over two pages.
 fn tells_failures<S: PageStore>(alloc: Global, below: S) -> bool {
     let below = FaultyStore::new(below, 2);
-    answers(&mut Overlay::new(alloc, below), FAILING)
+    overlay_answers(&mut Overlay::new(alloc, below), FAILING)
 }
 
 // Calls that change all pages, and add a third one.
@@ -158,7 +163,7 @@ fn are_put<S: PageStore>(alloc: Global, overlay: Overlay<S>) -> bool {
 // Whether changes in memory over two pages are.
 fn are_put_over<S: PageStore>(alloc: Global, below: S) -> bool {
     let mut overlay = Overlay::new(alloc, below);
-    answers(&mut overlay, CHANGE_ALL) & are_put(alloc, overlay)
+    overlay_answers(&mut overlay, CHANGE_ALL) & are_put(alloc, overlay)
 }
 
 // Calls of what is read through that journal: a page that is added then is none that was cut.
@@ -173,7 +178,7 @@ static CUT: &[(Call, Answer)] = &[
 
 // Whether they are answered so, and the pages below stay as they are.
 fn are_read<S: PageStore>(mut overlay: Overlay<S>) -> bool {
-    answers(&mut overlay, CUT) & answers(&mut overlay.into_store(), TWO)
+    overlay_answers(&mut overlay, CUT) & answers(&mut overlay.into_store(), TWO)
 }
 
 // Whether they are over two pages, which the journal cuts down to the first one, and that one is changed.

@@ -64,14 +64,13 @@ pub(crate) fn tells<J: Tells>(journal: &J, wanted: &[(u32, u32, u8)]) -> bool {
     if journal.changes() != wanted.len() {
         return false;
     }
+    let mut right = true;
     for at in 0..wanted.len() {
         let (number, page) = journal.change(at);
         let (wanted_number, held, byte) = wanted[at];
-        if number != wanted_number || *page != held_page(held, byte) {
-            return false;
-        }
+        right &= (number == wanted_number) & (*page == held_page(held, byte));
     }
-    true
+    right
 }
 
 /// A page of so many numbers from one on, each of four bytes, and zeros behind them.
