@@ -1,5 +1,7 @@
 // Rows that are put into a tree over a store that fails at one of its calls. A program keeps nothing of that, so that none of them
 // can show it.
+ghost use Rattle.std.specs.Prelude.{◌≡◌};
+ghost use Rattle.ub_store.specs.Facts.{page_count};
 ghost use Rattle.ub_tree.specs.Change.{Suits};
 
 use crate::worked::ended;
@@ -8,8 +10,6 @@ use ub_script::put_rows;
 use ub_store::{FaultyStore, MemStore, PageStore, StoreFault};
 use ub_table::{Name, PageFault, Row, Schema};
 use ub_tree::{Tree, TreeFault};
-
-type Store = FaultyStore<MemStore>;
 
 const DEVICE: Result<(), TreeFault> = Err(TreeFault::Store(StoreFault::Device));
 
@@ -80,25 +80,43 @@ fn shows<S: PageStore>(alloc: Global, tree: &mut Tree<S>, text: &str) -> bool {
     }
 }
 
-// A table of no rows over a store whose k-th call fails.
-fn made(alloc: Global, k: u64) -> Option<Tree<Store>> {
-    let schema = schema().ok()?;
-    Tree::create(alloc, FaultyStore::new(MemStore::new(alloc), k), &schema).ok()
+// Whether this is answered where the rows are put into a tree, and this stands then.
+fn is_put<S: PageStore>(
+    alloc: Global,
+    tree: &mut Tree<S>,
+    wanted: Result<(), TreeFault>,
+    text: &str,
+) -> bool {
+    (put_five(alloc, tree) == Some(wanted)) & shows(alloc, tree, text)
 }
 
-// What is answered, and whether this stands then, where the k-th call of the store fails.
-fn told(alloc: Global, k: u64, text: &str) -> Option<(Result<(), TreeFault>, bool)> {
-    let mut tree = made(alloc, k)?;
-    let put = put_five(alloc, &mut tree)?;
-    Some((put, shows(alloc, &mut tree, text)))
+// The same of a tree of no rows, which is made in a store that has no pages.
+fn is_put_into<S: PageStore>(
+    alloc: Global,
+    store: S,
+    wanted: Result<(), TreeFault>,
+    text: &str,
+) -> bool
+    requires { page_count (S.facts store) ≡ 0 }
+{
+    let Ok(schema) = schema() else {
+        return false;
+    };
+    match Tree::create(alloc, store, &schema) {
+        Ok(mut tree) => is_put(alloc, &mut tree, wanted, text),
+        Err(_) => false,
+    }
+}
+
+// The same in memory, where the k-th call of the store fails.
+fn is_told(alloc: Global, k: u64, wanted: Result<(), TreeFault>, text: &str) -> bool {
+    let store = FaultyStore::new(MemStore::new(alloc), k);
+    is_put_into(alloc, store, wanted, text)
 }
 
 #[test]
 fn those_that_went_in_before_a_fault_are_in(rt: HostRuntime) {
     for (k, wanted, text) in &CALLS {
-        assert!(rt;
-            told(rt.alloc(), *k, text) == Some((*wanted, true)),
-            "call {k}"
-        );
+        assert!(rt; is_told(rt.alloc(), *k, *wanted, text), "call {k}");
     }
 }

@@ -1,12 +1,13 @@
 // A table in a file of pages to which a script adds a row, and which isn't closed then: the file is told to be unclean.
+ghost use Rattle.std.specs.Prelude.{◌≡◌};
+ghost use Rattle.ub_store.specs.Facts.{page_count};
+
 use crate::worked::{closed, ended};
 use std::alloc::Global;
 use ub_file::{FileStore, MemMedium};
 use ub_store::{PageStore, StoreFault};
 use ub_table::PageFault;
 use ub_tree::{Tree, TreeFault};
-
-type Store = FileStore<MemMedium>;
 
 // The load of the five rows makes 10 calls of its store, and closing three. Then the table is opened with two calls; the INSERT
 // reads the region of its row, marks the table and writes the region. So the 19th call is the first of the closing, which syncs,
@@ -23,12 +24,6 @@ const UNCLEAN: Option<TreeFault> = Some(TreeFault::Page {
     page: 0,
     fault: PageFault::Unclean,
 });
-
-// The closed table, on a medium that fails at its k-th call.
-fn loaded(alloc: Global, k: u64) -> Option<Store> {
-    let medium = MemMedium::new(Vec::new(alloc), 0, k);
-    closed(alloc, FileStore::open(medium).ok()?)
-}
 
 // Whether a script adds a row to the table of this tree.
 fn adds<S: PageStore>(alloc: Global, tree: &mut Tree<S>) -> bool {
@@ -55,13 +50,28 @@ fn refusal_after<S: PageStore>(alloc: Global, tree: Tree<S>) -> Option<TreeFault
     }
 }
 
-// Whether a row is added, and the store is refused so then.
-fn is_left(alloc: Global, k: u64, wanted: Option<TreeFault>) -> bool {
-    let Some(store) = loaded(alloc, k) else {
-        return false;
-    };
+// Whether a row is added to the table in this store, and the store is refused so then.
+fn is_left_over<S: PageStore>(alloc: Global, store: S, wanted: Option<TreeFault>) -> bool {
     match Tree::open(alloc, store) {
-        Ok(mut tree) => adds(alloc, &mut tree) && refusal_after(alloc, tree) == wanted,
+        Ok(mut tree) => adds(alloc, &mut tree) & (refusal_after(alloc, tree) == wanted),
+        Err(_) => false,
+    }
+}
+
+// The same where the table is made in a store that has no pages.
+fn is_left_in<S: PageStore>(alloc: Global, store: S, wanted: Option<TreeFault>) -> bool
+    requires { page_count (S.facts store) ≡ 0 }
+{
+    match closed(alloc, store) {
+        Some(store) => is_left_over(alloc, store, wanted),
+        None => false,
+    }
+}
+
+// The same in a file, whose medium fails at its k-th call.
+fn is_left(alloc: Global, k: u64, wanted: Option<TreeFault>) -> bool {
+    match FileStore::open(MemMedium::new(Vec::new(alloc), 0, k)) {
+        Ok(store) => is_left_in(alloc, store, wanted),
         Err(_) => false,
     }
 }

@@ -1,4 +1,7 @@
 // A tree into which a row couldn't be put, since a write of its store failed, answers no query and explains none.
+ghost use Rattle.std.specs.Prelude.{◌≡◌};
+ghost use Rattle.ub_store.specs.Facts.{page_count};
+
 use crate::worked::ended;
 use std::alloc::Global;
 use ub_script::RunFault;
@@ -53,19 +56,30 @@ fn is_missed<S: PageStore>(tree: &mut Tree<S>) -> bool {
     tree.insert(&[1], &[]) == Err(TreeFault::Store(StoreFault::Device))
 }
 
-// Whether it isn't where the k-th call of the store fails, and whether all scripts are refused then, if there is a tree.
-fn told(alloc: Global, k: u64) -> Option<(bool, bool)> {
-    let schema = schema().ok()?;
-    let mut tree = Tree::create(alloc, FaultyStore::new(MemStore::new(alloc), k), &schema).ok()?;
-    Some((is_missed(&mut tree), are_refused(alloc, &mut tree)))
+// Whether a tree is made in a store that has no pages, a row isn't put into it, or is, and all scripts are refused then, or not.
+fn is_so_in<S: PageStore>(alloc: Global, store: S, missed: bool, refused: bool) -> bool
+    requires { page_count (S.facts store) ≡ 0 }
+{
+    let Ok(schema) = schema() else {
+        return false;
+    };
+    match Tree::create(alloc, store, &schema) {
+        Ok(mut tree) => {
+            (is_missed(&mut tree) == missed) & (are_refused(alloc, &mut tree) == refused)
+        }
+        Err(_) => false,
+    }
+}
+
+// The same in memory, where the k-th call of the store fails.
+fn is_so(alloc: Global, k: u64, missed: bool, refused: bool) -> bool {
+    let store = FaultyStore::new(MemStore::new(alloc), k);
+    is_so_in(alloc, store, missed, refused)
 }
 
 #[test]
 fn is_not_asked(rt: HostRuntime) {
-    for (k, is_missed, are_refused) in &CALLS {
-        assert!(rt;
-            told(rt.alloc(), *k) == Some((*is_missed, *are_refused)),
-            "call {k}"
-        );
+    for (k, missed, refused) in &CALLS {
+        assert!(rt; is_so(rt.alloc(), *k, *missed, *refused), "call {k}");
     }
 }

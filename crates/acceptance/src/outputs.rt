@@ -1,4 +1,7 @@
 // A write that fails isn't tried again, of whatever kind its error is, and however long the text is.
+ghost use Rattle.std.specs.Prelude.{◌≡◌};
+ghost use Rattle.ub_store.specs.Facts.{page_count};
+
 use crate::worked::{SCRIPT, TEXTS, table};
 use std::alloc::{AllocError, Global};
 use std::io::{self, Write};
@@ -159,32 +162,43 @@ fn is_cut_off<S: PageStore>(
     ended == wanted && writer.calls == calls && writer.taken.as_slice() == &text[..count]
 }
 
-// How many calls in turn, from the first one to the one after all of them, were refused so, up to the first that wasn't.
-fn count_cut_off<S: PageStore>(
+// Whether each call in turn, from the first one to the one after all of them, is refused so.
+fn is_cut_off_each<S: PageStore>(
     alloc: Global,
     tree: &mut Tree<S>,
     text: &[u8],
     how: Refusal,
-) -> usize {
+) -> bool {
+    let mut right = true;
     for due in 1..=text.len() + 1 {
-        if !is_cut_off(alloc, tree, text, due, how) {
-            return due - 1;
-        }
+        right &= is_cut_off(alloc, tree, text, due, how);
     }
-    text.len() + 1
+    right
 }
 
-// Whether all of them were, over the worked table, if memory is there.
-fn is_cut_off_everywhere(alloc: Global, how: Refusal) -> Option<bool> {
-    let text = whole(alloc).ok()?;
-    let mut tree = table(alloc, MemStore::new(alloc)).ok()?;
-    let right = count_cut_off(alloc, &mut tree, text.as_slice(), how);
-    Some(right == text.as_slice().len() + 1)
+// The same over the worked table, which is made in a store that has no pages.
+fn is_cut_off_over<S: PageStore>(alloc: Global, store: S, text: &[u8], how: Refusal) -> bool
+    requires { page_count (S.facts store) ≡ 0 }
+{
+    match table(alloc, store) {
+        Ok(mut tree) => is_cut_off_each(alloc, &mut tree, text, how),
+        Err(_) => false,
+    }
 }
+
+// The same of the whole text, in memory.
+fn is_cut_off_everywhere(alloc: Global, how: Refusal) -> bool {
+    match whole(alloc) {
+        Ok(text) => is_cut_off_over(alloc, MemStore::new(alloc), text.as_slice(), how),
+        Err(_) => false,
+    }
+}
+
+static REFUSALS: [Refusal; 3] = [Refusal::Fails, Refusal::TakesNone, Refusal::Interrupts];
 
 #[test]
 fn is_cut_off_at_each_byte(rt: HostRuntime) {
-    for how in [Refusal::Fails, Refusal::TakesNone, Refusal::Interrupts] {
-        assert!(rt; matches!(is_cut_off_everywhere(rt.alloc(), how), Some(true)));
+    for how in &REFUSALS {
+        assert!(rt; is_cut_off_everywhere(rt.alloc(), *how));
     }
 }

@@ -110,11 +110,12 @@ fn have_any_bytes(rt: HostRuntime) {
 
 // What a script of one byte writes.
 fn text_of(byte: u8) -> &'static [u8] {
-    match byte {
-        b' ' | b'\t' | b'\n' | b'\r' | b';' => b"",
-        b'a'..=b'z' | b'A'..=b'Z' | b'_' | b'0'..=b'9' => b"! Syntax at 0\n",
-        b',' | b'(' | b')' | b'*' | b'=' | b'<' | b'>' | b'-' => b"! Syntax at 0\n",
-        _ => b"! BadByte at 0\n",
+    if b" \t\n\r;".contains(&byte) {
+        b""
+    } else if byte.is_ascii_alphanumeric() || b"_,()*=<>-".contains(&byte) {
+        b"! Syntax at 0\n"
+    } else {
+        b"! BadByte at 0\n"
     }
 }
 

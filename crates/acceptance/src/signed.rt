@@ -1,8 +1,11 @@
 // A table of one signed dimension: where its regions begin and end, which are coordinates, and that a file keeps which dimensions
 // are signed.
+ghost use Rattle.std.specs.Prelude.{◌≡◌};
+ghost use Rattle.ub_store.specs.Facts.{page_count};
+
 use crate::worked::ended;
 use std::alloc::Global;
-use ub_load::load;
+use ub_load::{LoadFault, load};
 use ub_script::{RunFault, Summary};
 use ub_store::{MemStore, PageStore};
 use ub_tree::Tree;
@@ -28,9 +31,11 @@ const DONE: Result<Summary, RunFault> = Ok(Summary {
     refused: 0,
 });
 
-// The table, with two rows on a page.
-fn loaded(alloc: Global) -> Option<Tree<MemStore>> {
-    load(alloc, DATA, 1, 2, b"t", 1, MemStore::new(alloc)).ok()
+// The table, with two rows on a page, in a store that has no pages.
+fn loaded<S: PageStore>(alloc: Global, store: S) -> Result<Tree<S>, LoadFault>
+    requires { page_count (S.facts store) ≡ 0 }
+{
+    load(alloc, DATA, 1, 2, b"t", 1, store)
 }
 
 // Whether the region whose span holds a coordinate begins and ends there.
@@ -56,36 +61,50 @@ fn are_spans<S: PageStore>(tree: &mut Tree<S>) -> bool {
     tree.regions() == 2 && tree.schema().signed() == 1 && first_other(tree).is_none()
 }
 
-// Whether the table's regions do.
-fn are_of_coordinates(alloc: Global) -> bool {
-    match loaded(alloc) {
-        Some(mut tree) => are_spans(&mut tree),
-        None => false,
+// Whether the table's regions do, in a store that has no pages.
+fn are_of_coordinates<S: PageStore>(alloc: Global, store: S) -> bool
+    requires { page_count (S.facts store) ≡ 0 }
+{
+    match loaded(alloc, store) {
+        Ok(mut tree) => are_spans(&mut tree),
+        Err(_) => false,
     }
 }
 
 #[test]
 fn its_regions_are_of_coordinates(rt: HostRuntime) {
-    assert!(rt; are_of_coordinates(rt.alloc()));
+    assert!(rt; are_of_coordinates(rt.alloc(), MemStore::new(rt.alloc())));
 }
 
-// The table, closed and opened again.
-fn reopened(alloc: Global) -> Option<Tree<MemStore>> {
-    let store = loaded(alloc)?.close().ok()?;
-    Tree::open(alloc, store).ok()
-}
-
-// Whether it is signed still, and a script over it writes this.
-fn is_signed_still(alloc: Global) -> bool {
-    match reopened(alloc) {
-        Some(mut tree) => {
-            tree.schema().signed() == 1 && ended(alloc, &mut tree, SCRIPT, &[TEXT]) == Some(DONE)
+// Whether the table in a store is signed, and a script over it writes this.
+fn is_signed<S: PageStore>(alloc: Global, store: S) -> bool {
+    match Tree::open(alloc, store) {
+        Ok(mut tree) => {
+            (tree.schema().signed() == 1) & (ended(alloc, &mut tree, SCRIPT, &[TEXT]) == Some(DONE))
         }
-        None => false,
+        Err(_) => false,
+    }
+}
+
+// Whether it is where it is closed, and opened again.
+fn is_signed_after<S: PageStore>(alloc: Global, tree: Tree<S>) -> bool {
+    match tree.close() {
+        Ok(store) => is_signed(alloc, store),
+        Err(_) => false,
+    }
+}
+
+// The same of the table, in a store that has no pages.
+fn is_signed_still<S: PageStore>(alloc: Global, store: S) -> bool
+    requires { page_count (S.facts store) ≡ 0 }
+{
+    match loaded(alloc, store) {
+        Ok(tree) => is_signed_after(alloc, tree),
+        Err(_) => false,
     }
 }
 
 #[test]
 fn it_is_signed_still_where_it_is_opened(rt: HostRuntime) {
-    assert!(rt; is_signed_still(rt.alloc()));
+    assert!(rt; is_signed_still(rt.alloc(), MemStore::new(rt.alloc())));
 }
