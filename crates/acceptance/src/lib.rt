@@ -1,7 +1,7 @@
 //! Tests across crates that no transcript can show (those that one can stand in the crate `transcripts`): the words of faults as
 //! they are displayed, loads into stores that fail and scripts over them, a changed file that isn't closed, outputs that fail, scripts of any bytes and of many
-//! statements, where the regions of a signed dimension begin and end, and the help of each command. The values come from worked sources and
-//! hand arithmetic, never from the program's own output.
+//! statements, and where the regions of a signed dimension begin and end. The values come from worked sources and hand arithmetic, never from
+//! the program's own output.
 #![tactic(auto)]
 
 #[cfg(test)]
@@ -15,8 +15,6 @@ mod failing;
 #[cfg(test)]
 mod faults;
 #[cfg(test)]
-mod hints;
-#[cfg(test)]
 mod loads;
 #[cfg(test)]
 mod outputs;
@@ -24,7 +22,5 @@ mod outputs;
 mod scripts;
 #[cfg(test)]
 mod signed;
-#[cfg(test)]
-mod words;
 #[cfg(test)]
 mod worked;

@@ -3,10 +3,11 @@ use crate::damage::is_damaged;
 use crate::marks::Asked;
 use crate::narrow::Narrow;
 use std::alloc::{AllocError, Global};
-use ub_journal::{TornPlace, is_journal};
+use ub_hints::hint;
+use ub_journal::{Journal, TornPlace, is_journal};
 use ub_journal_page::write_journal;
 use ub_memory_files::MemFiles;
-use ub_shell::{Files, run_program};
+use ub_shell::{Files, Over, WordsFault, run_program};
 use ub_store::Page;
 
 /// How a command line has ended: its status, and what it wrote to each of its outputs.
@@ -45,49 +46,26 @@ impl Bench {
         is_damaged(self.alloc, &mut self.files, line)
     }
 
-    /// The bytes of a text, of a table file, or of the journal beside one, if there is one of this name.
-    pub fn bytes_of(&mut self, name: &str) -> Result<Option<Vec<u8>>, AllocError> {
+    /// The bytes of a text, of a table file, or of the journal beside one, if there is one of this name and memory is there.
+    pub fn bytes_of(&mut self, name: &str) -> Option<Vec<u8>> {
         if let Ok(text) = self.files.read(name) {
-            return Ok(Some(text));
+            return Some(text);
         }
-        if let Some(place) = self.files.table(name) {
-            let pages = place.copy_pages(self.alloc)?;
-            return Ok(Some(bytes_in(self.alloc, pages.as_slice())?));
-        }
-        match name.strip_suffix("-journal") {
-            Some(table) => self.journal_of(table),
-            None => Ok(None),
-        }
-    }
-
-    // The bytes of the journal beside the table file of this name, if one stands there.
-    fn journal_of(&self, name: &str) -> Result<Option<Vec<u8>>, AllocError> {
-        let Some(place) = self.files.table(name) else {
-            return Ok(None);
-        };
-        let Before { table: _, journal } = seen_at(self.alloc, Some(place))?;
-        let Some(journal) = journal else {
-            return Ok(None);
-        };
-        if !is_journal(&journal) {
-            return Ok(None);
-        }
-        let mut bytes = Vec::new(self.alloc);
-        match write_journal(&mut bytes, &journal) {
-            Ok(()) => Ok(Some(bytes)),
-            Err(_) => Err(AllocError),
+        match self.files.table(name) {
+            Some(place) => bytes_in(self.alloc, place).ok(),
+            None => journal_beside(
+                self.alloc,
+                self.files.table(name.strip_suffix("-journal")?)?,
+            ),
         }
     }
 
     /// Runs a command line.
-    pub fn run(&mut self, asked: Asked<'_>) -> Result<Ran, AllocError> {
-        let words = words_of(self.alloc, asked.words)?;
-        let out = Narrow::new(self.alloc, asked.room);
-        let notes = Narrow::new(self.alloc, asked.noted_room);
+    pub fn run(&mut self, asked: Asked<'_>) -> Ran {
         self.files.fail_at(asked.k);
-        let (status, out, notes) = run_program(self.alloc, &mut self.files, Ok(words), out, notes);
+        let ran = run_over(self.alloc, &mut self.files, asked);
         self.files.fail_at(0);
-        Ok(Ran { status, out, notes })
+        ran
     }
 
     /// Runs a command line up to the call of its table file's place at which it is stopped, leaves what a crash there may leave, and
@@ -95,20 +73,55 @@ impl Bench {
     pub fn crash(&mut self, asked: Asked<'_>, left: Left) -> Result<Ran, AllocError> {
         let name = table_of(asked.words);
         let before = seen_at(self.alloc, self.files.table(name))?;
-        let mut ran = self.run(asked)?;
+        let mut ran = self.run(asked);
         ran.status = asked.status;
         ran.out.take_back("! Device\n");
-        if let Some(place) = self.files.table(name) {
-            let image = left_of(self.alloc, before, place, left)?;
-            self.leave(name, image)?;
+        match self.leave(name, &before, left) {
+            Ok(()) => Ok(ran),
+            Err(refused) => Err(refused),
         }
-        Ok(ran)
     }
 
-    // Leaves what stands at a place to the table file of this name.
-    fn leave(&mut self, name: &str, place: TornPlace) -> Result<(), AllocError> {
-        self.files.put_place(name, place)
+    /// What people at a terminal are told of a command line that has ended with its status.
+    pub fn hint(&mut self, asked: Asked<'_>) -> Ran {
+        let mut out = Over::new(Narrow::new(self.alloc, asked.room));
+        if let Ok(words) = words_of(self.alloc, asked.words) {
+            let status = asked.status;
+            hint(
+                self.alloc,
+                &mut self.files,
+                words.as_slice(),
+                None,
+                status,
+                &mut out,
+            );
+        }
+        Ran {
+            status: asked.status,
+            out: out.into_inner(),
+            notes: Narrow::new(self.alloc, 0),
+        }
     }
+
+    // Leaves of the table file of this name, if it is one, what a crash may leave, where this stood there before.
+    fn leave(&mut self, name: &str, before: &Before, left: Left) -> Result<(), AllocError> {
+        match self.files.table(name) {
+            Some(place) => {
+                let image = left_of(self.alloc, before, place, left)?;
+                self.files.put_place(name, image)
+            }
+            None => Ok(()),
+        }
+    }
+}
+
+/// Runs a command line over files.
+pub fn run_over<F: Files>(alloc: Global, files: &mut F, asked: Asked<'_>) -> Ran {
+    let words = words_of(alloc, asked.words);
+    let out = Narrow::new(alloc, asked.room);
+    let notes = Narrow::new(alloc, asked.noted_room);
+    let (status, out, notes) = run_program(alloc, files, words, out, notes);
+    Ran { status, out, notes }
 }
 
 // The table file that a command line names: its second word, or of a `load` or an `upgrade` its third.
@@ -122,8 +135,14 @@ fn table_of(words: &str) -> &str {
     }
 }
 
+// The bytes of a table's pages, one page after the other.
+fn bytes_in(alloc: Global, place: &TornPlace) -> Result<Vec<u8>, AllocError> {
+    let pages = place.copy_pages(alloc)?;
+    joined(alloc, pages.as_slice())
+}
+
 // The bytes of pages, one page after the other.
-fn bytes_in(alloc: Global, pages: &[Page]) -> Result<Vec<u8>, AllocError> {
+fn joined(alloc: Global, pages: &[Page]) -> Result<Vec<u8>, AllocError> {
     let mut bytes = Vec::new(alloc);
     for page in pages {
         bytes.extend_from_slice(page)?;
@@ -131,24 +150,47 @@ fn bytes_in(alloc: Global, pages: &[Page]) -> Result<Vec<u8>, AllocError> {
     Ok(bytes)
 }
 
-/// The words of a command line, the program's name first. What stands between two single quotes is one word.
-pub fn words_of(alloc: Global, line: &str) -> Result<Vec<String>, AllocError> {
+// The bytes of the journal beside a table, if one stands there and memory is there.
+fn journal_beside(alloc: Global, place: &TornPlace) -> Option<Vec<u8>> {
+    let before = seen_at(alloc, Some(place)).ok()?;
+    spelled(alloc, before.journal.as_ref()?)
+}
+
+// The bytes of a journal, if it is one and memory is there.
+fn spelled(alloc: Global, journal: &Journal) -> Option<Vec<u8>> {
+    let mut bytes = Vec::new(alloc);
+    let is_written = is_journal(journal) && write_journal(&mut bytes, journal).is_ok();
+    is_written.then_some(bytes)
+}
+
+// The words of a command line, the program's name first. What stands between two single quotes is one word.
+fn words_of(alloc: Global, line: &str) -> Result<Vec<String>, WordsFault> {
     let mut words = Vec::new(alloc);
-    words.push(String::from_str(alloc, "ubq")?)?;
+    let mut is_in = push_word(alloc, &mut words, "ubq").is_ok();
     for (n, part) in line.split('\'').enumerate() {
-        if n % 2 == 0 {
-            push_words(alloc, &mut words, part)?;
+        is_in &= if n % 2 == 0 {
+            push_words(alloc, &mut words, part).is_ok()
         } else {
-            words.push(String::from_str(alloc, part)?)?;
-        }
+            push_word(alloc, &mut words, part).is_ok()
+        };
     }
-    Ok(words)
+    if is_in {
+        Ok(words)
+    } else {
+        Err(WordsFault::Memory)
+    }
 }
 
 // Pushes the words of a part of a command line in which no quote stands.
 fn push_words(alloc: Global, words: &mut Vec<String>, part: &str) -> Result<(), AllocError> {
     for word in part.split_whitespace() {
-        words.push(String::from_str(alloc, word)?)?;
+        push_word(alloc, words, word)?;
     }
+    Ok(())
+}
+
+// Pushes a word.
+fn push_word(alloc: Global, words: &mut Vec<String>, word: &str) -> Result<(), AllocError> {
+    words.push(String::from_str(alloc, word)?)?;
     Ok(())
 }

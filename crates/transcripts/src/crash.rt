@@ -45,76 +45,99 @@ pub fn seen_at(alloc: Global, place: Option<&TornPlace>) -> Result<Before, Alloc
     })
 }
 
-// What is seen of a table's file and the names beside it, and what of that lasts.
+// What is seen of a table's file and the names beside it, and what of that lasts; and whether memory was refused for it.
 #[derive(Drop)]
-struct Disk {
+struct Disk<'a> {
     table: Vec<Page>,
     lasting: Vec<Page>,
-    draft: Option<Journal>,
-    journal: Option<Journal>,
-    journal_lasting: Option<Journal>,
+    draft: Option<&'a Journal>,
+    journal: Option<&'a Journal>,
+    journal_lasting: Option<&'a Journal>,
+    is_out: bool,
 }
 
 /// What a crash leaves at a place where these pages and this journal stood before its calls.
 pub fn left_of(
     alloc: Global,
-    before: Before,
+    before: &Before,
     place: &TornPlace,
     left: Left,
 ) -> Result<TornPlace, AllocError> {
-    if let Left::Seen = left {
-        return place.restarted(alloc);
+    match left {
+        Left::Seen => place.restarted(alloc),
+        Left::Lost => redone(alloc, before, place.deeds(), false),
+        Left::Torn => redone(alloc, before, place.deeds(), true),
     }
-    let mut disk = begun(alloc, before)?;
-    for deed in place.deeds() {
-        redo(alloc, &mut disk, deed)?;
-    }
-    let Disk {
-        mut table,
-        lasting,
-        draft: _,
-        journal,
-        journal_lasting,
-    } = disk;
-    if let Left::Torn = left {
-        tear(table.as_mut_slice(), lasting.as_slice());
-        return Ok(TornPlace::new(alloc, table, 0, journal, true));
-    }
-    Ok(TornPlace::new(alloc, lasting, 0, journal_lasting, true))
 }
 
-// What stands there before any call.
-fn begun(alloc: Global, before: Before) -> Result<Disk, AllocError> {
-    let Before { table, journal } = before;
-    let lasting = Vec::from_slice(alloc, table.as_slice())?;
-    let journal_lasting = copied(alloc, journal.as_ref())?;
-    Ok(Disk {
-        table,
-        lasting,
+// What is left of these calls: what lasts of them, or pages that are torn.
+fn redone(
+    alloc: Global,
+    before: &Before,
+    deeds: &[Deed],
+    is_torn: bool,
+) -> Result<TornPlace, AllocError> {
+    let mut disk = Disk {
+        table: Vec::new(alloc),
+        lasting: Vec::new(alloc),
         draft: None,
-        journal,
-        journal_lasting,
-    })
+        journal: before.journal.as_ref(),
+        journal_lasting: before.journal.as_ref(),
+        is_out: false,
+    };
+    redo_all(&mut disk, before.table.as_slice(), deeds, is_torn);
+    if disk.is_out {
+        return Err(AllocError);
+    }
+    let journal = copied(alloc, disk.journal_lasting)?;
+    Ok(TornPlace::new(alloc, disk.lasting, 0, journal, true))
+}
+
+// Does the calls again, from these pages on; where pages are torn, these and the names that are seen last.
+fn redo_all<'a>(disk: &mut Disk<'a>, table: &[Page], deeds: &'a [Deed], is_torn: bool) {
+    disk.is_out |= disk.table.extend_from_slice(table).is_err();
+    sync(disk);
+    for deed in deeds {
+        redo(disk, deed);
+    }
+    if is_torn {
+        tear(disk.table.as_mut_slice(), disk.lasting.as_slice());
+        sync(disk);
+        disk.journal_lasting = disk.journal;
+    }
+}
+
+// Lets the pages that are seen last.
+fn sync(disk: &mut Disk<'_>) {
+    disk.lasting.clear();
+    disk.is_out |= disk
+        .lasting
+        .extend_from_slice(disk.table.as_slice())
+        .is_err();
 }
 
 // Does a call again.
-fn redo(alloc: Global, disk: &mut Disk, deed: &Deed) -> Result<(), AllocError> {
+fn redo<'a>(disk: &mut Disk<'a>, deed: &'a Deed) {
     match deed {
         Deed::Write(n, page) => put(disk.table.as_mut_slice(), *n, page),
-        Deed::Mark => {
-            if let Some(first) = disk.table.first_mut() {
-                first[5] = 1;
-            }
+        Deed::Mark => mark(disk.table.as_mut_slice()),
+        Deed::Resize(count) => {
+            disk.is_out |= disk.table.resize(*count as usize, [0; 4096]).is_err();
         }
-        Deed::Resize(count) => disk.table.resize(*count as usize, [0; 4096])?,
-        Deed::Sync => disk.lasting = Vec::from_slice(alloc, disk.table.as_slice())?,
-        Deed::Draft(journal) => disk.draft = copied(alloc, Some(journal))?,
+        Deed::Sync => sync(disk),
+        Deed::Draft(journal) => disk.draft = Some(journal),
         Deed::SyncDraft => {}
-        Deed::Publish => disk.journal = copied(alloc, disk.draft.as_ref())?,
+        Deed::Publish => disk.journal = disk.draft,
         Deed::Remove => disk.journal = None,
-        Deed::SyncFolder => disk.journal_lasting = copied(alloc, disk.journal.as_ref())?,
+        Deed::SyncFolder => disk.journal_lasting = disk.journal,
     }
-    Ok(())
+}
+
+// Marks the first page, where there is one.
+fn mark(table: &mut [Page]) {
+    if let Some(first) = table.first_mut() {
+        first[5] = 1;
+    }
 }
 
 // Puts a page at its number, where there is one.

@@ -1,10 +1,8 @@
-use crate::bench::{Ran, words_of};
+use crate::bench::{Ran, run_over};
 use crate::marks::Asked;
-use crate::narrow::Narrow;
 use std::alloc::{AllocError, Global};
 use std::{fs, io};
 use ub_host_files::HostFiles;
-use ub_shell::run_program;
 
 // A file of the system: its name, and the bytes that it had when it was looked at, if it was there.
 #[derive(Drop)]
@@ -42,26 +40,20 @@ impl<'a> Folder<'a> {
                 self.look_at_all(rt, part)?;
             }
         }
-        let words = words_of(self.alloc, asked.words)?;
-        let out = Narrow::new(self.alloc, asked.room);
-        let notes = Narrow::new(self.alloc, asked.noted_room);
-        let mut files = HostFiles::new(rt);
-        let (status, out, notes) = run_program(self.alloc, &mut files, Ok(words), out, notes);
-        Ok(Ran { status, out, notes })
+        Ok(run_over(self.alloc, &mut HostFiles::new(rt), asked))
     }
 
     /// The names of the files that aren't as they were when they were looked at, with a space between them. They are looked at
     /// again.
     pub fn changes(&mut self, rt: &HostRuntime) -> Result<String, AllocError> {
         let mut names = String::new(self.alloc);
+        let mut is_in = true;
         for seen in self.seen.iter_mut() {
-            let now = fs::read(rt, seen.name).ok();
-            if now != seen.bytes {
-                add_word(&mut names, seen.name)?;
+            if has_changed(rt, seen) {
+                is_in &= add_word(&mut names, seen.name).is_ok();
             }
-            seen.bytes = now;
         }
-        Ok(names)
+        if is_in { Ok(names) } else { Err(AllocError) }
     }
 
     // Looks at the file of each of these words.
@@ -74,11 +66,31 @@ impl<'a> Folder<'a> {
 
     // Looks at the file of this name.
     fn look_at(&mut self, rt: &HostRuntime, name: &'a str) -> io::Result<()> {
-        self.seen.retain(|seen| seen.name != name);
+        let at = index_of(self.seen.as_slice(), name);
+        if at < self.seen.len() {
+            self.seen.remove(at);
+        }
         let bytes = fs::read(rt, name).ok();
-        self.seen.push(Seen { name, bytes })?;
-        Ok(())
+        Ok(self.seen.push(Seen { name, bytes })?)
     }
+}
+
+// The index of the file of this name, or how many files there are where none has it.
+fn index_of(seen: &[Seen<'_>], name: &str) -> usize {
+    for (n, file) in seen.iter().enumerate() {
+        if file.name == name {
+            return n;
+        }
+    }
+    seen.len()
+}
+
+// Looks at a file again, and tells whether it isn't as it was.
+fn has_changed(rt: &HostRuntime, seen: &mut Seen<'_>) -> bool {
+    let now = fs::read(rt, seen.name).ok();
+    let has_changed = now != seen.bytes;
+    seen.bytes = now;
+    has_changed
 }
 
 // Adds a word to a line, with a space between them.

@@ -17,6 +17,9 @@
 //!     > SQL       the line SQL as a script on the table of `t.csv`: two dimensions, two rows a page
 //!     ? STATUS    the command line above ends with this status, and not with 0
 //!     2> LINE     the command line above writes this line to its second output; with no such line it writes nothing there
+//!     >> LINE     among the lines that the command line above writes is this one: the others aren't told
+//!     $! WORDS    of `ubq WORDS` over these files, which has ended with the status of the mark ?, people at a terminal are told the
+//!                 lines that follow
 //!     = FROM TO   the table file TO is made of the pages of the table file FROM
 //!     ~ FILE OFFSET BYTE BYTE ..
 //!                 these bytes, in decimal, are put into the table file FILE, from this offset on
@@ -49,9 +52,5 @@ use std::io;
 fn main(rt: HostRuntime) -> io::Result<()> {
     let text = io::read_to_string(rt.alloc(), rt.reader())?;
     let mut player = Player::new(rt.alloc());
-    let whole = text.as_str();
-    for line in whole.strip_suffix('\n').unwrap_or(whole).split('\n') {
-        player.take(&rt, line)?;
-    }
-    player.end(&rt)
+    player.play(&rt, text.as_str())
 }

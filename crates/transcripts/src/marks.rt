@@ -6,6 +6,8 @@ pub enum Place {
     Memory,
     /// In a folder of the system.
     Folder,
+    /// In memory, where it has ended with its status, and what people at a terminal are told of that is asked.
+    Terminal,
 }
 
 /// A command line, and how it is run.
@@ -25,6 +27,8 @@ pub struct Asked<'a> {
     pub place: Place,
     /// Which files of the folder it must change, or make.
     pub changes: &'a str,
+    /// A line that must be among those that it writes, where that isn't all that it must write.
+    pub line: &'a str,
 }
 
 impl<'a> Asked<'a> {
@@ -39,6 +43,7 @@ impl<'a> Asked<'a> {
             status: 0,
             place: Place::Memory,
             changes: "",
+            line: "",
         }
     }
 }
@@ -58,6 +63,8 @@ pub enum Mark<'a> {
     Status(u8),
     /// A line that the command line above must write to its second output.
     Note(&'a str),
+    /// A line that the command line above must write among others.
+    Line(&'a str),
     /// The files of the folder that the command line above changes, or makes.
     Changes(&'a str),
     /// The file of this name is put into the folder.
@@ -78,11 +85,10 @@ pub fn mark_of(line: &str) -> Option<Mark<'_>> {
         ">" => Some(Mark::Script(rest)),
         "?" => Some(Mark::Status(rest.parse::<u8>().ok()?)),
         "2>" => Some(Mark::Note(rest)),
+        ">>" => Some(Mark::Line(rest)),
         "^" => Some(Mark::Put(rest)),
-        ":" => Some(Mark::Run(Asked {
-            place: Place::Folder,
-            ..Asked::new(rest)
-        })),
+        ":" => Some(Mark::Run(at(Place::Folder, rest))),
+        "$!" => Some(Mark::Run(at(Place::Terminal, rest))),
         "*" => Some(Mark::Changes(rest)),
         "~" | "|" | "=" => Some(Mark::Damage(line)),
         _ => Some(Mark::Run(failing(head, rest)?)),
@@ -91,29 +97,35 @@ pub fn mark_of(line: &str) -> Option<Mark<'_>> {
 
 // A command line where a call of a store fails, or one of the outputs.
 fn failing<'a>(head: &str, words: &'a str) -> Option<Asked<'a>> {
-    let asked = Asked::new(words);
     if head == "@crash" {
-        let (k, rest) = cut(words);
-        let (left, words) = cut(rest);
-        return Some(Asked {
-            k: k.parse::<u64>().ok()?,
-            left: Some(left_by(left)?),
-            ..Asked::new(words)
-        });
+        return stopped(words);
     }
+    let mut asked = Asked::new(words);
     if let Some(k) = head.strip_prefix('@') {
-        let k = k.parse::<u64>().ok()?;
-        return Some(Asked { k, ..asked });
+        asked.k = k.parse::<u64>().ok()?;
+    } else if let Some(room) = head.strip_prefix("2/") {
+        asked.noted_room = room.parse::<usize>().ok()?;
+    } else {
+        asked.room = head.strip_prefix('/')?.parse::<usize>().ok()?;
     }
-    if let Some(room) = head.strip_prefix("2/") {
-        let noted_room = room.parse::<usize>().ok()?;
-        return Some(Asked {
-            noted_room,
-            ..asked
-        });
-    }
-    let room = head.strip_prefix('/')?.parse::<usize>().ok()?;
-    Some(Asked { room, ..asked })
+    Some(asked)
+}
+
+// A command line that is stopped at a call, by the words for the call and for what is left, and its own.
+fn stopped(words: &str) -> Option<Asked<'_>> {
+    let (k, rest) = cut(words);
+    let (left, words) = cut(rest);
+    let mut asked = Asked::new(words);
+    asked.k = k.parse::<u64>().ok()?;
+    asked.left = Some(left_by(left)?);
+    Some(asked)
+}
+
+// A command line at this place.
+fn at(place: Place, words: &str) -> Asked<'_> {
+    let mut asked = Asked::new(words);
+    asked.place = place;
+    asked
 }
 
 /// A line's first word, and what stands after the space behind it.

@@ -25,6 +25,16 @@ impl Narrow {
         self.taken.as_slice() == text.as_bytes() && self.failed < 2
     }
 
+    /// Whether it has taken this line among others.
+    pub fn has_line(&self, wanted: &str) -> bool {
+        for line in self.text().lines() {
+            if line == wanted {
+                return true;
+            }
+        }
+        false
+    }
+
     /// What it has taken, where that is a text.
     pub fn text(&self) -> &str {
         str::from_utf8(self.taken.as_slice()).unwrap_or("! no text\n")

@@ -1,6 +1,7 @@
 use crate::bench::{Bench, Ran};
 use crate::folder::Folder;
 use crate::marks::{Asked, Mark, Place, cut, mark_of};
+use crate::narrow::Narrow;
 use std::alloc::{AllocError, Global};
 use std::io;
 
@@ -46,8 +47,16 @@ impl<'a> Player<'a> {
         }
     }
 
-    /// Takes the next line.
-    pub fn take(&mut self, rt: &HostRuntime, line: &'a str) -> io::Result<()> {
+    /// Takes all lines of a transcript, and prints at last how many command lines were right, and how many wrong.
+    pub fn play(&mut self, rt: &HostRuntime, text: &'a str) -> io::Result<()> {
+        for line in text.strip_suffix('\n').unwrap_or(text).split('\n') {
+            self.take(rt, line)?;
+        }
+        self.end(rt)
+    }
+
+    // Takes the next line.
+    fn take(&mut self, rt: &HostRuntime, line: &'a str) -> io::Result<()> {
         match mark_of(line) {
             Some(Mark::Status(status)) => {
                 if let Some(asked) = self.asked_above() {
@@ -61,6 +70,12 @@ impl<'a> Player<'a> {
                 }
                 Ok(())
             }
+            Some(Mark::Line(line)) => {
+                if let Some(asked) = self.asked_above() {
+                    asked.line = line;
+                }
+                Ok(())
+            }
             Some(Mark::Note(note)) => {
                 self.is_blank = false;
                 Ok(add_line(&mut self.noted, note)?)
@@ -70,8 +85,8 @@ impl<'a> Player<'a> {
         }
     }
 
-    /// Ends the last part, and prints how many command lines were right, and how many wrong.
-    pub fn end(&mut self, rt: &HostRuntime) -> io::Result<()> {
+    // Ends the last part, and prints how many command lines were right, and how many wrong.
+    fn end(&mut self, rt: &HostRuntime) -> io::Result<()> {
         self.end_part(rt)?;
         println!(rt; "{} right, {} wrong", self.right, self.wrong)
     }
@@ -89,7 +104,8 @@ impl<'a> Player<'a> {
     fn begin(&mut self, rt: &HostRuntime, mark: Mark<'a>) -> io::Result<()> {
         self.end_part(rt)?;
         self.part = match mark {
-            Mark::Comment | Mark::Status(_) | Mark::Changes(_) | Mark::Note(_) => Part::Nothing,
+            Mark::Comment | Mark::Status(_) | Mark::Line(_) | Mark::Changes(_) | Mark::Note(_) =>
+                Part::Nothing,
             Mark::File(name) => Part::File(name),
             Mark::Run(asked) => Part::Run(asked),
             Mark::Damage(line) => {
@@ -101,8 +117,9 @@ impl<'a> Player<'a> {
                 Part::Nothing
             }
             Mark::Script(script) => {
-                let line = format!(in self.alloc; "{script}\n")?;
-                self.bench.put("-", line.as_str())?;
+                add_line(&mut self.text, script)?;
+                self.bench.put("-", self.text.as_str())?;
+                self.text.clear();
                 Part::Run(Asked::new("try t.csv - --dims 2 --page-rows 2"))
             }
         };
@@ -120,7 +137,7 @@ impl<'a> Player<'a> {
 
     // Puts a file into the folder, or tells that there is none.
     fn put(&mut self, rt: &HostRuntime, name: &'a str) -> io::Result<()> {
-        match self.bench.bytes_of(name)? {
+        match self.bench.bytes_of(name) {
             Some(bytes) => self.folder.put(rt, name, bytes.as_slice()),
             None => {
                 self.wrong = self.wrong.saturating_add(1);
@@ -160,17 +177,12 @@ impl<'a> Player<'a> {
         Ok(())
     }
 
-    // Runs a command line where its files are, and gives how it has ended, and which files of the folder it changed.
-    fn run(&mut self, rt: &HostRuntime, asked: Asked<'a>) -> io::Result<(Ran, String)> {
+    // Runs a command line where its files are.
+    fn run(&mut self, rt: &HostRuntime, asked: Asked<'a>) -> io::Result<Ran> {
         match asked.place {
-            Place::Memory => {
-                let ran = self.run_in_memory(asked)?;
-                Ok((ran, String::new(self.alloc)))
-            }
-            Place::Folder => {
-                let ran = self.folder.run(rt, asked)?;
-                Ok((ran, self.folder.changes(rt)?))
-            }
+            Place::Memory => Ok(self.run_in_memory(asked)?),
+            Place::Folder => self.folder.run(rt, asked),
+            Place::Terminal => Ok(self.bench.hint(asked)),
         }
     }
 
@@ -178,35 +190,67 @@ impl<'a> Player<'a> {
     fn run_in_memory(&mut self, asked: Asked<'a>) -> Result<Ran, AllocError> {
         match asked.left {
             Some(left) => self.bench.crash(asked, left),
-            None => self.bench.run(asked),
+            None => Ok(self.bench.run(asked)),
+        }
+    }
+
+    // The files of the folder that a command line changed.
+    fn changes(&mut self, rt: &HostRuntime, place: Place) -> Result<String, AllocError> {
+        match place {
+            Place::Memory | Place::Terminal => Ok(String::new(self.alloc)),
+            Place::Folder => self.folder.changes(rt),
         }
     }
 
     // Runs a command line, counts it, and prints what differs.
     fn judge(&mut self, rt: &HostRuntime, asked: Asked<'a>) -> io::Result<()> {
-        let (ran, changes) = self.run(rt, asked)?;
-        let is_same = ran.out.is_taken(self.text.as_str())
-            && ran.notes.is_taken(self.noted.as_str())
-            && changes.as_str() == asked.changes;
-        if is_same && ran.status == asked.status {
+        let ran = self.run(rt, asked)?;
+        let changes = self.changes(rt, asked.place)?;
+        self.count(rt, asked, &ran, changes.as_str())
+    }
+
+    // Counts a command line that has ended so, and has changed these files, and prints what differs.
+    fn count(
+        &mut self,
+        rt: &HostRuntime,
+        asked: Asked<'a>,
+        ran: &Ran,
+        changes: &str,
+    ) -> io::Result<()> {
+        let is_right = is_written(&ran.out, asked.line, self.text.as_str())
+            & ran.notes.is_taken(self.noted.as_str())
+            & (changes == asked.changes)
+            & (ran.status == asked.status);
+        if is_right {
             self.right = self.right.saturating_add(1);
             return Ok(());
         }
         self.wrong = self.wrong.saturating_add(1);
         println!(rt;
-            "{}, place fails at {}, room {} and {}",
-            asked.words, asked.k, asked.room, asked.noted_room
-        )?;
-        println!(rt;
-            "wanted, with status {}, changes {}:\n{}2>\n{}",
-            asked.status, asked.changes, self.text, self.noted
-        )?;
-        println!(rt;
-            "written, with status {}, changes {changes}:\n{}2>\n{}",
+            "{}, place fails at {}, room {} and {}\n\
+            wanted, with status {}, changes {}:\n{}2>\n{}\n\
+            written, with status {}, changes {changes}:\n{}2>\n{}",
+            asked.words,
+            asked.k,
+            asked.room,
+            asked.noted_room,
+            asked.status,
+            asked.changes,
+            self.text,
+            self.noted,
             ran.status,
             ran.out.text(),
             ran.notes.text()
         )
+    }
+}
+
+// Whether an output has taken this line among others, where it isn't empty, or just this text.
+fn is_written(out: &Narrow, line: &str, text: &str) -> bool {
+    if line.is_empty() {
+        out.is_taken(text)
+    } else {
+        out.has_line(line)
     }
 }
 
