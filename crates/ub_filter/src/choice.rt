@@ -30,8 +30,9 @@ pub enum Choice {
 
 impl Choice {
     /// What costs less. The boxes ask each column of coordinates once for each box, by lanes, and the condition asks a value of each
-    /// row once for each of its comparisons. An exact condition can have a thousand boxes, so the boxes are asked only where they
-    /// and their dimensions are no more than `COLUMNS_FOR_A_COMPARISON` times the comparisons. Without a condition nothing is asked.
+    /// row once for each of its comparisons. An exact condition can have a thousand boxes, so the boxes are asked only where they and
+    /// their dimensions are no more than the comparisons, or, where no row is rechecked, than `COLUMNS_FOR_A_COMPARISON` times these.
+    /// Without a condition nothing is asked.
     pub fn of(plan: &Plan, schema: &Schema) -> Choice
         requires { IsPosed (length schema.now.columns) plan.now.asked }
         ensures { IsFit schema.now plan.now result }
@@ -39,7 +40,7 @@ impl Choice {
         let dims = schema.dims() as usize;
         let asked_of_boxes = plan.boxes().len().saturating_mul(dims);
         let asked_of_rows = comparisons_of(plan.query());
-        let is_cheap = asked_of_boxes <= asked_of_rows.saturating_mul(COLUMNS_FOR_A_COMPARISON);
+        let is_cheap = asked_of_boxes <= asked_of_rows.saturating_mul(columns_for_each(plan));
         if is_cheap && have_dims(plan.boxes(), dims) {
             Choice::Boxes
         } else {
@@ -69,6 +70,14 @@ impl Choice {
             Choice::Boxes => plan.residual(),
             Choice::Condition => plan.query().filter.as_ref(),
         }
+    }
+}
+
+// How many columns of a page may be asked for each comparison.
+fn columns_for_each(plan: &Plan) -> usize {
+    match plan.residual() {
+        None => COLUMNS_FOR_A_COMPARISON,
+        Some(_) => 1,
     }
 }
 
