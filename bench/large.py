@@ -1,8 +1,9 @@
 #!/usr/bin/env python3
 """Loads a large made table with one or more programs `ubq` by turns, and tells seconds of processor, memory and bytes; with --sqlite
-SQLite too, with one covering index on all columns; with --pages how many pages of the index each query of the last program reads.
+SQLite too, with one covering index on all columns; with --pages how many pages of the index each query of the last program reads;
+with --answers the seconds of processor and the memory of queries with many rows.
 
-usage: bench/large.py [--rows N] [--rounds N] [--sqlite] [--pages] [PROGRAM..]      (default 2000000 rows, 5 rounds)
+usage: bench/large.py [--rows N] [--rounds N] [--sqlite] [--pages] [--answers] [PROGRAM..]      (default 2000000 rows, 5 rounds)
 
 A time is the least of the rounds, user's and system's together, in each of which every program has its turn. Pages are counted by the
 calls of the system that read them (`strace`): less those of an empty script, and less the region pages, which a query tells itself.
@@ -17,9 +18,10 @@ import sys
 import tempfile
 from pathlib import Path
 
-from lib.asked import QUERIES, programs, write_table
+from lib.asked import QUERIES, TENTH, programs, write_table
 
 COLUMNS = "x, y, z, kind, amount"
+LARGE = ["SELECT * FROM t;", f"SELECT * FROM t WHERE {TENTH};", "SELECT * FROM t ORDER BY x;", "SELECT x, COUNT(*), SUM(amount) FROM t GROUP BY x;"]
 
 
 def processor(words, **more):
@@ -81,6 +83,19 @@ def tell_pages(program, table, work):
         print(f"| {name} | {regions} | {read - empty - regions} |")
 
 
+def tell_answers(given, tried, work):
+    print("\n| Query | program | seconds of processor | MB at the most |\n|---|---|---|---|")
+    for text in LARGE:
+        script = work_file(work / "script.sql", text + "\n")
+        least = {}
+        for _ in range(given.rounds):
+            for i, program in enumerate(tried):
+                used = processor([program, "run", str(work / f"{i}.ub"), str(script)])
+                least[i] = min(least.get(i, used), used)
+        for i, (seconds, memory) in least.items():
+            print(f"| `{text}` | {tried[i]} | {seconds:.2f} | {memory:.0f} |")
+
+
 def main():
     parser = argparse.ArgumentParser(description="loads a large table with programs ubq by turns")
     parser.add_argument("programs", nargs="*")
@@ -88,6 +103,7 @@ def main():
     parser.add_argument("--rounds", type=int, default=5)
     parser.add_argument("--sqlite", action="store_true")
     parser.add_argument("--pages", action="store_true")
+    parser.add_argument("--answers", action="store_true")
     given = parser.parse_args()
     tried = programs(given.programs)
     with tempfile.TemporaryDirectory(dir="/dev/shm") as folder:
@@ -95,6 +111,8 @@ def main():
         data = work / "data.csv"
         write_table(data, given.rows)
         tell_loads(given, tried, data, work)
+        if given.answers:
+            tell_answers(given, tried, work)
         if given.pages:
             tell_pages(tried[-1], work / f"{len(tried) - 1}.ub", work)
 
