@@ -4,7 +4,8 @@ crate's sizes, the dearest edits, and how much of the processors the host took b
 
     docs/gate_times.py LOG      in a clean clone; what `rt ci` prints goes to LOG
 
-It looks every second at the processes that `rt ci` starts, so what runs for less than a second can be missed."""
+It looks every second at the processes that `rt ci` starts, so what runs for less than a second can be missed. First it checks the kit's
+empty crate, whose seconds say how quick the machine is."""
 
 import collections
 import os
@@ -12,6 +13,7 @@ import pathlib
 import re
 import subprocess
 import sys
+import tempfile
 import time
 
 from sizes import HEADS, crates, edits_of, size
@@ -30,6 +32,17 @@ def processors():
     """The times that all processors have spent so far, in user, system, idle and stolen ticks."""
     words = [int(word) for word in pathlib.Path("/proc/stat").read_text().split("\n")[0].split()[1:9]]
     return words[0] + words[1], words[2], words[3] + words[4], words[7]
+
+
+def pace():
+    """The seconds of processor that a check of the kit's empty crate takes from nothing."""
+    with tempfile.TemporaryDirectory() as folder:
+        subprocess.run(["git", "init", "-q"], cwd=folder, check=True)
+        subprocess.run(["rt", "new", "empty", "start_lib"], cwd=folder, check=True, capture_output=True)
+        before = os.times()
+        subprocess.run(["rt", "check", "--jobs", "1"], cwd=f"{folder}/empty", check=True, capture_output=True)
+        after = os.times()
+    return after.children_user + after.children_system - before.children_user - before.children_system
 
 
 def what_runs(pid):
@@ -106,6 +119,7 @@ def tell(used, wall, before, after):
 def main():
     if len(sys.argv) != 2 or sys.argv[1].startswith("-"):
         sys.exit(__doc__)
+    print(f"the kit's empty crate: {pace():.1f} s of processor", flush=True)
     sampler, began, before = Sampler(), time.time(), processors()
     with open(sys.argv[1], "w", encoding="utf-8") as log:
         gate = subprocess.Popen(["bash", ".ci/run"], cwd=TOP, stdin=subprocess.DEVNULL, stdout=log, stderr=subprocess.STDOUT)
