@@ -2,3 +2,4 @@ pub mod AddFacts
 pub mod LevelFacts
 pub mod SizeFacts
 pub mod LayFacts
+pub mod BegunFacts

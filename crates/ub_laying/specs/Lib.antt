@@ -1,3 +1,4 @@
 pub mod Effects
 pub mod Levels
 pub mod Laying
+pub mod Begun

@@ -8,20 +8,26 @@
 //! So the file of a table that was loaded lies in key order, and a query with a range reads pages that follow each other. The pages
 //! of a level have numbers that follow each other too, and the first key of each stands on it: nothing is kept in memory but where a
 //! level begins and how many pages it has. The level that has one page alone is the root's; that is level 5 at most. `adding` adds a
-//! page to the store.
+//! page to the store. A table that is loaded is `begun` over a store by its first page alone, which marks it as changed, and laid behind
+//! that once its rows are read; `pager` makes the pager over the store of any table.
 //!
 //! What belongs here is what needs no tree: which page a region comes on, and an index whose entries are all there. How an index
 //! changes is `ub_index_change`'s. The definitions stand in specs/: `Laying` (regions on pages that follow each other, and their
-//! entries), `Levels` (the pages of a level, and the index that is built of them), `Effects` (what is left of the store).
+//! entries), `Levels` (the pages of a level, and the index that is built of them), `Begun` (a table that is begun, and what is laid
+//! there), `Effects` (what is left of the store).
 
 #![tactic(auto)]
 
 mod adding;
+mod begun;
 mod laying;
 mod leaves;
 mod levels;
+mod pager;
 mod regions;
 
 pub use adding::{add_index_page, add_page};
+pub use begun::Begun;
 pub use laying::lay_regions;
 pub use levels::{Level, Root, write_levels};
+pub use pager::pager_over;

@@ -16,7 +16,8 @@ use Rattle.ub_table.specs.Table.{IsInOrder}
 use Rattle.ub_table.specs.declared.axes.Axes.{Axes}
 use Rattle.ub_table.specs.declared.row.Row.{Row}
 use Rattle.ub_table.specs.declared.schema.Schema.{Schema}
-use Rattle.ub_tree.specs.Laid.{BegunView, CanLay, IsBegun, IsLaid}
+use Rattle.ub_laying.specs.Begun.{BegunView, CanLay, IsBegun}
+use Rattle.ub_tree.specs.Laid.{IsLaid}
 use Rattle.ub_tree.specs.View.{TreeView}
 use Rattle.ub_load.proofs.ToldFacts.{told_new}
 use Rattle.ub_load.specs.Calls.{Loads}

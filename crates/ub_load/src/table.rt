@@ -2,6 +2,7 @@
 
 ghost use Rattle.std.specs.Prelude.{◌≡◌, ◌≤◌, ◌+◌, ℕ, List, [], IfOk, IfErr, length};
 ghost use Rattle.csv.specs.Records.{fields_of};
+ghost use Rattle.ub_laying.specs.Begun.{IsBegun};
 ghost use Rattle.ub_load.specs.Calls.{Loads};
 ghost use Rattle.ub_load.specs.LoadedTable.{axes_with};
 ghost use Rattle.ub_load.specs.LoadedTree.{loaded_regions};
@@ -12,7 +13,7 @@ ghost use Rattle.ub_load.specs.inner.Records.{IsAt};
 ghost use Rattle.ub_store.specs.Facts.{page_count};
 ghost use Rattle.ub_table.specs.Schema.{AreTableNumbers, IsMask};
 ghost use Rattle.ub_table.specs.declared.row.TheConstants.{MAX_ROW_NUMBER};
-ghost use Rattle.ub_tree.specs.Laid.{IsBegun, IsLaid};
+ghost use Rattle.ub_tree.specs.Laid.{IsLaid};
 
 use crate::fault::LoadFault;
 use crate::header::read_schema;
@@ -118,7 +119,7 @@ fn begin_table<S: PageStore>(
 {
     match Begun::begin(alloc, store, schema) {
         Ok(begun) => Ok(begun),
-        Err(refused) => Err(LoadFault::from(refused.fault)),
+        Err(refused) => Err(LoadFault::from(TreeFault::from(refused.fault))),
     }
 }
 
@@ -174,7 +175,7 @@ fn lay_rows<S: PageStore>(
     let shape = begun.schema().shape();
     let page_rows = begun.schema().page_rows() as usize;
     let grown = grow(alloc, shape, page_rows, rows)?;
-    match begun.lay(&grown, next) {
+    match Tree::lay(alloc, begun, &grown, next) {
         Ok(tree) => Ok(tree),
         Err(refused) => Err(LoadFault::from(refused.fault)),
     }

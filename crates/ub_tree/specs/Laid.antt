@@ -1,60 +1,19 @@
--- A table that is loaded: how it is begun over a store, and what stands there once its regions are laid.
-use Rattle.std.specs.Prelude.{◌≡◌, ◌≤◌, ◌<◌, ◌+◌, ◌*◌, ℕ, suc, true, false, List, [], ◌∷◌, None, Result, Err, IfErr, IfOk, length}
+-- The tree of a table that is loaded: what stands where it was begun once its regions are laid.
+use Rattle.std.specs.Prelude.{◌≡◌, ◌≤◌, ◌+◌, ◌*◌, ℕ, suc, true, false, List, [], ◌∷◌, Result, IfErr, IfOk, length}
+use Rattle.ub_laying.specs.Begun.{BegunView}
 use Rattle.ub_laying.specs.Effects.{HasFailedOnce, HasNotFailed, written}
-use Rattle.ub_region.specs.Regions.{AreRegions, rows_of}
-use Rattle.ub_store.specs.Cache.{page_at}
+use Rattle.ub_region.specs.Regions.{rows_of}
 use Rattle.ub_store.specs.Facts.{StoreFacts, IsHonest, page_count}
-use Rattle.ub_store.specs.View.{PagerView, untouched}
+use Rattle.ub_store.specs.View.{untouched}
 use Rattle.ub_store.specs.declared.fault.Rejected.{Rejected}
 use Rattle.ub_store.specs.declared.fault.StoreFault.TheVariants as store
 use Rattle.ub_table.specs.Region.{RegionRows}
-use Rattle.ub_table.specs.declared.row.TheConstants.{MAX_ROW_NUMBER}
-use Rattle.ub_table.specs.declared.schema.Schema.{Schema}
 use Rattle.ub_tree.specs.Calls.{IsCreateFault}
-use Rattle.ub_tree.specs.Effects.{written_store}
 use Rattle.ub_tree.specs.Placed.{Placed}
 use Rattle.ub_tree.specs.View.{TreeView, IsSound, region_count, regions}
 use Rattle.ub_tree.specs.declared.fault.TreeFault.{TreeFault}
 use Rattle.ub_tree.specs.declared.fault.TreeFault.TheVariants.{Store}
 use Rattle.ub_writing.specs.Marks.{HasMark}
-
--- a table that is begun: what it is made of, and the facts of its store
-pub record BegunView : Type 0 where
-  pub schema : Schema
-  pub store : StoreFacts
-
-abbrev pub begun_view : Schema → StoreFacts → BegunView
-begun_view schema store = record { schema = schema; store = store }
-
--- the store behind a pager has one page alone, which marks a table of this schema as changed; no page is held, nor was any asked for
-pub record IsFresh (schema : Schema) (pager : PagerView) : Type 0 where
-  pub count : page_count pager.store ≡ 1
-  pub marked : IsHonest pager.store → HasMark schema pager.store.pages
-  pub held : (n : ℕ) → page_at pager.cached n ≡ None
-  pub trace : pager.trace ≡ untouched
-
--- what is begun over a store with these facts: a table of this schema, whose first page marks it as changed, and stands alone
-pub record IsBegun (store : StoreFacts) (schema : Schema) (b : BegunView) : Type 0 where
-  pub schema_is : b.schema ≡ schema
-  pub store_is : b.store ≡ record store { pages = b.store.pages; synced = b.store.synced }
-  pub count : page_count b.store ≡ 1
-  pub marked : IsHonest store → HasMark schema b.store.pages
-
--- a table of this schema was to be begun over a store with these facts, and this was answered: it was; or why not, with the store, in
--- which no page stands but the first
-pub record Begins {S : Type 0} (facts : S → StoreFacts) (old : StoreFacts) (schema : Schema) (result : Result BegunView (Rejected S TreeFault)) : Type 0 where
-  pub begun : IfOk result (IsBegun old schema)
-  pub first : IfErr result (λ refused. page_count (facts refused.store) ≤ 1)
-  pub refused : IfErr result (λ refused. IsCreateFault old refused.fault)
-  pub left : IfErr result (λ refused. facts refused.store ≡ written_store {A = S} (Err refused.fault) old (facts refused.store))
-
--- regions that can be laid as a table whose next row gets this number: they are regions of one, they have fewer rows than that, and
--- there are no more of them than the first one and one for each row number before it
-pub record CanLay (schema : Schema) (next : ℕ) (grown : List RegionRows) : Type 0 where
-  pub regions_are : AreRegions schema next grown
-  pub fewer : length (rows_of grown) < next
-  pub last_next : next ≤ MAX_ROW_NUMBER + 1
-  pub few : length grown ≤ next
 
 -- these regions on pages that follow each other from this number on
 abbrev pub placed_from : ℕ → List RegionRows → List Placed

@@ -1,28 +1,23 @@
-ghost use Rattle.std.specs.Prelude.{◌≡◌, Err, IfOk, IfErr};
+ghost use Rattle.std.specs.Prelude.{◌≡◌, Err};
 ghost use Rattle.ub_store.specs.Facts.{page_count};
-ghost use Rattle.ub_store.specs.View.{pager_view, untouched};
 ghost use Rattle.ub_tree.specs.Calls.{Creates};
 ghost use Rattle.ub_tree.specs.inner.Opening.{LaysOut};
 
 use crate::fault::TreeFault;
 use crate::tree::Tree;
 use std::alloc::Global;
-use std::num::NonZeroUsize;
 use ub_index::Index;
+use ub_laying::pager_over;
 use ub_store::{PageStore, Pager, Rejected};
 use ub_table::Schema;
 use ub_writing::{Mark, first_header, write_first_pages};
 use ub_zaddr::last;
 
-// How many pages the cache of a tree holds.
-const CACHE_PAGES: usize = 64;
-
 impl<S: PageStore> Tree<S> {
     /// A tree of this schema with no rows, over a store that has no pages. It takes three: the header, marked unclean, the page of the
     /// one region, and that of the root of its index. The header is written before any other page is taken.
     ///
-    /// Memory comes where memory was refused, Store with Device where the store failed in this call; the store is then
-    /// handed back.
+    /// Memory comes where memory was refused, Store with Device where the store failed in this call; the store is then handed back.
     pub fn create(
         alloc: Global,
         store: S,
@@ -31,7 +26,7 @@ impl<S: PageStore> Tree<S> {
         requires { page_count (S.facts store) ≡ 0 }
         ensures { Creates S.facts (S.facts store) schema.now result }
     {
-        let mut pager = match pager_over(alloc, store) {
+        let mut pager = match pager_over(alloc, store, TreeFault::Memory) {
             Ok(pager) => pager,
             Err(refused) => return Err(refused),
         };
@@ -45,22 +40,6 @@ impl<S: PageStore> Tree<S> {
                 fault,
             }),
         }
-    }
-}
-
-/// A pager over the store, with the cache of a tree.
-pub fn pager_over<S: PageStore>(alloc: Global, store: S) -> Result<Pager<S>, Rejected<S, TreeFault>>
-    ensures made { IfOk result (λ pager. pager ≡ pager_view (S.facts store) untouched) }
-    ensures refused { IfErr result (λ refused. (refused.store ≡ store)
-        × (refused.fault ≡ TreeFault.Memory)) }
-{
-    let cache = NonZeroUsize::new(CACHE_PAGES).unwrap();
-    match Pager::new(alloc, store, cache) {
-        Ok(pager) => Ok(pager),
-        Err(refused) => Err(Rejected {
-            store: refused.store,
-            fault: TreeFault::Memory,
-        }),
     }
 }
 

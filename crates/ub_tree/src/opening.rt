@@ -5,11 +5,11 @@ ghost use Rattle.ub_store.specs.Facts.{IsHonest};
 ghost use Rattle.ub_tree.specs.Opened.{HasHeader, IsPassing, IsRooted, OpensTree};
 ghost use Rattle.ub_tree.specs.inner.Opening.{Opens, ReadsTable};
 
-use crate::creation::pager_over;
 use crate::fault::TreeFault;
 use crate::tree::Tree;
 use std::alloc::Global;
 use ub_index::Index;
+use ub_laying::pager_over;
 use ub_page::{Header, read_header};
 use ub_store::{PageStore, Pager, Rejected};
 use ub_writing::Mark;
@@ -27,7 +27,7 @@ impl<S: PageStore> Tree<S> {
     {
         // Its contract tells the proof how many pages there can be.
         let _pages = store.pages();
-        let mut pager = match pager_over(alloc, store) {
+        let mut pager = match pager_over(alloc, store, TreeFault::Memory) {
             Ok(pager) => pager,
             Err(refused) => return Err(refused),
         };

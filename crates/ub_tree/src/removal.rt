@@ -45,9 +45,8 @@ impl<S: PageStore> Tree<S> {
         ensures { JoinsNextTo region.now room.old.region room.new.region
             self.old self.new result }
     {
-        let next = match self.region_after(region)? {
-            Some(next) => next,
-            None => return Ok(None),
+        let Some(next) = self.region_after(region)? else {
+            return Ok(None);
         };
         self.read_at(&next, &mut room.other)?;
         if room.region.join(&room.other, self.schema.page_rows()) {
@@ -65,9 +64,8 @@ impl<S: PageStore> Tree<S> {
         ensures { JoinsToBefore region.now room.old.region room.new.region
             self.old self.new result }
     {
-        let before = match self.region_before(region)? {
-            Some(before) => before,
-            None => return Ok(None),
+        let Some(before) = self.region_before(region)? else {
+            return Ok(None);
         };
         self.read_at(&before, &mut room.other)?;
         if room.other.join(&room.region, self.schema.page_rows()) {

@@ -4,10 +4,10 @@ ghost use Rattle.ub_store.specs.Facts.{page_count};
 ghost use Rattle.ub_tree.specs.Upgrade.{Upgrades};
 ghost use Rattle.ub_tree.specs.inner.Upgrading.{HandsOn};
 
-use crate::creation::pager_over;
 use crate::fault::TreeFault;
 use crate::tree::Tree;
 use std::alloc::Global;
+use ub_laying::pager_over;
 use ub_store::{PageStore, Rejected};
 use ub_upgrade::bring_table;
 use ub_writing::Mark;
@@ -34,7 +34,7 @@ impl<S: PageStore> Tree<S> {
         requires none { page_count (S.facts new) ≡ 0 }
         ensures { Upgrades S.facts (O.facts old.old) (O.facts old.new) (S.facts new) result }
     {
-        let mut pager = match pager_over(alloc, new) {
+        let mut pager = match pager_over(alloc, new, TreeFault::Memory) {
             Ok(pager) => pager,
             Err(refused) => return Err(refused),
         };

@@ -77,11 +77,11 @@ returns-in_err-before g c = record {
   effect = search rules;
 }
 
-pub returns-in-None : goal.returns-in-None
-returns-in-None g c = record {
+pub returns-in_default : goal.returns-in_default
+returns-in_default g c = record {
   found = search rules;
   joined = search rules;
-  refused = none_beside c.args.self.now (key_before c.args.region.now.first.z c.args.region.now.first.number) (length c.args.room.now.region.region.rows) (λ told honest given. rw c.in-None.is at (c.in_ok-before.ensures.led told honest given));
+  refused = none_beside c.args.self.now (key_before c.args.region.now.first.z c.args.region.now.first.number) (length c.args.room.now.region.region.rows) (λ told honest given. rw c.in_default.is at (c.in_ok-before.ensures.led told honest given));
   effect = search rules;
 }
 

@@ -13,16 +13,16 @@ use Rattle.ub_tree.proofs.AloneFacts.{no_fit, none_beside, room_fits, unfound_be
 use Rattle.ub_tree.proofs.tree.Tree.join_next.Goals.{then-join, else-join}
 use Rattle.ub_tree.proofs.tree.Tree.join_next.Goals as goal
 
-pub returns-in-None : goal.returns-in-None
-returns-in-None g c = record {
+pub returns-in_default : goal.returns-in_default
+returns-in_default g c = record {
   found = search rules;
   joined = λ i stored at.
       let a = c.args.self.now in
-      let last = rw c.in-None.is at (c.in_ok-next.ensures.after i stored at) in
+      let last = rw c.in_default.is at (c.in_ok-next.ensures.after i stored at) in
       let mapped = length-map a.placed entry_of in
       let long : length a.placed ≡ suc i = omega arith in
       join_last a.schema.page_rows i c.args.room.now.region.region.rows (regions a) (length-regions a.placed ∙ long);
-  refused = none_beside c.args.self.now c.args.region.now.next (length c.args.room.now.region.region.rows) (λ told honest given. rw c.in-None.is at (c.in_ok-next.ensures.led told honest given));
+  refused = none_beside c.args.self.now c.args.region.now.next (length c.args.room.now.region.region.rows) (λ told honest given. rw c.in_default.is at (c.in_ok-next.ensures.led told honest given));
   effect = search rules;
 }
 

@@ -1,6 +1,6 @@
 use Rattle.std.proofs.Common.{◌+◌, ◌∙◌, ℕ, ap, arith, length, sym}
-use Rattle.ub_tree.proofs.LaidFacts.{rows_next, rows_within}
-use Rattle.ub_tree.proofs.laying.count_rows.Goals as goal
+use Rattle.ub_laying.proofs.BegunFacts.{rows_next, rows_within}
+use Rattle.ub_laying.proofs.begun.count_rows.Goals as goal
 
 pub overflow_cast-count : goal.overflow_cast-count
 overflow_cast-count c =

@@ -3,8 +3,8 @@ use Rattle.ub_store.specs.Cache.{page_at}
 use Rattle.ub_store.specs.Facts.{StoreFacts}
 use Rattle.ub_store.specs.View.{PagerView}
 use Rattle.ub_table.specs.declared.schema.Schema.{Schema}
-use Rattle.ub_tree.proofs.LaidFacts.{none_held}
-use Rattle.ub_tree.proofs.laying.Begun.begin.Goals as goal
+use Rattle.ub_laying.proofs.BegunFacts.{none_held}
+use Rattle.ub_laying.proofs.begun.Begun.begin.Goals as goal
 use Rattle.ub_writing.specs.Marks.{HasMark}
 use Rattle.ub_writing.specs.Puts.{IsPutPage}
 
