@@ -1,10 +1,10 @@
 -- The names and numbers of a statement's syntax are tokens of the statement.
 use Rattle.std.proofs.Common.{◌≡◌, ℕ, zero, suc, List, [], ◌∷◌, ◌++◌, Option, Some, None, All, refl, arith, inl, inr}
 use Rattle.std.proofs.lemmas.List.Elements.{All-nil, All-cons, All-append}
-use Rattle.std.specs.List.{fold}
+use Rattle.std.specs.List.{flat_map, fold}
 use Rattle.std.specs.Option.{option_to_list}
 use Rattle.ub_lexer.specs.declared.token.Token.{Token}
-use Rattle.ub_syntax.specs.Grammar.{Lexeme, symbol_of, IsToken, AreJoined, IsChain, IsOptional, IsLiteral, IsComparison, IsDisjunction, IsOperand, IsItem, IsSelection, IsKey, IsFilter, IsGroup, IsOrder, IsLimit, IsSelect, IsValue, IsInsert, IsDelete}
+use Rattle.ub_syntax.specs.Grammar.{Lexeme, symbol_of, IsToken, AreJoined, IsChain, IsOptional, IsLiteral, IsComparison, IsDisjunction, IsOperand, IsItem, IsSelection, IsKey, IsFilter, AreListedBy, IsLimit, IsSelect, IsValue, IsInsert, IsDelete}
 use Rattle.ub_syntax.specs.Tree.{Select, Shape, both, either, neither, compares, between}
 use Rattle.ub_syntax.specs.declared.symbol.Symbol.{Symbol}
 use Rattle.ub_syntax.specs.declared.symbol.Symbol.TheVariants as symbol
@@ -17,7 +17,7 @@ use Rattle.ub_syntax.specs.declared.syntax.Selection.{Selection}
 use Rattle.ub_syntax.specs.declared.syntax.Selection.TheVariants.{All as Star, Listed}
 use Rattle.ub_syntax.specs.declared.syntax.Value.{Value}
 use Rattle.ub_syntax.specs.Limits.{listed, compared, comparisons, key_items}
-use Rattle.ub_parser.specs.Refusals.{item_names, names_in, names}
+use Rattle.ub_parser.specs.Refusals.{item_names, names}
 use Rattle.ub_parser.specs.Spans.{compared_numbers, filter_numbers, numbers}
 
 -- Q holds of each thing
@@ -133,9 +133,9 @@ module _ (P R : Token → Type 0) where
       let b = back is.1 (is.2 ++ is.3) _ refl a in
       all_one P column (name_good is.2 column is.7 (front is.2 is.3 _ refl b))
 
-  names_good : (items : List Item) → Each HasGoodNames items → All P (names_in items)
+  names_good : (items : List Item) → Each HasGoodNames items → All P (flat_map item_names items)
   names_good [] h = All-nil P
-  names_good (item ∷ items) h = All-append P (item_names item) (names_in items) h.0 (names_good items h.1)
+  names_good (item ∷ items) h = All-append P (item_names item) (flat_map item_names items) h.0 (names_good items h.1)
 
   key_good : (ls : List Lexeme) (key : OrderKey) → IsKey ls key → Are ls → HasGoodNames key.item
   key_good ls key is good = item_good is.0 key.item is.3 (front is.0 is.1 ls is.2 good)
@@ -148,7 +148,7 @@ module _ (P R : Token → Type 0) where
   tokens_good [] h = All-nil P
   tokens_good (x ∷ xs) h = All-append P (x ∷ []) xs (all_one P x h.0) (tokens_good xs h.1)
 
-  selection_good : (ls : List Lexeme) (s : Selection) → IsSelection ls s → Are ls → All P (names_in (listed s))
+  selection_good : (ls : List Lexeme) (s : Selection) → IsSelection ls s → Are ls → All P (flat_map item_names (listed s))
   selection_good ls (Star star) is good = All-nil P
   selection_good ls (Listed items) is good = names_good items (joined_good HasGoodNames symbol.Comma IsItem item_good ls items is good)
 
@@ -156,13 +156,13 @@ module _ (P R : Token → Type 0) where
   filter_good n ls None is good = (All-nil P, All-nil R)
   filter_good n ls (Some c) is good = disjunction_good (IsOperand n) (operand_good n) is.1 c is.4 (back is.0 is.1 ls is.2 good)
 
-  group_good : (ls : List Lexeme) (group : List Token) → IsGroup ls group → Are ls → All P group
+  group_good : (ls : List Lexeme) (group : List Token) → AreListedBy symbol.Group (IsToken symbol.Name) ls group → Are ls → All P group
   group_good ls [] is good = All-nil P
   group_good ls (name ∷ group) is good =
       let a = back is.0 (is.1 ++ is.2) ls is.3 good in
       tokens_good (name ∷ group) (joined_good P symbol.Comma (IsToken symbol.Name) name_good is.2 (name ∷ group) is.6 (back is.1 is.2 _ refl a))
 
-  order_good : (ls : List Lexeme) (order : List OrderKey) → IsOrder ls order → Are ls → All P (names_in (key_items order))
+  order_good : (ls : List Lexeme) (order : List OrderKey) → AreListedBy symbol.Order IsKey ls order → Are ls → All P (flat_map item_names (key_items order))
   order_good ls [] is good = All-nil P
   order_good ls (key ∷ order) is good =
       let a = back is.0 (is.1 ++ is.2) ls is.3 good in
@@ -189,7 +189,7 @@ module _ (P R : Token → Type 0) where
       let group = group_good is.group s.group is.group_is (front is.group _ _ refl f) in
       let order = order_good is.order s.order is.order_is (front is.order is.limit _ refl g) in
       let limit = limit_good is.limit s.limit is.limit_is h in (
-        All-append P (names_in (listed s.selection)) _ items (All-append P (comparisons s.filter) _ filter.0 (All-append P s.group _ group order)),
+        All-append P (flat_map item_names (listed s.selection)) _ items (All-append P (comparisons s.filter) _ filter.0 (All-append P s.group _ group order)),
         All-append R (filter_numbers s.filter) _ filter.1 limit,
         name_good is.name s.table is.name_is (front is.name _ _ refl d),
       )

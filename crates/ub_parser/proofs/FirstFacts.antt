@@ -6,7 +6,7 @@ use Rattle.std.proofs.lemmas.Grind.{flat_map-append}
 use Rattle.std.proofs.lemmas.List.Elements.{All-append, All-head, All-more, All-nil, All-same, All-tail}
 use Rattle.ub_parser.specs.Firsts.{IsFirstOrNone}
 use Rattle.ub_syntax.specs.Limits.{key_items}
-use Rattle.ub_parser.specs.Refusals.{IsFirst, item_names, names_in}
+use Rattle.ub_parser.specs.Refusals.{IsFirst, item_names}
 use Rattle.ub_lexer.specs.declared.token.Token.{Token}
 use Rattle.ub_syntax.specs.declared.syntax.Item.{Item}
 use Rattle.ub_syntax.specs.declared.syntax.OrderKey.{OrderKey}
@@ -68,11 +68,11 @@ module _ {A B : Type 0} (P : B → Type 0) (f : A → List B) where
       subst (λ (ys : List B). IsFirst P ys y) (sym (flat_map-append f (take i xs) (get_or xs i d ∷ drop (suc i) xs)) ∙ sym (ap (flat_map f) (around xs i d lt))) whole
 
 -- the names of items, and of the items of keys, as such lists
-pub items_names : (items : List Item) → names_in items ≡ flat_map (λ item. item_names item) items
+pub items_names : (items : List Item) → flat_map item_names items ≡ flat_map (λ item. item_names item) items
 items_names [] = refl
 items_names (item ∷ items) = ap (λ (ts : List Token). item_names item ++ ts) (items_names items)
 
-pub keys_names : (keys : List OrderKey) → names_in (key_items keys) ≡ flat_map (λ key. item_names key.item) keys
+pub keys_names : (keys : List OrderKey) → flat_map item_names (key_items keys) ≡ flat_map (λ key. item_names key.item) keys
 keys_names [] = refl
 keys_names (key ∷ keys) = ap (λ (ts : List Token). item_names key.item ++ ts) (keys_names keys)
 

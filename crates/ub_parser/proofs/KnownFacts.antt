@@ -1,6 +1,6 @@
 -- Where a statement's names are columns, those of each of its parts are.
 use Rattle.std.proofs.Common.{ℕ, List, [], ◌∷◌, ◌++◌, Option, Some, None, IfSome, Contains}
-use Rattle.std.specs.List.{All}
+use Rattle.std.specs.List.{All, flat_map}
 use Rattle.std.specs.Option.{option_to_list}
 use Rattle.std.proofs.lemmas.List.Elements.{All-nil, All-cons, All-head, All-tail}
 use Rattle.ub_lexer.specs.Tokens.{text_of}
@@ -10,7 +10,7 @@ use Rattle.ub_syntax.specs.declared.syntax.Item.{Item}
 use Rattle.ub_syntax.specs.declared.syntax.OrderKey.{OrderKey}
 use Rattle.ub_parser.specs.Known.{AreComparedWithin, IsColumn, IsKnown, IsKnownItem}
 use Rattle.ub_syntax.specs.Limits.{comparisons, compared, key_items, listed}
-use Rattle.ub_parser.specs.Refusals.{item_names, names, names_in}
+use Rattle.ub_parser.specs.Refusals.{item_names, names}
 use Rattle.ub_parser.specs.Spans.{AreWritten, IsNumber, IsWithin, compared_numbers, filter_numbers}
 use Rattle.ub_table.specs.declared.schema.Schema.{Schema}
 
@@ -24,28 +24,28 @@ module _ {A : Type 0} (P : A → Type 0) where
   all_right (x ∷ xs) ys h = all_right xs ys (All-tail P x (xs ++ ys) h)
 
 module _ (P : Token → Type 0) where
-  of_items : (items : List Item) → All P (names_in items) → All (λ item. All P (item_names item)) items
+  of_items : (items : List Item) → All P (flat_map item_names items) → All (λ item. All P (item_names item)) items
   of_items [] h = All-nil (λ item. All P (item_names item))
   of_items (item ∷ items) h =
-      All-cons (λ item. All P (item_names item)) item items (all_left P (item_names item) (names_in items) h) (of_items items (all_right P (item_names item) (names_in items) h))
+      All-cons (λ item. All P (item_names item)) item items (all_left P (item_names item) (flat_map item_names items) h) (of_items items (all_right P (item_names item) (flat_map item_names items) h))
 
-  of_keys : (keys : List OrderKey) → All P (names_in (key_items keys)) → All (λ key. All P (item_names key.item)) keys
+  of_keys : (keys : List OrderKey) → All P (flat_map item_names (key_items keys)) → All (λ key. All P (item_names key.item)) keys
   of_keys [] h = All-nil (λ (key : OrderKey). All P (item_names key.item))
   of_keys (key ∷ keys) h =
-      All-cons (λ (key : OrderKey). All P (item_names key.item)) key keys (all_left P (item_names key.item) (names_in (key_items keys)) h)
-      (of_keys keys (all_right P (item_names key.item) (names_in (key_items keys)) h))
+      All-cons (λ (key : OrderKey). All P (item_names key.item)) key keys (all_left P (item_names key.item) (flat_map item_names (key_items keys)) h)
+      (of_keys keys (all_right P (item_names key.item) (flat_map item_names (key_items keys)) h))
 
   -- what holds of the names of a statement holds of those of each part
   pub names_of_items : (s : Select) → All P (names s) → All (λ item. All P (item_names item)) (listed s.selection)
-  names_of_items s h = of_items (listed s.selection) (all_left P (names_in (listed s.selection)) _ h)
+  names_of_items s h = of_items (listed s.selection) (all_left P (flat_map item_names (listed s.selection)) _ h)
 
-  after_items : (s : Select) → All P (names s) → All P (comparisons s.filter ++ (s.group ++ names_in (key_items s.order)))
-  after_items s h = all_right P (names_in (listed s.selection)) _ h
+  after_items : (s : Select) → All P (names s) → All P (comparisons s.filter ++ (s.group ++ flat_map item_names (key_items s.order)))
+  after_items s h = all_right P (flat_map item_names (listed s.selection)) _ h
 
   pub names_of_filter : (s : Select) → All P (names s) → All P (comparisons s.filter)
   names_of_filter s h = all_left P (comparisons s.filter) _ (after_items s h)
 
-  after_filter : (s : Select) → All P (names s) → All P (s.group ++ names_in (key_items s.order))
+  after_filter : (s : Select) → All P (names s) → All P (s.group ++ flat_map item_names (key_items s.order))
   after_filter s h = all_right P (comparisons s.filter) _ (after_items s h)
 
   pub names_of_group : (s : Select) → All P (names s) → All P s.group

@@ -1,5 +1,5 @@
 -- The three misfits of an INSERT, and which of them is the first.
-use Rattle.std.proofs.Common.{◌≡◌, ◌≢◌, ◌↔◌, ◌<◌, ◌≤◌, ◌+◌, ◌⊎◌, inl, inr, Result, Ok, Err, IfErr, OnOk, ℕ, zero, suc, ℤ, Bool, true, false, IsTrue, List, [], ◌∷◌, ◌++◌, length, map, drop, take, add-one, get_or, refl, sym, ap, ◌∙◌, subst, arith}
+use Rattle.std.proofs.Common.{◌≡◌, ◌≢◌, ◌↔◌, ◌<◌, ◌≤◌, ◌+◌, ◌⊎◌, inl, inr, Result, Ok, Err, IfErr, OnOk, ℕ, zero, suc, ℤ, Bool, true, false, IsTrue, List, [], ◌∷◌, ◌++◌, length, map, take, add-one, get_or, slice_index_or, refl, sym, ap, ◌∙◌, subst, arith}
 use Rattle.std.proofs.Math.Seq.{take-suc}
 use Rattle.std.proofs.lemmas.List.{length-map, map-append}
 use Rattle.std.proofs.lemmas.List.Elements.{All-cons, All-from_get_or, All-get_or, All-head, All-nil, All-tail}
@@ -9,7 +9,7 @@ use Rattle.ub_lexer.specs.Tokens.{text_of}
 use Rattle.ub_lexer.specs.declared.token.Token.{Token}
 use Rattle.ub_syntax.specs.declared.syntax.Insertion.{Insertion}
 use Rattle.ub_syntax.specs.declared.syntax.Value.{Value}
-use Rattle.ub_parser.specs.Refusals.{IsFirst, IsUnfit, IsInsertMisfit, IsFirstInsertMisfit, begins, miscounted, rank}
+use Rattle.ub_parser.specs.Refusals.{IsFirst, IsUnfit, IsInsertMisfit, IsFirstInsertMisfit, miscounted, rank}
 use Rattle.ub_parser.specs.Sense.{value_of, values_of}
 use Rattle.ub_parser.specs.declared.fault.SqlFault.{SqlFault}
 use Rattle.ub_parser.specs.declared.fault.SqlFault.TheVariants.{BadByte, Syntax, NumberTooLarge, TooDeep, TooMany, UnknownTable, UnknownColumn, NotGrouped, NotSelected, ValueCount, ValueRange, Memory}
@@ -19,22 +19,22 @@ use Rattle.ub_table.specs.Value.{fits}
 use Rattle.ub_table.specs.declared.schema.Schema.{Schema}
 
 -- the first of the values after so many
-begins_at : (n : ℕ) (vs : List Value) (close : Token) (v : Value) → n < length vs → ((d : Value) → v ≡ get_or vs n d) → v.first ≡ begins (drop n vs) close
+begins_at : (n : ℕ) (vs : List Value) (close : Token) (v : Value) → n < length vs → ((d : Value) → v ≡ get_or vs n d) → v.first ≡ slice_index_or (map (λ x. x.first) vs) n close
 begins_at n [] close v lt is = absurd (omega arith)
 begins_at zero (x ∷ vs) close v lt is = ap (λ (y : Value). y.first) (is x)
 begins_at (suc n) (x ∷ vs) close v lt is = begins_at n vs close v (omega arith) is
 
-begins_past : (n : ℕ) (vs : List Value) (close : Token) → length vs ≤ n → close ≡ begins (drop n vs) close
+begins_past : (n : ℕ) (vs : List Value) (close : Token) → length vs ≤ n → close ≡ slice_index_or (map (λ x. x.first) vs) n close
 begins_past zero [] close le = refl
 begins_past (suc n) [] close le = refl
 begins_past zero (x ∷ vs) close le = absurd (omega arith)
 begins_past (suc n) (x ∷ vs) close le = begins_past n vs close (omega arith)
 
-pub begins_some : (n : ℕ) (xs vs : List Value) (close : Token) (v : Value) → xs ≡ vs → n < length xs → ((d : Value) → v ≡ get_or xs n d) → v.first ≡ begins (drop n vs) close
-begins_some n xs vs close v same lt is = subst (λ (ys : List Value). v.first ≡ begins (drop n ys) close) same (begins_at n xs close v lt is)
+pub begins_some : (n : ℕ) (xs vs : List Value) (close : Token) (v : Value) → xs ≡ vs → n < length xs → ((d : Value) → v ≡ get_or xs n d) → v.first ≡ slice_index_or (map (λ x. x.first) vs) n close
+begins_some n xs vs close v same lt is = subst (λ (ys : List Value). v.first ≡ slice_index_or (map (λ (x : Value). x.first) ys) n close) same (begins_at n xs close v lt is)
 
-pub begins_none : (n : ℕ) (xs vs : List Value) (close : Token) → xs ≡ vs → length xs ≤ n → close ≡ begins (drop n vs) close
-begins_none n xs vs close same le = subst (λ (ys : List Value). close ≡ begins (drop n ys) close) same (begins_past n xs close le)
+pub begins_none : (n : ℕ) (xs vs : List Value) (close : Token) → xs ≡ vs → length xs ≤ n → close ≡ slice_index_or (map (λ x. x.first) vs) n close
+begins_none n xs vs close same le = subst (λ (ys : List Value). close ≡ slice_index_or (map (λ (x : Value). x.first) ys) n close) same (begins_past n xs close le)
 
 -- the numbers of the values so far, with one more of them
 pub more_values : (source : List ℕ) (vs : List Value) (k : ℕ) (xs ys : List ℤ) (x : ℤ) (d : Value) → k < length vs → xs ≡ map (λ v. value_of source v.literal) (take k vs)

@@ -45,11 +45,14 @@ pub record IsOfRows (schema : Schema) (q : Asked) : Type 0 where
   pub order : q.order ≡ []
   pub limit : q.limit ≡ None
 
--- what may be given to a table of the schema: a query that may be posed, or one value for each column, which that can hold
+-- one value for each column, which that can hold
+abbrev pub AreGiven : Schema → List ℤ → Type 0
+AreGiven schema values = (length values ≡ length schema.columns) × All (λ v. fits schema v.0 v.1 ≡ true) (enumerate_from 0 values)
+
+-- what may be given to a table of the schema: a query that may be posed, or such values
 abbrev pub IsGiven : Schema → Command → Type 0
 IsGiven schema (asks t) = IsPosed (length schema.columns) t.asked
-IsGiven schema (puts values) =
-    (length values ≡ length schema.columns) × All (λ v. fits schema v.0 v.1 ≡ true) (enumerate_from 0 values)
+IsGiven schema (puts values) = AreGiven schema values
 IsGiven schema (takes q) = IsPosed (length schema.columns) q × IsOfRows schema q
 
 -- the tokens are a statement of the grammar, none of the conditions holds for which one is refused, and this is what it says

@@ -1,6 +1,6 @@
 -- Why a statement is refused: eleven conditions, the first of which is told.
-use Rattle.std.specs.Prelude.{◌≡◌, ◌≢◌, ◌<◌, ◌⊎◌, ℕ, false, List, [], ◌∷◌, ◌++◌, map, drop, length, Some, slice_get, Contains}
-use Rattle.std.specs.List.{All, enumerate_from}
+use Rattle.std.specs.Prelude.{◌≡◌, ◌≢◌, ◌<◌, ◌⊎◌, ℕ, false, List, [], ◌∷◌, ◌++◌, map, length, Some, slice_get, slice_index_or, Contains}
+use Rattle.std.specs.List.{All, enumerate_from, flat_map}
 use Rattle.ub_lexer.specs.Tokens.{text_of}
 use Rattle.ub_lexer.specs.declared.token.Token.{Token}
 use Rattle.ub_lexer.specs.declared.token.TokenKind.TheVariants as kind
@@ -34,13 +34,9 @@ item_names (Column name) = name ∷ []
 item_names (Count first) = []
 item_names (Aggregate aggregate first name) = name ∷ []
 
-abbrev pub names_in : List Item → List Token
-names_in [] = []
-names_in (item ∷ items) = item_names item ++ names_in items
-
 -- the names of a statement but that of its table, in the order of its tokens
 abbrev pub names : Select → List Token
-names s = names_in (listed s.selection) ++ (comparisons s.filter ++ (s.group ++ names_in (key_items s.order)))
+names s = flat_map item_names (listed s.selection) ++ (comparisons s.filter ++ (s.group ++ flat_map item_names (key_items s.order)))
 
 abbrev pub IsAggregate : Item → Type 0
 IsAggregate (Column name) = ⊥
@@ -77,14 +73,9 @@ IsMisfit source schema s (NotSelected at) =
     (key : Item) × IsFirst (IsUnselected source schema s) (key_items s.order) key × (at ≡ (first_token key).from)
 IsMisfit source schema s _ = ⊥
 
--- the token with which the first of these values begins, or this one where there is none
-abbrev pub begins : List Value → Token → Token
-begins [] close = close
-begins (v ∷ values) close = v.first
-
 -- where an INSERT has not as many values as there are columns: the first value too many, or else the `)`
 abbrev pub miscounted : Schema → Insertion → Token
-miscounted schema i = begins (drop (length schema.columns) i.values) i.close
+miscounted schema i = slice_index_or (map (λ v. v.first) i.values) (length schema.columns) i.close
 
 -- the value stands in the place of a column, which can't hold it
 abbrev pub IsUnfit : List ℕ → Schema → ℕ × Value → Type 0

@@ -1,12 +1,12 @@
 // Names that are no columns of a table.
 ghost use Rattle.std.specs.Prelude.{[], ◌∷◌, ◌↔◌, IfSome, IsTrue};
-ghost use Rattle.std.specs.List.{All};
+ghost use Rattle.std.specs.List.{All, flat_map};
 ghost use Rattle.std.specs.Option.{option_map};
 ghost use Rattle.ub_syntax.specs.Tree.{select_of, shape};
 ghost use Rattle.ub_parser.specs.Firsts.{IsFirstOrNone};
 ghost use Rattle.ub_parser.specs.Known.{AreComparedWithin, IsUnknown};
 ghost use Rattle.ub_syntax.specs.Limits.{comparisons, compared, key_items};
-ghost use Rattle.ub_parser.specs.Refusals.{item_names, names, names_in};
+ghost use Rattle.ub_parser.specs.Refusals.{item_names, names};
 ghost use Rattle.ub_parser.specs.Spans.{IsWithin};
 
 use crate::items::listed;
@@ -77,8 +77,8 @@ fn unknown_in_item(source: &[u8], schema: &Schema, item: &Item) -> Option<Token>
 // The first name of these items that is no column.
 fn unknown_in_items(source: &[u8], schema: &Schema, items: &[Item]) -> Option<Token>
     requires { All (λ item. All (λ t. IsWithin source.now t) (item_names item)) items.now }
-    ensures { IsFirstOrNone (λ name. IsUnknown source.now schema.now name) (names_in items.now)
-        result }
+    ensures { IsFirstOrNone (λ name. IsUnknown source.now schema.now name)
+        (flat_map item_names items.now) result }
 {
     for item in items {
         if let Some(name) = unknown_in_item(source, schema, item) {
@@ -92,7 +92,7 @@ fn unknown_in_items(source: &[u8], schema: &Schema, items: &[Item]) -> Option<To
 fn unknown_in_keys(source: &[u8], schema: &Schema, keys: &[OrderKey]) -> Option<Token>
     requires { All (λ key. All (λ t. IsWithin source.now t) (item_names key.item)) keys.now }
     ensures { IsFirstOrNone (λ name. IsUnknown source.now schema.now name)
-        (names_in (key_items keys.now)) result }
+        (flat_map item_names (key_items keys.now)) result }
 {
     for key in keys {
         if let Some(name) = unknown_in_item(source, schema, &key.item) {

@@ -1,5 +1,5 @@
 // The values of an INSERT, and the columns that they are for.
-ghost use Rattle.std.specs.Prelude.{◌≡◌, ◌<◌, ◌≤◌, ◌⊎◌, ℕ, true, length, drop, map, IfOk, IfErr, OnOk};
+ghost use Rattle.std.specs.Prelude.{◌≡◌, ◌<◌, ◌≤◌, ◌⊎◌, ℕ, true, length, map, slice_index_or, IfOk, IfErr, OnOk};
 ghost use Rattle.std.specs.List.{All, enumerate_from};
 ghost use Rattle.ub_parser.specs.Refusals as spec;
 ghost use Rattle.ub_parser.specs.Sense.{value_of, values_of};
@@ -53,7 +53,8 @@ pub(crate) fn values(
 
 // The first token of the first value after so many, or else the `)`.
 fn miscounted(columns: usize, insertion: &Insertion) -> Token
-    ensures { result ≡ spec.begins (drop columns insertion.now.values) insertion.now.close }
+    ensures { result ≡ slice_index_or (map (λ v. v.first) insertion.now.values) columns
+        insertion.now.close }
 {
     match insertion.values.as_slice().get(columns) {
         Some(value) => value.first,

@@ -1,9 +1,9 @@
 -- Where the tests before it find nothing, what a test finds is the first misfit.
-use Rattle.std.proofs.Common.{◌≡◌, ℕ, List, inr, length, map, drop, subst, sym, ◌∙◌, ap, IfErr, ◌⊎◌, IfOk}
+use Rattle.std.proofs.Common.{◌≡◌, ℕ, List, inr, length, map, slice_index_or, subst, sym, ◌∙◌, ap, IfErr, ◌⊎◌, IfOk}
 use Rattle.std.specs.List.{All, enumerate_from}
 use Rattle.ub_syntax.specs.declared.syntax.Value.{Value}
 use Rattle.ub_lexer.specs.declared.token.Token.{Token}
-use Rattle.ub_parser.specs.Refusals.{IsFirst, IsFirstInsertMisfit, IsUnfit, begins, miscounted}
+use Rattle.ub_parser.specs.Refusals.{IsFirst, IsFirstInsertMisfit, IsUnfit, miscounted}
 use Rattle.ub_parser.specs.Sense.{value_of}
 use Rattle.ub_parser.specs.declared.fault.SqlFault.TheVariants.{Memory, ValueCount, ValueRange}
 use Rattle.ub_parser.proofs.ValueFacts.{all_fit, first_count, first_table, no_count, no_misfit, no_table, refused_range, where_given}
@@ -17,7 +17,7 @@ pub returns-then-as_slice-columns-clause-refused : goal.returns-then-as_slice-co
 returns-then-as_slice-columns-clause-refused c =
     let i = c.args.insertion.now in
     let schema = c.args.schema.now in
-    let at : c.miscounted.result ≡ miscounted schema i = c.miscounted.ensures ∙ ap (λ (n : ℕ). begins (drop n i.values) i.close) (ap (λ (names : List (List ℕ)). length names) c.columns-columns.ensures.columns) in
+    let at : c.miscounted.result ≡ miscounted schema i = c.miscounted.ensures ∙ ap (λ (n : ℕ). slice_index_or (map (λ (v : Value). v.first) i.values) n i.close) (ap (λ (names : List (List ℕ)). length names) c.columns-columns.ensures.columns) in
     inr (subst (λ (t : Token). IsFirstInsertMisfit c.args.source.now schema i (ValueCount t.from)) (sym at) (first_count c.args.source.now schema i
     (no_table c.args.source.now schema i c.is_unknown_table.result c.is_unknown_table.ensures c.if-is_unknown_table.false) (λ same. c.if-as_slice-columns.true cc)))
 
