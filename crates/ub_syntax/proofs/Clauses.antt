@@ -1,7 +1,7 @@
 -- How the lists and the clauses of a statement are read.
 use Rattle.std.proofs.Common.{◌≡◌, ◌≢◌, ℕ, true, List, [], ◌∷◌, ◌++◌, Some, None, Result, Ok, Err, IfOk, refl, sym, ap, ◌∙◌}
 use Rattle.ub_lexer.specs.declared.token.Token.{Token}
-use Rattle.ub_syntax.specs.Grammar.{Lexeme, IsToken, AreJoined, IsItem, IsSelection, IsKey, IsCondition, IsOptional, IsFilter, IsGroup, IsOrder}
+use Rattle.ub_syntax.specs.Grammar.{Lexeme, IsToken, AreJoined, IsItem, IsSelection, IsKey, IsCondition, IsOptional, IsFilter, AreListedBy}
 use Rattle.ub_syntax.specs.Reading.{first_symbol, Reads, Advances, Accepts}
 use Rattle.ub_syntax.specs.Tree.{Shape}
 use Rattle.ub_syntax.specs.declared.symbol.Symbol.{Symbol}
@@ -72,7 +72,7 @@ filter_reads n old a new x A r used rest (Some c) e w end =
     (ap Some s2.0, s2.1)
 
 group_reads : (old a b new : List Lexeme) (names : List Token) (by : Token) → Accepts symbol.Group old true a → Advances a by b
-    → Reads (AreJoined symbol.Comma (IsToken symbol.Name)) (symbol.Comma ∷ []) b names new → Reads IsGroup (symbol.Group ∷ symbol.Comma ∷ []) old names new
+    → Reads (AreJoined symbol.Comma (IsToken symbol.Name)) (symbol.Comma ∷ []) b names new → Reads (AreListedBy symbol.Group (IsToken symbol.Name)) (symbol.Group ∷ symbol.Comma ∷ []) old names new
 group_reads old a b new names by A B r used rest [] e w end =
     let at : old ≡ rest = e ∙ ap (λ (u : List Lexeme). u ++ rest) w in
     let bad = A.stays (λ h. end.0 (ap first_symbol (sym at) ∙ h)) in
@@ -85,7 +85,7 @@ group_reads old a b new names by A B r used rest (x ∷ xs) e w end =
 
 order_reads : (old a b new : List Lexeme) (keys : List OrderKey) (by : Token) → Accepts symbol.Order old true a → Advances a by b
     → Reads (AreJoined symbol.Comma IsKey) (symbol.Comma ∷ symbol.Descending ∷ symbol.Ascending ∷ []) b keys new
-    → Reads IsOrder (symbol.Order ∷ symbol.Comma ∷ symbol.Descending ∷ symbol.Ascending ∷ []) old keys new
+    → Reads (AreListedBy symbol.Order IsKey) (symbol.Order ∷ symbol.Comma ∷ symbol.Descending ∷ symbol.Ascending ∷ []) old keys new
 order_reads old a b new keys by A B r used rest [] e w end =
     let at : old ≡ rest = e ∙ ap (λ (u : List Lexeme). u ++ rest) w in
     let bad = A.stays (λ h. end.0 (ap first_symbol (sym at) ∙ h)) in
@@ -99,12 +99,12 @@ order_reads old a b new keys by A B r used rest (x ∷ xs) e w end =
 -- the same of an answer that may be an error
 pub group_ok : {V E : Type 0} (r : Result V E) (items : V → List Token) (old a b new : List Lexeme) (by : Token) → Accepts symbol.Group old true a → Advances a by b
     → IfOk r (λ v. Reads (AreJoined symbol.Comma (IsToken symbol.Name)) (symbol.Comma ∷ []) b (items v) new)
-    → IfOk r (λ v. Reads IsGroup (symbol.Group ∷ symbol.Comma ∷ []) old (items v) new)
+    → IfOk r (λ v. Reads (AreListedBy symbol.Group (IsToken symbol.Name)) (symbol.Group ∷ symbol.Comma ∷ []) old (items v) new)
 group_ok (Ok v) items old a b new by A B h = group_reads old a b new (items v) by A B h
 group_ok (Err e) items old a b new by A B h = tt
 
 pub order_ok : {V E : Type 0} (r : Result V E) (items : V → List OrderKey) (old a b new : List Lexeme) (by : Token) → Accepts symbol.Order old true a → Advances a by b
     → IfOk r (λ v. Reads (AreJoined symbol.Comma IsKey) (symbol.Comma ∷ symbol.Descending ∷ symbol.Ascending ∷ []) b (items v) new)
-    → IfOk r (λ v. Reads IsOrder (symbol.Order ∷ symbol.Comma ∷ symbol.Descending ∷ symbol.Ascending ∷ []) old (items v) new)
+    → IfOk r (λ v. Reads (AreListedBy symbol.Order IsKey) (symbol.Order ∷ symbol.Comma ∷ symbol.Descending ∷ symbol.Ascending ∷ []) old (items v) new)
 order_ok (Ok v) items old a b new by A B h = order_reads old a b new (items v) by A B h
 order_ok (Err e) items old a b new by A B h = tt

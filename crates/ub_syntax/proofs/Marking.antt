@@ -3,7 +3,7 @@ use Rattle.std.proofs.Common.{◌≡◌, ℕ, zero, suc, Bool, true, false, List
 use Rattle.std.proofs.lemmas.List.{append-nil}
 use Rattle.std.specs.List.{fold}
 use Rattle.ub_lexer.specs.declared.token.Token.{Token}
-use Rattle.ub_syntax.specs.Grammar.{Lexeme, symbol_of, IsToken, Is, AreJoined, IsChain, IsOptional, IsLiteral, IsComparison, IsDisjunction, IsOperand, IsItem, IsSelection, IsKey, IsFilter, IsGroup, IsOrder, IsLimit, IsExplain, IsSelect, IsDelete}
+use Rattle.ub_syntax.specs.Grammar.{Lexeme, symbol_of, IsToken, Is, AreJoined, IsChain, IsOptional, IsLiteral, IsComparison, IsDisjunction, IsOperand, IsItem, IsSelection, IsKey, IsFilter, AreListedBy, IsLimit, IsExplain, IsSelect, IsDelete}
 use Rattle.ub_syntax.specs.Limits.{first_token, listed, compared, comparisons, key_items}
 use Rattle.ub_syntax.specs.Marks.{is_sign, mark_after, marks}
 use Rattle.ub_syntax.specs.Tree.{Select, Shape, both, either, neither, compares, between}
@@ -233,7 +233,7 @@ identity_map : (ts : List Token) → map (λ t. t) ts ≡ ts
 identity_map [] = refl
 identity_map (t ∷ ts) = ap (λ (us : List Token). t ∷ us) (identity_map ts)
 
-group_makes : (ls : List Lexeme) (names : List Token) → IsGroup ls names → Makes ls (list_marks names)
+group_makes : (ls : List Lexeme) (names : List Token) → AreListedBy symbol.Group (IsToken symbol.Name) ls names → Makes ls (list_marks names)
 group_makes ls [] is = over is nothing
 group_makes ls (name ∷ names) is =
     let h = joined_list (IsToken symbol.Name) (λ t. t) name_makes is.2 name names is.6 in
@@ -243,7 +243,7 @@ keys_firsts : (keys : List OrderKey) → map (λ key. first_token key.item) keys
 keys_firsts [] = refl
 keys_firsts (key ∷ keys) = ap (λ (ts : List Token). first_token key.item ∷ ts) (keys_firsts keys)
 
-order_makes : (ls : List Lexeme) (keys : List OrderKey) → IsOrder ls keys → Makes ls (list_marks (map first_token (key_items keys)))
+order_makes : (ls : List Lexeme) (keys : List OrderKey) → AreListedBy symbol.Order IsKey ls keys → Makes ls (list_marks (map first_token (key_items keys)))
 order_makes ls [] is = over is nothing
 order_makes ls (key ∷ keys) is =
     let h = joined_list IsKey (λ k. first_token k.item) key_makes is.2 key keys is.6 in

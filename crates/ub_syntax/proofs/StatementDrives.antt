@@ -2,7 +2,7 @@
 use Rattle.std.proofs.Common.{◌≡◌, ◌≢◌, ◌⊎◌, ℕ, List, [], ◌∷◌, ◌++◌, Bool, true, Option, Some, None, Result, refl, sym, ap, ◌∙◌, append_assoc, inl, inr, subst}
 use Rattle.std.proofs.lemmas.List.{append-nil}
 use Rattle.ub_lexer.specs.declared.token.Token.{Token}
-use Rattle.ub_syntax.specs.Grammar.{Lexeme, symbol_of, Is, IsToken, AreJoined, IsOperand, IsItem, IsSelection, IsKey, IsOptional, IsFilter, IsGroup, IsOrder, IsLimit, IsExplain, IsSelect, IsStatement}
+use Rattle.ub_syntax.specs.Grammar.{Lexeme, symbol_of, Is, IsToken, AreJoined, IsOperand, IsItem, IsSelection, IsKey, IsOptional, IsFilter, AreListedBy, IsLimit, IsExplain, IsSelect, IsStatement}
 use Rattle.ub_syntax.specs.Tree.{Shape, Select, Stated, selects, inserts, deletes}
 use Rattle.ub_syntax.specs.Machine.{Config, config, goals_of, if_ok, and_then, follow, turn_to, config_of, step, reads, start, may_end}
 use Rattle.ub_syntax.specs.declared.symbol.Symbol.{Symbol}
@@ -75,7 +75,7 @@ key_moves n ls key h =
       | inr d ↦ (config [] rest.AfterDirection, after_direction n, over h.2 (go item (by_step symbol.Descending refl d.1)))
     ]
 
-order_moves : (n : ℕ) (r : Rest) (ls : List Lexeme) (keys : List OrderKey) → CanOrder n r → IsOrder ls keys
+order_moves : (n : ℕ) (r : Rest) (ls : List Lexeme) (keys : List OrderKey) → CanOrder n r → AreListedBy symbol.Order IsKey ls keys
     → (e : Rest) × CanLimit n e × Moves n (config [] r) (config [] e) ls
 order_moves n r ls [] can h = (r, can.can, over h stay)
 order_moves n r ls (key ∷ keys) can h =
@@ -89,7 +89,7 @@ order_moves n r ls (key ∷ keys) can h =
           (subst (λ (k : Config). Moves n (config (goal.Item ∷ []) rest.AfterKey) k h.2) all.1.is all.2))),
     )
 
-group_moves : (n : ℕ) (r : Rest) (ls : List Lexeme) (names : List Token) → CanGroup n r → IsGroup ls names
+group_moves : (n : ℕ) (r : Rest) (ls : List Lexeme) (names : List Token) → CanGroup n r → AreListedBy symbol.Group (IsToken symbol.Name) ls names
     → (e : Rest) × CanOrder n e × Moves n (config [] r) (config [] e) ls
 group_moves n r ls [] can h = (r, can.can, over h stay)
 group_moves n r ls (name ∷ names) can h =

@@ -3,7 +3,7 @@ use Rattle.std.proofs.Common.{◌≡◌, ◌⊎◌, ℕ, List, [], ◌∷◌, �
 use Rattle.std.proofs.lemmas.Bool.{false≢true}
 use Rattle.std.proofs.lemmas.List.{append-nil}
 use Rattle.ub_lexer.specs.declared.token.Token.{Token}
-use Rattle.ub_syntax.specs.Grammar.{Lexeme, symbol_of, Is, IsToken, AreJoined, IsCondition, IsOperand, IsItem, IsSelection, IsKey, IsLiteral, IsOptional, IsFilter, IsGroup, IsOrder, IsLimit, IsExplain, IsSelect, IsValue, IsStatement}
+use Rattle.ub_syntax.specs.Grammar.{Lexeme, symbol_of, Is, IsToken, AreJoined, IsCondition, IsOperand, IsItem, IsSelection, IsKey, IsLiteral, IsOptional, IsFilter, AreListedBy, IsLimit, IsExplain, IsSelect, IsValue, IsStatement}
 use Rattle.ub_syntax.specs.Tree.{Shape, Select, rows_of, Stated, selects, inserts, deletes}
 use Rattle.ub_syntax.specs.Machine.{Config, config, goals_of, if_ok, and_then, expand, turn_to, begin, items, item, after_item, limit, order, group, after_table, after_operand, after_group, after_direction, after_key, values, after_value, after_deleted, after_condition, follow, config_of, reads, start, may_end, can_end}
 use Rattle.ub_syntax.specs.declared.symbol.Symbol.{Symbol}
@@ -63,7 +63,7 @@ record Grouped (n : ℕ) (ls : List Lexeme) : Type 0 where
   pub names : List Token
   pub parts : ls ≡ filtered ++ group
   pub filtered_is : Filtered n filtered
-  pub group_is : IsGroup group names
+  pub group_is : AreListedBy symbol.Group (IsToken symbol.Name) group names
 
 record Ordered (n : ℕ) (ls : List Lexeme) : Type 0 where
   pub grouped : List Lexeme
@@ -71,7 +71,7 @@ record Ordered (n : ℕ) (ls : List Lexeme) : Type 0 where
   pub keys : List OrderKey
   pub parts : ls ≡ grouped ++ order
   pub grouped_is : Grouped n grouped
-  pub order_is : IsOrder order keys
+  pub order_is : AreListedBy symbol.Order IsKey order keys
 
 record Limited (n : ℕ) (ls : List Lexeme) : Type 0 where
   pub ordered : List Lexeme
@@ -237,7 +237,7 @@ grouped_of_filtered : (n : ℕ) (ls : List Lexeme) → Filtered n ls → Grouped
 grouped_of_filtered n ls h = record { filtered = ls; group = []; names = []; parts = sym (append-nil ls); filtered_is = h; group_is = refl }
 
 group_of_names : (word by list : List Lexeme) (names : List Token) → Is symbol.Group word → Is symbol.By by → AreJoined symbol.Comma (IsToken symbol.Name) list names
-    → IsGroup (word ++ (by ++ list)) names
+    → AreListedBy symbol.Group (IsToken symbol.Name) (word ++ (by ++ list)) names
 group_of_names word by list [] w b h = absurd h
 group_of_names word by list (x ∷ xs) w b h = (word, by, list, refl, w, b, h)
 
@@ -255,7 +255,7 @@ ordered_of_grouped : (n : ℕ) (ls : List Lexeme) → Grouped n ls → Ordered n
 ordered_of_grouped n ls h = record { grouped = ls; order = []; keys = []; parts = sym (append-nil ls); grouped_is = h; order_is = refl }
 
 order_of_keys : (word by list : List Lexeme) (keys : List OrderKey) → Is symbol.Order word → Is symbol.By by → AreJoined symbol.Comma IsKey list keys
-    → IsOrder (word ++ (by ++ list)) keys
+    → AreListedBy symbol.Order IsKey (word ++ (by ++ list)) keys
 order_of_keys word by list [] w b h = absurd h
 order_of_keys word by list (x ∷ xs) w b h = (word, by, list, refl, w, b, h)
 

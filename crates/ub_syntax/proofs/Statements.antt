@@ -2,7 +2,7 @@
 use Rattle.std.proofs.Common.{◌≡◌, ◌≢◌, ◌⊎◌, inl, inr, ℕ, Bool, List, [], ◌∷◌, ◌++◌, Option, Some, None, refl, sym, ap, ◌∙◌}
 use Rattle.std.proofs.lemmas.List.{append-nil}
 use Rattle.ub_lexer.specs.declared.token.Token.{Token}
-use Rattle.ub_syntax.specs.Grammar.{Lexeme, IsSelection, IsOptional, IsFilter, IsGroup, IsOrder, IsLimit, IsExplain, IsSelect}
+use Rattle.ub_syntax.specs.Grammar.{Lexeme, IsToken, IsSelection, IsKey, IsOptional, IsFilter, AreListedBy, IsLimit, IsExplain, IsSelect}
 use Rattle.ub_syntax.specs.Reading.{first_symbol, NotFirst, Reads, Advances, Accepts}
 use Rattle.ub_syntax.specs.Tree.{Shape, Select}
 use Rattle.ub_syntax.specs.declared.symbol.Symbol.{Symbol}
@@ -20,13 +20,13 @@ limit_starts : (ls : List Lexeme) (o : Option Token) → IsOptional IsLimit ls o
 limit_starts ls None w = inr (ap first_symbol w)
 limit_starts ls (Some t) w = inl (first_is symbol.Limit w.0 w.1 ls w.3 w.2)
 
-order_starts : (order limit : List Lexeme) (keys : List OrderKey) → IsOrder order keys → Starts (symbol.Limit ∷ []) limit
+order_starts : (order limit : List Lexeme) (keys : List OrderKey) → AreListedBy symbol.Order IsKey order keys → Starts (symbol.Limit ∷ []) limit
     → Starts (symbol.Order ∷ symbol.Limit ∷ []) (order ++ limit)
 order_starts order limit [] w h = rw w (inr h)
 order_starts order limit (k ∷ ks) w h =
     inl (first_is symbol.Order w.0 ((w.1 ++ w.2) ++ limit) (order ++ limit) w.4 (cut (order ++ limit) order limit w.0 (w.1 ++ w.2) refl w.3))
 
-group_starts : (group rest : List Lexeme) (names : List Token) → IsGroup group names → Starts (symbol.Order ∷ symbol.Limit ∷ []) rest
+group_starts : (group rest : List Lexeme) (names : List Token) → AreListedBy symbol.Group (IsToken symbol.Name) group names → Starts (symbol.Order ∷ symbol.Limit ∷ []) rest
     → Starts (symbol.Group ∷ symbol.Order ∷ symbol.Limit ∷ []) (group ++ rest)
 group_starts group rest [] w h = rw w (inr h)
 group_starts group rest (n ∷ ns) w h =
@@ -68,8 +68,8 @@ pub select_reads : (n : ℕ) (old a b c d e f g h new : List Lexeme) (is_explain
     → Accepts symbol.Explain old is_explained a → Advances a select b → Reads IsSelection (symbol.Comma ∷ []) b selection c
     → Advances c from d → Advances d table e
     → Reads (IsOptional (IsFilter n)) (symbol.Where ∷ symbol.Or ∷ symbol.And ∷ []) e filter f
-    → Reads IsGroup (symbol.Group ∷ symbol.Comma ∷ []) f group g
-    → Reads IsOrder (symbol.Order ∷ symbol.Comma ∷ symbol.Descending ∷ symbol.Ascending ∷ []) g order h
+    → Reads (AreListedBy symbol.Group (IsToken symbol.Name)) (symbol.Group ∷ symbol.Comma ∷ []) f group g
+    → Reads (AreListedBy symbol.Order IsKey) (symbol.Order ∷ symbol.Comma ∷ symbol.Descending ∷ symbol.Ascending ∷ []) g order h
     → Reads (IsOptional IsLimit) (symbol.Limit ∷ []) h limit new
     → (s : Select) → IsSelect n old s
     → ◌≡◌ {A = Select} (record { is_explained = is_explained; selection = selection; table = table; filter = filter; group = group; order = order; limit = limit }) s

@@ -5,7 +5,7 @@ use Rattle.std.proofs.lemmas.Bool.Decides.{same_from_decides}
 use Rattle.std.proofs.lemmas.Slice.Eq.{bytes_eq-Decides}
 use Rattle.std.specs.Char.{to_ascii_lowercase}
 use Rattle.std.specs.List.{list_any}
-use Rattle.ub_syntax.specs.Symbols.{keywords, symbol_among, word_symbol}
+use Rattle.ub_syntax.specs.Symbols.{keywords, symbol_among}
 use Rattle.ub_syntax.specs.declared.symbol.Symbol.TheVariants as symbol
 use Rattle.ub_syntax.specs.declared.symbol.Symbol.{Symbol}
 use Rattle.ub_table.specs.Name as name
@@ -67,6 +67,6 @@ others_are [] text h = refl
 others_are (w ∷ words) text h = any_step (is_word w.0 text) _ w.1 (symbol_among words text) h (others_are words text)
 
 -- a word has the symbol of a name exactly where it is no keyword
-pub name_unless_keyword : (text : List ℕ) → (word_symbol text ≡ symbol.Name) ↔ (is_keyword text ≡ false)
+pub name_unless_keyword : (text : List ℕ) → (symbol_among keywords text ≡ symbol.Name) ↔ (is_keyword text ≡ false)
 unfolding keywords is_keyword name.keywords
 name_unless_keyword text = (names_are keywords text refl, others_are keywords text)

@@ -120,19 +120,11 @@ IsKey ls key =
 abbrev pub IsFilter : ℕ → List Lexeme → Shape → Type 0
 IsFilter n ls c = (word condition : List Lexeme) × (ls ≡ word ++ condition) × Is symbol.Where word × IsCondition n condition c
 
--- GROUP BY names, or nothing where there are none
-abbrev pub IsGroup : List Lexeme → List Token → Type 0
-IsGroup ls [] = ls ≡ []
-IsGroup ls (name ∷ names) =
-    (word by list : List Lexeme) × (ls ≡ word ++ (by ++ list))
-    × Is symbol.Group word × Is symbol.By by × AreJoined symbol.Comma (IsToken symbol.Name) list (name ∷ names)
-
--- ORDER BY keys, or nothing where there are none
-abbrev pub IsOrder : List Lexeme → List OrderKey → Type 0
-IsOrder ls [] = ls ≡ []
-IsOrder ls (key ∷ keys) =
-    (word by list : List Lexeme) × (ls ≡ word ++ (by ++ list))
-    × Is symbol.Order word × Is symbol.By by × AreJoined symbol.Comma IsKey list (key ∷ keys)
+-- GROUP BY or ORDER BY, and parts joined by commas; or nothing where there are none
+abbrev pub AreListedBy : {A : Type 0} → Symbol → (List Lexeme → A → Type 0) → List Lexeme → List A → Type 0
+AreListedBy s P ls [] = ls ≡ []
+AreListedBy s P ls (x ∷ xs) =
+    (word by list : List Lexeme) × (ls ≡ word ++ (by ++ list)) × Is s word × Is symbol.By by × AreJoined symbol.Comma P list (x ∷ xs)
 
 -- LIMIT Number
 abbrev pub IsLimit : List Lexeme → Token → Type 0
@@ -161,8 +153,8 @@ pub record IsSelect (n : ℕ) (ls : List Lexeme) (s : Select) : Type 0 where
   pub from_is : Is symbol.From from
   pub name_is : IsToken symbol.Name name s.table
   pub filter_is : IsOptional (IsFilter n) filter s.filter
-  pub group_is : IsGroup group s.group
-  pub order_is : IsOrder order s.order
+  pub group_is : AreListedBy symbol.Group (IsToken symbol.Name) group s.group
+  pub order_is : AreListedBy symbol.Order IsKey order s.order
   pub limit_is : IsOptional IsLimit limit s.limit
 
 -- value: literal, which begins with this token

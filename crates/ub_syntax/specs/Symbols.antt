@@ -24,12 +24,9 @@ abbrev pub symbol_among : List (List ℕ × Symbol) → List ℕ → Symbol
 symbol_among [] text = Name
 symbol_among (word ∷ words) text = if is_word word.0 text then word.1 else symbol_among words text
 
-abbrev pub word_symbol : List ℕ → Symbol
-word_symbol text = symbol_among keywords text
-
 -- of a token of this kind and text
 abbrev pub symbol : TokenKind → List ℕ → Symbol
-symbol kind.Word text = word_symbol text
+symbol kind.Word text = symbol_among keywords text
 symbol kind.Number text = Number
 symbol kind.Comma text = Comma
 symbol kind.OpenParenthesis text = Open

@@ -1,7 +1,7 @@
 ghost use Rattle.std.specs.Prelude.{◌≡◌, ◌↔◌, ◌≤◌, List, [], ◌∷◌, length, IfOk};
 ghost use Rattle.std.specs.Option.{option_map};
 ghost use Rattle.ub_lexer.specs.Tokens.{AreSpelled};
-ghost use Rattle.ub_syntax.specs.Grammar.{lexemes, AreJoined, IsToken, IsLiteral, IsComparison, IsOperand, IsCondition, IsItem, IsSelection, IsKey, IsOptional, IsFilter, IsGroup, IsOrder, IsLimit, IsSelect, IsValue, IsInsert, IsDelete, IsStatement, IsChain, Lexeme};
+ghost use Rattle.ub_syntax.specs.Grammar.{lexemes, AreJoined, IsToken, IsLiteral, IsComparison, IsOperand, IsCondition, IsItem, IsSelection, IsKey, IsOptional, IsFilter, AreListedBy, IsLimit, IsSelect, IsValue, IsInsert, IsDelete, IsStatement, IsChain, Lexeme};
 ghost use Rattle.ub_syntax.specs.Limits.{past_limits_of};
 ghost use Rattle.ub_syntax.specs.Reading.{first_symbol, Reads, Advances, Accepts};
 ghost use Rattle.ub_query.specs.declared.condition.Operator.{Operator};
@@ -263,8 +263,8 @@ impl<'a> Reader<'a> {
 
     // GROUP BY and names, or nothing.
     fn group(&mut self, alloc: Global) -> Result<Vec<Token>, AllocError>
-        ensures { IfOk result
-            (λ v. Reads IsGroup (Symbol.Group ∷ Symbol.Comma ∷ []) self.old v.items self.new) }
+        ensures { IfOk result (λ v. Reads (AreListedBy Symbol.Group (IsToken Symbol.Name))
+            (Symbol.Group ∷ Symbol.Comma ∷ []) self.old v.items self.new) }
     {
         if !self.accept(Symbol::Group) {
             return Ok(Vec::new(alloc));
@@ -305,7 +305,7 @@ impl<'a> Reader<'a> {
 
     // ORDER BY and keys, or nothing.
     fn order(&mut self, alloc: Global) -> Result<Vec<OrderKey>, AllocError>
-        ensures { IfOk result (λ v. Reads IsOrder
+        ensures { IfOk result (λ v. Reads (AreListedBy Symbol.Order IsKey)
             (Symbol.Order ∷ Symbol.Comma ∷ Symbol.Descending ∷ Symbol.Ascending ∷ [])
             self.old v.items self.new) }
     {
