@@ -1,6 +1,7 @@
 //! Tests of what stands below a tree, where no transcript can show it: the places of tokens, the syntax that is built of them, the
 //! boxes of conditions that have too many for a transcript, the plan of a query that no statement asks, rows of one answer put after
-//! those of another one, and the nearest addresses of many boxes. The values come from hand arithmetic, never from the program's own output.
+//! those of another one, the nearest addresses of many boxes, and the regions that rows make with no store. The values come from hand
+//! arithmetic, never from the program's own output.
 //!
 //! And of an index of several levels (`index_..`): searches in hand-made indexes, changes of them, and stores that fail at one call;
 //! `index_trial` has the steps that they are made of. Their values come from hand arithmetic and from models that are written apart.
@@ -13,6 +14,8 @@ mod answer;
 mod boxes;
 #[cfg(test)]
 mod cases;
+#[cfg(test)]
+mod growing;
 #[cfg(test)]
 mod index_changes;
 #[cfg(test)]
