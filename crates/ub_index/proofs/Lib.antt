@@ -24,3 +24,4 @@ pub mod StretchFacts
 pub mod StretchCover
 pub mod AlongFacts
 pub mod WalkingFacts
+pub mod NextFacts

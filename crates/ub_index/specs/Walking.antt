@@ -1,10 +1,10 @@
 -- A walk over the regions of an index that meet some boxes, over any store and any pages.
-use Rattle.std.specs.Prelude.{◌≡◌, ◌<◌, ◌^◌, ℕ, List, [], ◌∷◌, Option, Some, None, Result, IfErr, OnOk}
+use Rattle.std.specs.Prelude.{◌≡◌, ◌<◌, ◌^◌, ℕ, List, [], ◌∷◌, Option, Some, None, Result, IfErr, IfSome, OnOk}
 use Rattle.ub_bigmin.specs.Box.{Corners}
 use Rattle.ub_index.specs.Along.{Meeting}
 use Rattle.ub_index.specs.Descending.{IsForgotten}
 use Rattle.ub_index.specs.Held.{AreChecked, KeepsChecked, NoneMoreButIndex}
-use Rattle.ub_index.specs.Searching.{GivesAfter, IsSought, IsWayFault, store_after}
+use Rattle.ub_index.specs.Searching.{Gives, GivesAfter, GoesDown, IsSought, IsWayFault, store_after}
 use Rattle.ub_index.specs.Sinks.{TakesThese}
 use Rattle.ub_index.specs.Spans.{IsLater}
 use Rattle.ub_index.specs.View.{IndexView}
@@ -12,6 +12,7 @@ use Rattle.ub_index.specs.declared.fault.IndexFault.{IndexFault}
 use Rattle.ub_region.specs.declared.region.Region.{Region}
 use Rattle.ub_store.specs.Facts.{StoreFacts}
 use Rattle.ub_store.specs.View.{PagerView}
+use Rattle.ub_table.specs.Keys.{origin}
 use Rattle.ub_table.specs.declared.row.Key.{Key}
 
 -- this region is given after another one, if one is given, and is later
@@ -46,3 +47,26 @@ pub record WalksOver {S A : Type 0} (Takes : S → List Region → S → Type 0)
   pub checked : KeepsChecked index.last old new
   pub more : NoneMoreButIndex index.last old.cached new.cached
   pub faults : AreChecked index.last old → IfErr result (IsWalkRefused index old.store (Meeting boxes))
+
+-- where the first region later than another one begins, if there is one, or the first of all
+abbrev pub begins_at : Option Region → Option Key
+begins_at None = Some origin
+begins_at (Some region) = region.next
+
+-- this region, if there is one, is one that is given for some key
+abbrev pub IsGivenAny : IndexView → StoreFacts → Option Region → Type 0
+IsGivenAny index store after = IfSome after (λ region. (key : Key) × Gives index store key region)
+
+-- these are given next after a region, or from the beginning on, each after the one before it: some of them, unless none is given
+abbrev pub AreGivenNext : IndexView → StoreFacts → (Key → Option ℕ → Type 0) → Option Region → List Region → Type 0
+AreGivenNext index store To after met =
+    ((last : Option Region) × AreGivenFirst index store To after met last) × (met ≡ [] → GivesAfter index store To after None)
+
+-- the next regions after another one, if one is given, that meet the boxes and are named by one leaf were to be handed over, and this was
+-- answered: the sink has taken those, and what is left is as a search for the next one leaves it, which is refused so
+pub record HandsNext {S A : Type 0} (Takes : S → List Region → S → Type 0) (index : IndexView) (boxes : List Corners) (after : Option Region)
+    (before now : S) (old new : PagerView) (result : Result A IndexFault) : Type 0 where
+  pub met : OnOk result ((met : List Region) × TakesThese Takes before now met
+      × (AreChecked index.last old → AreGivenNext index old.store (Meeting boxes) after met))
+  pub forgotten : IfErr result (IsForgotten new)
+  pub effect : GoesDown (IsSought index old.store (Meeting boxes) after) index old new result

@@ -1,12 +1,13 @@
 // A walk over the regions of an index that meet some boxes: along a leaf, and then down to the next one.
-ghost use Rattle.std.specs.Prelude.{◌≡◌, ◌<◌, ◌≤◌, ◌∷◌, [], List, IfOk, OnOk};
+ghost use Rattle.std.specs.Prelude.{◌≡◌, ◌<◌, ◌≤◌, ◌∷◌, [], List, option_copied, IfOk, OnOk};
 ghost use Rattle.ub_bigmin.specs.Box.{Corners};
 ghost use Rattle.ub_index.specs.Along.{ComesToLeaf, HandsAlong, HandsLeaf, IsSlotNext, Meeting};
 ghost use Rattle.ub_index.specs.Fitting.{FitsAtEnds};
+ghost use Rattle.ub_index.specs.Held.{AreChecked};
 ghost use Rattle.ub_index.specs.Sinks.{Began, TakesThese};
 ghost use Rattle.ub_index.specs.Spans.{Meets};
 ghost use Rattle.ub_index.specs.View.{index_view};
-ghost use Rattle.ub_index.specs.Walking.{WalksOver};
+ghost use Rattle.ub_index.specs.Walking.{HandsNext, IsGivenAny, WalksOver, begins_at};
 ghost use Rattle.ub_page.specs.Index.{head_on};
 ghost use Rattle.ub_region.specs.declared.region.Region.{Region};
 
@@ -15,6 +16,7 @@ use crate::fault::IndexFault;
 use crate::goal::Goal;
 use crate::index::{Index, leaf_of, region_at};
 use std::alloc::AllocError;
+use std::collections::VecDeque;
 use ub_bigmin::ZBox;
 use ub_page::{MAX_ENTRIES, Page, first_at};
 use ub_region::{ORIGIN, Region};
@@ -33,6 +35,18 @@ pub trait RegionSink {
         requires began { Began (Takes boxes.now) self.old }
         ensures { OnOk result (TakesThese (Takes boxes.now) self.old self.new
             (region.now ∷ [])) };
+}
+
+/// Takes the regions themselves, behind those that stand there. Memory is refused where there is none for one more.
+impl RegionSink for VecDeque<Region> {
+    ghost use Rattle.std.specs.Prelude.{◌≡◌, ◌++◌};
+
+    ghost Takes = { λ boxes start taken now. now.items ≡ start.items ++ taken };
+
+    fn push(&mut self, _boxes: &[ZBox], region: &Region) -> Result<(), AllocError> {
+        self.push_back(*region)?;
+        Ok(())
+    }
 }
 
 impl Index {
@@ -65,6 +79,51 @@ impl Index {
             }
         }
         Ok(())
+    }
+
+    /// Hands the next regions later than `after`, if one is given, that meet one of the boxes to a sink, in the order of their first
+    /// keys: those that one leaf names, just as `next_meeting` gives them, asked after each. None only where `next_meeting` gives none.
+    /// `after` is a region that was given, so that the search begins where it ends.
+    ///
+    /// Refused as `next_meeting` is; Store with Memory comes also where memory was refused by the sink.
+    pub fn hand_next<S: PageStore, T: RegionSink>(
+        &self,
+        pager: &mut Pager<S>,
+        boxes: &[ZBox],
+        after: Option<&Region>,
+        sink: &mut T,
+    ) -> Result<(), IndexFault>
+        requires given { AreChecked self.now.last pager.old
+            → IsGivenAny self.now pager.old.store (option_copied after) }
+        requires began { Began (T.Takes boxes.now) sink.old }
+        ensures { HandsNext (T.Takes boxes.now) self.now boxes.now (option_copied after.entry)
+            sink.old sink.new pager.old pager.new result }
+    {
+        let last = self.last();
+        let (root, levels) = self.root();
+        let Some(from) = start_after(after) else {
+            return Ok(());
+        };
+        let on = hand_leaf(pager, root, levels, last, boxes, &from, sink)?;
+        if ends_before(&from, &on) {
+            return Ok(());
+        }
+        pager.forget(root);
+        Err(IndexFault::Page {
+            page: root,
+            fault: PageFault::OutOfRegion,
+        })
+    }
+}
+
+// Where the first region later than another one begins, if there is one: where that one ends; the first of all begins with the first
+// key.
+fn start_after(after: Option<&Region>) -> Option<Key>
+    ensures { result ≡ begins_at (option_copied after.entry) }
+{
+    match after {
+        Some(region) => region.next,
+        None => Some(ORIGIN),
     }
 }
 
