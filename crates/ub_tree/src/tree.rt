@@ -4,7 +4,7 @@ ghost use Rattle.ub_store.specs.View.{emptied};
 ghost use Rattle.ub_table.specs.declared.row.TheConstants.{MAX_ROW_NUMBER};
 ghost use Rattle.ub_tree.specs.Calls.{TakesIn};
 ghost use Rattle.ub_tree.specs.Effects.{SearchesFor};
-ghost use Rattle.ub_tree.specs.Handing.{AreMetBy, Began, TakesThese};
+ghost use Rattle.ub_tree.specs.Handing.{AreMetBy, AreNext, Began, TakesThese};
 ghost use Rattle.ub_tree.specs.Reading.{SearchesTree};
 ghost use Rattle.ub_tree.specs.Spans.{IsLater, Meets, First, Region};
 ghost use Rattle.ub_tree.specs.Told.{GivesAt, GivesNext, IsRegionOf, SeeksAt, SeeksNext};
@@ -215,6 +215,33 @@ impl<S: PageStore> Tree<S> {
             return Err(ReadFault::Tree(TreeFault::Failed));
         }
         self.index.for_each_meeting(&mut self.pager, boxes, sink)?;
+        Ok(())
+    }
+
+    /// Hands the next regions later than `after`, if one is given, that meet one of the boxes to a sink, in the order of their first
+    /// keys: those that one leaf of the index names, just as `next_meeting` answers them, asked after each; none only where it answers
+    /// none. `after` is a region that the tree has answered. No region is fetched, and the trace stays.
+    ///
+    /// Refused as `next_meeting` is; Memory also where memory was refused by the sink.
+    pub fn hand_next<T: RegionSink>(
+        &mut self,
+        boxes: &[ZBox],
+        after: Option<&Region>,
+        sink: &mut T,
+    ) -> Result<(), TreeFault>
+        requires told { IfSome (option_copied after) (IsRegionOf self.old) }
+        requires began { Began (T.Takes boxes.now) sink.old }
+        ensures met { OnOk result ((met : List Region)
+            × AreNext boxes.now self.old (option_copied after.entry) met
+            × TakesThese (T.Takes boxes.now) sink.old sink.new met) }
+        ensures failed { IsTrue self.old.is_failed → result ≡ Err TreeFault.Failed }
+        ensures effect { SearchesFor (SeeksNext boxes.now self.old (option_copied after.entry))
+            self.old self.new result }
+    {
+        if self.has_failed() {
+            return Err(TreeFault::Failed);
+        }
+        self.index.hand_next(&mut self.pager, boxes, after, sink)?;
         Ok(())
     }
 
