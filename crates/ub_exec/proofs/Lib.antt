@@ -25,3 +25,4 @@ pub mod WholeFacts
 pub mod RefusedFacts
 pub mod RowsReadFacts
 pub mod ReadMeantFacts
+pub mod AheadFacts

@@ -14,7 +14,7 @@ use Rattle.ub_tree.specs.Effects.{HasNoted, IsTakenIn}
 use Rattle.ub_tree.specs.Handing.{AreMetBy}
 use Rattle.ub_tree.specs.Spans.{Region}
 use Rattle.ub_tree.specs.Stretches.{whole_of}
-use Rattle.ub_tree.specs.Told.{GivesNext, IsRegionOf}
+use Rattle.ub_tree.specs.Told.{AreFirst, GivesNext, IsRegionOf}
 use Rattle.ub_tree.specs.View.{TreeView, KeepsTrace}
 use Rattle.ub_tree.specs.declared.read_fault.ReadFault.{ReadFault}
 
@@ -113,6 +113,10 @@ pub record CarriesOut {A : Type 0} (p : PlanView) (old new : TreeView) (rows : A
 abbrev pub HasReadNext : List Corners → Option Region → TreeView → TreeView → Option Region → Type 0
 HasReadNext boxes after old new None = GivesNext boxes old after None × KeepsTrace old new
 HasReadNext boxes after old new (Some span) = GivesNext boxes old after (Some span) × HasNoted span.page old new × IsIn old span
+
+-- these regions stand ahead of a walk that has come to this one, if to any: the next ones that the tree gives, each after the one before it
+abbrev pub StandAhead : List Corners → TreeView → Option Region → List Region → Type 0
+StandAhead boxes t after left = (last : Option Region) × AreFirst boxes t after left last
 
 -- these are the rows of that region, or none
 abbrev pub AreRowsOfNext : TreeView → Option Region → List Row → Type 0

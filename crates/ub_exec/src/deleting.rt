@@ -80,7 +80,7 @@ fn keys_of_selected<S: PageStore>(
         keys: Vec::new(alloc),
     };
     let choice = Choice::of(plan, tree.schema());
-    walk(tree, plan, choice, &mut doomed)?;
+    walk(alloc, tree, plan, choice, &mut doomed)?;
     doomed.keys.sort_unstable_by_key(|key| key.number);
     Ok(doomed.keys)
 }

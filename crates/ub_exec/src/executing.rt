@@ -117,7 +117,7 @@ fn scanned_rows<S: PageStore>(
     }
     let mut gathering = Gathering::new(alloc, tree.schema(), query);
     let choice = Choice::of(plan, tree.schema());
-    walk(tree, plan, choice, &mut gathering)?;
+    walk(alloc, tree, plan, choice, &mut gathering)?;
     Ok(gathering.finish(tree.schema(), query)?)
 }
 

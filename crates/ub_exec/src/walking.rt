@@ -1,23 +1,30 @@
-ghost use Rattle.std.specs.Prelude.{◌≡◌, ◌++◌, List, length, option_copied, IfOk, OnErr, OnOk};
+ghost use Rattle.std.specs.Prelude.{◌≡◌, ◌++◌, List, Some, length, option_copied, IfOk, IfSome, OnErr, OnOk};
 ghost use Rattle.std.specs.List.{filter};
-ghost use Rattle.ub_exec.specs.Reading.{AreRowsOfNext, HasReadAll, HasReadNext, HasReadRows, NotesPages};
+ghost use Rattle.ub_exec.specs.Reading.{AreRowsOfNext, HasReadAll, HasReadNext, HasReadRows, NotesPages, StandAhead};
 ghost use Rattle.ub_filter.specs.Choice.{IsFit, is_chosen};
 ghost use Rattle.ub_exec.specs.Visits.{Hands, HasTurned, HasTurnedSome, HasWalked, HasWalkedFirst};
 ghost use Rattle.ub_query.specs.Posed.{IsPosed};
 ghost use Rattle.ub_table.specs.declared.row.Row.{Row as RowView};
+ghost use Rattle.ub_tree.specs.Effects.{SearchesFor};
 ghost use Rattle.ub_tree.specs.Reading.{ReadsTree};
-ghost use Rattle.ub_tree.specs.View.{IsSound};
+ghost use Rattle.ub_tree.specs.Spans.{First, IsLater, Meets};
+ghost use Rattle.ub_tree.specs.Told.{GivesNext, IsRegionOf, SeeksNext};
+ghost use Rattle.ub_tree.specs.View.{IsSound, spans_of};
 
+use std::alloc::Global;
+use std::collections::VecDeque;
+use ub_bigmin::ZBox;
 use ub_filter::{Choice, push_chosen};
 use ub_page::RegionPage;
 use ub_planning::Plan;
 use ub_query::RowSink;
 use ub_store::PageStore;
-use ub_tree::{ReadFault, Region, Tree};
+use ub_tree::{ReadFault, Region, Tree, TreeFault};
 
 /// Reads each region that meets the plan's boxes, once, in the order of their keys, and hands a sink the rows in them that are
-/// chosen.
+/// chosen. Of the index it goes along one leaf after the other.
 pub(crate) fn walk<S: PageStore, K: RowSink>(
+    alloc: Global,
     tree: &mut Tree<S>,
     plan: &Plan,
     choice: Choice,
@@ -38,25 +45,37 @@ pub(crate) fn walk<S: PageStore, K: RowSink>(
     ensures effect { ReadsTree tree.old tree.new result }
 {
     let mut page = tree.empty_region();
+    let mut ahead = VecDeque::new(alloc);
     let mut after = None;
-    while let Some(region) = visit_next(tree, plan, choice, after.as_ref(), &mut page, sink)? {
+    while let Some(region) = visit_next(
+        tree,
+        plan,
+        choice,
+        after.as_ref(),
+        &mut ahead,
+        &mut page,
+        sink,
+    )? {
         after = Some(region);
     }
     Ok(())
 }
 
 // Reads the next region that meets the boxes, later than the one given, into the page, and hands the sink its chosen rows; None
-// where there is no more.
+// where there is no more. Those that are known to come next stand ahead.
 fn visit_next<S: PageStore, K: RowSink>(
     tree: &mut Tree<S>,
     plan: &Plan,
     choice: Choice,
     after: Option<&Region>,
+    ahead: &mut VecDeque<Region>,
     page: &mut RegionPage,
     sink: &mut K,
 ) -> Result<Option<Region>, ReadFault>
-    requires posed { IsPosed (length tree.old.schema.columns) plan.now.asked }
-    requires fit { IsFit tree.old.schema plan.now choice }
+    requires fit { IsPosed (length tree.old.schema.columns) plan.now.asked
+        × IsFit tree.old.schema plan.now choice }
+    requires ahead { IfSome (option_copied after) (IsRegionOf tree.old)
+        × StandAhead plan.now.covering.boxes tree.old (option_copied after) ahead.old.items }
     ensures rows { IfOk result (λ found. Hands (K.HasTaken tree.old.schema plan.now.asked)
         (is_chosen choice tree.old.schema plan.now) sink.old sink.new
         (λ rows. AreRowsOfNext tree.old found rows × (IsSound tree.old
@@ -64,15 +83,42 @@ fn visit_next<S: PageStore, K: RowSink>(
         rows))) }
     ensures broken { IsSound tree.old → OnErr result
         (HasTurnedSome plan.now.covering.boxes (option_copied after.entry) tree.old tree.new) }
-    ensures next { IfOk result (HasReadNext plan.now.covering.boxes (option_copied after.entry)
-        tree.old tree.new) }
+    ensures next { IfOk result (λ found. HasReadNext plan.now.covering.boxes
+        (option_copied after.entry) tree.old tree.new found × IfSome found
+        (λ span. StandAhead plan.now.covering.boxes tree.old (Some span) ahead.new.items)) }
     ensures notes { NotesPages tree.old tree.new result }
     ensures effect { ReadsTree tree.old tree.new result }
 {
-    let Some(region) = tree.next_meeting(plan.boxes(), after)? else {
+    let Some(region) = take_next(tree, plan.boxes(), after, ahead)? else {
         return Ok(None);
     };
     tree.read_region(&region, page)?;
     push_chosen(sink, tree.schema(), plan, choice, page)?;
     Ok(Some(region))
+}
+
+// Takes the next region that meets the boxes, later than the one given, of those that stand ahead. Where none does, the next ones come
+// there first: those that one leaf of the index names.
+fn take_next<S: PageStore>(
+    tree: &mut Tree<S>,
+    boxes: &[ZBox],
+    after: Option<&Region>,
+    ahead: &mut VecDeque<Region>,
+) -> Result<Option<Region>, TreeFault>
+    requires told { IfSome (option_copied after) (IsRegionOf tree.old) }
+    requires ahead { StandAhead boxes.now tree.old (option_copied after) ahead.old.items }
+    ensures found { IsSound tree.old → IfOk result
+        (λ found. First (λ r. IsLater (option_copied after.entry) r × Meets boxes.now r)
+        (spans_of tree.old) found) }
+    ensures gives { IfOk result (GivesNext boxes.now tree.old (option_copied after.entry)) }
+    ensures left { IfOk result (λ found. IfSome found
+        (λ span. StandAhead boxes.now tree.old (Some span) ahead.new.items)) }
+    ensures effect { SearchesFor (SeeksNext boxes.now tree.old (option_copied after.entry))
+        tree.old tree.new result }
+{
+    if let Some(region) = ahead.pop_front() {
+        return Ok(Some(region));
+    }
+    tree.hand_next(boxes, after, ahead)?;
+    Ok(ahead.pop_front())
 }

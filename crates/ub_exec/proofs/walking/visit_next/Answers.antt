@@ -7,6 +7,7 @@ use Rattle.ub_exec.proofs.FirstFacts.{asked_some, on_err}
 use Rattle.ub_exec.proofs.NotedFacts.{next_notes, notes_none, notes_one, read_next}
 use Rattle.ub_exec.proofs.RefusedFacts.{memory_reads, no_answer, search_reads}
 use Rattle.ub_exec.proofs.WalkFacts.{visited_by}
+use Rattle.ub_exec.specs.Reading.{StandAhead}
 use Rattle.ub_filter.specs.Choice.{IsFit}
 use Rattle.ub_query.specs.Posed.{IsPosed}
 use Rattle.ub_table.specs.declared.row.Row.{Row}
@@ -32,7 +33,7 @@ returns-in_default-clause-rows g c before taken has = (
     refl,
     λ sound. (
       subst (λ (boxes : List Corners). First (λ s. IsLater (option_copied c.args.after) s × Meets boxes s) (spans_of c.args.tree.now) None) c.boxes.ensures.boxes (rw c.in_default.is at (c.in_ok-region.ensures.found sound)),
-      unchanged_trace c.args.tree.now c.next_meeting.new.self c.in_ok-region.ensures.effect.same,
+      unchanged_trace c.args.tree.now c.take_next.new.tree c.in_ok-region.ensures.effect.same,
       refl,
     ),
   ),
@@ -42,15 +43,15 @@ pub returns-clause-rows : goal.returns-clause-rows
 returns-clause-rows g c before taken has =
     let same = c.in_ok-region.ensures.effect.same in
     let schema : c.schema.result.now ≡ c.args.tree.now.schema =
-    c.schema.ensures ∙ schema_read _ _ c.in-Some.region c.args.tree.now c.next_meeting.new.self c.read_region.new.self c.in_ok-region.ensures.effect c.in_ok-read_region.ensures.effect in (
+    c.schema.ensures ∙ schema_read _ _ c.in-Some.region c.args.tree.now c.take_next.new.tree c.read_region.new.self c.in_ok-region.ensures.effect c.in_ok-read_region.ensures.effect in (
       c.read_region.new.page.region.rows,
       (rw schema at (c.in_ok-push_chosen.ensures before taken)) has,
       (
         (c.read_region.new.page.region, subst (λ (t : TreeView). IsTakenIn t c.in-Some.region c.read_region.new.page.region) same c.in_ok-read_region.ensures.taken, refl),
-        λ sound. visited_by c.args.tree.now c.next_meeting.new.self c.read_region.new.self c.args.plan.now.covering.boxes (option_copied c.args.after) c.in-Some.region c.read_region.new.page.region
+        λ sound. visited_by c.args.tree.now c.take_next.new.tree c.read_region.new.self c.args.plan.now.covering.boxes (option_copied c.args.after) c.in-Some.region c.read_region.new.page.region
             c.read_region.new.page.region.rows sound
             (subst (λ (boxes : List Corners). First (λ s. IsLater (option_copied c.args.after) s × Meets boxes s) (spans_of c.args.tree.now) (Some c.in-Some.region)) c.boxes.ensures.boxes (rw c.in-Some.is at (c.in_ok-region.ensures.found sound)))
-            (Keeps-by c.args.tree.now c.next_meeting.new.self (unchanged_traced c.args.tree.now c.next_meeting.new.self same)) (unchanged_trace c.args.tree.now c.next_meeting.new.self same) c.in_ok-read_region.ensures.stands c.in_ok-read_region.ensures.first c.in_ok-read_region.ensures.effect.listed refl,
+            (Keeps-by c.args.tree.now c.take_next.new.tree (unchanged_traced c.args.tree.now c.take_next.new.tree same)) (unchanged_trace c.args.tree.now c.take_next.new.tree same) c.in_ok-read_region.ensures.stands c.in_ok-read_region.ensures.first c.in_ok-read_region.ensures.effect.listed refl,
       ),
     )
 
@@ -58,8 +59,8 @@ pub returns-in_err-read_region-clause-effect : goal.returns-in_err-read_region-c
 returns-in_err-read_region-clause-effect g c =
     let same = c.in_ok-region.ensures.effect.same in
     let gives = rw c.in-Some.is at c.in_ok-region.ensures.gives in
-    tree_reads c.from_residual-in_err-read_region.result _ c.args.tree.now c.next_meeting.new.self c.read_region.new.self c.from_residual-in_err-read_region.ensures.1
-    (unchanged_traced c.args.tree.now c.next_meeting.new.self same) c.in_err-read_region.ensures.effect.same
+    tree_reads c.from_residual-in_err-read_region.result _ c.args.tree.now c.take_next.new.tree c.read_region.new.self c.from_residual-in_err-read_region.ensures.1
+    (unchanged_traced c.args.tree.now c.take_next.new.tree same) c.in_err-read_region.ensures.effect.same
     (c.in_err-read_region.ensures.effect.faults (subst (λ (t : TreeView). IsRegionOf t c.in-Some.region) (sym same) (next_is_later c.args.tree.now _ _ c.in-Some.region gives).0))
 
 pub returns-in_err-region-clause-broken : goal.returns-in_err-region-clause-broken
@@ -70,65 +71,63 @@ pub returns-in_err-read_region-clause-broken : goal.returns-in_err-read_region-c
 returns-in_err-read_region-clause-broken g c sound =
     let same = c.in_ok-region.ensures.effect.same in
     on_err c.from_residual-in_err-read_region.result _
-    (asked_some c.args.tree.now c.next_meeting.new.self c.read_region.new.self _ _ c.in-Some.region sound
+    (asked_some c.args.tree.now c.take_next.new.tree c.read_region.new.self _ _ c.in-Some.region sound
     (subst (λ (boxes : List Corners). First (λ s. IsLater (option_copied c.args.after) s × Meets boxes s) (spans_of c.args.tree.now) (Some c.in-Some.region)) c.boxes.ensures.boxes (rw c.in-Some.is at (c.in_ok-region.ensures.found sound)))
-    (Keeps-by c.args.tree.now c.next_meeting.new.self (unchanged_traced c.args.tree.now c.next_meeting.new.self same)) (unchanged_trace c.args.tree.now c.next_meeting.new.self same) (either_noted _ c.next_meeting.new.self c.read_region.new.self _ c.in_err-read_region.ensures.effect.noted))
+    (Keeps-by c.args.tree.now c.take_next.new.tree (unchanged_traced c.args.tree.now c.take_next.new.tree same)) (unchanged_trace c.args.tree.now c.take_next.new.tree same) (either_noted _ c.take_next.new.tree c.read_region.new.self _ c.in_err-read_region.ensures.effect.noted))
 
 pub returns-in_err-push_chosen-clause-broken : goal.returns-in_err-push_chosen-clause-broken
 returns-in_err-push_chosen-clause-broken g c sound =
     let same = c.in_ok-region.ensures.effect.same in
     on_err c.from_residual-in_err-push_chosen.result _
-    (asked_some c.args.tree.now c.next_meeting.new.self c.read_region.new.self _ _ c.in-Some.region sound
+    (asked_some c.args.tree.now c.take_next.new.tree c.read_region.new.self _ _ c.in-Some.region sound
     (subst (λ (boxes : List Corners). First (λ s. IsLater (option_copied c.args.after) s × Meets boxes s) (spans_of c.args.tree.now) (Some c.in-Some.region)) c.boxes.ensures.boxes (rw c.in-Some.is at (c.in_ok-region.ensures.found sound)))
-    (Keeps-by c.args.tree.now c.next_meeting.new.self (unchanged_traced c.args.tree.now c.next_meeting.new.self same)) (unchanged_trace c.args.tree.now c.next_meeting.new.self same) (inr c.in_ok-read_region.ensures.effect.listed))
+    (Keeps-by c.args.tree.now c.take_next.new.tree (unchanged_traced c.args.tree.now c.take_next.new.tree same)) (unchanged_trace c.args.tree.now c.take_next.new.tree same) (inr c.in_ok-read_region.ensures.effect.listed))
 
 pub returns-in_default-clause-next : goal.returns-in_default-clause-next
 returns-in_default-clause-next g c = (
-  subst (λ (boxes : List Corners). GivesNext boxes c.args.tree.now (option_copied c.args.after) None) c.boxes.ensures.boxes (rw c.in_default.is at c.in_ok-region.ensures.gives),
-  unchanged_trace c.args.tree.now c.next_meeting.new.self c.in_ok-region.ensures.effect.same,
+  (
+    subst (λ (boxes : List Corners). GivesNext boxes c.args.tree.now (option_copied c.args.after) None) c.boxes.ensures.boxes (rw c.in_default.is at c.in_ok-region.ensures.gives),
+    unchanged_trace c.args.tree.now c.take_next.new.tree c.in_ok-region.ensures.effect.same,
+  ),
+  tt,
 )
 
 pub returns-in_default-clause-notes : goal.returns-in_default-clause-notes
-returns-in_default-clause-notes g c = notes_none (Ok None) c.args.tree.now c.next_meeting.new.self (unchanged_trace c.args.tree.now c.next_meeting.new.self c.in_ok-region.ensures.effect.same)
+returns-in_default-clause-notes g c = notes_none (Ok None) c.args.tree.now c.take_next.new.tree (unchanged_trace c.args.tree.now c.take_next.new.tree c.in_ok-region.ensures.effect.same)
 
 pub returns-in_err-region-clause-notes : goal.returns-in_err-region-clause-notes
 returns-in_err-region-clause-notes g c =
-    notes_none c.from_residual.result c.args.tree.now c.next_meeting.new.self
+    notes_none c.from_residual.result c.args.tree.now c.take_next.new.tree
     (ap (λ (t : TreeView). t.trace) c.in_err-region.ensures.effect.same)
 
 pub returns-in_err-read_region-clause-notes : goal.returns-in_err-read_region-clause-notes
 returns-in_err-read_region-clause-notes g c =
-    notes_one c.from_residual-in_err-read_region.result _ c.args.tree.now c.next_meeting.new.self c.read_region.new.self _ c.from_residual-in_err-read_region.ensures.1
-    (unchanged_trace c.args.tree.now c.next_meeting.new.self c.in_ok-region.ensures.effect.same)
-    (either_noted _ c.next_meeting.new.self c.read_region.new.self _ c.in_err-read_region.ensures.effect.noted)
+    notes_one c.from_residual-in_err-read_region.result _ c.args.tree.now c.take_next.new.tree c.read_region.new.self _ c.from_residual-in_err-read_region.ensures.1
+    (unchanged_trace c.args.tree.now c.take_next.new.tree c.in_ok-region.ensures.effect.same)
+    (either_noted _ c.take_next.new.tree c.read_region.new.self _ c.in_err-read_region.ensures.effect.noted)
 
 pub returns-in_err-push_chosen-clause-notes : goal.returns-in_err-push_chosen-clause-notes
 returns-in_err-push_chosen-clause-notes g c =
-    notes_one c.from_residual-in_err-push_chosen.result _ c.args.tree.now c.next_meeting.new.self c.read_region.new.self _ c.from_residual-in_err-push_chosen.ensures.1
-    (unchanged_trace c.args.tree.now c.next_meeting.new.self c.in_ok-region.ensures.effect.same) (inr c.in_ok-read_region.ensures.effect.listed)
-
-pub returns-clause-next : goal.returns-clause-next
-returns-clause-next g c =
-    read_next c.boxes.result.now c.args.plan.now.covering.boxes _ c.args.tree.now c.next_meeting.new.self c.read_region.new.self c.in-Some.region c.read_region.new.page.region
-    c.boxes.ensures.boxes c.in_ok-region.ensures.effect.same (rw c.in-Some.is at c.in_ok-region.ensures.gives) c.in_ok-read_region.ensures.effect.listed c.in_ok-read_region.ensures.taken
+    notes_one c.from_residual-in_err-push_chosen.result _ c.args.tree.now c.take_next.new.tree c.read_region.new.self _ c.from_residual-in_err-push_chosen.ensures.1
+    (unchanged_trace c.args.tree.now c.take_next.new.tree c.in_ok-region.ensures.effect.same) (inr c.in_ok-read_region.ensures.effect.listed)
 
 pub returns-clause-notes : goal.returns-clause-notes
 returns-clause-notes g c =
     next_notes c.args.plan.now.covering.boxes (option_copied c.args.after) c.args.tree.now c.read_region.new.self (Some c.in-Some.region)
-    (read_next c.boxes.result.now c.args.plan.now.covering.boxes _ c.args.tree.now c.next_meeting.new.self c.read_region.new.self c.in-Some.region c.read_region.new.page.region
+    (read_next c.boxes.result.now c.args.plan.now.covering.boxes _ c.args.tree.now c.take_next.new.tree c.read_region.new.self c.in-Some.region c.read_region.new.page.region
     c.boxes.ensures.boxes c.in_ok-region.ensures.effect.same (rw c.in-Some.is at c.in_ok-region.ensures.gives) c.in_ok-read_region.ensures.effect.listed c.in_ok-read_region.ensures.taken)
 
 pub push_chosen-requires-clause-posed : goal.push_chosen-requires-clause-posed
 push_chosen-requires-clause-posed g c =
     let schema : c.schema.result.now ≡ c.args.tree.now.schema =
-    c.schema.ensures ∙ schema_read _ _ c.in-Some.region c.args.tree.now c.next_meeting.new.self c.read_region.new.self c.in_ok-region.ensures.effect c.in_ok-read_region.ensures.effect in
-    subst (λ (s : Schema). IsPosed (length s.columns) c.args.plan.now.asked) (sym schema) c.requires.posed
+    c.schema.ensures ∙ schema_read _ _ c.in-Some.region c.args.tree.now c.take_next.new.tree c.read_region.new.self c.in_ok-region.ensures.effect c.in_ok-read_region.ensures.effect in
+    subst (λ (s : Schema). IsPosed (length s.columns) c.args.plan.now.asked) (sym schema) c.requires.fit.0
 
 pub push_chosen-requires-clause-fit : goal.push_chosen-requires-clause-fit
 push_chosen-requires-clause-fit g c =
     let schema : c.schema.result.now ≡ c.args.tree.now.schema =
-    c.schema.ensures ∙ schema_read _ _ c.in-Some.region c.args.tree.now c.next_meeting.new.self c.read_region.new.self c.in_ok-region.ensures.effect c.in_ok-read_region.ensures.effect in
-    subst (λ (s : Schema). IsFit s c.args.plan.now c.args.choice) (sym schema) c.requires.fit
+    c.schema.ensures ∙ schema_read _ _ c.in-Some.region c.args.tree.now c.take_next.new.tree c.read_region.new.self c.in_ok-region.ensures.effect c.in_ok-read_region.ensures.effect in
+    subst (λ (s : Schema). IsFit s c.args.plan.now c.args.choice) (sym schema) c.requires.fit.1
 
 pub push_chosen-requires-clause-dims : goal.push_chosen-requires-clause-dims
 push_chosen-requires-clause-dims g c =
@@ -153,18 +152,32 @@ pub returns-in_err-push_chosen-clause-next : goal.returns-in_err-push_chosen-cla
 returns-in_err-push_chosen-clause-next g c = no_answer c.from_residual-in_err-push_chosen.result _ _ c.from_residual-in_err-push_chosen.ensures.1
 
 pub returns-in_err-region-clause-effect : goal.returns-in_err-region-clause-effect
-returns-in_err-region-clause-effect g c = search_reads c.from_residual.result _ c.args.tree.now c.next_meeting.new.self c.from_residual.ensures.1 c.in_err-region.ensures.effect
+returns-in_err-region-clause-effect g c = search_reads c.from_residual.result _ c.args.tree.now c.take_next.new.tree c.from_residual.ensures.1 c.in_err-region.ensures.effect
 
 pub returns-in_err-push_chosen-clause-effect : goal.returns-in_err-push_chosen-clause-effect
 returns-in_err-push_chosen-clause-effect g c =
     memory_reads c.from_residual-in_err-push_chosen.result c.args.tree.now c.read_region.new.self c.from_residual-in_err-push_chosen.ensures.1
-    (reads_then {T = Unit {0}} (Ok tt) c.args.tree.now c.next_meeting.new.self c.read_region.new.self (unchanged_traced c.args.tree.now c.next_meeting.new.self c.in_ok-region.ensures.effect.same)
+    (reads_then {T = Unit {0}} (Ok tt) c.args.tree.now c.take_next.new.tree c.read_region.new.self (unchanged_traced c.args.tree.now c.take_next.new.tree c.in_ok-region.ensures.effect.same)
     (record { same = c.in_ok-read_region.ensures.effect.same; faults = tt })).same
 
 pub returns-in_default-clause-effect : goal.returns-in_default-clause-effect
-returns-in_default-clause-effect g c = record { same = unchanged_traced c.args.tree.now c.next_meeting.new.self c.in_ok-region.ensures.effect.same; faults = tt }
+returns-in_default-clause-effect g c = record { same = unchanged_traced c.args.tree.now c.take_next.new.tree c.in_ok-region.ensures.effect.same; faults = tt }
 
 pub returns-clause-effect : goal.returns-clause-effect
 returns-clause-effect g c =
-    reads_then (Ok (Some c.in-Some.region)) c.args.tree.now c.next_meeting.new.self c.read_region.new.self (unchanged_traced c.args.tree.now c.next_meeting.new.self c.in_ok-region.ensures.effect.same)
+    reads_then (Ok (Some c.in-Some.region)) c.args.tree.now c.take_next.new.tree c.read_region.new.self (unchanged_traced c.args.tree.now c.take_next.new.tree c.in_ok-region.ensures.effect.same)
     (record { same = c.in_ok-read_region.ensures.effect.same; faults = tt })
+
+pub take_next-requires-clause-ahead : goal.take_next-requires-clause-ahead
+take_next-requires-clause-ahead g c =
+    subst (λ (boxes : List Corners). StandAhead boxes c.args.tree.now (option_copied c.args.after) c.args.ahead.now.items) (sym c.boxes.ensures.boxes) c.requires.ahead.1
+
+pub returns-clause-next : goal.returns-clause-next
+returns-clause-next g c = (
+  read_next c.boxes.result.now c.args.plan.now.covering.boxes _ c.args.tree.now c.take_next.new.tree c.read_region.new.self c.in-Some.region c.read_region.new.page.region
+      c.boxes.ensures.boxes c.in_ok-region.ensures.effect.same (rw c.in-Some.is at c.in_ok-region.ensures.gives) c.in_ok-read_region.ensures.effect.listed c.in_ok-read_region.ensures.taken,
+  subst (λ (boxes : List Corners). StandAhead boxes c.args.tree.now (Some c.in-Some.region) c.take_next.new.ahead.items) c.boxes.ensures.boxes (rw c.in-Some.is at c.in_ok-region.ensures.left),
+)
+
+pub take_next-requires-clause-told : goal.take_next-requires-clause-told
+take_next-requires-clause-told g c = c.requires.ahead.0
