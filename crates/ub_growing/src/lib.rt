@@ -19,7 +19,5 @@ mod order;
 mod part;
 mod parting;
 mod spreading;
-#[cfg(test)]
-mod tests;
 
 pub use growing::{Grown, grow};
