@@ -11,8 +11,11 @@ mod keeping;
 mod sorted;
 mod trips;
 
+use asking::first_trips;
 use std::io;
-use ub_tree::ReadFault;
+use trips::{in_zones, tree_of, trips};
+use ub_store::{MemStore, PageStore};
+use ub_tree::{ReadFault, Tree};
 
 // Prints what an example gives, or why it gave nothing.
 fn tell(rt: &HostRuntime, example: &str, lines: Result<String, ReadFault>) -> io::Result<()> {
@@ -22,14 +25,32 @@ fn tell(rt: &HostRuntime, example: &str, lines: Result<String, ReadFault>) -> io
     }
 }
 
-fn main(rt: HostRuntime) -> io::Result<()> {
+// Tells what the examples find in a tree of the trips, which is lent to each.
+fn tell_trips<S: PageStore>(rt: &HostRuntime, tree: &mut Tree<S>) -> io::Result<()> {
     let alloc = rt.alloc();
+    tell(rt, "A tree in memory, by ub_tree", in_zones(alloc, tree))?;
+    tell(rt, "A query of it, by ub_exec", first_trips(alloc, tree))
+}
+
+// Makes that tree in memory.
+fn tell_in_memory(rt: &HostRuntime) -> io::Result<()> {
+    let alloc = rt.alloc();
+    match tree_of(alloc, MemStore::new(alloc), &trips()) {
+        Ok(mut tree) => tell_trips(rt, &mut tree),
+        Err(fault) => tell(
+            rt,
+            "A tree in memory, by ub_tree",
+            Err(ReadFault::from(fault)),
+        ),
+    }
+}
+
+fn main(rt: HostRuntime) -> io::Result<()> {
     tell(
         &rt,
         "A sorted list, by ub_bigmin",
-        sorted::example(alloc).map_err(|_| ReadFault::Memory),
+        sorted::example(rt.alloc()).or(Err(ReadFault::Memory)),
     )?;
-    tell(&rt, "A tree in memory, by ub_tree", trips::example(alloc))?;
-    tell(&rt, "A query of it, by ub_exec", asking::example(alloc))?;
+    tell_in_memory(&rt)?;
     tell(&rt, "The same of a tree in a file", keeping::example(&rt))
 }

@@ -66,7 +66,7 @@ pub fn example(alloc: Global) -> Result<String, AllocError> {
     let sorted = diagonal(alloc, 16)?;
     if let Some(zbox) = box_between([3, 2], [9, 9]) {
         for address in addresses_in(alloc, sorted.as_slice(), &zbox)?.iter() {
-            lines.push_str(format!(in alloc; "{address}\n")?.as_str())?;
+            write!(lines, "{address}\n")?;
         }
     }
     Ok(lines)

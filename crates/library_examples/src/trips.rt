@@ -9,7 +9,7 @@ use crate::sorted::box_between;
 use std::alloc::{AllocError, Global};
 use ub_bigmin::ZBox;
 use ub_page::RegionPage;
-use ub_store::{MemStore, PageStore};
+use ub_store::PageStore;
 use ub_table::{Key, Name, PageFault, Schema};
 use ub_tree::{ReadFault, Region, Tree, TreeFault};
 
@@ -85,44 +85,40 @@ pub fn next_rows<S: PageStore>(
 }
 
 // Adds a line for each row of a region that lies in the box.
-fn add_rows(
-    alloc: Global,
-    lines: &mut String,
-    page: &RegionPage,
-    zbox: &ZBox,
-) -> Result<(), AllocError> {
+fn add_rows(lines: &mut String, page: &RegionPage, zbox: &ZBox) -> Result<(), AllocError> {
     let shape = page.shape();
     for i in 0..page.len() {
         let row = page.row(i);
         if zbox.holds(row.key(shape).z) {
             let [day, zone, _, _] = row.dims;
-            lines.push_str(format!(in alloc;
-                "day {day} zone {zone} fare {}\n",
-                row.measures[0]
-            )?.as_str())?;
+            let fare = row.measures[0];
+            write!(lines, "day {day} zone {zone} fare {fare}\n")?;
         }
     }
     Ok(())
 }
 
 /// Twenty trips, of five days and four zones.
-pub fn trips(alloc: Global) -> Result<Vec<Trip>, AllocError> {
-    let mut trips = Vec::new(alloc);
-    for number in 1..=20u32 {
-        trips.push(Trip {
+pub fn trips() -> [Trip; 20] {
+    let mut trips = [Trip {
+        day: 0,
+        zone: 0,
+        fare: 0,
+    }; 20];
+    for i in 0..20u32 {
+        let number = i + 1;
+        trips[i as usize] = Trip {
             day: number % 5,
             zone: number % 4,
             fare: i64::from(number) * 100,
-        })?;
+        };
     }
-    Ok(trips)
+    trips
 }
 
 /// The trips of the days 1 to 3 in the zones 2 and 3, without the one that is taken out.
-pub fn example(alloc: Global) -> Result<String, ReadFault> {
+pub fn in_zones<S: PageStore>(alloc: Global, tree: &mut Tree<S>) -> Result<String, ReadFault> {
     let mut lines = String::new(alloc);
-    let trips = trips(alloc)?;
-    let mut tree = tree_of(alloc, MemStore::new(alloc), trips.as_slice())?;
     // The seventh row lies at day 2 and zone 3, whose address is 13.
     tree.remove(Key { z: 13, number: 7 })?;
     let Some(zbox) = box_between([1, 2], [3, 3]) else {
@@ -132,10 +128,10 @@ pub fn example(alloc: Global) -> Result<String, ReadFault> {
     let mut after = None;
     // A tree answers no more regions than it has.
     for _ in 0..tree.regions() {
-        let Some(region) = next_rows(&mut tree, &[zbox], after.as_ref(), &mut page)? else {
+        let Some(region) = next_rows(tree, &[zbox], after.as_ref(), &mut page)? else {
             break;
         };
-        add_rows(alloc, &mut lines, &page, &zbox)?;
+        add_rows(&mut lines, &page, &zbox)?;
         after = Some(region);
     }
     Ok(lines)
