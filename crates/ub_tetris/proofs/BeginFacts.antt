@@ -1,5 +1,5 @@
 -- A sweep begins: the trace begins anew, and the whole tree is awaited.
-use Rattle.std.proofs.Common.{◌≡◌, ◌<◌, ◌∙◌, ◌∷◌, ℕ, Bool, true, false, List, [], All, Option, Some, None, Result, Ok, Err, length, inl, refl, sym, ap, subst}
+use Rattle.std.proofs.Common.{◌≡◌, ◌∙◌, ◌∷◌, ℕ, Bool, true, false, List, [], Option, Some, None, Result, Ok, Err, inl, refl, sym, ap, subst}
 use Rattle.std.proofs.lemmas.Bool.{true≢false}
 use Rattle.std.specs.Prelude.{IsTrue}
 use Rattle.std.specs.Result.{IsErrAnd}
@@ -24,7 +24,7 @@ use Rattle.ub_tetris.specs.Sweep.{HasBegun, HoldsOneOf, IsStarted, IsSweepOf, Is
 use Rattle.ub_tetris.specs.declared.course.Course.{Course}
 use Rattle.ub_tetris.specs.declared.fault.SweepFault.{SweepFault}
 use Rattle.ub_tetris.specs.declared.fault.SweepFault.TheVariants as sweep
-use Rattle.ub_tetris.specs.inner.Events.{Ahead, AwaitsWhole, ahead_on}
+use Rattle.ub_tetris.specs.inner.Events.{Ahead, AwaitsWhole, IsCourseOf, ahead_on}
 use Rattle.ub_tetris.specs.inner.Turns.{begun_view}
 use Rattle.ub_tree.proofs.Laws.{Keeps-by, begun_traced}
 use Rattle.ub_tree.specs.Stretches.{Stretch, whole_of}
@@ -92,10 +92,10 @@ module _ (t new : TreeView) (plan : PlanView) (course : Course) (whole : Stretch
       told (Some v) = (whole_is_told new, tt)
 
   module _ (some : found ≡ Some course)
-      (of_plan : (dim : ℕ) (is_descending : Bool) → plan.kind ≡ Sweep dim is_descending → All (λ b. dim < length b.lo) plan.covering.boxes → found ≡ Some (record { dim = dim; is_descending = is_descending }))
+      (of_plan : (course : Course) → IsCourseOf plan course → found ≡ Some course)
       (boxes_are : boxes ≡ plan.covering.boxes) (dim : ℕ) (is_descending : Bool) where
     on_course : plan ≡ plan_of t.schema plan.asked → plan.kind ≡ Sweep dim is_descending → course ≡ record { dim = dim; is_descending = is_descending }
-    on_course planned kind = same_course course dim is_descending found some (of_plan dim is_descending kind (have_dimension t.schema plan dim is_descending planned kind))
+    on_course planned kind = same_course course dim is_descending found some (of_plan (record { dim = dim; is_descending = is_descending }) (kind, have_dimension t.schema plan dim is_descending planned kind))
 
     first_on : (on : course ≡ record { dim = dim; is_descending = is_descending }) → IsFirstOn is_descending (IsValueInSpan plan.covering.boxes (whole_of new).span.from (whole_of new).span.to dim) awaits.value
     first_on on =

@@ -1,5 +1,5 @@
 -- The rows held: what a push and a pop of the heap make of them.
-use Rattle.std.proofs.Common.{◌≡◌, ◌<◌, ℕ, ℤ, zero, suc, List, [], ◌∷◌, ◌++◌, true, false, Option, Some, None, Result, Ok, Err, OnOk, Contains, length, map, slice_index_or, refl, sym, ap, subst, ◌∙◌, arith, append_assoc}
+use Rattle.std.proofs.Common.{◌≡◌, ◌<◌, ℕ, zero, suc, List, [], ◌∷◌, ◌++◌, true, false, Option, Some, None, Result, Ok, Err, OnOk, Contains, length, map, slice_index_or, refl, sym, ap, subst, ◌∙◌, arith, append_assoc}
 use Rattle.std.proofs.lemmas.List.{append-nil, map-append}
 use Rattle.std.proofs.lemmas.List.Sorted.{IsPermutation-append_comm, IsPermutation-cons, IsPermutation-map, IsPermutation-refl, IsPermutation-trans}
 use Rattle.std.proofs.lemmas.List.Elements.{All-contains, All-cons, All-nil}
@@ -15,14 +15,13 @@ use Rattle.ub_query.specs.Posed.{IsItemOver}
 use Rattle.ub_query.specs.declared.query.SortKey.{SortKey}
 use Rattle.ub_table.specs.declared.row.Row.{Row}
 use Rattle.ub_table.specs.declared.schema.Schema.{Schema}
-use Rattle.ub_tetris.specs.Held.{HeldRow, held_row, values_by}
-use Rattle.ub_tetris.specs.declared.place.Held.{Held}
+use Rattle.ub_tetris.specs.Held.{HeldRow, held_row}
 use Rattle.ub_tetris.specs.declared.ranked.Ranked.{Ranked}
-use Rattle.ub_tetris.specs.inner.Kept.{held_of, held_cmp, HoldsAlso, IsFirstAmong, IsFirstOf, TakesFirst}
+use Rattle.ub_tetris.specs.inner.Kept.{held_of, held_cmp, HoldsAlso, IsFirstAmong, IsFirstOf, TakesFirst, seen_row}
 
 -- one of those held
 abbrev pub as_held : Ranked → HeldRow
-as_held r = record { values = r.held.value.values.items; row = r.held.value.row }
+as_held r = seen_row r.held.value
 
 never_less : (r : Ordering) → is_lt r ≡ false → ¬ (r ≡ Less)
 never_less r no_less e = let told : is_lt r ≡ true = ap is_lt e in cc
@@ -45,12 +44,6 @@ none_held (x ∷ items) none = absurd (omega arith)
 
 pub first_taken : (items left : List Ranked) (x : Ranked) → IsPermutation items (x ∷ left) → IsUpperBound held_cmp x left → TakesFirst (held_of items) (held_of left) (Some x.held.value.row)
 first_taken items left x same top = (as_held x, IsPermutation-map as_held items (x ∷ left) same, refl, first_among x left top)
-
-pub held_is : (entry : Ranked) (h : Held) (schema : Schema) (keys : List SortKey) (row : Row) → entry.held.value ≡ h → h.values.items ≡ values_by schema keys row → h.row ≡ row
-    → as_held entry ≡ held_row schema keys row
-held_is entry h schema keys row same values is =
-    ap (λ (x : Held). record { values = x.values.items; row = x.row }) same
-    ∙ ap (λ (vs : List ℤ). record { values = vs; row = h.row }) values ∙ ap (λ (r : Row). record { values = values_by schema keys row; row = r }) is
 
 pub held_more : (entry : Ranked) (old new : List Ranked) (schema : Schema) (keys : List SortKey) (row : Row) → IsPermutation (entry ∷ old) new
     → as_held entry ≡ held_row schema keys row → IsPermutation (held_row schema keys row ∷ held_of old) (held_of new)

@@ -1,5 +1,6 @@
-ghost use Rattle.std.specs.Prelude.{◌≡◌, ◌<◌, ◌↔◌, All, Some, IfSome, IsTrue, length};
-ghost use Rattle.ub_planning.specs.declared.planned.Kind.TheVariants.{Sweep};
+ghost use Rattle.std.specs.Prelude.{◌≡◌, ◌↔◌, Some, IfSome, IsTrue};
+ghost use Rattle.ub_tetris.specs.Awaited.{HaveDimension};
+ghost use Rattle.ub_tetris.specs.inner.Events.{IsCourseOf};
 
 use ub_bigmin::ZBox;
 use ub_planning::{Kind, Plan};
@@ -21,11 +22,8 @@ pub const NOWHERE: Course = Course {
 
 /// The course of a plan that is a sweep, in a dimension that its boxes have. Any other plan has none.
 pub fn course_of(plan: &Plan) -> Option<Course>
-    ensures within { IfSome result (λ c. All (λ b. c.dim < length b.lo) plan.now.covering.boxes) }
-    ensures kind { IfSome result (λ c. plan.now.kind ≡ Sweep c.dim c.is_descending) }
-    ensures some { (dim : _) (is_descending : _) → plan.now.kind ≡ Sweep dim is_descending
-        → All (λ b. dim < length b.lo) plan.now.covering.boxes
-        → result ≡ Some (record { dim = dim; is_descending = is_descending }) }
+    ensures is { IfSome result (IsCourseOf plan.now) }
+    ensures some { (course : Course) → IsCourseOf plan.now course → result ≡ Some course }
 {
     match plan.kind() {
         Kind::Sweep { dim, is_descending } if have_dimension(plan.boxes(), dim) => {
@@ -37,7 +35,7 @@ pub fn course_of(plan: &Plan) -> Option<Course>
 
 /// Whether the boxes are of a space that has this dimension.
 pub fn have_dimension(boxes: &[ZBox], dim: usize) -> bool
-    ensures { IsTrue result ↔ All (λ b. dim < length b.lo) boxes.now }
+    ensures { IsTrue result ↔ HaveDimension dim boxes.now }
 {
     for zbox in boxes {
         if dim >= zbox.lo().values().len() {

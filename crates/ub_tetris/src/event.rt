@@ -1,5 +1,5 @@
-ghost use Rattle.std.specs.Prelude.{◌≡◌, ◌<◌, All, length};
-ghost use Rattle.ub_tetris.specs.Awaited.{IsFirstOn, IsFirstValue};
+ghost use Rattle.std.specs.Prelude.{◌≡◌};
+ghost use Rattle.ub_tetris.specs.Awaited.{HaveDimension, IsFirstOn, IsFirstValue};
 ghost use Rattle.ub_tetris.specs.inner.Events.{rank_of};
 ghost use Rattle.ub_bigmin.specs.Box.{IsValueInSpan};
 ghost use Rattle.ub_planning.specs.Visits as plan;
@@ -25,7 +25,7 @@ pub struct Awaited {
 impl Awaited {
     /// A stretch that meets the boxes, with its event value.
     pub fn new(boxes: &[ZBox], stretch: Stretch, course: Course) -> Awaited
-        requires within { All (λ b. course.dim < length b.lo) boxes.now }
+        requires within { HaveDimension course.dim boxes.now }
         requires meets { Meets boxes.now stretch.span }
         ensures value { IsFirstValue boxes.now course.dim course.is_descending stretch.span
             result.value }
@@ -52,7 +52,7 @@ impl Awaited {
 
 /// The first coordinate along the sweep among the points of the boxes in a region's span; `None` where it doesn't meet them.
 pub fn first_value(boxes: &[ZBox], region: &Region, course: Course) -> Option<u32>
-    requires { All (λ b. course.dim < length b.lo) boxes.now }
+    requires { HaveDimension course.dim boxes.now }
     ensures { IsFirstOn course.is_descending
         (IsValueInSpan boxes.now region.now.from region.now.to course.dim) result }
 {

@@ -1,7 +1,8 @@
 ghost use Rattle.std.specs.Prelude.{◌≡◌, length, OnOk};
 ghost use Rattle.std.specs.List.{All};
 ghost use Rattle.ub_query.specs.Posed.{IsItemOver};
-ghost use Rattle.ub_tetris.specs.Held.{item_value, turned, values_by};
+ghost use Rattle.ub_tetris.specs.Held.{held_row, item_value, turned};
+ghost use Rattle.ub_tetris.specs.inner.Kept.{seen_row};
 
 use smallvec::SmallVec;
 use std::alloc::{AllocError, Global};
@@ -34,9 +35,7 @@ impl Held {
     /// than two of them; where it is refused any values may stand here.
     pub fn fill(&mut self, schema: &Schema, keys: &[SortKey], row: &Row) -> Result<(), AllocError>
         requires { All (λ key. IsItemOver (length schema.now.columns) key.item) keys.now }
-        ensures values { OnOk result
-            (self.new.values.items ≡ values_by schema.now keys.now row.now) }
-        ensures row { OnOk result (self.new.row ≡ row.now) }
+        ensures { OnOk result (seen_row self.new ≡ held_row schema.now keys.now row.now) }
     {
         self.row = *row;
         self.values.clear();

@@ -1,14 +1,9 @@
-ghost use Rattle.std.specs.Prelude.{◌≡◌, ◌≤◌, [], List, length, OnOk};
-ghost use Rattle.ub_planning.specs.Plan.{PlanView};
-ghost use Rattle.ub_query.specs.Lead.{swept_order};
+ghost use Rattle.std.specs.Prelude.{◌≡◌, ◌≤◌, length};
 ghost use Rattle.ub_query.specs.Posed.{IsPosed};
-ghost use Rattle.ub_table.specs.declared.row.Row.{Row};
 ghost use Rattle.ub_tetris.specs.Calls.{GivesRow, GivesValue, HandsAll};
 ghost use Rattle.ub_tetris.specs.Effects.{of_reading};
-ghost use Rattle.ub_tetris.specs.Sweep.{HandsOver};
 ghost use Rattle.ub_tetris.specs.inner.Events.{seen};
-ghost use Rattle.ub_tetris.specs.inner.Kept.{HoldsAlso};
-ghost use Rattle.ub_tetris.specs.inner.Turns.{AsksNext, HasComeTo, HasRead, IsDueAs, TakesDue, begun_view, view_of};
+ghost use Rattle.ub_tetris.specs.inner.Turns.{HandsNext, HoldsNext, IsDueAs, OpensNext, ReadsNext, TakesDue, begun_view, view_of};
 
 use crate::awaiting::Awaiting;
 use crate::course::{Course, have_dimension};
@@ -134,13 +129,8 @@ impl State {
         next: &Awaited,
     ) -> Result<(), ReadFault>
         requires { IsPosed (length tree.old.schema.columns) plan.now.asked }
-        ensures next { AsksNext plan.now tree.old tree.new (view_of self.old) (view_of self.new)
+        ensures { HoldsNext plan.now tree.old tree.new (view_of self.old) (view_of self.new)
             (seen next.now) result }
-        ensures rows { OnOk result ((rows : List Row)
-            × HasComeTo plan.now tree.old tree.new (view_of self.old) (view_of self.new)
-            (seen next.now) rows
-            × HoldsAlso tree.old.schema (swept_order plan.now.asked.group plan.now.asked.order)
-            rows self.old.held self.new.held) }
     {
         if next.stretch.level > 0 {
             return self.open(tree, plan, next);
@@ -161,12 +151,8 @@ impl State {
         sink: &mut K,
     ) -> Result<(), ReadFault>
         requires { IsPosed (length tree.old.schema.columns) plan.now.asked }
-        ensures next { AsksNext plan.now tree.old tree.new (view_of self.old) (view_of self.new)
-            (seen next.now) result }
-        ensures held { self.new.held ≡ self.old.held }
-        ensures rows { OnOk result (HandsOver (K.HasTaken tree.old.schema plan.now.asked)
-            sink.old sink.new (HasComeTo plan.now tree.old tree.new (view_of self.old)
-            (view_of self.new) (seen next.now))) }
+        ensures { HandsNext (K.HasTaken tree.old.schema plan.now.asked) plan.now tree.old tree.new
+            (view_of self.old) (view_of self.new) (seen next.now) sink.old sink.new result }
     {
         if next.stretch.level > 0 {
             return self.open(tree, plan, next);
@@ -186,11 +172,8 @@ impl State {
         next: &Awaited,
     ) -> Result<(), ReadFault>
         requires { 1 ≤ next.now.stretch.level }
-        ensures next { AsksNext plan.now tree.old tree.new (view_of self.old) (view_of self.new)
+        ensures { OpensNext plan.now tree.old tree.new (view_of self.old) (view_of self.new)
             (seen next.now) result }
-        ensures held { self.new.held ≡ self.old.held }
-        ensures opened { OnOk result (HasComeTo plan.now tree.old tree.new (view_of self.old)
-            (view_of self.new) (seen next.now) []) }
     {
         let Course { dim, .. } = self.ahead.course();
         if !have_dimension(plan.boxes(), dim) {
@@ -203,12 +186,7 @@ impl State {
     // Reads a region.
     fn read<S: PageStore>(&mut self, tree: &mut Tree<S>, next: &Awaited) -> Result<(), ReadFault>
         requires { next.now.stretch.level ≡ 0 }
-        ensures next { (plan : PlanView) → AsksNext plan tree.old tree.new (view_of self.old)
-            (view_of self.new) (seen next.now) result }
-        ensures same { view_of self.new ≡ view_of self.old }
-        ensures dims { OnOk result (self.new.page.dims ≡ tree.old.schema.dims) }
-        ensures read { OnOk result (HasRead tree.old tree.new (seen next.now)
-            self.new.page.region) }
+        ensures { ReadsNext tree.old tree.new self.old self.new (seen next.now) result }
     {
         tree.read_region(&next.stretch.span, &mut self.page)?;
         Ok(())

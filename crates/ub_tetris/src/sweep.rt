@@ -1,4 +1,5 @@
-ghost use Rattle.std.specs.Prelude.{◌<◌, All, IfOk, length};
+ghost use Rattle.std.specs.Prelude.{IfOk};
+ghost use Rattle.ub_tetris.specs.Awaited.{HaveDimension};
 ghost use Rattle.ub_tetris.specs.inner.Events.{AwaitsWhole};
 
 use crate::awaiting::Awaiting;
@@ -161,7 +162,7 @@ fn await_whole(
     boxes: &[ZBox],
     course: Course,
 ) -> Result<Awaiting, AllocError>
-    requires { All (λ b. course.dim < length b.lo) boxes.now }
+    requires { HaveDimension course.dim boxes.now }
     ensures { IfOk result (AwaitsWhole boxes.now course whole) }
 {
     let mut ahead = Awaiting::new(alloc, course);

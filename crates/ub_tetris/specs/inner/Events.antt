@@ -7,6 +7,8 @@ use Rattle.std.specs.List.Sorted.{IsPermutation}
 use Rattle.std.specs.Ordering.{int_cmp, nat_cmp, ordering_then}
 use Rattle.std.specs.declared.cmp.Ordering.{Ordering}
 use Rattle.ub_bigmin.specs.Box.{Corners, IsValueInSpan}
+use Rattle.ub_planning.specs.Plan.{PlanView}
+use Rattle.ub_planning.specs.declared.planned.Kind.TheVariants.{Sweep}
 use Rattle.ub_tetris.specs.Awaited.{AreValued, AwaitedStretch, HaveDimension, IsAwaitedBefore, IsFirstOn, awaited_at, stretches_of}
 use Rattle.ub_tetris.specs.Held.{turned}
 use Rattle.ub_tetris.specs.declared.course.Course.{Course}
@@ -49,6 +51,10 @@ pub record Ahead : Type 0 where
 
 abbrev pub ahead_on : Course → List AwaitedStretch → Ahead
 ahead_on course stretches = record { dim = course.dim; is_descending = course.is_descending; stretches = stretches }
+
+-- the plan is a sweep on this course, in a dimension that its boxes have
+abbrev pub IsCourseOf : PlanView → Course → Type 0
+IsCourseOf plan course = (plan.kind ≡ Sweep course.dim course.is_descending) × HaveDimension course.dim plan.covering.boxes
 
 -- they are a heap, and all go in one direction
 pub record AreHeaped (course : Course) (items : List Awaited) : Type 0 where

@@ -11,12 +11,16 @@ use Rattle.ub_query.specs.declared.query.SortKey.{SortKey}
 use Rattle.ub_table.specs.declared.row.Row.{Row}
 use Rattle.ub_table.specs.declared.schema.Schema.{Schema}
 use Rattle.ub_tetris.specs.Held.{HeldRow, held_row}
+use Rattle.ub_tetris.specs.declared.place.Held.{Held}
 use Rattle.ub_tetris.specs.declared.ranked.Ranked.{Ranked}
 use Rattle.ub_tetris.specs.inner.Firsts.{first_of}
 
 -- what is held, without the room in memory
+abbrev pub seen_row : Held → HeldRow
+seen_row h = record { values = h.values.items; row = h.row }
+
 abbrev pub held_of : List Ranked → List HeldRow
-held_of items = map (λ r. record { values = r.held.value.values.items; row = r.held.value.row }) items
+held_of items = map (λ r. seen_row r.held.value) items
 
 -- the order of all values, and where these are equal, of row numbers
 abbrev pub tie_cmp : List ℤ → ℕ → List ℤ → ℕ → Ordering

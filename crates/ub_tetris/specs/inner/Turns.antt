@@ -1,20 +1,21 @@
 -- What the turns of a sweep do to it: the first of those awaited is opened or fetched, or the first row is taken.
-use Rattle.std.specs.Prelude.{◌≡◌, ◌≤◌, ◌<◌, ◌++◌, ◌∷◌, ◌⊎◌, ℕ, Bool, true, false, not, List, [], Option, Some, None, Result, slice_index}
+use Rattle.std.specs.Prelude.{◌≡◌, ◌≤◌, ◌<◌, ◌++◌, ◌∷◌, ◌⊎◌, ℕ, Bool, true, false, not, List, [], Option, Some, None, Result, OnOk, slice_index}
 use Rattle.std.specs.List.{filter, Contains}
 use Rattle.std.specs.List.Sorted.{IsPermutation}
 use Rattle.ub_filter.specs.Choice.{is_chosen}
 use Rattle.ub_filter.specs.declared.choice.Choice.{Choice}
 use Rattle.ub_planning.specs.Plan.{PlanView}
 use Rattle.ub_planning.specs.Visits.{is_past}
+use Rattle.ub_query.specs.Lead.{swept_order}
 use Rattle.ub_table.specs.Region.{RegionRows}
 use Rattle.ub_table.specs.declared.row.Row.{Row}
 use Rattle.ub_tetris.specs.Awaited.{AreValued, AwaitedStretch, HaveDimension, most_regions, stretches_of}
 use Rattle.ub_tetris.specs.Effects.{Sweeps, of_reading}
-use Rattle.ub_tetris.specs.Sweep.{SweepView}
+use Rattle.ub_tetris.specs.Sweep.{HandsOver, SweepView}
 use Rattle.ub_tetris.specs.declared.event.Awaited.{Awaited}
 use Rattle.ub_tetris.specs.declared.state.State.{State}
 use Rattle.ub_tetris.specs.inner.Events.{Ahead, IsFirstAwaited, seen}
-use Rattle.ub_tetris.specs.inner.Kept.{IsFirstOf}
+use Rattle.ub_tetris.specs.inner.Kept.{HoldsAlso, IsFirstOf}
 use Rattle.ub_tree.specs.Calls.{StandsAt}
 use Rattle.ub_tree.specs.Effects.{HasNoted, IsTakenIn}
 use Rattle.ub_tree.specs.Stretches.{ArePartsOf}
@@ -116,3 +117,30 @@ pub record HasComeTo (plan : PlanView) (t new : TreeView) (s new_s : SweepView) 
   pub view_is : new_s ≡ record s { held = new_s.held; awaited = new_s.awaited }
   pub how : (HasOpened plan t new s new_s next × (rows ≡ [])) ⊎ ((new_s.awaited ≡ s.awaited) × HasFetched plan t new next rows)
   pub fewer : most_regions new_s.awaited < most_regions (next ∷ s.awaited)
+
+-- ---- what a turn promises
+
+-- the parts of a stretch came in its place
+pub record OpensNext (plan : PlanView) (t new : TreeView) (s new_s : SweepView) (opened : AwaitedStretch) (result : Result (Unit {0}) ReadFault) : Type 0 where
+  pub next : AsksNext plan t new s new_s opened result
+  pub held : new_s.held ≡ s.held
+  pub came : OnOk result (HasComeTo plan t new s new_s opened [])
+
+-- a region was read to its page, by whatever plan
+pub record ReadsNext (t new : TreeView) (s new_s : State) (region : AwaitedStretch) (result : Result (Unit {0}) ReadFault) : Type 0 where
+  pub next : (plan : PlanView) → AsksNext plan t new (view_of s) (view_of new_s) region result
+  pub same : view_of new_s ≡ view_of s
+  pub dims : OnOk result (new_s.page.dims ≡ t.schema.dims)
+  pub read : OnOk result (HasRead t new region new_s.page.region)
+
+-- the rows that came are held beside those that were
+pub record HoldsNext (plan : PlanView) (t new : TreeView) (s new_s : SweepView) (come_to : AwaitedStretch) (result : Result (Unit {0}) ReadFault) : Type 0 where
+  pub next : AsksNext plan t new s new_s come_to result
+  pub rows : OnOk result ((rows : List Row) × HasComeTo plan t new s new_s come_to rows
+      × HoldsAlso t.schema (swept_order plan.asked.group plan.asked.order) rows s.held new_s.held)
+
+-- a sink took them, and those held are those that were
+pub record HandsNext {K : Type 0} (HasTaken : K → List Row → K → Type 0) (plan : PlanView) (t new : TreeView) (s new_s : SweepView) (come_to : AwaitedStretch) (sink new_sink : K) (result : Result (Unit {0}) ReadFault) : Type 0 where
+  pub next : AsksNext plan t new s new_s come_to result
+  pub held : new_s.held ≡ s.held
+  pub rows : OnOk result (HandsOver HasTaken sink new_sink (HasComeTo plan t new s new_s come_to))

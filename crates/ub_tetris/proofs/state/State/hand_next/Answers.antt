@@ -5,29 +5,30 @@ use Rattle.ub_table.specs.declared.schema.Schema.{Schema}
 use Rattle.ub_tetris.proofs.DueFacts.{region_come}
 use Rattle.ub_tetris.proofs.FetchFacts.{schema_read}
 use Rattle.ub_tetris.proofs.OpenFacts.{asks_by, asks_short}
+use Rattle.ub_tetris.proofs.TurnFacts.{refused_none}
 use Rattle.ub_tetris.specs.Sweep.{SweepView}
 use Rattle.ub_tetris.specs.inner.Events.{seen}
 use Rattle.ub_tetris.specs.inner.Turns.{view_of}
 use Rattle.ub_tetris.proofs.state.State.hand_next.Goals as goal
 
-pub returns-in_err-read-clause-next : goal.returns-in_err-read-clause-next
-returns-in_err-read-clause-next g c =
-    asks_by c.args.plan.now c.from_residual.result _ (view_of c.args.self.now) (view_of c.read.new.self) (view_of c.read.new.self) (seen c.args.next.now) c.args.tree.now c.read.new.tree c.from_residual.ensures.1
-    (c.in_err-read.ensures.next c.args.plan.now)
+pub returns-in_err-read : goal.returns-in_err-read
+returns-in_err-read g c = record {
+  next = asks_by c.args.plan.now c.from_residual.result _ (view_of c.args.self.now) (view_of c.read.new.self) (view_of c.read.new.self) (seen c.args.next.now) c.args.tree.now c.read.new.tree c.from_residual.ensures.1
+      (c.in_err-read.ensures.next c.args.plan.now);
+  held = ap (λ (v : SweepView). v.held) c.in_err-read.ensures.same;
+  rows = refused_none _ c.from_residual.result _ c.from_residual.ensures.1;
+}
 
-pub returns-in_err-push_chosen-clause-next : goal.returns-in_err-push_chosen-clause-next
-returns-in_err-push_chosen-clause-next g c =
-    asks_short c.args.plan.now c.from_residual-in_err-push_chosen.result (view_of c.args.self.now) (view_of c.read.new.self) (view_of c.read.new.self) (seen c.args.next.now)
-    c.args.tree.now c.read.new.tree c.from_residual-in_err-push_chosen.ensures.1 (refl, refl, refl) (c.in_ok-read.ensures.next c.args.plan.now)
+pub returns-in_err-push_chosen : goal.returns-in_err-push_chosen
+returns-in_err-push_chosen g c = record {
+  next = asks_short c.args.plan.now c.from_residual-in_err-push_chosen.result (view_of c.args.self.now) (view_of c.read.new.self) (view_of c.read.new.self) (seen c.args.next.now)
+      c.args.tree.now c.read.new.tree c.from_residual-in_err-push_chosen.ensures.1 (refl, refl, refl) (c.in_ok-read.ensures.next c.args.plan.now);
+  held = ap (λ (v : SweepView). v.held) c.in_ok-read.ensures.same;
+  rows = refused_none _ c.from_residual-in_err-push_chosen.result _ c.from_residual-in_err-push_chosen.ensures.1;
+}
 
-pub returns-clause-next : goal.returns-clause-next
-returns-clause-next g c = c.in_ok-read.ensures.next c.args.plan.now
-
-pub returns-clause-held : goal.returns-clause-held
-returns-clause-held g c = ap (λ (v : SweepView). v.held) c.in_ok-read.ensures.same
-
-pub returns-clause-rows : goal.returns-clause-rows
-returns-clause-rows g c =
+pub returns : goal.returns
+returns g c =
     let read = c.in_ok-read.ensures.read in
     let same = c.in_ok-read.ensures.same in
     let plan = c.args.plan.now in
@@ -35,11 +36,16 @@ returns-clause-rows g c =
     let t = c.args.tree.now in
     let region = c.read.new.self.page.region in
     let now = c.read.new.self in
-    let schema_is = schema_read t c.read.new.tree (seen c.args.next.now) region c.schema-2.result.now read c.schema-2.ensures in (
-      filter (is_chosen choice t.schema plan) region.rows,
-      λ before taken. subst (λ (s : Schema). g.K.RowSink.HasTaken s plan.asked before taken c.args.sink.now
-          → g.K.RowSink.HasTaken s plan.asked before (taken ++ filter (is_chosen choice s plan) region.rows) c.push_chosen.new.sink) schema_is (c.in_ok-push_chosen.ensures before taken),
-      region_come plan t c.read.new.tree (view_of c.args.self.now) (view_of now) (seen c.args.next.now) (filter (is_chosen choice t.schema plan) region.rows)
-          (ap (λ (v : SweepView). record v { held = now.held; awaited = now.ahead.stretches }) same) (ap (λ (v : SweepView). v.awaited) same)
-          (record { region = region; read = read; choice = choice; rows_are = refl }),
-    )
+    let schema_is = schema_read t c.read.new.tree (seen c.args.next.now) region c.schema-2.result.now read c.schema-2.ensures in
+    record {
+      next = c.in_ok-read.ensures.next plan;
+      held = ap (λ (v : SweepView). v.held) same;
+      rows = (
+        filter (is_chosen choice t.schema plan) region.rows,
+        λ before taken. subst (λ (s : Schema). g.K.RowSink.HasTaken s plan.asked before taken c.args.sink.now
+            → g.K.RowSink.HasTaken s plan.asked before (taken ++ filter (is_chosen choice s plan) region.rows) c.push_chosen.new.sink) schema_is (c.in_ok-push_chosen.ensures before taken),
+        region_come plan t c.read.new.tree (view_of c.args.self.now) (view_of now) (seen c.args.next.now) (filter (is_chosen choice t.schema plan) region.rows)
+            (ap (λ (v : SweepView). record v { held = now.held; awaited = now.ahead.stretches }) same) (ap (λ (v : SweepView). v.awaited) same)
+            (record { region = region; read = read; choice = choice; rows_are = refl }),
+      );
+    }
