@@ -119,7 +119,7 @@ pub(crate) fn texts_given<'a>(
         (λ texts. (first_of first.now (rows_of (found_of matches.now)) ≡ Some texts.0.now)
         × (first_of second.now (rows_of (found_of matches.now)) ≡ Some texts.1.now)) }
 {
-    Some((text_given(matches, first)?, text_given(matches, second)?))
+    text_given(matches, first).zip(text_given(matches, second))
 }
 
 // The number that was given for an option, or that its default says, within these bounds.
@@ -146,13 +146,20 @@ fn data_words<'a>(matches: &ArgMatches<'a>) -> Option<DataWords<'a>>
         (λ words. IsDataGiven (rows_of (found_of matches.now))
         words.path.now words.name.now words.dims words.page_rows words.signed) }
 {
-    Some(DataWords {
-        path: text_given(matches, "DATA")?,
-        name: text_given(matches, "name")?,
-        dims: number_given(matches, "dims", 1, 4)?,
-        page_rows: number_given(matches, "page-rows", 2, 64)?,
-        signed: number_given(matches, "signed", 0, 15)?,
-    })
+    let texts = texts_given(matches, "DATA", "name");
+    let dims = number_given(matches, "dims", 1, 4);
+    let page_rows = number_given(matches, "page-rows", 2, 64);
+    let signed = number_given(matches, "signed", 0, 15);
+    match texts.zip(dims.zip(page_rows)).zip(signed) {
+        Some((((path, name), (dims, page_rows)), signed)) => Some(DataWords {
+            path,
+            name,
+            dims,
+            page_rows,
+            signed,
+        }),
+        None => None,
+    }
 }
 
 // What was given for the command `try`.
@@ -163,10 +170,10 @@ pub(crate) fn try_words<'a>(matches: &ArgMatches<'a>) -> Option<TryWords<'a>>
         (λ words. IsTryGiven (rows_of (found_of matches.now)) words.source.path.now words.script.now
         words.source.name.now words.source.dims words.source.page_rows words.source.signed) }
 {
-    Some(TryWords {
-        source: data_words(matches)?,
-        script: text_given(matches, "SCRIPT")?,
-    })
+    match data_words(matches).zip(text_given(matches, "SCRIPT")) {
+        Some((source, script)) => Some(TryWords { source, script }),
+        None => None,
+    }
 }
 
 // What was given for the command `load`.
@@ -177,10 +184,10 @@ pub(crate) fn load_words<'a>(matches: &ArgMatches<'a>) -> Option<LoadWords<'a>>
         (λ words. IsLoadGiven (rows_of (found_of matches.now)) words.source.path.now words.table.now
         words.source.name.now words.source.dims words.source.page_rows words.source.signed) }
 {
-    Some(LoadWords {
-        source: data_words(matches)?,
-        table: text_given(matches, "TABLE")?,
-    })
+    match data_words(matches).zip(text_given(matches, "TABLE")) {
+        Some((source, table)) => Some(LoadWords { source, table }),
+        None => None,
+    }
 }
 
 // What was given for the command `next`.
@@ -190,9 +197,10 @@ pub(crate) fn next_words<'a>(matches: &ArgMatches<'a>) -> Option<NextWords<'a>>
         (λ words. IsNextGiven (rows_of (found_of matches.now))
         words.low.now words.high.now words.address.now) }
 {
-    let (low, high) = texts_given(matches, "LO", "HI")?;
-    let address = text_given(matches, "Z")?;
-    Some(NextWords { low, high, address })
+    match texts_given(matches, "LO", "HI").zip(text_given(matches, "Z")) {
+        Some(((low, high), address)) => Some(NextWords { low, high, address }),
+        None => None,
+    }
 }
 
 // The three words after `next`, where there are no others.

@@ -1,0 +1,15 @@
+use Rattle.std.proofs.Common.{◌∙◌, inl, inr, sym}
+use Rattle.ub_words.proofs.GivenFacts.{at_none, at_some, text_read, zipped}
+use Rattle.ub_words.proofs.given.next_words.Goals as goal
+
+pub returns-in-Some : goal.returns-in-Some
+returns-in-Some c =
+    let both = at_some _ _ _ _ c.in-Some.ensures (zipped _ _ _ _ _ _ c.texts_given.ensures (text_read (λ text. text.now) _ _ c.text_given.ensures)) in
+    record { lo_is = both.0.0; hi_is = both.0.1; z_is = both.1 }
+
+pub returns-in-None : goal.returns-in-None
+returns-in-None c = λ lo hi z given.
+    elim (at_none _ _ _ c.in-None.ensures (zipped _ _ _ _ _ _ c.texts_given.ensures (text_read (λ text. text.now) _ _ c.text_given.ensures))) [
+      | inl none ↦ none lo hi (given.lo_is, given.hi_is)
+      | inr none ↦ let bad = sym none ∙ given.z_is in cc
+    ]
