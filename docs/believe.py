@@ -227,8 +227,9 @@ def declared(kind, crate, names):
 
 
 def words_in(lines):
-    """The words of some lines, without those of texts in quotes."""
-    return re.findall(r"[^\s(){}\[\];,]+", re.sub('"[^"]*"', "", "\n".join(lines)))
+    """The words of some lines, without those of texts in quotes, and without the names of the fields that a value of a record is given."""
+    text = re.sub('"[^"]*"', "", "\n".join(lines))
+    return re.findall(r"[^\s(){}\[\];,]+", re.sub(r"([{;]\s*)\w+ = ", r"\1", text))
 
 
 def fields_of(definition):
