@@ -10,7 +10,7 @@ use Rattle.ub_lexer.specs.declared.token.TokenKind.TheVariants.{Word}
 use Rattle.ub_parser.specs.Outcome.{Command, command_of}
 use Rattle.ub_script.specs.Script.{IsChange, IsChangeWord, OnlyAsks}
 use Rattle.ub_syntax.specs.Grammar.{IsStatement, Lexeme, lexemes, symbol_of}
-use Rattle.ub_syntax.specs.Symbols.{keywords, symbol, symbol_among, word_symbol}
+use Rattle.ub_syntax.specs.Symbols.{keywords, symbol, symbol_among}
 use Rattle.ub_syntax.specs.Tree.{Stated, selects, inserts, deletes}
 use Rattle.ub_syntax.specs.declared.symbol.Symbol.{Symbol}
 use Rattle.ub_syntax.specs.declared.symbol.Symbol.TheVariants.{Delete, Insert, Name}
@@ -44,7 +44,7 @@ one_of true b h = inl refl
 one_of false true h = inr refl
 one_of false false h = cc
 
-change_word : (text : List ℕ) → changes (word_symbol text) ≡ true → IsTrue (is_word (codes "INSERT") text) ⊎ IsTrue (is_word (codes "DELETE") text)
+change_word : (text : List ℕ) → changes (symbol_among keywords text) ≡ true → IsTrue (is_word (codes "INSERT") text) ⊎ IsTrue (is_word (codes "DELETE") text)
 unfolding keywords
 change_word text is = one_of (is_word (codes "INSERT") text) (is_word (codes "DELETE") text) (among_kept changes keywords text refl is)
 

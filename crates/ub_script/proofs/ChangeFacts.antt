@@ -4,7 +4,7 @@ use Rattle.std.proofs.lemmas.Bool.{cases_Bool, true≢false}
 use Rattle.std.proofs.lemmas.List.{length-drop, length-map, length-take-le, take_all}
 use Rattle.std.proofs.lemmas.List.FromFn.{get_or-enumerate_from, length-enumerate_from}
 use Rattle.std.specs.List.{enumerate_from}
-use Rattle.std.specs.Option.{IsSome}
+use Rattle.std.specs.Option.{IsSome, unwrap_or}
 use Rattle.std.specs.Prelude.{IfErr, IfOk, OnOk}
 use Rattle.std.specs.Result.{IsErrAnd}
 use Rattle.ub_exec.proofs.Laws.{change_stand, sound_trees_stand}
@@ -20,7 +20,7 @@ use Rattle.ub_script.proofs.KeptFacts.{rest_of}
 use Rattle.ub_script.proofs.RowsFacts.{pages_on, ready_of}
 use Rattle.ub_script.proofs.StartFacts.{starts_of_all, starts_of_plan}
 use Rattle.ub_script.specs.Basis.{Basis, on_stand, over_any, IsBasisOf, IsCommandEnd, IsDeleteReply, IsInsertReply}
-use Rattle.ub_script.specs.Changes.{HasPutIn, HasTakenOut, PutsIn, coordinate_in, coordinates_of, row_of}
+use Rattle.ub_script.specs.Changes.{HasPutIn, HasTakenOut, PutsIn, coordinates_of, row_of}
 use Rattle.ub_script.specs.Faults.{IsRunLeft, Runs, fault_of_read, fault_of_tree}
 use Rattle.ub_script.specs.Formed.{IsSameBut}
 use Rattle.ub_script.specs.Loop.{Replies, Stops}
@@ -55,7 +55,7 @@ module _ {X A : Type 0} (f : ℕ × X → A) where
 
 -- those that stand for the first so many values
 abbrev pub coordinates_to : Schema → ℕ → List ℤ → List ℕ
-coordinates_to schema i values = map (λ v. coordinate_in (coordinate schema v.0 v.1)) (enumerate_from 0 (take i values))
+coordinates_to schema i values = map (λ v. unwrap_or (coordinate schema v.0 v.1) 0) (enumerate_from 0 (take i values))
 
 -- a value that is given fits its column
 pub fits_here : (schema : Schema) (values : List ℤ) (i : ℕ) → IsGiven schema (puts values) → i < length values → fits schema i (slice_index_or values i (pos 0)) ≡ true
@@ -69,7 +69,7 @@ some_here schema i v o lt fit is = rw (is ∙ (fitting_coordinate (axes_of schem
 
 pub length_coordinates : (schema : Schema) (values : List ℤ) (i : ℕ) (dims : List ℕ) → dims ≡ coordinates_to schema i values → i ≤ length values → length dims ≡ i
 length_coordinates schema values i dims are le =
-    ap (λ (ds : List ℕ). length ds) are ∙ length-map (enumerate_from 0 (take i values)) (λ v. coordinate_in (coordinate schema v.0 v.1))
+    ap (λ (ds : List ℕ). length ds) are ∙ length-map (enumerate_from 0 (take i values)) (λ v. unwrap_or (coordinate schema v.0 v.1) 0)
     ∙ length-enumerate_from 0 (take i values) ∙ length-take-le i values le
 
 -- ---- faults

@@ -1,10 +1,11 @@
 -- What an INSERT and a DELETE make of a table, and of any tree.
-use Rattle.std.specs.Prelude.{◌≡◌, ◌≤◌, ◌+◌, ℕ, ℤ, false, IsTrue, List, Option, Some, None, Result, Ok, Err, IfOk, OnOk, drop, length, map, take}
+use Rattle.std.specs.Prelude.{◌≡◌, ◌≤◌, ◌+◌, ℕ, ℤ, false, IsTrue, List, Result, Ok, Err, IfOk, OnOk, drop, length, map, take}
 use Rattle.std.specs.List.{enumerate_from}
+use Rattle.std.specs.Option.{unwrap_or}
 use Rattle.ub_exec.specs.Answers.{begun}
 use Rattle.ub_exec.specs.Deleting.{Deletes, ReadsFirst}
 use Rattle.ub_exec.specs.Stand.{Stand, selected_of, with_row, without_selected}
-use Rattle.ub_parser.specs.Outcome.{IsGiven, puts}
+use Rattle.ub_parser.specs.Outcome.{AreGiven}
 use Rattle.ub_planning.specs.Plan.{plan_of}
 use Rattle.ub_query.specs.Shape.{Asked}
 use Rattle.ub_script.specs.Formed.{IsSameBut}
@@ -24,14 +25,9 @@ use Rattle.ub_tree.specs.declared.read_fault.ReadFault.{ReadFault}
 
 -- ---- the row of an INSERT
 
--- the coordinate in an option, where there is one
-abbrev pub coordinate_in : Option ℕ → ℕ
-coordinate_in (Some n) = n
-coordinate_in None = 0
-
 -- the coordinates that stand for the values of the dimensions, which come first
 abbrev pub coordinates_of : Schema → List ℤ → List ℕ
-coordinates_of schema values = map (λ v. coordinate_in (coordinate schema v.0 v.1)) (enumerate_from 0 (take schema.dims values))
+coordinates_of schema values = map (λ v. unwrap_or (coordinate schema v.0 v.1) 0) (enumerate_from 0 (take schema.dims values))
 
 -- the row of this number that these values make, one for each column
 abbrev pub row_of : Schema → ℕ → List ℤ → Row
@@ -41,7 +37,7 @@ row_of schema number values = tree.row_of number (coordinates_of schema values) 
 
 -- the reply to an INSERT of values that the columns can hold, where a number is left: the row gets that number, and is put in
 pub record IsTableInsert (s : Stand) (values : List ℤ) (r : Reply) (now : Stand) : Type 0 where
-  pub given : IsGiven s.table.schema (puts values)
+  pub given : AreGiven s.table.schema values
   pub left : s.next ≤ MAX_ROW_NUMBER
   pub reply_is : r ≡ reply (inserted_text s.next) 0 false 1
   pub now_is : now ≡ with_row (row_of s.table.schema s.next values) s
@@ -74,7 +70,7 @@ pub record HasPutRow (seen : TreeView) (row : Row) (result : Result ℕ TreeFaul
 
 -- the row of these values was, with the number that was next
 pub record HasPutIn (seen : TreeView) (values : List ℤ) (result : Result ℕ TreeFault) (new : TreeView) : Type 0 where
-  pub given : IsGiven seen.schema (puts values)
+  pub given : AreGiven seen.schema values
   pub put : HasPutRow seen (row_of seen.schema seen.next values) result new
 
 -- the rows for which this asks were asked to be taken out of a tree, with this answer: what `delete` says of any tree. Each of those
