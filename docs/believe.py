@@ -95,7 +95,7 @@ SECTIONS = [
     (
         "Commands",
         "What the words of a command line ask for; what files hold; what is written of each fault; how a command ends.",
-        "ub_words ub_files ub_next ub_shell",
+        "ub_words ub_files ub_next ub_table_file ub_shell",
     ),
 ]
 

@@ -14,19 +14,16 @@ use Rattle.ub_load.specs.declared.fault.LoadFault.TheVariants as load
 use Rattle.ub_region.specs.Regions.{AreTableRows, numbered_from}
 use Rattle.ub_script.specs.Appending.{AreAppended}
 use Rattle.ub_script.specs.Output.{OutFacts}
-use Rattle.ub_shell.proofs.AppendFacts.{rows_for}
-use Rattle.ub_shell.proofs.KeptFacts.{store_not_done, tree_not_done}
+use Rattle.ub_table_file.proofs.Laws.{rows_for, store_not_done, tree_not_done, where_ok}
 use Rattle.ub_shell.proofs.Laws.{held_same, kept_pages, told_done}
-use Rattle.ub_shell.proofs.LeftFacts.{where_ok}
-use Rattle.ub_shell.specs.Appended.{TellsAppended}
-use Rattle.ub_shell.specs.Commands.{both_ended, IsKept}
-use Rattle.ub_shell.specs.Ending.{Tells}
+use Rattle.ub_table_file.specs.Appended.{TellsAppended}
+use Rattle.ub_table_file.specs.Commands.{both_ended, IsKept}
+use Rattle.ub_table_file.specs.Status.{Tells, load_fault_status, open_fault_status, tree_fault_status}
 use Rattle.ub_shell.specs.Laws.{AppendedTablesHaveTheRows, HasMore, IsHeldStand, NoRowsNoChange, RefusedDataLeavesTheTable, SaysRefused, StandsAs}
 use Rattle.ub_shell.specs.Short.{AreStanding}
-use Rattle.ub_shell.specs.Status.{load_fault_status, open_fault_status, tree_fault_status}
-use Rattle.ub_shell.specs.declared.status.Status.{Status}
-use Rattle.ub_shell.specs.declared.status.Status.TheVariants as ended
-use Rattle.ub_shell.specs.declared.status.Status.TheVariants.{Done}
+use Rattle.ub_table_file.specs.declared.status.Status.{Status}
+use Rattle.ub_table_file.specs.declared.status.Status.TheVariants as ended
+use Rattle.ub_table_file.specs.declared.status.Status.TheVariants.{Done}
 use Rattle.ub_store.specs.Facts.{StoreFacts}
 use Rattle.ub_store.specs.declared.fault.StoreFault.{StoreFault}
 use Rattle.ub_store.specs.declared.fault.StoreFault.TheVariants.{Device}

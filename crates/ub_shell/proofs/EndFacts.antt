@@ -12,11 +12,11 @@ use Rattle.ub_script.specs.Run.{IsBegun, IsBroken, IsDone}
 use Rattle.ub_script.specs.declared.fault.RunFault.TheVariants as run
 use Rattle.ub_script.specs.declared.script.Summary.{Summary}
 use Rattle.ub_store.specs.declared.fault.StoreFault.TheVariants.{BadSize}
-use Rattle.ub_shell.specs.Ending.{AreBrokenTexts, Ends, HasTried, IsTrialText, Tells, Trial}
-use Rattle.ub_shell.specs.Status.{load_fault_status, load_fault_text, summary_status, tree_fault_status, tree_fault_text}
-use Rattle.ub_shell.specs.declared.status.Status.{Status}
-use Rattle.ub_shell.specs.declared.status.Status.TheVariants.{Done, Refused, CommandLine, Data, Device}
-use Rattle.ub_shell.specs.declared.status.Status.TheVariants as ended
+use Rattle.ub_shell.specs.Ending.{AreBrokenTexts, Ends, HasTried, IsTrialText, Trial}
+use Rattle.ub_table_file.specs.Status.{Tells, load_fault_status, load_fault_text, summary_status, tree_fault_status, tree_fault_text}
+use Rattle.ub_table_file.specs.declared.status.Status.{Status}
+use Rattle.ub_table_file.specs.declared.status.Status.TheVariants.{Done, Refused, CommandLine, Data, Device}
+use Rattle.ub_table_file.specs.declared.status.Status.TheVariants as ended
 
 -- ---- writing
 

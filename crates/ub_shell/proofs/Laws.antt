@@ -16,23 +16,21 @@ use Rattle.ub_words.specs.CommandLine.{AsksHelp, AsksNothing, AsksQuery}
 use Rattle.ub_words.specs.Laws.{IsHelp}
 use Rattle.ub_words.specs.declared.words.Asked.{Asked}
 use Rattle.ub_words.specs.declared.words.Asked.TheVariants.{Help, Query, Wrong}
-use Rattle.ub_shell.specs.Commands.{IsKept, IsUnlent, IsUnopened, IsUnready, MakesTable, OpensFor, RunsFile, RunsScript, TellsMade, loaded_line}
-use Rattle.ub_shell.proofs.KeptFacts.{says_done, store_not_done, tree_not_done}
-use Rattle.ub_shell.proofs.LeftFacts.{full_stays, run_leaves, run_stays, where_ok}
-use Rattle.ub_shell.specs.Laws.{AreBothInput, AskingLeavesTheTable, AskingQueriesLeaveTheTable, AskingRunsLeaveTheTable, CheckedTablesAreRunAsSound, CheckedTablesAreSound, CheckingLeavesTheTable, CrashesLeaveATable, DescribingLeavesTheTable, FailedQueriesLoseNothing, FailedRunsLoseNothing, FailedScriptsLoseNothing, FullTablesAreLeft, IsClosedTable, IsHeldStill, IsHeldTable, IsOldIfTold, IsOldTable, IsRunOfTable, IsScriptOfTable, IsSoundTable, KeptQueriesLast, KeptRunsLast, KeptScriptsLast, LoadsLoseNoTable, OldTablesAreNotLost, OnlyHelpIsWritten, OnlyQueriesNote, OnlySoundTablesAreUpgraded, SaysKept, SoundTablesPass, TellsBadJournal, TellsPassing, UnchangedTablesAreLeft, UpgradedTablesAreTheSame, UpgradesLoseNoTable, UpgradingLeavesTheOldTable, WhatWasDoneStands, WrongWordsAreTold, row_count}
-use Rattle.ub_shell.proofs.AppendFacts.{appended_sound}
-use Rattle.ub_shell.specs.Appended.{HoldsAppended}
-use Rattle.ub_shell.specs.Asking.{ChecksFile, IsAnswered}
-use Rattle.ub_shell.specs.Crashes.{HoldsAsked, HoldsRun}
-use Rattle.ub_shell.specs.Ending.{Tells}
+use Rattle.ub_table_file.specs.Commands.{IsKept, IsUnlent, IsUnopened, IsUnready, MakesTable, OpensFor, RunsFile, RunsScript, TellsMade, loaded_line}
+use Rattle.ub_table_file.proofs.Laws.{appended_sound, says_done, store_not_done, tree_not_done, where_ok}
+use Rattle.ub_shell.proofs.LeftFacts.{full_stays, run_leaves, run_stays}
+use Rattle.ub_shell.specs.Laws.{AreBothInput, AskingLeavesTheTable, AskingQueriesLeaveTheTable, AskingRunsLeaveTheTable, CheckedTablesAreRunAsSound, CheckedTablesAreSound, CheckingLeavesTheTable, CrashesLeaveATable, DescribingLeavesTheTable, FailedQueriesLoseNothing, FailedRunsLoseNothing, FailedScriptsLoseNothing, FullTablesAreLeft, IsClosedTable, IsHeldStill, IsHeldTable, IsOldIfTold, IsOldTable, IsRunOfTable, IsScriptOfTable, IsSoundTable, KeptQueriesLast, KeptRunsLast, KeptScriptsLast, LoadsLoseNoTable, OldTablesAreNotLost, OnlyHelpIsWritten, OnlyQueriesNote, OnlySoundTablesAreUpgraded, SoundTablesPass, TellsBadJournal, TellsPassing, UnchangedTablesAreLeft, UpgradedTablesAreTheSame, UpgradesLoseNoTable, UpgradingLeavesTheOldTable, WhatWasDoneStands, WrongWordsAreTold, row_count}
+use Rattle.ub_table_file.specs.Crashes.{SaysKept, HoldsAsked, HoldsRun}
+use Rattle.ub_table_file.specs.Appended.{HoldsAppended}
+use Rattle.ub_table_file.specs.Asking.{ChecksFile, IsAnswered}
+use Rattle.ub_table_file.specs.Status.{Tells, open_fault_status, open_fault_text, store_fault_status, store_fault_text, tree_fault_status, tree_fault_text}
 use Rattle.ub_shell.proofs.UpgradeFacts.{some_page}
-use Rattle.ub_shell.specs.Status.{open_fault_status, open_fault_text, store_fault_status, store_fault_text, tree_fault_status, tree_fault_text}
-use Rattle.ub_shell.specs.Queried.{IsShown}
+use Rattle.ub_table_file.specs.Queried.{IsShown}
 use Rattle.ub_shell.specs.Ran.{Does, HasHelped, HasRefused}
 use Rattle.ub_shell.specs.Upgrading.{IsFileAnew}
-use Rattle.ub_shell.specs.declared.status.Status.{Status}
-use Rattle.ub_shell.specs.declared.status.Status.TheVariants as ended
-use Rattle.ub_shell.specs.declared.status.Status.TheVariants.{Done}
+use Rattle.ub_table_file.specs.declared.status.Status.{Status}
+use Rattle.ub_table_file.specs.declared.status.Status.TheVariants as ended
+use Rattle.ub_table_file.specs.declared.status.Status.TheVariants.{Done}
 use Rattle.ub_exec.proofs.Laws.{sound_trees_stand}
 use Rattle.ub_script.specs.Output.{OutFacts, out_facts}
 use Rattle.ub_script.specs.Script.{OnlyAsks}

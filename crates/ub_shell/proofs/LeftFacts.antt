@@ -1,7 +1,7 @@
 -- What a script that was run on a tree leaves of its table, and of its store.
 use Rattle.std.proofs.Common.{◌≡◌, ◌⊎◌, ◌∙◌, ℕ, List, [], ◌∷◌, ◌++◌, Result, Ok, Err, inl, inr, length, take, slice_range, ap, false, true, refl, subst, sym}
 use Rattle.std.proofs.lemmas.Bool.{false≢true}
-use Rattle.std.specs.Prelude.{IfErr, IsOk, OnOk}
+use Rattle.std.specs.Prelude.{IfErr, IsOk}
 use Rattle.ub_exec.specs.Stand.{Stand, IsStandOf}
 use Rattle.ub_lexer.specs.declared.token.Token.{Token}
 use Rattle.ub_parser.specs.Outcome.{Command, asks, puts, takes}
@@ -20,7 +20,7 @@ use Rattle.ub_tree.specs.Opened.{IsOpened}
 use Rattle.ub_tree.specs.View.{TreeView}
 use Rattle.ub_tree.specs.declared.fault.TreeFault.{TreeFault}
 use Rattle.ub_tree.specs.declared.fault.TreeFault.TheVariants.{Full}
-use Rattle.ub_shell.specs.Commands.{Closes}
+use Rattle.ub_table_file.specs.Commands.{Closes}
 use Rattle.ub_shell.specs.Laws.{HasLeft, HasStopped}
 
 -- ---- a table stands somewhere
@@ -103,11 +103,6 @@ run_leaves t now script (Err (run.Load fault)) out out_now s h is working =
     stopped_left now script s out out_now _ _ t (run.Load fault) is working (h.stopped (on_stand s) is (λ same. cc))
 run_leaves t now script (Err (run.Tree fault)) out out_now s h is working =
     stopped_left now script s out out_now _ _ t (run.Tree fault) is working (h.stopped (on_stand s) is (λ same. cc))
-
--- what is so where a call was done that was
-pub where_ok : {A E X : Type 0} (r : Result A E) → IsOk r → OnOk r X → X
-where_ok (Ok a) done h = h
-where_ok (Err e) done h = absurd (false≢true done)
 
 -- ---- a store that stays
 

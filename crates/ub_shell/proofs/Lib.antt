@@ -1,17 +1,9 @@
 pub mod EndFacts
 pub mod FileFacts
-pub mod GoesFacts
-pub mod PartingFacts
 pub mod CrashFacts
-pub mod KeptFacts
 pub mod LastFacts
-pub mod AppendFacts
-pub mod OpenFacts
 pub mod LeftFacts
 pub mod UpgradeFacts
-pub mod DescribeFacts
-pub mod CheckFacts
-pub mod AskFacts
 pub mod Laws
 pub mod AppendLaws
 pub mod ShortFacts

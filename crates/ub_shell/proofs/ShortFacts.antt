@@ -24,15 +24,15 @@ use Rattle.ub_script.specs.declared.script.Summary.{Summary}
 use Rattle.ub_shell.proofs.AppendLaws.{opened_stand}
 use Rattle.ub_shell.proofs.EndFacts.{told_after, told_since}
 use Rattle.ub_shell.proofs.Laws.{held_same, kept_either, kept_pages, left_by_opening, left_by_reading, what_was_done_stands}
-use Rattle.ub_shell.proofs.LeftFacts.{after_answers, run_leaves, where_ok}
-use Rattle.ub_shell.specs.Commands.{Closes, IsAskedOf, IsKept, IsKeptRun, IsRunOf, IsUnlent, IsUnopened, IsUnread, IsUnready, IsUntold, IsWeighed, OpensFor, RunsFile, RunsScript, TellsClosed, TellsRan, both_ended, status_after}
-use Rattle.ub_shell.specs.Ending.{Tells}
+use Rattle.ub_shell.proofs.LeftFacts.{after_answers, run_leaves}
+use Rattle.ub_table_file.proofs.Laws.{where_ok}
+use Rattle.ub_table_file.specs.Commands.{Closes, IsAskedOf, IsKept, IsKeptRun, IsRunOf, IsUnlent, IsUnopened, IsUnread, IsUnready, IsUntold, IsWeighed, OpensFor, RunsFile, RunsScript, TellsClosed, TellsRan, both_ended, status_after}
+use Rattle.ub_table_file.specs.Status.{Tells, open_fault_status, open_fault_text, status_code, store_fault_status, store_fault_text, summary_status, tree_fault_status, tree_fault_text}
 use Rattle.ub_shell.specs.Laws.{AreBothInput, HasStopped}
 use Rattle.ub_shell.specs.Ran.{Does, HasEnded, HasNoMemory}
 use Rattle.ub_shell.specs.Short.{AreFirstTexts, AreStanding, EndsRight, HasFailed, HasReadScript, IsLeftAt, IsPlaceLine, KeepsShortPromise, Lends, RunsRight, WritesSome, fault_lines}
-use Rattle.ub_shell.specs.Status.{open_fault_status, open_fault_text, status_code, store_fault_status, store_fault_text, summary_status, tree_fault_status, tree_fault_text}
-use Rattle.ub_shell.specs.declared.status.Status.{Status}
-use Rattle.ub_shell.specs.declared.status.Status.TheVariants.{Done, Refused, Data, Device, Memory}
+use Rattle.ub_table_file.specs.declared.status.Status.{Status}
+use Rattle.ub_table_file.specs.declared.status.Status.TheVariants.{Done, Refused, Data, Device, Memory}
 use Rattle.ub_store.specs.Facts.{StoreFacts, page_count, raised}
 use Rattle.ub_store.specs.declared.fault.StoreFault.{StoreFault}
 use Rattle.ub_store.specs.declared.fault.StoreFault.TheVariants as store

@@ -8,17 +8,16 @@ use Rattle.ub_load.specs.LoadedTree.{IsLoadedTree}
 use Rattle.ub_script.specs.Output.{OutFacts}
 use Rattle.ub_script.specs.Run.{loaded_stand}
 use Rattle.ub_shell.proofs.AppendLaws.{load_not_done, told_either}
-use Rattle.ub_shell.proofs.KeptFacts.{store_not_done, tree_not_done}
+use Rattle.ub_table_file.proofs.Laws.{store_not_done, tree_not_done}
 use Rattle.ub_shell.proofs.Laws.{made_pages, passing_told, store_passing_told, told_done}
 use Rattle.ub_shell.proofs.ShortFacts.{lends_by, lends_stored, lent_by, standing_of, torn_lends}
-use Rattle.ub_shell.specs.Commands.{IsFileOf, KeepsText}
-use Rattle.ub_shell.specs.Ending.{Tells}
+use Rattle.ub_shell.specs.Loaded.{IsFileOf, KeepsText}
+use Rattle.ub_table_file.specs.Status.{Tells, store_fault_status, store_fault_text, tree_fault_status, tree_fault_text}
 use Rattle.ub_shell.specs.Laws.{CheckedTablesStand, LoadedTablesStand, TellsPassing}
 use Rattle.ub_shell.specs.Short.{IsLeftAt}
-use Rattle.ub_shell.specs.Status.{store_fault_status, store_fault_text, tree_fault_status, tree_fault_text}
-use Rattle.ub_shell.specs.declared.status.Status.{Status}
-use Rattle.ub_shell.specs.declared.status.Status.TheVariants.{Done}
-use Rattle.ub_shell.specs.declared.status.Status.TheVariants as ended
+use Rattle.ub_table_file.specs.declared.status.Status.{Status}
+use Rattle.ub_table_file.specs.declared.status.Status.TheVariants.{Done}
+use Rattle.ub_table_file.specs.declared.status.Status.TheVariants as ended
 use Rattle.ub_store.specs.Facts.{StoreFacts, IsHonest}
 use Rattle.ub_table.specs.Table.{Table}
 use Rattle.ub_table.specs.declared.axes.Axes.{Axes}

@@ -1,49 +1,17 @@
 -- What a crash leaves of files at any moment of a command: each path is found as before, or it is the table that the command names, and holds
 -- what a whole run of the command leaves there.
-use Rattle.std.specs.Prelude.{◌≡◌, ◌≢◌, ◌⊎◌, ℕ, List, [], Some, IsOk}
+use Rattle.std.specs.Prelude.{◌≡◌, ◌≢◌, ◌⊎◌, ℕ, List}
 use Rattle.ub_files.specs.Clock.{Endures, Folder, FolderClock, IsSameBut}
 use Rattle.ub_files.specs.Files.{FilesFacts, HasPages, Held, IsEmpty, IsLent, IsPart, IsText, standard_input}
-use Rattle.ub_script.specs.Output.{OutFacts, out_facts}
-use Rattle.ub_script.specs.Script.{HasChangeWord}
-use Rattle.ub_shell.specs.Appended.{HoldsAppended}
-use Rattle.ub_shell.specs.Commands.{HasRead, IsRunOn, IsTable}
-use Rattle.ub_shell.specs.Queried.{IsShown}
+use Rattle.ub_script.specs.Output.{OutFacts}
+use Rattle.ub_table_file.specs.Appended.{HoldsAppended}
+use Rattle.ub_shell.specs.Loaded.{IsTable}
 use Rattle.ub_shell.specs.Upgrading.{IsTableAnew}
-use Rattle.ub_shell.specs.declared.status.Status.{Status}
-use Rattle.ub_shell.specs.declared.status.Status.TheVariants.{Done, Refused}
+use Rattle.ub_table_file.specs.declared.status.Status.{Status}
 use Rattle.ub_store.specs.Facts.{StoreFacts}
 use Rattle.ub_table.specs.declared.axes.Axes.{Axes}
 use Rattle.ub_words.specs.CommandLine.{AsksAppend, AsksLoad, AsksQuery, AsksRun, AsksUpgrade}
-
--- where it is told, this is the pages that were left of the store of a table file by a run of the script that the other path holds, once that
--- was closed
-pub record HoldsRun (table script : List ℕ) (old : FilesFacts) (out out_now : OutFacts) (status : Status) (held : Held) : Type 0 where
-  pub asked : List ℕ
-  pub mid : FilesFacts
-  pub store : StoreFacts
-  pub left : StoreFacts
-  pub read : HasRead script asked old mid
-  pub lent : IsLent mid table store
-  pub run : IsRunOn store asked left out out_now status
-  pub closed : IsOk run.ran.closing
-  pub holds : HasPages held left.pages
-
--- the same of a run on a store that was lent
-abbrev pub HoldsLeft : StoreFacts → List ℕ → OutFacts → OutFacts → Status → Held → Type 0
-HoldsLeft store script out out_now status held =
-    (left : StoreFacts) × (run : IsRunOn store script left out out_now status) × IsOk run.ran.closing × HasPages held left.pages
-
--- and of a run on the table file
-abbrev pub HoldsAsked : List ℕ → List ℕ → FilesFacts → OutFacts → OutFacts → Status → Held → Type 0
-HoldsAsked table script old out out_now status held = (store : StoreFacts) × IsLent old table store × HoldsLeft store script out out_now status held
-
--- and of a run of statements into memory, whose text was shown
-pub record HoldsQueried (table statements : List ℕ) (old : FilesFacts) (out out_now notes notes_now : OutFacts) (status : Status) (held : Held) : Type 0 where
-  pub text : List ℕ
-  pub failed : ℕ
-  pub ended : Status
-  pub asked : HoldsAsked table statements old (out_facts (Some []) 0) (out_facts (Some text) failed) ended held
-  pub shown : IsShown text failed ended out out_now notes notes_now status
+use Rattle.ub_table_file.specs.Crashes.{HoldsRun, HoldsQueried}
 
 -- where it is told, this is these pages; or, where the path had no page, a part of them, which is no table
 abbrev pub MayStand : List ℕ → FilesFacts → Held → List (List ℕ) → Type 0
@@ -70,16 +38,7 @@ pub record HasUpgraded (source : List ℕ) (old : FilesFacts) (Is : List (List �
   pub lent : IsLent old source from
   pub table : HasAnew from Is
 
--- what a crash leaves while a script is run on a table file
-abbrev pub RunsSafely : List ℕ → List ℕ → FilesFacts → OutFacts → OutFacts → Status → Folder → Folder → Type 0
-RunsSafely table script old out out_now status = IsSameBut table (HoldsRun table script old out out_now status)
-
--- while statements are run on a table file
-abbrev pub QueriesSafely : List ℕ → List ℕ → FilesFacts → OutFacts → OutFacts → OutFacts → OutFacts → Status → Folder → Folder → Type 0
-QueriesSafely table statements old out out_now notes notes_now status =
-    IsSameBut table (HoldsQueried table statements old out out_now notes notes_now status)
-
--- while a CSV file is loaded into a table file
+-- what a crash leaves while a CSV file is loaded into a table file
 abbrev pub LoadsSafely : List ℕ → List ℕ → List ℕ → Axes → ℕ → FilesFacts → Folder → Folder → Type 0
 LoadsSafely source table name axes page_rows old = IsSameBut table (λ held. HasLoaded source name axes page_rows old (MayStand table old held))
 
@@ -104,18 +63,6 @@ IsBeforeOrAfter words old out out_now notes notes_now status d c =
 
 -- ---- after a command
 
--- the status says that all was done: each statement was answered or refused, or the table was made
-abbrev pub SaysAllDone : Status → Type 0
-SaysAllDone status = (status ≡ Done) ⊎ (status ≡ Refused)
-
--- the script that a path holds was read, and where it may change the table file, each crash from now on leaves there what was left of the
--- table's store by a run of it
-pub record RunLasts (table script : List ℕ) (old : FilesFacts) (out out_now : OutFacts) (status : Status) (now : FolderClock) : Type 0 where
-  pub asked : List ℕ
-  pub mid : FilesFacts
-  pub read : HasRead script asked old mid
-  pub lasts : HasChangeWord asked → Endures table (HoldsAsked table asked mid out out_now status) mid now
-
 -- each crash from now on leaves in the table file the pages of the table of the text that a path holds
 abbrev pub LoadLasts : List ℕ → List ℕ → List ℕ → Axes → ℕ → FilesFacts → FolderClock → Type 0
 LoadLasts source table name axes page_rows old now = Endures table (λ held. HasLoaded source name axes page_rows old (HasPages held)) old now
@@ -123,8 +70,3 @@ LoadLasts source table name axes page_rows old now = Endures table (λ held. Has
 -- the pages of the table of the store that a path holds, made anew
 abbrev pub UpgradeLasts : List ℕ → List ℕ → FilesFacts → FolderClock → Type 0
 UpgradeLasts source table old now = Endures table (λ held. HasUpgraded source old (HasPages held)) old now
-
--- each crash from now on leaves in the table file, where the statements may change it, what was left of the table's store by a run of them
-abbrev pub QueryLasts : List ℕ → List ℕ → FilesFacts → OutFacts → OutFacts → OutFacts → OutFacts → Status → FolderClock → Type 0
-QueryLasts table statements old out out_now notes notes_now status now =
-    HasChangeWord statements → Endures table (HoldsQueried table statements old out out_now notes notes_now status) old now

@@ -1,10 +1,10 @@
 -- How a command ends, and what it has written then: all that it was to write, or a front of it where a write failed.
-use Rattle.std.specs.Prelude.{◌≡◌, ◌≢◌, ◌⊎◌, ℕ, true, false, List, [], ◌++◌, Some, codes}
+use Rattle.std.specs.Prelude.{◌≡◌, ◌≢◌, ◌⊎◌, ℕ, true, false, List, [], ◌++◌, Some, codes, Result, Ok, Err}
 use Rattle.ub_load.specs.LoadedTable.{records_of}
 use Rattle.ub_load.specs.Refusals.{first_refusal}
 use Rattle.ub_load.specs.declared.fault.LoadFault.{LoadFault}
 use Rattle.ub_load.specs.declared.fault.LoadFault.TheVariants.{Csv}
-use Rattle.ub_script.specs.Output.{OutFacts, Breaks, IsFrontOf, Puts, Takes}
+use Rattle.ub_script.specs.Output.{OutFacts, IsFrontOf, Takes}
 use Rattle.ub_script.specs.Run.{IsBegun, IsBroken, IsDone}
 use Rattle.ub_script.specs.declared.fault.RunFault.{RunFault}
 use Rattle.ub_script.specs.declared.fault.RunFault.TheVariants as run
@@ -13,18 +13,17 @@ use Rattle.ub_store.specs.declared.fault.StoreFault.TheVariants.{BadSize}
 use Rattle.ub_table.specs.declared.axes.Axes.{Axes}
 use Rattle.ub_tree.specs.declared.fault.TreeFault.{TreeFault}
 use Rattle.ub_tree.specs.declared.fault.TreeFault.TheVariants.{Full, Store}
-use Rattle.ub_shell.specs.Status.{load_fault_text, summary_status, tree_fault_text}
+use Rattle.ub_table_file.specs.Status.{load_fault_text, summary_status, tree_fault_text}
 use Rattle.ub_shell.specs.declared.program.WordsFault.{WordsFault}
 use Rattle.ub_shell.specs.declared.program.WordsFault.TheVariants.{NotText}
 use Rattle.ub_shell.specs.declared.program.WordsFault.TheVariants as words
-use Rattle.ub_shell.specs.declared.status.Status.{Status}
-use Rattle.ub_shell.specs.declared.status.Status.TheVariants.{Done, Refused, CommandLine, Data, Device, Memory}
+use Rattle.ub_table_file.specs.declared.status.Status.{Status}
+use Rattle.ub_table_file.specs.declared.status.Status.TheVariants.{Done, Refused, CommandLine, Data, Device, Memory}
+use Rattle.ub_next.specs.declared.next.Neighbours.{Neighbours}
+use Rattle.ub_next.specs.declared.next.NextFault.{NextFault}
+use Rattle.ub_next.specs.declared.next.NextFault.TheVariants as next
 
--- ---- writing
-
--- the bytes were written and the status is the one wanted; or a write failed, and a front of them was written
-abbrev pub Tells : OutFacts → OutFacts → List ℕ → Status → Status → Type 0
-Tells old new bytes wanted status = ((status ≡ wanted) × Puts bytes old new) ⊎ ((status ≡ Device) × Breaks bytes old new)
+-- ---- bytes that are whole, or broken off
 
 -- a front of bytes that are whole with some status
 abbrev pub IsCut : (List ℕ → Status → Type 0) → List ℕ → Type 0
@@ -99,6 +98,8 @@ IsTrialText t bytes Memory = IsMemoryText t bytes
 abbrev pub HasTried : Trial → OutFacts → OutFacts → Status → Type 0
 HasTried t old new status = Ends (IsTrialText t) (AreBrokenTexts t) old new status
 
+-- ---- words that are not read, and neighbours
+
 -- what is told where the words were not read, and how the program ends
 abbrev pub words_fault_text : WordsFault → List ℕ
 words_fault_text NotText = codes "error: the words of the command line are not all text in UTF-8\n"
@@ -107,3 +108,9 @@ words_fault_text words.Memory = codes "! Memory\n"
 abbrev pub words_fault_status : WordsFault → Status
 words_fault_status NotText = CommandLine
 words_fault_status words.Memory = Memory
+
+-- how the program ends that was asked for the neighbours of an address
+abbrev pub answer_status : Result Neighbours NextFault → Status
+answer_status (Ok n) = Done
+answer_status (Err next.Memory) = Memory
+answer_status (Err fault) = CommandLine

@@ -27,18 +27,20 @@ use Rattle.ub_tree.specs.View.{IsSound}
 use Rattle.ub_tree.specs.declared.fault.TreeFault.TheVariants.{Full}
 use Rattle.ub_files.specs.Clock.{Folder}
 use Rattle.ub_files.specs.Files.{FilesFacts, HasPages, Held, IsEmpty, IsLent, IsText, pages, standard_input, untold}
-use Rattle.ub_shell.specs.Commands.{HasRead, IsKept, IsKeptRun, IsRunOn, IsWeighed, LoadsFile, OpensFor, RunsFile, RunsScript, loaded_line}
-use Rattle.ub_shell.specs.Appended.{AppendsFile}
-use Rattle.ub_shell.specs.Asking.{ChecksFile, DescribesFile}
-use Rattle.ub_shell.specs.Crashes.{HasLoaded, HasUpgraded, HoldsQueried, HoldsRun, IsBeforeOrAfter}
-use Rattle.ub_shell.specs.Ending.{Tells}
-use Rattle.ub_shell.specs.Queried.{IsShown, QueriesFile}
+use Rattle.ub_table_file.specs.Commands.{HasRead, IsKept, IsKeptRun, IsRunOn, IsWeighed, OpensFor, RunsFile, RunsScript, loaded_line}
+use Rattle.ub_shell.specs.Loaded.{LoadsFile}
+use Rattle.ub_table_file.specs.Appended.{AppendsFile}
+use Rattle.ub_table_file.specs.Asking.{ChecksFile, DescribesFile}
+use Rattle.ub_shell.specs.Crashes.{HasLoaded, HasUpgraded, IsBeforeOrAfter}
+use Rattle.ub_table_file.specs.Crashes.{HoldsQueried, HoldsRun, SaysKept}
+use Rattle.ub_table_file.specs.Status.{Tells}
+use Rattle.ub_table_file.specs.Queried.{IsShown, QueriesFile}
 use Rattle.ub_shell.specs.Ran.{HasEnded, HasHelped, HasNoMemory, HasRefused}
 use Rattle.ub_shell.specs.Short.{AreStanding, IsLeftAt, Lends}
 use Rattle.ub_shell.specs.Upgrading.{UpgradesFile}
-use Rattle.ub_shell.specs.declared.status.Status.{Status}
-use Rattle.ub_shell.specs.declared.status.Status.TheVariants as ended
-use Rattle.ub_shell.specs.declared.status.Status.TheVariants.{Done}
+use Rattle.ub_table_file.specs.declared.status.Status.{Status}
+use Rattle.ub_table_file.specs.declared.status.Status.TheVariants as ended
+use Rattle.ub_table_file.specs.declared.status.Status.TheVariants.{Done}
 
 -- where the words ask for the help alone, only the help is written; or memory was refused
 abbrev pub OnlyHelpIsWritten : Type 0
@@ -282,12 +284,6 @@ FailedQueriesLoseNothing =
 
 abbrev pub FailedRunsLoseNothing : Type 0
 FailedRunsLoseNothing = FailedScriptsLoseNothing × FailedQueriesLoseNothing
-
--- the status with which a run of this result ended says that what it did is kept: all was done, or a statement was refused; or a fault ended
--- a statement, and the status isn't that of a file that failed
-abbrev pub SaysKept : Result Summary RunFault → Status → Type 0
-SaysKept (Ok summary) status = (status ≡ Done) ⊎ (status ≡ ended.Refused)
-SaysKept (Err fault) status = status ≢ ended.Device
 
 -- where a script was run that may change the table, and the status says that what it did is kept, the closing was done, the table file holds
 -- the pages that it left, and each crash leaves them there

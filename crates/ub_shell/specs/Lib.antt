@@ -1,15 +1,7 @@
-pub mod inner
-pub mod Status
 pub mod Ending
-pub mod Commands
-pub mod Opening
-pub mod Queried
+pub mod Loaded
 pub mod Upgrading
-pub mod Appended
 pub mod Crashes
-pub mod Described
-pub mod Checked
-pub mod Asking
 pub mod Ran
 pub mod Short
 pub mod Program

@@ -3,13 +3,14 @@ use Rattle.std.specs.Prelude.{◌≡◌, ℕ, List}
 use Rattle.ub_files.specs.Clock.{FolderClock, IsSameFolder, Runs}
 use Rattle.ub_files.specs.Files.{FilesFacts}
 use Rattle.ub_script.specs.Output.{OutFacts}
-use Rattle.ub_shell.specs.Appended.{AppendLasts}
-use Rattle.ub_shell.specs.Commands.{axes_asked}
-use Rattle.ub_shell.specs.Crashes.{IsBeforeOrAfter, LoadLasts, QueryLasts, RunLasts, SaysAllDone, UpgradeLasts}
+use Rattle.ub_table_file.specs.Appended.{AppendLasts}
+use Rattle.ub_shell.specs.Loaded.{axes_asked}
+use Rattle.ub_shell.specs.Crashes.{IsBeforeOrAfter, LoadLasts, UpgradeLasts}
+use Rattle.ub_table_file.specs.Crashes.{QueryLasts, RunLasts, SaysAllDone}
 use Rattle.ub_shell.specs.Ran.{HasEnded, HasNotRead}
 use Rattle.ub_shell.specs.declared.program.WordsFault.{WordsFault}
-use Rattle.ub_shell.specs.declared.status.Status.{Status}
-use Rattle.ub_shell.specs.declared.status.Status.TheVariants.{Done}
+use Rattle.ub_table_file.specs.declared.status.Status.{Status}
+use Rattle.ub_table_file.specs.declared.status.Status.TheVariants.{Done}
 use Rattle.ub_words.specs.Asked.{IsAskedBy}
 use Rattle.ub_words.specs.declared.words.Asked.{Asked}
 use Rattle.ub_words.specs.declared.words.Asked.TheVariants.{Append, Load, Query, Run, Upgrade}

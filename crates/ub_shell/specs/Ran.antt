@@ -4,21 +4,22 @@ use Rattle.ub_words.specs.Asked.{AreLines, IsAskedBy}
 use Rattle.ub_words.specs.CommandLine.{AsksHelp, AsksNothing}
 use Rattle.ub_words.specs.declared.words.Asked.{Asked}
 use Rattle.ub_words.specs.declared.words.Asked.TheVariants.{Append, Help, Load, Next, Query, Run, Table, Try, Upgrade, Wrong}
-use Rattle.ub_shell.specs.Commands.{LoadsFile, RunsFile, TriesFiles, axes_asked}
-use Rattle.ub_shell.specs.Appended.{AppendsFile}
-use Rattle.ub_shell.specs.Asking.{AsksFile}
-use Rattle.ub_shell.specs.Ending.{Tells, words_fault_status, words_fault_text}
-use Rattle.ub_shell.specs.Queried.{QueriesFile}
+use Rattle.ub_shell.specs.Loaded.{LoadsFile, TriesFiles, axes_asked}
+use Rattle.ub_table_file.specs.Commands.{RunsFile}
+use Rattle.ub_table_file.specs.Appended.{AppendsFile}
+use Rattle.ub_table_file.specs.Asking.{AsksFile}
+use Rattle.ub_table_file.specs.Status.{Tells}
+use Rattle.ub_shell.specs.Ending.{words_fault_status, words_fault_text, answer_status}
+use Rattle.ub_table_file.specs.Queried.{QueriesFile}
 use Rattle.ub_shell.specs.Upgrading.{UpgradesFile}
-use Rattle.ub_shell.specs.Status.{answer_status}
 use Rattle.ub_script.specs.Output.{OutFacts, out_facts}
 use Rattle.ub_files.specs.Files.{FilesFacts}
 use Rattle.ub_next.specs.Next.{IsNextAnswer, answer_text}
 use Rattle.ub_next.specs.declared.next.Neighbours.{Neighbours}
 use Rattle.ub_next.specs.declared.next.NextFault.{NextFault}
 use Rattle.ub_shell.specs.declared.program.WordsFault.{WordsFault}
-use Rattle.ub_shell.specs.declared.status.Status.{Status}
-use Rattle.ub_shell.specs.declared.status.Status.TheVariants as ended
+use Rattle.ub_table_file.specs.declared.status.Status.{Status}
+use Rattle.ub_table_file.specs.declared.status.Status.TheVariants as ended
 
 -- the neighbours of an address were looked for, and told; the files hold what they did
 pub record FindsNext (lo hi z : List ℕ) (old new : FilesFacts) (out out_now : OutFacts) (status : Status) : Type 0 where

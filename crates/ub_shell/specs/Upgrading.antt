@@ -2,10 +2,9 @@
 use Rattle.std.specs.Prelude.{◌≡◌, ◌≢◌, ◌⊎◌, ℕ, List, [], false, true}
 use Rattle.ub_files.specs.Files.{FilesFacts, IsLent}
 use Rattle.ub_script.specs.Output.{OutFacts}
-use Rattle.ub_shell.specs.Commands.{IsSameFile, IsUnopened, MakesTable}
-use Rattle.ub_shell.specs.Ending.{Tells}
-use Rattle.ub_shell.specs.Status.{tree_fault_status, tree_fault_text}
-use Rattle.ub_shell.specs.declared.status.Status.{Status}
+use Rattle.ub_table_file.specs.Commands.{IsSameFile, IsUnopened, MakesTable}
+use Rattle.ub_table_file.specs.Status.{Tells, tree_fault_status, tree_fault_text}
+use Rattle.ub_table_file.specs.declared.status.Status.{Status}
 use Rattle.ub_store.specs.Facts.{StoreFacts, IsHonest, memory_facts}
 use Rattle.ub_table.specs.declared.schema.Schema.{Schema}
 use Rattle.ub_tree.specs.Closing.{header_of}

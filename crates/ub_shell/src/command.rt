@@ -2,21 +2,21 @@ ghost use Rattle.std.specs.Prelude.{◌≡◌, map, string_bytes};
 ghost use Rattle.ub_shell.specs.Program.{EndsCommand};
 ghost use Rattle.ub_shell.specs.Ran.{unheard};
 ghost use Rattle.ub_shell.specs.Short.{KeepsShortPromise};
-ghost use Rattle.ub_shell.specs.Status.{status_code};
-ghost use Rattle.ub_shell.specs.declared.status.Status.{Status};
+ghost use Rattle.ub_table_file.specs.Status.{status_code};
+ghost use Rattle.ub_table_file.specs.declared.status.Status.{Status};
 
-use crate::appending::append_file;
-use crate::asking::ask_file;
 use crate::loading::load_file;
 use crate::next::tell_next;
-use crate::querying::query_file;
-use crate::running::run_file;
-use crate::status::{Status, tell, tell_memory};
 use crate::trial::try_files;
 use crate::upgrading::upgrade_file;
 use std::alloc::Global;
 use ub_files::Files;
 use ub_script::{Out, OutFault};
+use ub_table_file::appending::append_file;
+use ub_table_file::asking::ask_file;
+use ub_table_file::querying::query_file;
+use ub_table_file::running::run_file;
+use ub_table_file::status::{Status, tell, tell_memory};
 use ub_words::{Asked, read_words};
 
 /// Runs the program's command line: the words, the first of which is the program's name. All that it writes goes to

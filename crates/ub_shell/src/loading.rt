@@ -1,18 +1,18 @@
 ghost use Rattle.std.specs.Prelude.{◌≡◌, IfOk, IfErr};
 ghost use Rattle.ub_files.specs.Clock.{Endures, IsSameBut, Runs};
 ghost use Rattle.ub_files.specs.Files.{HasPages};
-ghost use Rattle.ub_shell.specs.Commands.{axes_asked, IsTable, IsUnloaded, KeepsText, LoadsFile};
 ghost use Rattle.ub_shell.specs.Crashes.{HasTable, LoadLasts, LoadsSafely, MayStand};
+ghost use Rattle.ub_shell.specs.Loaded.{axes_asked, IsTable, IsUnloaded, KeepsText, LoadsFile};
 ghost use Rattle.ub_table.specs.Schema.{AreTableNumbers, IsMask};
 
-use crate::making::{Counts, is_same, make_table};
-use crate::status::{Status, tell, tell_load_fault, tell_store_fault};
 use std::alloc::Global;
 use ub_files::Files;
 use ub_load::{LoadFault, load};
 use ub_script::Out;
 use ub_store::MemStore;
 use ub_table::schema::is_mask;
+use ub_table_file::making::{Counts, is_same, make_table};
+use ub_table_file::status::{Status, tell, tell_load_fault, tell_store_fault};
 use ub_words::LoadWords;
 
 // A table that was loaded, closed in memory.

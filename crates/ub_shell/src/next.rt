@@ -2,13 +2,13 @@ ghost use Rattle.std.specs.Prelude.{◌≡◌, Result};
 ghost use Rattle.ub_next.specs.Next.{IsNextAnswer, answer_text};
 ghost use Rattle.ub_next.specs.declared.next.Neighbours.{Neighbours};
 ghost use Rattle.ub_next.specs.declared.next.NextFault.{NextFault};
-ghost use Rattle.ub_shell.specs.Ending.{Tells};
-ghost use Rattle.ub_shell.specs.Status.{answer_status};
+ghost use Rattle.ub_shell.specs.Ending.{answer_status};
+ghost use Rattle.ub_table_file.specs.Status.{Tells};
 
-use crate::status::{Status, tell, tell_memory};
 use std::alloc::Global;
 use ub_next::{Neighbours, NextFault, answer_text, neighbours_of};
 use ub_script::Out;
+use ub_table_file::status::{Status, tell, tell_memory};
 
 /// How the command ends: a fault is the command line's, but for want of memory.
 pub fn answer_status(answer: &Result<Neighbours, NextFault>) -> Status

@@ -1,19 +1,19 @@
 ghost use Rattle.std.specs.Prelude.{◌≡◌, ℕ, MatchResult, map, string_bytes};
 ghost use Rattle.ub_script.specs.Output.{out_facts};
-ghost use Rattle.ub_shell.specs.Ending.{words_fault_status, words_fault_text, Tells};
+ghost use Rattle.ub_shell.specs.Ending.{words_fault_status, words_fault_text};
 ghost use Rattle.ub_shell.specs.Program.{EndsCommand, EndsUnread};
 ghost use Rattle.ub_shell.specs.Short.{KeepsShortPromise};
-ghost use Rattle.ub_shell.specs.Status.{status_code};
-ghost use Rattle.ub_shell.specs.declared.status.Status.{Status};
+ghost use Rattle.ub_table_file.specs.Status.{Tells, status_code};
+ghost use Rattle.ub_table_file.specs.declared.status.Status.{Status};
 
 use crate::command::command_apart;
-use crate::status::{Status, tell, tell_memory};
 use std::alloc::Global;
 use std::io::Write;
 use std::rt::Env;
 use std::{env, io};
 use ub_files::Files;
 use ub_script::{Out, Over};
+use ub_table_file::status::{Status, tell, tell_memory};
 
 /// Why the words of the program's command line were not read.
 #[derive(Clone, Copy, PartialEq, Eq, Debug)]

@@ -1,16 +1,16 @@
 ghost use Rattle.ub_files.specs.Clock.{IsSameFolder, Runs};
 ghost use Rattle.ub_load.specs.LoadedTable.{axes_with};
-ghost use Rattle.ub_shell.specs.Commands.{axes_asked, TriesFiles};
 ghost use Rattle.ub_shell.specs.Ending.{trial, HasTried};
+ghost use Rattle.ub_shell.specs.Loaded.{axes_asked, TriesFiles};
 ghost use Rattle.ub_table.specs.Schema.{AreTableNumbers, IsMask};
 
-use crate::status::{
-    Status, summary_status, tell, tell_load_fault, tell_memory, tell_store_fault, tell_tree_fault,
-};
 use std::alloc::Global;
 use ub_files::Files;
 use ub_script::{Out, RunFault, try_text};
 use ub_table::schema::is_mask;
+use ub_table_file::status::{
+    Status, summary_status, tell, tell_load_fault, tell_memory, tell_store_fault, tell_tree_fault,
+};
 use ub_words::TryWords;
 
 /// Reads a CSV file and then a script, each once, and runs the script on the table of the text, as `tell_try` does. A file that

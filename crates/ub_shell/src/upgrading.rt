@@ -5,12 +5,12 @@ ghost use Rattle.ub_shell.specs.Crashes.{HasAnew, MayStand, UpgradeLasts, Upgrad
 ghost use Rattle.ub_shell.specs.Upgrading.{IsAfoot, IsFileAnew, IsUpgradeOf, UpgradesFile, UpgradesStore};
 ghost use Rattle.ub_store.specs.Facts.{StoreFacts};
 
-use crate::making::{Counts, is_same, make_table};
-use crate::status::{Status, tell, tell_store_fault, tell_tree_fault};
 use std::alloc::Global;
 use ub_files::Files;
 use ub_script::Out;
 use ub_store::MemStore;
+use ub_table_file::making::{Counts, is_same, make_table};
+use ub_table_file::status::{Status, tell, tell_store_fault, tell_tree_fault};
 use ub_tree::Tree;
 use ub_words::UpgradeWords;
 

@@ -2,7 +2,8 @@ use Rattle.std.proofs.Common.{inr, refl}
 use Rattle.std.specs.Prelude.{map, string_bytes}
 use Rattle.ub_shell.proofs.CrashFacts.{append_crash, load_crash, no_crash, query_crash, run_crash, same_crash, upgrade_crash}
 use Rattle.ub_shell.proofs.FileFacts.{ends_as, tells_as}
-use Rattle.ub_shell.proofs.LastFacts.{lasting_as, never_done}
+use Rattle.ub_shell.proofs.LastFacts.{lasting_as}
+use Rattle.ub_table_file.proofs.Laws.{never_done}
 use Rattle.ub_words.specs.declared.words.Asked.TheVariants as asked
 use Rattle.ub_shell.proofs.command.run_words.Goals as goal
 

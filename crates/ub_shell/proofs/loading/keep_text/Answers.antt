@@ -1,6 +1,7 @@
 use Rattle.std.proofs.Common.{inl, inr, refl}
-use Rattle.ub_shell.specs.Commands.{axes_asked}
-use Rattle.ub_shell.proofs.LastFacts.{load_says, never_done, table_lasts}
+use Rattle.ub_shell.specs.Loaded.{axes_asked}
+use Rattle.ub_table_file.proofs.Laws.{load_says, never_done}
+use Rattle.ub_shell.proofs.LastFacts.{table_lasts}
 use Rattle.ub_shell.proofs.CrashFacts.{table_stands, table_still}
 use Rattle.ub_shell.proofs.UpgradeFacts.{some_page}
 use Rattle.ub_shell.proofs.loading.keep_text.Goals as goal

@@ -1,8 +1,8 @@
 use Rattle.std.proofs.Common.{inl, inr, refl}
-use Rattle.ub_shell.specs.Commands.{axes_asked}
-use Rattle.ub_shell.proofs.LastFacts.{loaded_lasts, never_done, store_says}
-use Rattle.ub_shell.proofs.CrashFacts.{load_same, load_still, loaded_safely, read_honest}
-use Rattle.ub_shell.proofs.FileFacts.{has_read, not_read, not_so}
+use Rattle.ub_shell.specs.Loaded.{axes_asked}
+use Rattle.ub_shell.proofs.LastFacts.{loaded_lasts}
+use Rattle.ub_table_file.proofs.Laws.{has_read, never_done, not_read, not_so, read_honest, store_says}
+use Rattle.ub_shell.proofs.CrashFacts.{load_same, load_still, loaded_safely}
 use Rattle.ub_shell.proofs.loading.load_file.Goals as goal
 
 pub returns-in-Ok-clause-loads : goal.returns-in-Ok-clause-loads

@@ -1,7 +1,8 @@
 use Rattle.std.proofs.Common.{ap, refl}
-use Rattle.ub_shell.proofs.FileFacts.{never_unclosed, none_kept, refused_by}
+use Rattle.ub_shell.proofs.FileFacts.{never_unclosed, refused_by}
+use Rattle.ub_table_file.proofs.Laws.{none_kept}
 use Rattle.ub_shell.proofs.loading.load_pages.Goals as goal
-use Rattle.ub_shell.specs.Commands.{IsUnloaded, axes_asked}
+use Rattle.ub_shell.specs.Loaded.{IsUnloaded, axes_asked}
 use Rattle.ub_store.specs.Facts.{page_count}
 
 pub returns-in-Ok-clause-loaded : goal.returns-in-Ok-clause-loaded

@@ -1,5 +1,5 @@
 use Rattle.std.proofs.Common.{refl}
-use Rattle.ub_shell.proofs.GoesFacts.{runs_none}
+use Rattle.ub_table_file.proofs.Laws.{runs_none}
 use Rattle.ub_shell.proofs.program.run_or_tell.Goals as goal
 
 pub returns-in-Ok-clause-ends : goal.returns-in-Ok-clause-ends

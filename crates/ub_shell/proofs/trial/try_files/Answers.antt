@@ -1,8 +1,6 @@
 use Rattle.std.proofs.Common.{ap, inl, inr, refl}
 use Rattle.ub_files.specs.Files.{FilesFacts}
-use Rattle.ub_shell.proofs.CrashFacts.{still_honest}
-use Rattle.ub_shell.proofs.GoesFacts.{runs_both, runs_none}
-use Rattle.ub_shell.proofs.FileFacts.{has_read, not_read, not_so}
+use Rattle.ub_table_file.proofs.Laws.{has_read, not_read, not_so, runs_both, runs_none, still_honest}
 use Rattle.ub_shell.proofs.trial.try_files.Goals as goal
 
 pub returns-clause-tries : goal.returns-clause-tries

@@ -1,5 +1,6 @@
 use Rattle.std.proofs.Common.{inl}
-use Rattle.ub_shell.proofs.LastFacts.{anew_lasts, never_done, tree_says}
+use Rattle.ub_shell.proofs.LastFacts.{anew_lasts}
+use Rattle.ub_table_file.proofs.Laws.{never_done, tree_says}
 use Rattle.ub_shell.proofs.CrashFacts.{anew_stands}
 use Rattle.ub_shell.proofs.UpgradeFacts.{always_closed, closed_anew, some_page}
 use Rattle.ub_shell.proofs.upgrading.keep_tree.Goals as goal

@@ -1,6 +1,6 @@
 use Rattle.std.proofs.Common.{inl, inr, refl}
-use Rattle.ub_shell.proofs.FileFacts.{not_opened, not_so}
-use Rattle.ub_shell.proofs.LastFacts.{never_done, store_says, upgraded_lasts}
+use Rattle.ub_table_file.proofs.Laws.{never_done, not_opened, not_so, store_says}
+use Rattle.ub_shell.proofs.LastFacts.{upgraded_lasts}
 use Rattle.ub_shell.proofs.CrashFacts.{upgrade_same, upgrade_still, upgraded_safely}
 use Rattle.ub_shell.proofs.upgrading.upgrade_file.Goals as goal
 

@@ -1,5 +1,5 @@
 use Rattle.std.proofs.Common.{inl, inr, refl}
-use Rattle.ub_shell.proofs.LastFacts.{never_done, tree_says}
+use Rattle.ub_table_file.proofs.Laws.{never_done, tree_says}
 use Rattle.ub_shell.proofs.CrashFacts.{anew_same, anew_then}
 use Rattle.ub_shell.proofs.UpgradeFacts.{afoot}
 use Rattle.ub_shell.proofs.upgrading.upgrade_store.Goals as goal

@@ -1,7 +1,0 @@
-use Rattle.std.proofs.Common.{◌≡◌, ◌++◌}
-use Rattle.std.specs.List.{flat_map, range_with_len}
-use Rattle.ub_shell.specs.Described as spec
-use Rattle.ub_shell.proofs.description.push_columns.Given as goal
-
-abbrev pub invariant-loop-column : goal.invariant-loop-column
-invariant-loop-column l = l.text.items ≡ l.fn.text.items ++ flat_map (spec.column_line l.schema) (range_with_len 0 l.column)

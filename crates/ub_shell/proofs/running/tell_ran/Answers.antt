@@ -1,5 +1,0 @@
-use Rattle.ub_shell.proofs.FileFacts.{told_after_fault}
-use Rattle.ub_shell.proofs.running.tell_ran.Goals as goal
-
-pub returns-in-Err : goal.returns-in-Err
-returns-in-Err g c = rw (c.in-Err.is, c.status_after.ensures) (told_after_fault c.in-Err.fault c.args.closed _ _ _ c.tell_run_fault-status.ensures)

@@ -1,0 +1,12 @@
+pub mod FileFacts
+pub mod GoesFacts
+pub mod PartingFacts
+pub mod CrashFacts
+pub mod KeptFacts
+pub mod LastFacts
+pub mod AppendFacts
+pub mod OpenFacts
+pub mod DescribeFacts
+pub mod CheckFacts
+pub mod AskFacts
+pub mod Laws

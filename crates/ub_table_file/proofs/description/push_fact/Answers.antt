@@ -1,0 +1,16 @@
+use Rattle.ub_table_file.proofs.DescribeFacts.{fact_put, not_put}
+use Rattle.ub_table_file.proofs.description.push_fact.Goals as goal
+
+pub returns-in_err-extend_from_slice : goal.returns-in_err-extend_from_slice
+returns-in_err-extend_from_slice c = not_put _ c.from_residual.result c.in_err-extend_from_slice.field-0.0 c.from_residual.ensures.1
+
+pub returns-in_err-extend_from_slice-2 : goal.returns-in_err-extend_from_slice-2
+returns-in_err-extend_from_slice-2 c = not_put _ c.from_residual-in_err-extend_from_slice-2.result c.in_err-extend_from_slice-2.field-0.0 c.from_residual-in_err-extend_from_slice-2.ensures.1
+
+pub returns-in_err-extend_from_slice-3 : goal.returns-in_err-extend_from_slice-3
+returns-in_err-extend_from_slice-3 c = not_put _ c.from_residual-in_err-extend_from_slice-3.result c.in_err-extend_from_slice-3.field-0.0 c.from_residual-in_err-extend_from_slice-3.ensures.1
+
+pub returns : goal.returns
+returns c =
+    fact_put c.extend_from_slice-4.result c.args.word.now c.args.told.now c.args.text.now.items _ _ _ _ c.in_ok-extend_from_slice.ensures.items c.in_ok-extend_from_slice-2.ensures.items
+    c.in_ok-extend_from_slice-3.ensures.items c.extend_from_slice-4.ensures.items

@@ -1,0 +1,10 @@
+pub mod inner
+pub mod Status
+pub mod Commands
+pub mod Opening
+pub mod Queried
+pub mod Appended
+pub mod Crashes
+pub mod Described
+pub mod Checked
+pub mod Asking
