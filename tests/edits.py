@@ -20,7 +20,8 @@ from promises import place_of
 
 VERDICT = re.compile(r"must-fail (\w+)/(\w+)\.edit: (.*)")
 ANSWER = re.compile(r"\./proofs/((?:[^/: ]+/)+)(?:Answers|Invariants)\.antt:(\d+)")
-UNPROVED = re.compile(r"src/([\w/]+\.rt):(\d+):\d+: it is not proved .*?\(`([\w+-]+)`\)")
+# A line of the log may be cut within the goal's name.
+UNPROVED = re.compile(r"src/([\w/]+\.rt):(\d+):\d+: it is not proved .*?\(`([\w+-]+)(?:`\)|$)")
 FUNCTION = re.compile(r"\s*(?:pub(?:\([a-z]+\))? )?fn (\w+)")
 HEAD = re.compile(r"# Refused by `([\w:]+)`(?:'s `(\w+)`)?: ")
 DEFINED = re.compile(r"(?:pub |abbrev )*([\w+-]+) : (goal\.)?")
