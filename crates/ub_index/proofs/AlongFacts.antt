@@ -55,7 +55,7 @@ capped_is n few = search rules
 pub keys_from : ℕ → Key → ℕ
 keys_from last key = suc ((last + 1) * 4294967296 - (key.z * 4294967296 + capped key.number))
 
-pub keys_less : (last : ℕ) (a b : Key) → IsBefore a b → a.z ≤ last → b.number < 2 ^ 32 → keys_from last b < keys_from last a
+keys_less : (last : ℕ) (a b : Key) → IsBefore a b → a.z ≤ last → b.number < 2 ^ 32 → keys_from last b < keys_from last a
 unfolding keys_from
 keys_less last a b before le small =
     let few = capped_few a.number in
@@ -108,7 +108,7 @@ module _ (boxes : List Corners) (last : ℕ) (from : Key) where
   no_aim (inl none) aim (z, to, le, is) = let less : z < from.z = none z to.0 in let near = to.1 in omega arith
   no_aim (inr (y, to_y, past)) aim (z, to, le, is) = let up : y ≤ z = to_y.2 z to.0 to.1 in omega arith
 
-  pub aim_within : (aim : Key) → IsAim last (Meeting boxes) from aim → from.z ≤ last
+  aim_within : (aim : Key) → IsAim last (Meeting boxes) from aim → from.z ≤ last
   aim_within aim (z, to, le, is) = let near = to.1 in omega arith
 
   -- what holds it meets the boxes
@@ -193,6 +193,11 @@ follow_more last To leaf entries from (x ∷ handed) key region (k, is, there, r
 pub later_on : (first from next : Key) → (from ≡ first) ⊎ (IsBefore first from × (from.number < 2 ^ 32)) → IsBefore from next → IsBefore first next
 later_on first from next (inl same) before = subst (λ (k : Key). IsBefore k next) same before
 later_on first from next (inr sooner) before = le_before first from next (λ back. not_both_before first from sooner.0 back) before
+
+-- and a later one has a number of 32 bits
+pub later_small : (first from : Key) → (from ≡ first) ⊎ (IsBefore first from × (from.number < 2 ^ 32)) → IsBefore first from → from.number < 2 ^ 32
+later_small first from (inl same) before = absurd (not_before_self first (subst (λ (k : Key). IsBefore first k) same before))
+later_small first from (inr sooner) before = sooner.1
 
 -- ---- what a search gives
 

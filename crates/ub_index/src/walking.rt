@@ -23,6 +23,10 @@ use ub_region::{ORIGIN, Region};
 use ub_store::{PageStore, Pager};
 use ub_table::{Key, PageFault};
 
+// So many regions at most are handed over at a time. The caller reads all of them before it asks for the next ones: while it reads
+// no more than these, the pages of the way down stay among the 64 that the pager holds, and needn't be read again.
+const MOST_AHEAD: usize = 32;
+
 /// What is handed the regions that meet some boxes, one after the other, and makes something of them.
 ///
 /// A proof sees which regions it has taken between two of its states: `Takes`.
@@ -52,7 +56,7 @@ impl RegionSink for VecDeque<Region> {
 impl Index {
     /// Hands each region that meets one of the boxes to a sink, one after the other, in the order of their first keys: over any
     /// store just those that `next_meeting` gives, asked after each of them until there is none. A leaf that the search comes to is
-    /// gone along while it holds the next one.
+    /// gone along while it holds the next one, for at most 32 of them at a time.
     ///
     /// Refused as `next_meeting` is, after some of them; Store with Memory comes also where memory was refused by the sink.
     pub fn for_each_meeting<S: PageStore, T: RegionSink>(
@@ -82,8 +86,8 @@ impl Index {
     }
 
     /// Hands the next regions later than `after`, if one is given, that meet one of the boxes to a sink, in the order of their first
-    /// keys: those that one leaf names, just as `next_meeting` gives them, asked after each. None only where `next_meeting` gives none.
-    /// `after` is a region that was given, so that the search begins where it ends.
+    /// keys: those that one leaf names, at most 32 of them at a time, just as `next_meeting` gives them, asked after each. None only
+    /// where `next_meeting` gives none. `after` is a region that was given, so that the search begins where it ends.
     ///
     /// Refused as `next_meeting` is; Store with Memory comes also where memory was refused by the sink.
     pub fn hand_next<S: PageStore, T: RegionSink>(
@@ -153,8 +157,8 @@ fn hand_leaf<S: PageStore, T: RegionSink>(
     Ok(on)
 }
 
-// Hands over the regions of a leaf's page that meet the boxes and follow one another from a key on. Answers where the last of them
-// ends, or else that key.
+// Hands over the regions of a leaf's page that meet the boxes and follow one another from a key on, at most 32 of them at a time.
+// Answers where the last of them ends, or else that key.
 fn hand_along<T: RegionSink>(
     page: &Page,
     count: usize,
@@ -173,7 +177,10 @@ fn hand_along<T: RegionSink>(
 {
     let mut on = *from;
     let mut behind = 0;
-    while let Some(slot) = next_slot(page, count, last, leaf, boxes, behind, &on) {
+    for _ in 0..MOST_AHEAD {
+        let Some(slot) = next_slot(page, count, last, leaf, boxes, behind, &on) else {
+            break;
+        };
         let place = place_in(page, count, slot, leaf.place.next);
         let region = region_at(last, place.entry, place.next);
         sink.push(boxes, &region)?;

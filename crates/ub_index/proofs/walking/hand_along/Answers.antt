@@ -1,10 +1,9 @@
 use Rattle.std.proofs.Common.{◌++◌, ◌∷◌, [], inl, inr, List, Option, Some, None, append-nil, refl, rules, subst, sym, arith}
-use Rattle.ub_index.proofs.AlongFacts.{aim_within, follow_more, is_none, keys_less, later_on, next_begun, next_later, none_there, one_aim, stands_met, stands_next}
+use Rattle.ub_index.proofs.AlongFacts.{follow_more, is_none, later_on, later_small, next_begun, next_later, none_there, one_aim, stands_met, stands_next}
 use Rattle.ub_index.proofs.StretchSteps.{takes_more}
 use Rattle.ub_index.specs.Along.{FollowOn, IsSlotNext, Meeting}
 use Rattle.ub_page.specs.Index.{node_on}
 use Rattle.ub_region.specs.declared.region.Region.{Region}
-use Rattle.ub_table.proofs.Laws.{not_before_self}
 use Rattle.ub_table.specs.Keys.{IsBefore}
 use Rattle.ub_table.specs.declared.row.Key.{Key}
 use Rattle.ub_index.proofs.walking.hand_along.Goals as goal
@@ -20,78 +19,81 @@ place_in-place-requires-clause-few g c = let same = c.requires.count in let few 
 
 pub push-requires-clause-meets : goal.push-requires-clause-meets
 push-requires-clause-meets g c =
-    let stands = stands_next c.args.boxes.now c.args.last c.args.leaf.now c.args.page.now c.args.count c.in-Some.slot c.loop-slot.on c.place_in-place.result c.region_at-region.result
+    let stands = stands_next c.args.boxes.now c.args.last c.args.leaf.now c.args.page.now c.args.count c.in-Some.slot c.loop.on c.place_in-place.result c.region_at-region.result
     c.in-Some.ensures c.place_in-place.ensures.entry c.place_in-place.ensures.falls c.region_at-region.ensures.region c.region_at-region.ensures.small in
-    stands_met c.args.boxes.now c.args.last c.args.leaf.now c.args.page.now c.requires.ends c.requires.comes.2.within c.loop-slot.on c.loop-slot.invariant.begun c.region_at-region.result stands
+    stands_met c.args.boxes.now c.args.last c.args.leaf.now c.args.page.now c.requires.ends c.requires.comes.2.within c.loop.on c.loop.invariant.begun c.region_at-region.result stands
 
-pub loop-slot-init : goal.loop-slot-init
-loop-slot-init g c = record {
+pub loop-init : goal.loop-init
+loop-init g c = record {
   handed = ([], refl, λ start taken has. subst (λ (these : List Region). g.T.RegionSink.Takes c.args.boxes.now start these c.args.sink.now) (sym (append-nil taken)) has);
   within = let same = c.requires.count in let some = c.requires.ends.head.1 in omega arith;
   begun = λ aim is.
       subst (λ (k : Key). ¬ (IsBefore k c.args.leaf.now.place.entry.first)) (one_aim c.args.boxes.now c.args.last c.args.from.now c.requires.comes.0 aim c.requires.comes.1 is)
       c.requires.comes.2.place.from;
   later = inl refl;
+  moved = λ some. absurd (omega (arith, some));
 }
 
-pub loop-slot-preserved : goal.loop-slot-preserved
-loop-slot-preserved g c =
-    let (handed, follow, takes) = c.loop-slot.invariant.handed in
-    let stands = stands_next c.args.boxes.now c.args.last c.args.leaf.now c.args.page.now c.args.count c.in-Some.slot c.loop-slot.on c.place_in-place.result c.region_at-region.result
+pub loop-preserved : goal.loop-preserved
+loop-preserved g c =
+    let (handed, follow, takes) = c.loop.invariant.handed in
+    let stands = stands_next c.args.boxes.now c.args.last c.args.leaf.now c.args.page.now c.args.count c.in-Some.slot c.loop.on c.place_in-place.result c.region_at-region.result
     c.in-Some.ensures c.place_in-place.ensures.entry c.place_in-place.ensures.falls c.region_at-region.ensures.region c.region_at-region.ensures.small in
-    let later = next_later c.args.boxes.now c.args.last c.args.leaf.now c.args.page.now c.requires.ends c.requires.comes.2.within c.loop-slot.on c.loop-slot.invariant.begun c.region_at-region.result stands
+    let later = next_later c.args.boxes.now c.args.last c.args.leaf.now c.args.page.now c.requires.ends c.requires.comes.2.within c.loop.on c.loop.invariant.begun c.region_at-region.result stands
     c.in-Some-next.next c.in-Some-next.is in
+    let further = later_on c.args.from.now c.loop.on c.in-Some-next.next c.loop.invariant.later later in
     record {
       handed = (
         handed ++ c.region_at-region.result ∷ [],
         subst (λ (o : Option Key). FollowOn c.args.last (Meeting c.args.boxes.now) c.args.leaf.now (node_on c.args.page.now).entries (Some c.args.from.now) (handed ++ c.region_at-region.result ∷ []) o) c.in-Some-next.is
-            (follow_more c.args.last (Meeting c.args.boxes.now) c.args.leaf.now (node_on c.args.page.now).entries (Some c.args.from.now) handed c.loop-slot.on c.region_at-region.result follow stands),
-        takes_more (g.T.RegionSink.Takes c.args.boxes.now) c.args.sink.now c.loop-slot.sink c.push.new.self handed (c.region_at-region.result ∷ []) takes c.in_ok-push.ensures,
+            (follow_more c.args.last (Meeting c.args.boxes.now) c.args.leaf.now (node_on c.args.page.now).entries (Some c.args.from.now) handed c.loop.on c.region_at-region.result follow stands),
+        takes_more (g.T.RegionSink.Takes c.args.boxes.now) c.args.sink.now c.loop.sink c.push.new.self handed (c.region_at-region.result ∷ []) takes c.in_ok-push.ensures,
       );
       within = c.in-Some.ensures.3.within;
-      begun = next_begun c.args.boxes.now c.args.last c.args.leaf.now c.args.page.now c.requires.ends c.requires.comes.2.within c.loop-slot.on c.loop-slot.invariant.begun c.region_at-region.result stands
+      begun = next_begun c.args.boxes.now c.args.last c.args.leaf.now c.args.page.now c.requires.ends c.requires.comes.2.within c.loop.on c.loop.invariant.begun c.region_at-region.result stands
           c.in-Some-next.next c.in-Some-next.is;
-      later = inr (later_on c.args.from.now c.loop-slot.on c.in-Some-next.next c.loop-slot.invariant.later later, search rules);
+      later = inr (further, search rules);
+      moved = λ some. further;
     }
-
-pub loop-slot-smaller : goal.loop-slot-smaller
-loop-slot-smaller g c =
-    let stands = stands_next c.args.boxes.now c.args.last c.args.leaf.now c.args.page.now c.args.count c.in-Some.slot c.loop-slot.on c.place_in-place.result c.region_at-region.result
-    c.in-Some.ensures c.place_in-place.ensures.entry c.place_in-place.ensures.falls c.region_at-region.ensures.region c.region_at-region.ensures.small in
-    let later = next_later c.args.boxes.now c.args.last c.args.leaf.now c.args.page.now c.requires.ends c.requires.comes.2.within c.loop-slot.on c.loop-slot.invariant.begun c.region_at-region.result stands
-    c.in-Some-next.next c.in-Some-next.is in
-    keys_less c.args.last c.loop-slot.on c.in-Some-next.next later (aim_within c.args.boxes.now c.args.last c.loop-slot.on c.in-Some.ensures.0 c.in-Some.ensures.1) (search rules)
 
 pub returns-in_default-next : goal.returns-in_default-next
 returns-in_default-next g c =
-    let (handed, follow, takes) = c.loop-slot.invariant.handed in
-    let stands = stands_next c.args.boxes.now c.args.last c.args.leaf.now c.args.page.now c.args.count c.in-Some.slot c.loop-slot.on c.place_in-place.result c.region_at-region.result
+    let (handed, follow, takes) = c.loop.invariant.handed in
+    let stands = stands_next c.args.boxes.now c.args.last c.args.leaf.now c.args.page.now c.args.count c.in-Some.slot c.loop.on c.place_in-place.result c.region_at-region.result
     c.in-Some.ensures c.place_in-place.ensures.entry c.place_in-place.ensures.falls c.region_at-region.ensures.region c.region_at-region.ensures.small in
     record {
       regions = handed ++ c.region_at-region.result ∷ [];
-      takes = takes_more (g.T.RegionSink.Takes c.args.boxes.now) c.args.sink.now c.loop-slot.sink c.push.new.self handed (c.region_at-region.result ∷ []) takes c.in_ok-push.ensures;
+      takes = takes_more (g.T.RegionSink.Takes c.args.boxes.now) c.args.sink.now c.loop.sink c.push.new.self handed (c.region_at-region.result ∷ []) takes c.in_ok-push.ensures;
       follow = subst (λ (o : Option Key). FollowOn c.args.last (Meeting c.args.boxes.now) c.args.leaf.now (node_on c.args.page.now).entries (Some c.args.from.now) (handed ++ c.region_at-region.result ∷ []) o)
           (is_none c.region_at-region.result.next c.in_default-next.not-Some)
-          (follow_more c.args.last (Meeting c.args.boxes.now) c.args.leaf.now (node_on c.args.page.now).entries (Some c.args.from.now) handed c.loop-slot.on c.region_at-region.result follow stands);
+          (follow_more c.args.last (Meeting c.args.boxes.now) c.args.leaf.now (node_on c.args.page.now).entries (Some c.args.from.now) handed c.loop.on c.region_at-region.result follow stands);
       stays = tt;
       small = tt;
     }
 
-pub returns : goal.returns
-returns g c =
-    let (handed, follow, takes) = c.loop-slot.invariant.handed in
+pub returns-in_default : goal.returns-in_default
+returns-in_default g c =
+    let (handed, follow, takes) = c.loop.invariant.handed in
     record {
       regions = handed;
       takes = takes;
       follow = follow;
-      stays = λ stuck. elim c.loop-slot.invariant.later [
+      stays = λ stuck. elim c.loop.invariant.later [
         | inl same ↦
             subst (λ (k : Key). IsSlotNext c.args.last (Meeting c.args.boxes.now) c.args.leaf.now c.args.page.now c.args.count k None) same
-            (none_there c.args.boxes.now c.args.last c.loop-slot.on c.args.leaf.now c.args.page.now c.args.count c.next_slot.result c.in_default.not-Some c.next_slot.ensures)
+            (none_there c.args.boxes.now c.args.last c.loop.on c.args.leaf.now c.args.page.now c.args.count c.next_slot.result c.in_default.not-Some c.next_slot.ensures)
         | inr later ↦ absurd (stuck later.0)
       ];
-      small = λ later. elim c.loop-slot.invariant.later [
-        | inl same ↦ absurd (not_before_self c.args.from.now (subst (λ (k : Key). IsBefore c.args.from.now k) same later))
-        | inr both ↦ both.1
-      ];
+      small = later_small c.args.from.now c.loop.on c.loop.invariant.later;
+    }
+
+pub returns-after-loop : goal.returns-after-loop
+returns-after-loop g c =
+    let (handed, follow, takes) = c.loop.invariant.handed in
+    record {
+      regions = handed;
+      takes = takes;
+      follow = follow;
+      stays = λ stuck. absurd (stuck (c.loop.invariant.moved (omega (arith, c.loop-test.false))));
+      small = later_small c.args.from.now c.loop.on c.loop.invariant.later;
     }

@@ -1,5 +1,4 @@
 use Rattle.std.proofs.Common.{◌≡◌, ◌<◌, ◌^◌, ◌⊎◌, List, Some}
-use Rattle.ub_index.proofs.AlongFacts.{keys_from}
 use Rattle.ub_index.specs.Along.{FollowOn, Meeting}
 use Rattle.ub_index.specs.Searching.{IsAim}
 use Rattle.ub_index.specs.Sinks.{TakesThese}
@@ -9,14 +8,12 @@ use Rattle.ub_table.specs.Keys.{IsBefore}
 use Rattle.ub_table.specs.declared.row.Key.{Key}
 use Rattle.ub_index.proofs.walking.hand_along.Given as goal
 
-abbrev pub invariant-loop-slot : goal.invariant-loop-slot
-invariant-loop-slot g l = record {
+abbrev pub invariant-loop : goal.invariant-loop
+invariant-loop g l = record {
   handed : (handed : List Region) × FollowOn l.last (Meeting l.boxes) l.leaf (node_on l.page).entries (Some l.from) handed (Some l.on)
       × TakesThese (g.T.RegionSink.Takes l.boxes) l.initial.sink l.sink handed;
   within : l.behind < l.count;
   begun : (aim : Key) → IsAim l.last (Meeting l.boxes) l.on aim → ¬ (IsBefore aim l.leaf.place.entry.first);
   later : (l.on ≡ l.from) ⊎ (IsBefore l.from l.on × (l.on.number < 2 ^ 32));
+  moved : 0 < l.counter → IsBefore l.from l.on;
 }
-
-abbrev pub decreases-loop-slot : goal.decreases-loop-slot
-decreases-loop-slot g l = keys_from l.last l.on
