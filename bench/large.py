@@ -54,7 +54,9 @@ def reads(program, table, script):
     """How many pages a run of a script reads from the file, and the region pages that it tells."""
     done = subprocess.run(["strace", "-f", "-e", "trace=pread64", program, "run", str(table), str(script)], capture_output=True, check=True)
     told = re.search(rb", pages (\d+)", done.stdout)
-    return len(re.findall(rb"pread64\(.*= 4096", done.stderr)), int(told.group(1)) if told else 0
+    # A call reads one page, or several that follow each other.
+    pages = sum(int(count) // 4096 for count in re.findall(rb"pread64\(.*= (\d+)", done.stderr))
+    return pages, int(told.group(1)) if told else 0
 
 
 def tell_loads(given, tried, data, work):

@@ -89,16 +89,42 @@ fn visit_next<S: PageStore, K: RowSink>(
     ensures notes { NotesPages tree.old tree.new result }
     ensures effect { ReadsTree tree.old tree.new result }
 {
+    let are_new = ahead.is_empty();
     let Some(region) = take_next(tree, plan.boxes(), after, ahead)? else {
         return Ok(None);
     };
-    tree.read_region(&region, page)?;
+    let run = run_of(&region, after, ahead, are_new);
+    tree.read_in_run(&region, run, page)?;
     push_chosen(sink, tree.schema(), plan, choice, page)?;
     Ok(Some(region))
 }
 
+// How many pages from a region's on are those of the regions that stand ahead. None where that was told before: the region stands on
+// the page behind that of the one before it, and those ahead aren't new.
+fn run_of(region: &Region, after: Option<&Region>, ahead: &VecDeque<Region>, are_new: bool) -> u32 {
+    if !are_new && stands_behind(region, after) {
+        return 0;
+    }
+    let mut run = 1u32;
+    for next in ahead.iter() {
+        if region.page.checked_add(run) != Some(next.page) {
+            return run;
+        }
+        run = run.saturating_add(1);
+    }
+    run
+}
+
+// Whether a region stands on the page behind that of another one.
+fn stands_behind(region: &Region, before: Option<&Region>) -> bool {
+    match before {
+        Some(before) => before.page.checked_add(1) == Some(region.page),
+        None => false,
+    }
+}
+
 // Takes the next region that meets the boxes, later than the one given, of those that stand ahead. Where none does, the next ones come
-// there first: those that one leaf of the index names.
+// there first: some of those that one leaf of the index names.
 fn take_next<S: PageStore>(
     tree: &mut Tree<S>,
     boxes: &[ZBox],

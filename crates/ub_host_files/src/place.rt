@@ -16,7 +16,7 @@ use ub_file::host::open_store;
 use ub_file::{FileStore, HostFile, PAGE_BYTES, RawFile};
 use ub_journal::{Failed, Journal, JournalFault, Place, Tells};
 use ub_journal_page::{read_journal, write_journal};
-use ub_store::Page;
+use ub_store::{Page, RUN_PAGES};
 
 /// What became of the changes that were put last.
 #[derive(Clone, Copy, PartialEq, Eq)]
@@ -371,6 +371,14 @@ where
     fn read_page(&mut self, n: u32, page: &mut Page) -> Result<(), Failed> {
         let done = self.file.read_exact_at(page, PAGE_BYTES * u64::from(n));
         self.tell(done)
+    }
+
+    fn read_run(&mut self, n: u32, bytes: &mut [u8]) -> Result<u32, Failed> {
+        let count = (bytes.len() / PAGE_BYTES as usize).min(RUN_PAGES as usize);
+        let run = &mut bytes[..count * PAGE_BYTES as usize];
+        let done = self.file.read_exact_at(run, PAGE_BYTES * u64::from(n));
+        self.tell(done)?;
+        Ok(count as u32)
     }
 
     fn write_page(&mut self, n: u32, page: &Page) -> Result<(), Failed> {

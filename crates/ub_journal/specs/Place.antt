@@ -1,5 +1,5 @@
 -- What contracts see of a place, and what its calls may do to that.
-use Rattle.std.specs.Prelude.{◌≡◌, ◌≤◌, ◌⊎◌, ℕ, Bool, Some, None, IsTrue, Result, Ok, Err}
+use Rattle.std.specs.Prelude.{◌≡◌, ◌≤◌, ◌<◌, ◌+◌, ◌*◌, ◌⊎◌, ℕ, Bool, List, Some, None, IsTrue, Result, Ok, Err, drop, slice_get, take}
 use Rattle.ub_store.specs.Facts.{raised}
 use Rattle.ub_journal.specs.Crash.{Stays}
 use Rattle.ub_journal.specs.Image.{ChangesOthers, Fits, HasFront, Image, Journal, Recovers, applied}
@@ -71,6 +71,14 @@ pub record Looks {A : Type 0} (old new : PlaceFacts) (result : Result A JournalF
 -- what is seen is what was seen, with this change
 abbrev pub Shows : (Image → Image) → PlaceFacts → PlaceFacts → Type 0
 Shows change old new = IsHonest old → new.seen ≡ change old.seen
+
+-- the page at this place of some bytes, of which each 4096 are one
+abbrev pub page_in : ℕ → List ℕ → List ℕ
+page_in i bytes = take 4096 (drop (i * 4096) bytes)
+
+-- so many pages from this number on are those that stand in these bytes
+abbrev pub AreIn : List ℕ → ℕ → ℕ → List (List ℕ) → Type 0
+AreIn bytes n count pages = (i : ℕ) → i < count → slice_get pages (n + i) ≡ Some (page_in i bytes)
 
 -- the table of both is the same
 abbrev pub SameTable : Image → Image → Type 0

@@ -1,8 +1,8 @@
-ghost use Rattle.std.specs.Prelude.{◌≡◌, ◌<◌, ◌≤◌, Some, None, length, slice_get, IfOk, IfSome, IsErrOf, OnOk};
+ghost use Rattle.std.specs.Prelude.{◌≡◌, ◌<◌, ◌≤◌, ◌+◌, ◌*◌, ◌/◌, Some, None, length, slice_get, IfOk, IfSome, IsErrOf, OnOk};
 ghost use Rattle.std.specs.Option.{option_map};
 ghost use Rattle.ub_journal.specs.Crash.{Drafts, IsPublished, Publishes, Removes, Resizes, Stays, TearsMark, TearsPage, with_count, with_draft, with_journal, with_mark, with_page};
 ghost use Rattle.ub_journal.specs.Image.{Journal as spec, IsJournal, told};
-ghost use Rattle.ub_journal.specs.Place.{DraftLasts, IsClock, IsHonest, Lasts, PlaceFacts, SameDraft, SameJournal, SameTable, Shows, Steps, Looks};
+ghost use Rattle.ub_journal.specs.Place.{AreIn, DraftLasts, IsClock, IsHonest, Lasts, PlaceFacts, SameDraft, SameJournal, SameTable, Shows, Steps, Looks};
 
 use crate::fault::JournalFault;
 use crate::journal::{Journal, Tells};
@@ -51,6 +51,24 @@ pub trait Place: Drop {
             → slice_get (facts self.old).seen.table n ≡ Some page.new) }
         ensures seen { Shows (λ i. i) (facts self.old) (facts self.new) }
         ensures effect { Steps Stays (facts self.old) (facts self.new) result };
+
+    /// Reads pages from this number on, all of which there are, into the bytes that are lent: one of them at least, and as many as fit
+    /// at most. It tells how many. Nothing changes. After a failure any bytes may stand in those that are lent.
+    fn read_run(&mut self, n: u32, bytes: &mut [u8]) -> Result<u32, Failed>
+        requires room { 4096 ≤ length bytes.old }
+        requires there { IsHonest (facts self.old)
+            → n + length bytes.old / 4096 ≤ length (facts self.old).seen.table }
+        ensures read { IfOk result (λ count. IsHonest (facts self.old)
+            → AreIn bytes.new n count (facts self.old).seen.table) }
+        ensures many { IfOk result (λ count. (1 ≤ count) × (count * 4096 ≤ length bytes.old)) }
+        ensures seen { Shows (λ i. i) (facts self.old) (facts self.new) }
+        ensures effect { Steps Stays (facts self.old) (facts self.new) result }
+    {
+        let mut page = [0; 4096];
+        self.read_page(n, &mut page)?;
+        bytes[..4096].copy_from_slice(&page);
+        Ok(1)
+    }
 
     /// Puts a page in the place of that of this number, which there is. A crash may leave any bytes there.
     fn write_page(&mut self, n: u32, page: &Page) -> Result<(), Failed>

@@ -1,5 +1,6 @@
 pub mod CalmFacts
 pub mod FitFacts
+pub mod AheadFacts
 pub mod StoreFacts
 pub mod FoundFacts
 pub mod KeptFacts

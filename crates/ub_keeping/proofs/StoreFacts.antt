@@ -2,11 +2,11 @@
 use Rattle.std.proofs.Common.{◌≡◌, Bool, true, false, IsTrue, ℕ, List, refl, ◌≢◌, ◌<◌, ◌≤◌, ◌∙◌, [], ◌∷◌, Some, length, slice_get, ap, arith, sym, subst}
 use Rattle.std.proofs.lemmas.Bool.{false≢true, true≢false}
 use Rattle.std.proofs.lemmas.List.{length-replicate}
-use Rattle.ub_store.specs.Facts.{StoreFacts}
+use Rattle.ub_store.specs.Facts.{StoreFacts, raised}
 use Rattle.ub_journal.specs.Image.{Image, IsComplete, Journal, put_all, resized}
 use Rattle.ub_journal.specs.Place.{IsHonest, PlaceFacts}
 use Rattle.ub_journal.proofs.Applied.{sized_already}
-use Rattle.ub_keeping.specs.Store.{table_pages, store_facts}
+use Rattle.ub_keeping.specs.Store.{PlaceView, facts_of_view, store_facts, table_pages}
 use Rattle.ub_keeping.specs.inner.Fitting.{LeaveFirst}
 use Rattle.ub_overlay.specs.Overlay.{OverlayView, pages_of}
 use Rattle.ub_journal.specs.declared.journal.Change.{Change}
@@ -52,6 +52,20 @@ read_store a b count reads more raise writes same seen is =
     ap (λ (h : Bool). facts_with h (table_pages b.honest count b.seen.table) more writes) same
     ∙ ap (λ (p : List (List ℕ)). facts_with a.honest p more writes) (pages_same b.honest a.honest count b.seen.table a.seen.table same (λ honest. ap (λ (i : Image). i.table) (seen honest)))
     ∙ ap (λ (n : ℕ). facts_with a.honest (table_pages a.honest count a.seen.table) n writes) is
+
+pub read_view : {P : Type 0} (facts : P → PlaceFacts) (v u : PlaceView P) → u ≡ record v { place = u.place } → (facts u.place).honest ≡ (facts v.place).honest
+    → (IsHonest (facts v.place) → (facts u.place).seen ≡ (facts v.place).seen) → facts_of_view facts u ≡ record (facts_of_view facts v) { failed_reads = v.reads }
+read_view facts v u same honest seen =
+    ap (λ (w : PlaceView _). facts_of_view facts w) same ∙ read_store (facts v.place) (facts u.place) v.count v.reads v.reads v.reads v.writes honest seen refl
+
+-- and a read that failed is counted
+pub failed_view : {P : Type 0} (facts : P → PlaceFacts) (v u w : PlaceView P) (more : ℕ) → w ≡ u → u ≡ record v { place = u.place } → more ≡ raised w.reads 1
+    → (facts u.place).honest ≡ (facts v.place).honest → (IsHonest (facts v.place) → (facts u.place).seen ≡ (facts v.place).seen)
+    → store_facts (facts w.place) w.count more w.writes ≡ record (facts_of_view facts v) { failed_reads = raised v.reads 1 }
+failed_view facts v u w more is same counted honest seen =
+    ap (λ (n : ℕ). store_facts (facts w.place) w.count n w.writes) counted
+    ∙ ap (λ (x : PlaceView _). store_facts (facts x.place) x.count (raised x.reads 1) x.writes) (is ∙ same)
+    ∙ read_store (facts v.place) (facts u.place) v.count v.reads (raised v.reads 1) (raised v.reads 1) v.writes honest seen refl
 
 pub within_count : (honest : Bool) (count n : ℕ) (table : List (List ℕ)) → (IsTrue honest → count ≡ length table) → n < count → length (table_pages honest count table) ≤ n → ⊥
 within_count honest count n table is less past = let many = table_count honest count table is in omega (arith, many, less, past)

@@ -122,7 +122,7 @@ fn read_through<P: Place>(
             fault: StoreFault::Device,
         });
     }
-    match Overlay::through(alloc, PlaceStore::of(place, count), journal) {
+    match Overlay::through(alloc, PlaceStore::of(alloc, place, count), journal) {
         Ok(overlay) => Ok(overlay),
         Err(refused) => Err(Rejected {
             store: refused.store.into_place(),
@@ -153,5 +153,5 @@ pub fn read_alone<P: Place>(
             fault: StoreFault::BadSize,
         });
     }
-    Ok(Overlay::new(alloc, PlaceStore::of(place, count)))
+    Ok(Overlay::new(alloc, PlaceStore::of(alloc, place, count)))
 }

@@ -17,6 +17,7 @@
 
 #![tactic(auto)]
 
+mod ahead;
 mod asking;
 mod changing;
 mod fitting;

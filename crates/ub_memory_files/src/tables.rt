@@ -108,7 +108,7 @@ fn leave_healed(
         return Err(OpenFault::Store(StoreFault::Memory));
     };
     leave(entries, path, copy);
-    match PlaceStore::open(place) {
+    match PlaceStore::open(alloc, place) {
         Ok(store) => Ok(Overlay::new(alloc, store)),
         Err(_) => Err(OpenFault::Store(StoreFault::BadSize)),
     }

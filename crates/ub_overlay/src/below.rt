@@ -4,7 +4,7 @@ ghost use Rattle.ub_store.specs.Facts.{page_count, IsPage, Reads};
 use std::marker::Model;
 use ub_store::{Page, PageStore, StoreFault};
 
-/// A store that is only read. No other call of it can be made from here.
+/// A store that is only read. No call of it that changes a page can be made from here.
 #[derive(Drop)]
 pub struct Below<S> {
     store: S,
@@ -41,6 +41,13 @@ impl<S: PageStore> Below<S> {
         ensures effect { Reads (S.facts self.old) (S.facts self.new) result }
     {
         self.store.read_into(n, page)
+    }
+
+    /// Tells the store that so many pages from this number on are asked for next.
+    pub fn announce(&mut self, n: u32, count: u32)
+        ensures { S.facts self.new ≡ S.facts self.old }
+    {
+        self.store.announce(n, count);
     }
 
     /// The store, as it is.

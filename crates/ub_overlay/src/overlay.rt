@@ -141,6 +141,18 @@ impl<S: PageStore> Overlay<S> {
     }
 }
 
+impl<S: PageStore> Overlay<S> {
+    // Whether one of these pages is held.
+    fn holds_any(&self, n: u32, count: u32) -> bool {
+        for behind in 0..count {
+            if self.changes.get(n.saturating_add(behind)).is_some() {
+                return true;
+            }
+        }
+        false
+    }
+}
+
 impl<S: PageStore> PageStore for Overlay<S> {
     ghost use Rattle.ub_overlay.specs.Overlay.{overlay_facts};
 
@@ -197,6 +209,17 @@ impl<S: PageStore> PageStore for Overlay<S> {
         let mut page = [0; 4096];
         self.read_into(n, &mut page)?;
         Ok(page)
+    }
+
+    /// Tells the store below, where none of these pages is held.
+    fn announce(&mut self, n: u32, count: u32)
+        ensures below { self.new
+            ≡ record self.old { store = self.new.store; below = self.old.below } }
+        ensures facts { overlay_facts self.new ≡ overlay_facts self.old }
+    {
+        if !self.holds_any(n, count) {
+            self.below.announce(n, count);
+        }
     }
 
     /// Holds this page in the place of that of this number. NoPage comes exactly where there is none. Device comes where memory was

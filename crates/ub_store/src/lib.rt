@@ -19,4 +19,4 @@ pub use faulty::FaultyStore;
 pub use memory::MemStore;
 pub use page::{Page, new_page};
 pub use pager::Pager;
-pub use store::{MAX_PAGES, PageStore};
+pub use store::{MAX_PAGES, PageStore, RUN_PAGES};

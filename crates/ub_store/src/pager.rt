@@ -98,6 +98,26 @@ impl<S: PageStore> Pager<S> {
         Ok(())
     }
 
+    /// Tells the store that so many pages from this number on are asked for next, up to the first that is held.
+    pub fn announce(&mut self, n: u32, count: u32)
+        ensures { self.new ≡ self.old }
+    {
+        let many = self.unheld(n, count);
+        if many > 1 {
+            self.store.announce(n, many);
+        }
+    }
+
+    // How many of these pages stand before the first one that the cache holds.
+    fn unheld(&self, n: u32, count: u32) -> u32 {
+        for behind in 0..count {
+            if self.cache.get(n.saturating_add(behind)).is_some() {
+                return behind;
+            }
+        }
+        count
+    }
+
     /// Brings the page of this number into the cache, and says whether it was read from the store. One that is cached is not read
     /// again. NoPage comes where there is none, Device where the store failed in this call, Memory where memory was refused, for
     /// the cache too.

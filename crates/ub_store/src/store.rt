@@ -7,6 +7,9 @@ use crate::fault::StoreFault;
 /// The most pages that a store has.
 pub const MAX_PAGES: u32 = 4294967295;
 
+/// The most pages that a store reads at once.
+pub const RUN_PAGES: u32 = 16;
+
 /// A store of pages, which are numbered from 0.
 ///
 /// A page that a fault leaves unread or unwritten may be asked for again. Whether a store is honest and can fail, which pages
@@ -42,6 +45,12 @@ pub trait PageStore: Drop {
         ensures memory { IsErrOf result StoreFault.Memory → IsTrue reads_need_memory }
         ensures no_size { ¬ (IsErrOf result StoreFault.BadSize) }
         ensures effect { Reads (facts self.old) (facts self.new) result };
+
+    /// Tells the store that so many pages from this number on are asked for next, one after the other: it may read several of
+    /// them at once where the first one is asked for. No fault comes, and nothing that a later call promises changes.
+    fn announce(&mut self, n: u32, count: u32)
+        ensures { facts self.new ≡ facts self.old }
+    {}
 
     /// Puts a page in the place of that of this number. NoPage comes where there is none, Device where the store failed in
     /// this call, whatever the cause. After a fault that page may hold any bytes.

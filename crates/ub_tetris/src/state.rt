@@ -3,7 +3,7 @@ ghost use Rattle.ub_query.specs.Posed.{IsPosed};
 ghost use Rattle.ub_tetris.specs.Calls.{GivesRow, GivesValue, HandsAll};
 ghost use Rattle.ub_tetris.specs.Effects.{of_reading};
 ghost use Rattle.ub_tetris.specs.inner.Events.{seen};
-ghost use Rattle.ub_tetris.specs.inner.Turns.{HandsNext, HoldsNext, IsDueAs, OpensNext, ReadsNext, TakesDue, begun_view, view_of};
+ghost use Rattle.ub_tetris.specs.inner.Turns.{HandsTurn, HoldsNext, IsDueAs, OpensNext, ReadsNext, TakesDue, begun_view, view_of};
 
 use crate::awaiting::Awaiting;
 use crate::course::{Course, have_dimension};
@@ -151,7 +151,7 @@ impl State {
         sink: &mut K,
     ) -> Result<(), ReadFault>
         requires { IsPosed (length tree.old.schema.columns) plan.now.asked }
-        ensures { HandsNext (K.HasTaken tree.old.schema plan.now.asked) plan.now tree.old tree.new
+        ensures { HandsTurn (K.HasTaken tree.old.schema plan.now.asked) plan.now tree.old tree.new
             (view_of self.old) (view_of self.new) (seen next.now) sink.old sink.new result }
     {
         if next.stretch.level > 0 {

@@ -219,8 +219,8 @@ impl<S: PageStore> Tree<S> {
     }
 
     /// Hands the next regions later than `after`, if one is given, that meet one of the boxes to a sink, in the order of their first
-    /// keys: those that one leaf of the index names, just as `next_meeting` answers them, asked after each; none only where it answers
-    /// none. `after` is a region that the tree has answered. No region is fetched, and the trace stays.
+    /// keys: some of those that one leaf of the index names, just as `next_meeting` answers them, asked after each; none only where it
+    /// answers none. `after` is a region that the tree has answered. No region is fetched, and the trace stays.
     ///
     /// Refused as `next_meeting` is; Memory also where memory was refused by the sink.
     pub fn hand_next<T: RegionSink>(
@@ -268,5 +268,19 @@ impl<S: PageStore> Tree<S> {
         }
         fetch_region(&mut self.pager, &self.schema, region, page)?;
         Ok(())
+    }
+
+    /// Takes in what stands on the region's page, as `read_region` does, where so many pages from that one on are asked for
+    /// next, one after the other: the store may then read several of them at once.
+    pub fn read_in_run(
+        &mut self,
+        region: &Region,
+        run: u32,
+        page: &mut RegionPage,
+    ) -> Result<(), TreeFault>
+        ensures { TakesIn region.now page.new self.old self.new result }
+    {
+        self.pager.announce(region.page, run);
+        self.read_region(region, page)
     }
 }

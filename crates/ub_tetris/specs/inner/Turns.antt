@@ -140,7 +140,7 @@ pub record HoldsNext (plan : PlanView) (t new : TreeView) (s new_s : SweepView) 
       × HoldsAlso t.schema (swept_order plan.asked.group plan.asked.order) rows s.held new_s.held)
 
 -- a sink took them, and those held are those that were
-pub record HandsNext {K : Type 0} (HasTaken : K → List Row → K → Type 0) (plan : PlanView) (t new : TreeView) (s new_s : SweepView) (come_to : AwaitedStretch) (sink new_sink : K) (result : Result (Unit {0}) ReadFault) : Type 0 where
+pub record HandsTurn {K : Type 0} (HasTaken : K → List Row → K → Type 0) (plan : PlanView) (t new : TreeView) (s new_s : SweepView) (come_to : AwaitedStretch) (sink new_sink : K) (result : Result (Unit {0}) ReadFault) : Type 0 where
   pub next : AsksNext plan t new s new_s come_to result
   pub held : new_s.held ≡ s.held
   pub rows : OnOk result (HandsOver HasTaken sink new_sink (HasComeTo plan t new s new_s come_to))

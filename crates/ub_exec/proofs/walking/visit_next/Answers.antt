@@ -43,45 +43,45 @@ pub returns-clause-rows : goal.returns-clause-rows
 returns-clause-rows g c before taken has =
     let same = c.in_ok-region.ensures.effect.same in
     let schema : c.schema.result.now ≡ c.args.tree.now.schema =
-    c.schema.ensures ∙ schema_read _ _ c.in-Some.region c.args.tree.now c.take_next.new.tree c.read_region.new.self c.in_ok-region.ensures.effect c.in_ok-read_region.ensures.effect in (
-      c.read_region.new.page.region.rows,
+    c.schema.ensures ∙ schema_read _ _ c.in-Some.region c.args.tree.now c.take_next.new.tree c.read_in_run.new.self c.in_ok-region.ensures.effect c.in_ok-read_in_run.ensures.effect in (
+      c.read_in_run.new.page.region.rows,
       (rw schema at (c.in_ok-push_chosen.ensures before taken)) has,
       (
-        (c.read_region.new.page.region, subst (λ (t : TreeView). IsTakenIn t c.in-Some.region c.read_region.new.page.region) same c.in_ok-read_region.ensures.taken, refl),
-        λ sound. visited_by c.args.tree.now c.take_next.new.tree c.read_region.new.self c.args.plan.now.covering.boxes (option_copied c.args.after) c.in-Some.region c.read_region.new.page.region
-            c.read_region.new.page.region.rows sound
+        (c.read_in_run.new.page.region, subst (λ (t : TreeView). IsTakenIn t c.in-Some.region c.read_in_run.new.page.region) same c.in_ok-read_in_run.ensures.taken, refl),
+        λ sound. visited_by c.args.tree.now c.take_next.new.tree c.read_in_run.new.self c.args.plan.now.covering.boxes (option_copied c.args.after) c.in-Some.region c.read_in_run.new.page.region
+            c.read_in_run.new.page.region.rows sound
             (subst (λ (boxes : List Corners). First (λ s. IsLater (option_copied c.args.after) s × Meets boxes s) (spans_of c.args.tree.now) (Some c.in-Some.region)) c.boxes.ensures.boxes (rw c.in-Some.is at (c.in_ok-region.ensures.found sound)))
-            (Keeps-by c.args.tree.now c.take_next.new.tree (unchanged_traced c.args.tree.now c.take_next.new.tree same)) (unchanged_trace c.args.tree.now c.take_next.new.tree same) c.in_ok-read_region.ensures.stands c.in_ok-read_region.ensures.first c.in_ok-read_region.ensures.effect.listed refl,
+            (Keeps-by c.args.tree.now c.take_next.new.tree (unchanged_traced c.args.tree.now c.take_next.new.tree same)) (unchanged_trace c.args.tree.now c.take_next.new.tree same) c.in_ok-read_in_run.ensures.stands c.in_ok-read_in_run.ensures.first c.in_ok-read_in_run.ensures.effect.listed refl,
       ),
     )
 
-pub returns-in_err-read_region-clause-effect : goal.returns-in_err-read_region-clause-effect
-returns-in_err-read_region-clause-effect g c =
+pub returns-in_err-read_in_run-clause-effect : goal.returns-in_err-read_in_run-clause-effect
+returns-in_err-read_in_run-clause-effect g c =
     let same = c.in_ok-region.ensures.effect.same in
     let gives = rw c.in-Some.is at c.in_ok-region.ensures.gives in
-    tree_reads c.from_residual-in_err-read_region.result _ c.args.tree.now c.take_next.new.tree c.read_region.new.self c.from_residual-in_err-read_region.ensures.1
-    (unchanged_traced c.args.tree.now c.take_next.new.tree same) c.in_err-read_region.ensures.effect.same
-    (c.in_err-read_region.ensures.effect.faults (subst (λ (t : TreeView). IsRegionOf t c.in-Some.region) (sym same) (next_is_later c.args.tree.now _ _ c.in-Some.region gives).0))
+    tree_reads c.from_residual-in_err-read_in_run.result _ c.args.tree.now c.take_next.new.tree c.read_in_run.new.self c.from_residual-in_err-read_in_run.ensures.1
+    (unchanged_traced c.args.tree.now c.take_next.new.tree same) c.in_err-read_in_run.ensures.effect.same
+    (c.in_err-read_in_run.ensures.effect.faults (subst (λ (t : TreeView). IsRegionOf t c.in-Some.region) (sym same) (next_is_later c.args.tree.now _ _ c.in-Some.region gives).0))
 
 pub returns-in_err-region-clause-broken : goal.returns-in_err-region-clause-broken
 returns-in_err-region-clause-broken g c sound =
     on_err c.from_residual.result _ (inl (ap (λ (t : TreeView). t.trace) c.in_err-region.ensures.effect.same))
 
-pub returns-in_err-read_region-clause-broken : goal.returns-in_err-read_region-clause-broken
-returns-in_err-read_region-clause-broken g c sound =
+pub returns-in_err-read_in_run-clause-broken : goal.returns-in_err-read_in_run-clause-broken
+returns-in_err-read_in_run-clause-broken g c sound =
     let same = c.in_ok-region.ensures.effect.same in
-    on_err c.from_residual-in_err-read_region.result _
-    (asked_some c.args.tree.now c.take_next.new.tree c.read_region.new.self _ _ c.in-Some.region sound
+    on_err c.from_residual-in_err-read_in_run.result _
+    (asked_some c.args.tree.now c.take_next.new.tree c.read_in_run.new.self _ _ c.in-Some.region sound
     (subst (λ (boxes : List Corners). First (λ s. IsLater (option_copied c.args.after) s × Meets boxes s) (spans_of c.args.tree.now) (Some c.in-Some.region)) c.boxes.ensures.boxes (rw c.in-Some.is at (c.in_ok-region.ensures.found sound)))
-    (Keeps-by c.args.tree.now c.take_next.new.tree (unchanged_traced c.args.tree.now c.take_next.new.tree same)) (unchanged_trace c.args.tree.now c.take_next.new.tree same) (either_noted _ c.take_next.new.tree c.read_region.new.self _ c.in_err-read_region.ensures.effect.noted))
+    (Keeps-by c.args.tree.now c.take_next.new.tree (unchanged_traced c.args.tree.now c.take_next.new.tree same)) (unchanged_trace c.args.tree.now c.take_next.new.tree same) (either_noted _ c.take_next.new.tree c.read_in_run.new.self _ c.in_err-read_in_run.ensures.effect.noted))
 
 pub returns-in_err-push_chosen-clause-broken : goal.returns-in_err-push_chosen-clause-broken
 returns-in_err-push_chosen-clause-broken g c sound =
     let same = c.in_ok-region.ensures.effect.same in
     on_err c.from_residual-in_err-push_chosen.result _
-    (asked_some c.args.tree.now c.take_next.new.tree c.read_region.new.self _ _ c.in-Some.region sound
+    (asked_some c.args.tree.now c.take_next.new.tree c.read_in_run.new.self _ _ c.in-Some.region sound
     (subst (λ (boxes : List Corners). First (λ s. IsLater (option_copied c.args.after) s × Meets boxes s) (spans_of c.args.tree.now) (Some c.in-Some.region)) c.boxes.ensures.boxes (rw c.in-Some.is at (c.in_ok-region.ensures.found sound)))
-    (Keeps-by c.args.tree.now c.take_next.new.tree (unchanged_traced c.args.tree.now c.take_next.new.tree same)) (unchanged_trace c.args.tree.now c.take_next.new.tree same) (inr c.in_ok-read_region.ensures.effect.listed))
+    (Keeps-by c.args.tree.now c.take_next.new.tree (unchanged_traced c.args.tree.now c.take_next.new.tree same)) (unchanged_trace c.args.tree.now c.take_next.new.tree same) (inr c.in_ok-read_in_run.ensures.effect.listed))
 
 pub returns-in_default-clause-next : goal.returns-in_default-clause-next
 returns-in_default-clause-next g c = (
@@ -100,38 +100,38 @@ returns-in_err-region-clause-notes g c =
     notes_none c.from_residual.result c.args.tree.now c.take_next.new.tree
     (ap (λ (t : TreeView). t.trace) c.in_err-region.ensures.effect.same)
 
-pub returns-in_err-read_region-clause-notes : goal.returns-in_err-read_region-clause-notes
-returns-in_err-read_region-clause-notes g c =
-    notes_one c.from_residual-in_err-read_region.result _ c.args.tree.now c.take_next.new.tree c.read_region.new.self _ c.from_residual-in_err-read_region.ensures.1
+pub returns-in_err-read_in_run-clause-notes : goal.returns-in_err-read_in_run-clause-notes
+returns-in_err-read_in_run-clause-notes g c =
+    notes_one c.from_residual-in_err-read_in_run.result _ c.args.tree.now c.take_next.new.tree c.read_in_run.new.self _ c.from_residual-in_err-read_in_run.ensures.1
     (unchanged_trace c.args.tree.now c.take_next.new.tree c.in_ok-region.ensures.effect.same)
-    (either_noted _ c.take_next.new.tree c.read_region.new.self _ c.in_err-read_region.ensures.effect.noted)
+    (either_noted _ c.take_next.new.tree c.read_in_run.new.self _ c.in_err-read_in_run.ensures.effect.noted)
 
 pub returns-in_err-push_chosen-clause-notes : goal.returns-in_err-push_chosen-clause-notes
 returns-in_err-push_chosen-clause-notes g c =
-    notes_one c.from_residual-in_err-push_chosen.result _ c.args.tree.now c.take_next.new.tree c.read_region.new.self _ c.from_residual-in_err-push_chosen.ensures.1
-    (unchanged_trace c.args.tree.now c.take_next.new.tree c.in_ok-region.ensures.effect.same) (inr c.in_ok-read_region.ensures.effect.listed)
+    notes_one c.from_residual-in_err-push_chosen.result _ c.args.tree.now c.take_next.new.tree c.read_in_run.new.self _ c.from_residual-in_err-push_chosen.ensures.1
+    (unchanged_trace c.args.tree.now c.take_next.new.tree c.in_ok-region.ensures.effect.same) (inr c.in_ok-read_in_run.ensures.effect.listed)
 
 pub returns-clause-notes : goal.returns-clause-notes
 returns-clause-notes g c =
-    next_notes c.args.plan.now.covering.boxes (option_copied c.args.after) c.args.tree.now c.read_region.new.self (Some c.in-Some.region)
-    (read_next c.boxes.result.now c.args.plan.now.covering.boxes _ c.args.tree.now c.take_next.new.tree c.read_region.new.self c.in-Some.region c.read_region.new.page.region
-    c.boxes.ensures.boxes c.in_ok-region.ensures.effect.same (rw c.in-Some.is at c.in_ok-region.ensures.gives) c.in_ok-read_region.ensures.effect.listed c.in_ok-read_region.ensures.taken)
+    next_notes c.args.plan.now.covering.boxes (option_copied c.args.after) c.args.tree.now c.read_in_run.new.self (Some c.in-Some.region)
+    (read_next c.boxes.result.now c.args.plan.now.covering.boxes _ c.args.tree.now c.take_next.new.tree c.read_in_run.new.self c.in-Some.region c.read_in_run.new.page.region
+    c.boxes.ensures.boxes c.in_ok-region.ensures.effect.same (rw c.in-Some.is at c.in_ok-region.ensures.gives) c.in_ok-read_in_run.ensures.effect.listed c.in_ok-read_in_run.ensures.taken)
 
 pub push_chosen-requires-clause-posed : goal.push_chosen-requires-clause-posed
 push_chosen-requires-clause-posed g c =
     let schema : c.schema.result.now ≡ c.args.tree.now.schema =
-    c.schema.ensures ∙ schema_read _ _ c.in-Some.region c.args.tree.now c.take_next.new.tree c.read_region.new.self c.in_ok-region.ensures.effect c.in_ok-read_region.ensures.effect in
+    c.schema.ensures ∙ schema_read _ _ c.in-Some.region c.args.tree.now c.take_next.new.tree c.read_in_run.new.self c.in_ok-region.ensures.effect c.in_ok-read_in_run.ensures.effect in
     subst (λ (s : Schema). IsPosed (length s.columns) c.args.plan.now.asked) (sym schema) c.requires.fit.0
 
 pub push_chosen-requires-clause-fit : goal.push_chosen-requires-clause-fit
 push_chosen-requires-clause-fit g c =
     let schema : c.schema.result.now ≡ c.args.tree.now.schema =
-    c.schema.ensures ∙ schema_read _ _ c.in-Some.region c.args.tree.now c.take_next.new.tree c.read_region.new.self c.in_ok-region.ensures.effect c.in_ok-read_region.ensures.effect in
+    c.schema.ensures ∙ schema_read _ _ c.in-Some.region c.args.tree.now c.take_next.new.tree c.read_in_run.new.self c.in_ok-region.ensures.effect c.in_ok-read_in_run.ensures.effect in
     subst (λ (s : Schema). IsFit s c.args.plan.now c.args.choice) (sym schema) c.requires.fit.1
 
 pub push_chosen-requires-clause-dims : goal.push_chosen-requires-clause-dims
 push_chosen-requires-clause-dims g c =
-    c.in_ok-read_region.ensures.dims ∙ sym (ap (λ (s : Schema). s.dims) (c.schema.ensures ∙ ap (λ (t : TreeView). t.schema) c.in_ok-read_region.ensures.effect.same))
+    c.in_ok-read_in_run.ensures.dims ∙ sym (ap (λ (s : Schema). s.dims) (c.schema.ensures ∙ ap (λ (t : TreeView). t.schema) c.in_ok-read_in_run.ensures.effect.same))
 
 pub returns-in_err-region-clause-rows : goal.returns-in_err-region-clause-rows
 returns-in_err-region-clause-rows g c = no_answer c.from_residual.result _ _ c.from_residual.ensures.1
@@ -139,11 +139,11 @@ returns-in_err-region-clause-rows g c = no_answer c.from_residual.result _ _ c.f
 pub returns-in_err-region-clause-next : goal.returns-in_err-region-clause-next
 returns-in_err-region-clause-next g c = no_answer c.from_residual.result _ _ c.from_residual.ensures.1
 
-pub returns-in_err-read_region-clause-rows : goal.returns-in_err-read_region-clause-rows
-returns-in_err-read_region-clause-rows g c = no_answer c.from_residual-in_err-read_region.result _ _ c.from_residual-in_err-read_region.ensures.1
+pub returns-in_err-read_in_run-clause-rows : goal.returns-in_err-read_in_run-clause-rows
+returns-in_err-read_in_run-clause-rows g c = no_answer c.from_residual-in_err-read_in_run.result _ _ c.from_residual-in_err-read_in_run.ensures.1
 
-pub returns-in_err-read_region-clause-next : goal.returns-in_err-read_region-clause-next
-returns-in_err-read_region-clause-next g c = no_answer c.from_residual-in_err-read_region.result _ _ c.from_residual-in_err-read_region.ensures.1
+pub returns-in_err-read_in_run-clause-next : goal.returns-in_err-read_in_run-clause-next
+returns-in_err-read_in_run-clause-next g c = no_answer c.from_residual-in_err-read_in_run.result _ _ c.from_residual-in_err-read_in_run.ensures.1
 
 pub returns-in_err-push_chosen-clause-rows : goal.returns-in_err-push_chosen-clause-rows
 returns-in_err-push_chosen-clause-rows g c = no_answer c.from_residual-in_err-push_chosen.result _ _ c.from_residual-in_err-push_chosen.ensures.1
@@ -156,17 +156,17 @@ returns-in_err-region-clause-effect g c = search_reads c.from_residual.result _ 
 
 pub returns-in_err-push_chosen-clause-effect : goal.returns-in_err-push_chosen-clause-effect
 returns-in_err-push_chosen-clause-effect g c =
-    memory_reads c.from_residual-in_err-push_chosen.result c.args.tree.now c.read_region.new.self c.from_residual-in_err-push_chosen.ensures.1
-    (reads_then {T = Unit {0}} (Ok tt) c.args.tree.now c.take_next.new.tree c.read_region.new.self (unchanged_traced c.args.tree.now c.take_next.new.tree c.in_ok-region.ensures.effect.same)
-    (record { same = c.in_ok-read_region.ensures.effect.same; faults = tt })).same
+    memory_reads c.from_residual-in_err-push_chosen.result c.args.tree.now c.read_in_run.new.self c.from_residual-in_err-push_chosen.ensures.1
+    (reads_then {T = Unit {0}} (Ok tt) c.args.tree.now c.take_next.new.tree c.read_in_run.new.self (unchanged_traced c.args.tree.now c.take_next.new.tree c.in_ok-region.ensures.effect.same)
+    (record { same = c.in_ok-read_in_run.ensures.effect.same; faults = tt })).same
 
 pub returns-in_default-clause-effect : goal.returns-in_default-clause-effect
 returns-in_default-clause-effect g c = record { same = unchanged_traced c.args.tree.now c.take_next.new.tree c.in_ok-region.ensures.effect.same; faults = tt }
 
 pub returns-clause-effect : goal.returns-clause-effect
 returns-clause-effect g c =
-    reads_then (Ok (Some c.in-Some.region)) c.args.tree.now c.take_next.new.tree c.read_region.new.self (unchanged_traced c.args.tree.now c.take_next.new.tree c.in_ok-region.ensures.effect.same)
-    (record { same = c.in_ok-read_region.ensures.effect.same; faults = tt })
+    reads_then (Ok (Some c.in-Some.region)) c.args.tree.now c.take_next.new.tree c.read_in_run.new.self (unchanged_traced c.args.tree.now c.take_next.new.tree c.in_ok-region.ensures.effect.same)
+    (record { same = c.in_ok-read_in_run.ensures.effect.same; faults = tt })
 
 pub take_next-requires-clause-ahead : goal.take_next-requires-clause-ahead
 take_next-requires-clause-ahead g c =
@@ -174,8 +174,8 @@ take_next-requires-clause-ahead g c =
 
 pub returns-clause-next : goal.returns-clause-next
 returns-clause-next g c = (
-  read_next c.boxes.result.now c.args.plan.now.covering.boxes _ c.args.tree.now c.take_next.new.tree c.read_region.new.self c.in-Some.region c.read_region.new.page.region
-      c.boxes.ensures.boxes c.in_ok-region.ensures.effect.same (rw c.in-Some.is at c.in_ok-region.ensures.gives) c.in_ok-read_region.ensures.effect.listed c.in_ok-read_region.ensures.taken,
+  read_next c.boxes.result.now c.args.plan.now.covering.boxes _ c.args.tree.now c.take_next.new.tree c.read_in_run.new.self c.in-Some.region c.read_in_run.new.page.region
+      c.boxes.ensures.boxes c.in_ok-region.ensures.effect.same (rw c.in-Some.is at c.in_ok-region.ensures.gives) c.in_ok-read_in_run.ensures.effect.listed c.in_ok-read_in_run.ensures.taken,
   subst (λ (boxes : List Corners). StandAhead boxes c.args.tree.now (Some c.in-Some.region) c.take_next.new.ahead.items) c.boxes.ensures.boxes (rw c.in-Some.is at c.in_ok-region.ensures.left),
 )
 
