@@ -21,7 +21,7 @@ pub(crate) struct Ahead {
     pub first: u32,
     /// How many there are.
     pub held: u32,
-    /// The number of the first page that is asked for next.
+    /// The number of the first page that is asked for next, and wasn't read yet.
     pub wanted: u32,
     /// The number behind that of the last one.
     pub until: u32,
@@ -50,11 +50,12 @@ impl Ahead {
         self.until = n.saturating_add(count);
     }
 
-    /// How many pages from this number on are asked for next, as far as they are read at once.
+    /// How many pages from this number on are asked for next, as far as they are read at once. None where it isn't the first of
+    /// them: what was announced before that is asked for no more.
     pub fn many_from(&self, n: u32) -> u32
         ensures { result ≤ RUN_PAGES }
     {
-        if n < self.wanted || self.until <= n {
+        if n != self.wanted || self.until <= n {
             return 0;
         }
         (self.until - n).min(RUN_PAGES)

@@ -97,6 +97,7 @@ impl<P: Place> PlaceStore<P> {
         let read = fill(&mut self.place, self.ahead.bytes.as_mut_slice(), n, many)?;
         self.ahead.first = n;
         self.ahead.held = read;
+        self.ahead.wanted = n.saturating_add(read);
         self.ahead.copy(n, page);
         Ok(())
     }
