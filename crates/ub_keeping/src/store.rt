@@ -117,8 +117,8 @@ impl<P: Place> PageStore for PlaceStore<P> {
         self.count
     }
 
-    /// Reads the page of this number into the one that is lent, by one call of the place or by none. NoPage comes exactly where there
-    /// is none, and nothing of the store changes then; Device comes where the place failed in this call.
+    /// Reads the page of this number into the one that is lent. NoPage comes exactly where there is none, and nothing of the
+    /// store changes then; Device comes where the place failed in this call, just once.
     fn read_into(&mut self, n: u32, page: &mut Page) -> Result<(), StoreFault>
         ensures page { OnOk result (IsPage (facts_of_view P.facts self.old) n page.new) }
         ensures missing { IsErrOf result StoreFault.NoPage
