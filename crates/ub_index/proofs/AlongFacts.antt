@@ -1,5 +1,5 @@
 -- A walk along a leaf: the region that stands next on it, those that follow one another, and what a search gives there.
-use Rattle.std.proofs.Common.{rules, ◌≡◌, ◌≤◌, ◌<◌, ◌+◌, ◌-◌, ◌*◌, ◌^◌, ◌++◌, ◌⊎◌, inl, inr, ℕ, suc, List, [], ◌∷◌, Option, Some, None, IfSome, Result, Ok, Err, if◌then◌else◌, nat_lt, drop, ◌∙◌, sym, ap, subst, refl, arith, append-nil}
+use Rattle.std.proofs.Common.{rules, ◌≡◌, ◌≤◌, ◌<◌, ◌+◌, ◌^◌, ◌++◌, ◌⊎◌, inl, inr, ℕ, List, [], ◌∷◌, Option, Some, None, IfSome, Result, Ok, Err, drop, ◌∙◌, sym, ap, subst, refl, arith, append-nil}
 use Rattle.std.specs.Result.{IsErrAnd}
 use Rattle.ub_bigmin.specs.Box.{Corners}
 use Rattle.ub_bytes.specs.Bytes.{number_at}
@@ -35,52 +35,9 @@ use Rattle.ub_region.specs.declared.region.Region.{Region}
 use Rattle.ub_store.specs.Facts.{IsHonest, IsPage, StoreFacts}
 use Rattle.ub_store.specs.View.{Holds, PagerView}
 use Rattle.ub_store.specs.declared.fault.StoreFault.TheVariants.{Memory}
-use Rattle.ub_table.proofs.Laws.{before_parts, not_before_self, not_both_before}
+use Rattle.ub_table.proofs.Laws.{not_before_self, not_both_before}
 use Rattle.ub_table.specs.Keys.{IsBefore}
 use Rattle.ub_table.specs.declared.row.Key.{Key}
-
--- ---- how many keys of a space are later than one
-
--- a number, or the greatest of 32 bits
-abbrev capped : ℕ → ℕ
-capped n = if nat_lt n 4294967296 then n else 4294967295
-
-capped_few : (n : ℕ) → capped n < 4294967296
-capped_few n = search rules
-
-capped_is : (n : ℕ) → n < 4294967296 → capped n ≡ n
-capped_is n few = search rules
-
--- so many keys with numbers of 32 bits, and one more
-pub keys_from : ℕ → Key → ℕ
-keys_from last key = suc ((last + 1) * 4294967296 - (key.z * 4294967296 + capped key.number))
-
-keys_less : (last : ℕ) (a b : Key) → IsBefore a b → a.z ≤ last → b.number < 2 ^ 32 → keys_from last b < keys_from last a
-unfolding keys_from
-keys_less last a b before le small =
-    let few = capped_few a.number in
-    elim (before_parts a b before) [
-      | inl less ↦ omega arith
-      | inr both ↦
-          let same = both.0 in
-          let less = both.1 in
-          let one = capped_is a.number (omega arith) in
-          let other = capped_is b.number (omega arith) in
-          omega arith
-    ]
-
-keys_some : (last : ℕ) (key : Key) → 0 < keys_from last key
-unfolding keys_from
-keys_some last key = omega arith
-
--- the same where there may be none
-abbrev pub left_from : ℕ → Option Key → ℕ
-left_from last None = 0
-left_from last (Some key) = keys_from last key
-
-pub left_less : (last : ℕ) (key : Key) (on : Option Key) → IfSome on (IsBefore key) → IfSome on (λ k. IsBefore key k → (key.z ≤ last) × (k.number < 2 ^ 32)) → left_from last on < left_from last (Some key)
-left_less last key None before near = keys_some last key
-left_less last key (Some on) before near = let (within, small) = near before in keys_less last key on before within small
 
 -- ---- the key to which a search goes down
 
@@ -107,9 +64,6 @@ module _ (boxes : List Corners) (last : ℕ) (from : Key) where
   no_aim : IsAimless last (Meeting boxes) (Some from) → (aim : Key) → ¬ (IsAim last (Meeting boxes) from aim)
   no_aim (inl none) aim (z, to, le, is) = let less : z < from.z = none z to.0 in let near = to.1 in omega arith
   no_aim (inr (y, to_y, past)) aim (z, to, le, is) = let up : y ≤ z = to_y.2 z to.0 to.1 in omega arith
-
-  aim_within : (aim : Key) → IsAim last (Meeting boxes) from aim → from.z ≤ last
-  aim_within aim (z, to, le, is) = let near = to.1 in omega arith
 
   -- what holds it meets the boxes
   pub aim_met : (aim : Key) (region : Region) → IsAim last (Meeting boxes) from aim → HoldsKey aim region.first region.next → region ≡ region_of last (entry_at region) region.next
@@ -190,14 +144,9 @@ follow_more last To leaf entries from [] key region is stands = (key, is, stands
 follow_more last To leaf entries from (x ∷ handed) key region (k, is, there, rest) stands = (k, is, there, follow_more last To leaf entries x.next handed key region rest stands)
 
 -- later than what isn't later than this
-pub later_on : (first from next : Key) → (from ≡ first) ⊎ (IsBefore first from × (from.number < 2 ^ 32)) → IsBefore from next → IsBefore first next
+pub later_on : (first from next : Key) → (from ≡ first) ⊎ IsBefore first from → IsBefore from next → IsBefore first next
 later_on first from next (inl same) before = subst (λ (k : Key). IsBefore k next) same before
-later_on first from next (inr sooner) before = le_before first from next (λ back. not_both_before first from sooner.0 back) before
-
--- and a later one has a number of 32 bits
-pub later_small : (first from : Key) → (from ≡ first) ⊎ (IsBefore first from × (from.number < 2 ^ 32)) → IsBefore first from → from.number < 2 ^ 32
-later_small first from (inl same) before = absurd (not_before_self first (subst (λ (k : Key). IsBefore first k) same before))
-later_small first from (inr sooner) before = sooner.1
+later_on first from next (inr sooner) before = le_before first from next (λ back. not_both_before first from sooner back) before
 
 -- ---- what a search gives
 
@@ -260,7 +209,6 @@ module _ {S : Type 0} (Takes : S → List Region → S → Type 0) (index : Inde
   leaf_none now old none = record {
     taken = ([], takes_none now, λ sure. none);
     stays = λ sure. tt;
-    nearer = tt;
     forgotten = tt;
     effect = record { same = refl; checked = λ sure. sure; more = λ n page held. inl held; faults = λ sure. tt };
   }
@@ -272,7 +220,6 @@ module _ {S : Type 0} (Takes : S → List Region → S → Type 0) (index : Inde
   leaf_refused before after old new (Err f) e is gone down = record {
     taken = tt;
     stays = λ sure. tt;
-    nearer = tt;
     forgotten = subst (λ (x : IndexFault). IsForgotten new x) (sym is) gone;
     effect = down;
   }
@@ -308,8 +255,6 @@ module _ {S : Type 0} (Takes : S → List Region → S → Type 0) (index : Inde
             if_some (λ key. ¬ (IsBefore from key) → IsSlotNext index.last (Meeting boxes) leaf page head.count from None)
             (λ key. ¬ (IsBefore from key) → Crosses index old.store (Meeting boxes) from)
             (λ key none stuck. crosses index old.store boxes leaf start holds (λ honest. down honest sure) page ends.1 (named sure) there from head.count same_count is (none stuck)) on h.stays;
-        nearer = if_some (λ key. IsBefore from key → key.number < 2 ^ 32) (λ key. IsBefore from key → (from.z ≤ index.last) × (key.number < 2 ^ 32))
-            (λ key small later. (aim_within boxes index.last from start is, small later)) on h.small;
         forgotten = tt;
         effect = record {
           same = pager_so old now old.store (stored ∙ stores) (ap (λ (p : PagerView). p.trace) brings.steps.same ∙ traces);

@@ -20,7 +20,7 @@ use Rattle.ub_store.specs.Cache.{NoneMoreBut, page_at}
 use Rattle.ub_store.specs.Facts.{IsHonest, StoreFacts}
 use Rattle.ub_store.specs.View.{PagerView}
 use Rattle.ub_table.proofs.Laws.{not_before_self}
-use Rattle.ub_table.specs.Keys.{IsBefore, origin}
+use Rattle.ub_table.specs.Keys.{IsBefore}
 use Rattle.ub_table.specs.declared.fault.PageFault.TheVariants.{OutOfRegion}
 use Rattle.ub_table.specs.declared.row.Key.{Key}
 

@@ -1,5 +1,5 @@
 -- How a walk over the regions that meet some boxes goes along a leaf.
-use Rattle.std.specs.Prelude.{◌≡◌, ◌≤◌, ◌<◌, ◌^◌, ℕ, List, [], ◌∷◌, Option, Some, None, Result, IfErr, IfOk, IfSome}
+use Rattle.std.specs.Prelude.{◌≡◌, ◌<◌, ◌^◌, ℕ, List, [], ◌∷◌, Option, Some, None, Result, IfErr, IfOk, IfSome}
 use Rattle.ub_bigmin.specs.Box.{Corners, HoldsAny}
 use Rattle.ub_bigmin.specs.Extremes.{LeastFrom}
 use Rattle.ub_index.specs.Descending.{HoldsLeaf, IsForgotten}
@@ -62,7 +62,6 @@ pub record HandsAlong {S : Type 0} (Takes : S → List Region → S → Type 0) 
   pub takes : TakesThese Takes before after regions
   pub follow : FollowOn last To leaf (node_on page).entries (Some from) regions on
   pub stays : IfSome on (λ key. ¬ (IsBefore from key) → IsSlotNext last To leaf page count from None)
-  pub small : IfSome on (λ key. IsBefore from key → key.number < 2 ^ 32)
 
 -- a region is given where the search goes on from a key, which it doesn't begin before
 pub record GivesOn (index : IndexView) (store : StoreFacts) (To : Key → Option ℕ → Type 0) (from : Option Key) (region : Region) : Type 0 where
@@ -88,6 +87,5 @@ pub record HandsLeaf {S : Type 0} (Takes : S → List Region → S → Type 0) (
   pub taken : IfOk result (λ on. (regions : List Region) × TakesThese Takes before after regions
       × (AreChecked index.last old → GivesAlong index old.store To (Some from) regions on))
   pub stays : AreChecked index.last old → IfOk result (λ on. IfSome on (λ key. ¬ (IsBefore from key) → Crosses index old.store To from))
-  pub nearer : IfOk result (λ on. IfSome on (λ key. IsBefore from key → (from.z ≤ index.last) × (key.number < 2 ^ 32)))
   pub forgotten : IfErr result (IsForgotten new)
   pub effect : GoesDown (IsAim index.last To from) index old new result

@@ -3,8 +3,8 @@ use Rattle.std.specs.Prelude.{◌≡◌, ◌<◌, ◌^◌, ℕ, List, [], ◌∷
 use Rattle.ub_bigmin.specs.Box.{Corners}
 use Rattle.ub_index.specs.Along.{Meeting}
 use Rattle.ub_index.specs.Descending.{IsForgotten}
-use Rattle.ub_index.specs.Held.{AreChecked, KeepsChecked, NoneMoreButIndex}
-use Rattle.ub_index.specs.Searching.{Gives, GivesAfter, GoesDown, IsSought, IsWayFault, store_after}
+use Rattle.ub_index.specs.Held.{AreChecked}
+use Rattle.ub_index.specs.Searching.{Gives, GivesAfter, GoesDown, IsSought}
 use Rattle.ub_index.specs.Sinks.{TakesThese}
 use Rattle.ub_index.specs.Spans.{IsLater}
 use Rattle.ub_index.specs.View.{IndexView}
@@ -25,28 +25,6 @@ pub record IsGivenNext (index : IndexView) (store : StoreFacts) (To : Key → Op
 abbrev pub AreGivenFirst : IndexView → StoreFacts → (Key → Option ℕ → Type 0) → Option Region → List Region → Option Region → Type 0
 AreGivenFirst index store To after [] last = after ≡ last
 AreGivenFirst index store To after (found ∷ more) last = IsGivenNext index store To after found × AreGivenFirst index store To (Some found) more last
-
--- these are all that are given, from the beginning on, each after the one before it, until none is
-abbrev pub AreAllGiven : IndexView → StoreFacts → (Key → Option ℕ → Type 0) → List Region → Type 0
-AreAllGiven index store To regions = (last : Option Region) × AreGivenFirst index store To None regions last × GivesAfter index store To last None
-
--- why a walk is refused: as a search is after some of the regions that are given
-abbrev pub IsWalkRefused : IndexView → StoreFacts → (Key → Option ℕ → Type 0) → IndexFault → Type 0
-IsWalkRefused index store To fault =
-    (found : List Region) × (last : Option Region) × AreGivenFirst index store To None found last
-    × IsWayFault index store (IsSought index store To last) fault
-
--- the regions that meet the boxes were to be handed over, and this was answered: the sink has taken all that are given. With the device's fault
--- the store has one failed read more, and else nothing has changed but the pages that the pager holds, none more but of the index
-pub record WalksOver {S A : Type 0} (Takes : S → List Region → S → Type 0) (index : IndexView) (boxes : List Corners) (before after : S)
-    (old new : PagerView) (result : Result A IndexFault) : Type 0 where
-  pub met : OnOk result ((met : List Region) × TakesThese Takes before after met
-      × (AreChecked index.last old → AreAllGiven index old.store (Meeting boxes) met))
-  pub forgotten : IfErr result (IsForgotten new)
-  pub same : new ≡ record old { store = store_after result old.store; cached = new.cached }
-  pub checked : KeepsChecked index.last old new
-  pub more : NoneMoreButIndex index.last old.cached new.cached
-  pub faults : AreChecked index.last old → IfErr result (IsWalkRefused index old.store (Meeting boxes))
 
 -- where the first region later than another one begins, if there is one, or the first of all
 abbrev pub begins_at : Option Region → Option Key

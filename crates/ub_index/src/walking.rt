@@ -7,7 +7,7 @@ ghost use Rattle.ub_index.specs.Held.{AreChecked};
 ghost use Rattle.ub_index.specs.Sinks.{Began, TakesThese};
 ghost use Rattle.ub_index.specs.Spans.{Meets};
 ghost use Rattle.ub_index.specs.View.{index_view};
-ghost use Rattle.ub_index.specs.Walking.{HandsNext, IsGivenAny, WalksOver, begins_at};
+ghost use Rattle.ub_index.specs.Walking.{HandsNext, IsGivenAny, begins_at};
 ghost use Rattle.ub_page.specs.Index.{head_on};
 ghost use Rattle.ub_region.specs.declared.region.Region.{Region};
 
@@ -54,37 +54,6 @@ impl RegionSink for VecDeque<Region> {
 }
 
 impl Index {
-    /// Hands each region that meets one of the boxes to a sink, one after the other, in the order of their first keys: over any
-    /// store just those that `next_meeting` gives, asked after each of them until there is none. A leaf that the search comes to is
-    /// gone along while it holds the next one, for at most 32 of them at a time.
-    ///
-    /// Refused as `next_meeting` is, after some of them; Store with Memory comes also where memory was refused by the sink.
-    pub fn for_each_meeting<S: PageStore, T: RegionSink>(
-        &self,
-        pager: &mut Pager<S>,
-        boxes: &[ZBox],
-        sink: &mut T,
-    ) -> Result<(), IndexFault>
-        requires { Began (T.Takes boxes.now) sink.old }
-        ensures { WalksOver (T.Takes boxes.now) self.now boxes.now sink.old sink.new pager.old
-            pager.new result }
-    {
-        let last = self.last();
-        let (root, levels) = self.root();
-        let mut from = Some(ORIGIN);
-        while let Some(key) = from {
-            from = hand_leaf(pager, root, levels, last, boxes, &key, sink)?;
-            if !ends_before(&key, &from) {
-                pager.forget(root);
-                return Err(IndexFault::Page {
-                    page: root,
-                    fault: PageFault::OutOfRegion,
-                });
-            }
-        }
-        Ok(())
-    }
-
     /// Hands the next regions later than `after`, if one is given, that meet one of the boxes to a sink, in the order of their first
     /// keys: those that one leaf names, at most 32 of them at a time, just as `next_meeting` gives them, asked after each. None only
     /// where `next_meeting` gives none. `after` is a region that was given, so that the search begins where it ends.

@@ -1,3 +1,4 @@
 pub mod Counted
 pub mod Explained
 pub mod Laws
+pub mod inner

@@ -44,24 +44,37 @@ fn count_met<S: PageStore>(tree: &mut Tree<S>, boxes: &[ZBox]) -> Result<u64, Re
         (regions tree.old)) }
     ensures effect { SearchesTree boxes.now tree.old tree.new result }
 {
-    let mut met = Counter { count: 0 };
-    tree.for_each_meeting(boxes, &mut met)?;
-    Ok(met.count)
+    let mut met = Counter {
+        count: 0,
+        last: None,
+    };
+    loop {
+        let after = met.last;
+        met.last = None;
+        tree.hand_next(boxes, after.as_ref(), &mut met)?;
+        if met.last.is_none() {
+            return Ok(met.count);
+        }
+    }
 }
 
-/// Counts the regions that it is handed, as far as 64 bits count.
+/// Counts the regions that it is handed, as far as 64 bits count, and keeps the last of them.
 #[derive(Drop)]
 pub struct Counter {
     count: u64,
+    last: Option<Region>,
 }
 
 impl RegionSink for Counter {
-    ghost use Rattle.std.specs.Prelude.{◌≡◌, min, length};
+    ghost use Rattle.std.specs.Prelude.{◌≡◌, ◌+◌, min, length};
+    ghost use Rattle.ub_plan.specs.inner.Counting.{last_or};
 
-    ghost Takes = { λ boxes start taken now. now.count ≡ min (length taken) 18446744073709551615 };
+    ghost Takes = { λ boxes start taken now. (now.count ≡ min (start.count + length taken) 18446744073709551615)
+        × (now.last ≡ last_or start.last taken) };
 
-    fn push(&mut self, _boxes: &[ZBox], _region: &Region) -> Result<(), AllocError> {
+    fn push(&mut self, _boxes: &[ZBox], region: &Region) -> Result<(), AllocError> {
         self.count = self.count.saturating_add(1);
+        self.last = Some(*region);
         Ok(())
     }
 }

@@ -33,7 +33,7 @@ pub use Rattle.ub_tree.proofs.EffectFacts.{mark_then}
 pub use Rattle.ub_tree.proofs.NewFacts.{new_values, numbered_row}
 pub use Rattle.ub_tree.proofs.TreeFacts.{firsts_placed}
 pub use Rattle.ub_tree.proofs.MeetFacts.{before, contained_at, contains_at, is_later, later_from, spans_long, take_all, those_next, those_up_to}
-pub use Rattle.ub_tree.proofs.ReadFacts.{IsTraced, Keeps, Keeps-by, Keeps-more, Keeps-none, begun_traced, given_before, read_fault_before, reads_by, reads_then, searched_fault, searched_read, told_kept, traced_gives, traced_told, tree_reads, unchanged_trace, unchanged_traced, searched_regions, searched_sound, walk_given}
+pub use Rattle.ub_tree.proofs.ReadFacts.{IsTraced, Keeps, Keeps-by, Keeps-more, Keeps-none, begun_traced, counted_of, given_before, read_fault_before, reads_by, reads_then, searched_fault, searched_read, told_kept, traced_gives, traced_told, tree_reads, unchanged_trace, unchanged_traced, searched_regions, searched_sound, walk_given}
 pub use Rattle.ub_index.proofs.Laws.{region_first}
 pub use Rattle.ub_tree.proofs.StretchParts.{parts_are_below, parts_hold, parts_lie_in}
 pub use Rattle.ub_tree.proofs.StretchFacts.{all_are_within, held_key, key_held, lowest_are_regions, lowest_hold_one, parts_are_told, parts_ascend, parts_cover, parts_lie_within, some_region_meets, stretch_is_its_regions, stretch_kept, stretch_traced, stretches_begin, traced_parts, traced_stretch, whole_is_told}

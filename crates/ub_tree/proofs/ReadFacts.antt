@@ -1,6 +1,6 @@
 -- What a tree keeps over several calls that read it.
 use Rattle.std.proofs.Common.{rules}
-use Rattle.std.proofs.Common.{◌≡◌, ◌≤◌, ◌∙◌, inl, inr, ℕ, List, Option, None, Result, Ok, Err, IfErr, subst, sym, ap, refl}
+use Rattle.std.proofs.Common.{◌≡◌, ◌≤◌, ◌∙◌, inl, inr, ℕ, List, Option, Result, Ok, Err, IfErr, subst, sym, ap, refl}
 use Rattle.std.specs.Result.{IsErrAnd}
 use Rattle.ub_bigmin.specs.Box.{Corners}
 use Rattle.ub_store.specs.Facts.{page_count}
@@ -11,7 +11,7 @@ use Rattle.ub_table.specs.declared.row.Key.{Key}
 use Rattle.ub_tree.specs.Effects.{IsReadFault, IsPageRefused, IsPageMissing, IsSearchFault, IsStopped, raised_by}
 use Rattle.ub_tree.specs.Reading.{IsGiven, IsWalkFault, ReadsTree, SearchesTree, counted, fault_of_tree, read_store}
 use Rattle.ub_tree.specs.Spans.{Region}
-use Rattle.ub_tree.specs.Told.{AreFirst, GivesNext, IsRegionOf, SeeksNext}
+use Rattle.ub_tree.specs.Told.{GivesNext, IsRegionOf, SeeksNext}
 use Rattle.ub_tree.specs.View.{TreeView, IsSound, KeepsRegions, KeepsTrace}
 use Rattle.ub_tree.specs.declared.fault.TreeFault.{TreeFault}
 use Rattle.ub_tree.specs.declared.fault.TreeFault.TheVariants as tree
@@ -107,7 +107,7 @@ reads_by {T = T} (Err f) e a b c is h reads = rw is (reads_then {T = T} (Err e) 
 pub given_of : (t : TreeView) (e : TreeFault) → IsReadFault t e → IsGiven t (fault_of_tree e)
 given_of t e h = search rules
 
-counted_of : (T : Type 0) (e : TreeFault) (n : ℕ) → counted {A = T} (Err (fault_of_tree e)) n ≡ raised_by e n
+pub counted_of : (T : Type 0) (e : TreeFault) (n : ℕ) → counted {A = T} (Err (fault_of_tree e)) n ≡ raised_by e n
 counted_of T e n = search rules
 
 pub tree_reads : {T : Type 0} (r : Result T ReadFault) (e : TreeFault) (a b c : TreeView) → IsErrAnd r (λ x. x ≡ fault_of_tree e) → IsTraced a b
@@ -125,10 +125,6 @@ tree_reads {T = T} (Err f) e a b c is h same fault =
 pub walk_given : (boxes : List Corners) (t : TreeView) (e : ReadFault) → IsWalkFault boxes t e → IsGiven t e
 walk_given boxes t read.Memory h = tt
 walk_given boxes t (read.Tree fault) (other, found, after, first, h) = (searched_fault (SeeksNext boxes t after) t fault h, other)
-
-pub walk_of : (boxes : List Corners) (t : TreeView) (found : List Region) (after : Option Region) (e : TreeFault) → AreFirst boxes t None found after → IsSearchFault (SeeksNext boxes t after) t e
-    → IsWalkFault boxes t (fault_of_tree e)
-walk_of boxes t found after e first h = search rules
 
 -- a walk reads no more than what a tree is searched for
 pub searched_read : {A : Type 0} {boxes : List Corners} (old new : TreeView) (r : Result A ReadFault) → SearchesTree boxes old new r → ReadsTree old new r

@@ -71,8 +71,7 @@ impl<S: PageStore> Tree<S> {
         Ok(region)
     }
 
-    // Puts this region on the page of the one that it was made of, and before it the mark, where it is due. After a fault the tree has
-    // failed.
+    // Puts this region on the page of the one it was made of, and before it the mark, where that is due. After a fault the tree has failed.
     pub(crate) fn rewrite(
         &mut self,
         region: &Region,

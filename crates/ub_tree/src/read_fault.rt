@@ -1,7 +1,6 @@
 use crate::fault::TreeFault;
 use std::alloc::AllocError;
 use thiserror::Error;
-use ub_index::IndexFault;
 
 /// Why a call that reads a tree gave no answer.
 #[derive(Clone, Copy, PartialEq, Eq, Debug, Error)]
@@ -37,18 +36,5 @@ impl From<TreeFault> for ReadFault {
             TreeFault::Memory => ReadFault::Memory,
             fault => ReadFault::Tree(fault),
         }
-    }
-}
-
-impl From<IndexFault> for ReadFault {
-    ghost use Rattle.std.specs.Prelude.{◌≡◌};
-    ghost use Rattle.ub_tree.specs.Faults.{index_fault};
-    ghost use Rattle.ub_tree.specs.Reading.{fault_of_tree};
-
-    ghost from_gives = { λ index fault. fault ≡ fault_of_tree (index_fault index) };
-
-    /// The index's fault as one of the tree, or Memory.
-    fn from(fault: IndexFault) -> ReadFault {
-        ReadFault::from(TreeFault::from(fault))
     }
 }

@@ -37,8 +37,10 @@ impl<S: PageStore> Tree<S> {
         if self.has_failed() {
             return Err(ReadFault::Tree(TreeFault::Failed));
         }
-        self.index
-            .open_stretch(&mut self.pager, stretch, boxes, sink)?;
+        let pager = &mut self.pager;
+        if let Err(fault) = self.index.open_stretch(pager, stretch, boxes, sink) {
+            return Err(ReadFault::from(TreeFault::from(fault)));
+        }
         Ok(())
     }
 }

@@ -4,8 +4,7 @@ ghost use Rattle.ub_store.specs.View.{emptied};
 ghost use Rattle.ub_table.specs.declared.row.TheConstants.{MAX_ROW_NUMBER};
 ghost use Rattle.ub_tree.specs.Calls.{TakesIn};
 ghost use Rattle.ub_tree.specs.Effects.{SearchesFor};
-ghost use Rattle.ub_tree.specs.Handing.{AreMetBy, AreNext, Began, TakesThese};
-ghost use Rattle.ub_tree.specs.Reading.{SearchesTree};
+ghost use Rattle.ub_tree.specs.Handing.{AreNext, Began, TakesThese};
 ghost use Rattle.ub_tree.specs.Spans.{IsLater, Meets, First, Region};
 ghost use Rattle.ub_tree.specs.Told.{GivesAt, GivesNext, IsRegionOf, SeeksAt, SeeksNext};
 ghost use Rattle.ub_tree.specs.Tree.{IsTree, tree_view};
@@ -13,7 +12,6 @@ ghost use Rattle.ub_tree.specs.View.{IsSound, level_count, region_count, spans_o
 ghost use Rattle.ub_writing.specs.Marks.{is_written};
 
 use crate::fault::TreeFault;
-use crate::read_fault::ReadFault;
 use std::alloc::Global;
 use std::marker::Model;
 use ub_bigmin::ZBox;
@@ -195,29 +193,6 @@ impl<S: PageStore> Tree<S> {
         Ok(found)
     }
 
-    /// Hands each region that meets one of the boxes to a sink, one after the other, in the order of their first keys: over any
-    /// tree just those that `next_meeting` answers, asked after each of them until there is none. No region is fetched, and the
-    /// trace stays.
-    ///
-    /// `Memory` where memory was refused, here or by the sink; `Tree` where the tree refused the search for the next region, after
-    /// some of them.
-    pub fn for_each_meeting<T: RegionSink>(
-        &mut self,
-        boxes: &[ZBox],
-        sink: &mut T,
-    ) -> Result<(), ReadFault>
-        requires { Began (T.Takes boxes.now) sink.old }
-        ensures met { OnOk result ((met : List Region) × AreMetBy boxes.now self.old met
-            × TakesThese (T.Takes boxes.now) sink.old sink.new met) }
-        ensures effect { SearchesTree boxes.now self.old self.new result }
-    {
-        if self.has_failed() {
-            return Err(ReadFault::Tree(TreeFault::Failed));
-        }
-        self.index.for_each_meeting(&mut self.pager, boxes, sink)?;
-        Ok(())
-    }
-
     /// Hands the next regions later than `after`, if one is given, that meet one of the boxes to a sink, in the order of their first
     /// keys: some of those that one leaf of the index names, just as `next_meeting` answers them, asked after each; none only where it
     /// answers none. `after` is a region that the tree has answered. No region is fetched, and the trace stays.
@@ -252,14 +227,12 @@ impl<S: PageStore> Tree<S> {
         RegionPage::empty(self.schema.shape())
     }
 
-    /// Takes in what stands on the region's page, which is noted in the trace first; so one `page`
-    /// can take in each region of a walk, and none moves. The page is checked against the region:
-    /// its first key is the region's, and each of its rows is before the first key of the next
-    /// region; otherwise OutOfRegion. So of a region that isn't the tree's, the refusal is told
-    /// under what that one says. Failed where the tree has failed; Page where the page is refused;
-    /// Store where the store failed in this call or has no such page; Memory where memory was
-    /// refused, for the note or for the page. After a fault any region may stand in `page`. A page
-    /// that is refused isn't held after it.
+    /// Takes in what stands on the region's page, which is noted in the trace first; so one `page` can take in each region of a walk,
+    /// and none moves. The page is checked against the region: its first key is the region's, and each of its rows is before the first
+    /// key of the next region; otherwise OutOfRegion. So of a region that isn't the tree's, the refusal is told under what that one
+    /// says. Failed where the tree has failed; Page where the page is refused; Store where the store failed in this call or has no such
+    /// page; Memory where memory was refused, for the note or for the page. After a fault any region may stand in `page`. A page that
+    /// is refused isn't held after it.
     pub fn read_region(&mut self, region: &Region, page: &mut RegionPage) -> Result<(), TreeFault>
         ensures { TakesIn region.now page.new self.old self.new result }
     {

@@ -1,5 +1,5 @@
-use Rattle.std.proofs.Common.{◌++◌, ◌∷◌, [], inl, inr, List, Option, Some, None, append-nil, refl, rules, subst, sym, arith}
-use Rattle.ub_index.proofs.AlongFacts.{follow_more, is_none, later_on, later_small, next_begun, next_later, none_there, one_aim, stands_met, stands_next}
+use Rattle.std.proofs.Common.{◌++◌, ◌∷◌, [], inl, inr, List, Option, Some, None, append-nil, refl, subst, sym, arith}
+use Rattle.ub_index.proofs.AlongFacts.{follow_more, is_none, later_on, next_begun, next_later, none_there, one_aim, stands_met, stands_next}
 use Rattle.ub_index.proofs.StretchSteps.{takes_more}
 use Rattle.ub_index.specs.Along.{FollowOn, IsSlotNext, Meeting}
 use Rattle.ub_page.specs.Index.{node_on}
@@ -52,7 +52,7 @@ loop-preserved g c =
       within = c.in-Some.ensures.3.within;
       begun = next_begun c.args.boxes.now c.args.last c.args.leaf.now c.args.page.now c.requires.ends c.requires.comes.2.within c.loop.on c.loop.invariant.begun c.region_at-region.result stands
           c.in-Some-next.next c.in-Some-next.is;
-      later = inr (further, search rules);
+      later = inr further;
       moved = λ some. further;
     }
 
@@ -68,7 +68,6 @@ returns-in_default-next g c =
           (is_none c.region_at-region.result.next c.in_default-next.not-Some)
           (follow_more c.args.last (Meeting c.args.boxes.now) c.args.leaf.now (node_on c.args.page.now).entries (Some c.args.from.now) handed c.loop.on c.region_at-region.result follow stands);
       stays = tt;
-      small = tt;
     }
 
 pub returns-in_default : goal.returns-in_default
@@ -82,9 +81,8 @@ returns-in_default g c =
         | inl same ↦
             subst (λ (k : Key). IsSlotNext c.args.last (Meeting c.args.boxes.now) c.args.leaf.now c.args.page.now c.args.count k None) same
             (none_there c.args.boxes.now c.args.last c.loop.on c.args.leaf.now c.args.page.now c.args.count c.next_slot.result c.in_default.not-Some c.next_slot.ensures)
-        | inr later ↦ absurd (stuck later.0)
+        | inr later ↦ absurd (stuck later)
       ];
-      small = later_small c.args.from.now c.loop.on c.loop.invariant.later;
     }
 
 pub returns-after-loop : goal.returns-after-loop
@@ -95,5 +93,4 @@ returns-after-loop g c =
       takes = takes;
       follow = follow;
       stays = λ stuck. absurd (stuck (c.loop.invariant.moved (omega (arith, c.loop-test.false))));
-      small = later_small c.args.from.now c.loop.on c.loop.invariant.later;
     }

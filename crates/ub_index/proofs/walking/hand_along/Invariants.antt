@@ -1,4 +1,4 @@
-use Rattle.std.proofs.Common.{◌≡◌, ◌<◌, ◌^◌, ◌⊎◌, List, Some}
+use Rattle.std.proofs.Common.{◌≡◌, ◌<◌, ◌⊎◌, List, Some}
 use Rattle.ub_index.specs.Along.{FollowOn, Meeting}
 use Rattle.ub_index.specs.Searching.{IsAim}
 use Rattle.ub_index.specs.Sinks.{TakesThese}
@@ -14,6 +14,6 @@ invariant-loop g l = record {
       × TakesThese (g.T.RegionSink.Takes l.boxes) l.initial.sink l.sink handed;
   within : l.behind < l.count;
   begun : (aim : Key) → IsAim l.last (Meeting l.boxes) l.on aim → ¬ (IsBefore aim l.leaf.place.entry.first);
-  later : (l.on ≡ l.from) ⊎ (IsBefore l.from l.on × (l.on.number < 2 ^ 32));
+  later : (l.on ≡ l.from) ⊎ IsBefore l.from l.on;
   moved : 0 < l.counter → IsBefore l.from l.on;
 }
