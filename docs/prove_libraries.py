@@ -9,6 +9,8 @@ and the time. A check of a crate above takes these libraries as they are: `rt ch
 The order and the memory are those of `rt ci`, whose work this does without its edits, tests and runs."""
 
 import argparse
+import importlib.machinery
+import importlib.util
 import os
 import pathlib
 import shutil
@@ -19,6 +21,15 @@ import time
 from gate_plan import library_of_rt
 
 TOP = pathlib.Path(__file__).resolve().parent.parent
+
+
+def library_of_prove():
+    """bin/prove, as a module."""
+    loader = importlib.machinery.SourceFileLoader("bin_prove", str(TOP / "bin" / "prove"))
+    made = importlib.util.module_from_spec(importlib.util.spec_from_loader("bin_prove", loader))
+    sys.modules["bin_prove"] = made
+    loader.exec_module(made)
+    return made
 
 
 def run(words, folder, log):
@@ -67,6 +78,8 @@ def main():
     rt = library_of_rt()
     os.chdir(TOP)
     rt.rtlib.guarded()
+    # Else each crate's sum is reckoned once for each way that leads down to it.
+    library_of_prove().with_quick_sums(rt.rtlib)
     crates = sorted(rt.rtlib.crates_below(str(TOP)), key=lambda it: len(it.below()))
     wanted = {it.name for crate in crates if crate.name in (asked.names or [crate.name]) for it in [crate, *crate.below()]}
     os.environ["RT_JOBS"] = str(asked.lanes)

@@ -61,6 +61,14 @@ class Terminal:
     def types(self, text):
         os.write(self.end, text.encode())
 
+    def is_there(self, seconds):
+        """Whether it still shows something, or waits, after so long."""
+        end = time.monotonic() + seconds
+        while time.monotonic() < end:
+            if select.select([self.end], [], [], 0.1)[0] and not self.hear(0):
+                return False
+        return True
+
     def ended(self):
         """What is still shown, and how it ended: its status, or, below zero, the signal."""
         while self.hear(20):
@@ -121,7 +129,10 @@ def at_a_terminal(env, tried):
     asks(terminal, "and then it is asked again", "SELECT m FROM t WHERE x = 7;", "m\n7\n-- rows 1, pages 2\n")
     terminal.types("DELETE FROM t\n")
     terminal.until(MORE)
+    # Where Ctrl-C comes just as bash begins to wait for a key, bash sees it with the next one: then it is typed once more, as a person would.
     terminal.types(CTRL_C)
+    if terminal.is_there(3):
+        terminal.types(CTRL_C)
     _, status = terminal.ended()
     judge("Ctrl-C at the prompt ends it", status == -signal.SIGINT, status)
     answer = answer_of(tried, "SELECT COUNT(*) FROM t;")
