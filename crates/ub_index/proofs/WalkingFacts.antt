@@ -60,4 +60,3 @@ module _ (index : IndexView) (store : StoreFacts) (To : Key → Option ℕ → T
         ),
         left,
       )
-
