@@ -28,15 +28,19 @@ GAIN = 0.7
 MOST_TOLD = 8
 
 
-def library_of_rt():
-    """The kit's `rt`, as a module."""
+def library_of(file, name):
+    """A program without the ending of Python's files, as a module."""
     sys.dont_write_bytecode = True
-    file = str(pathlib.Path(shutil.which("rt")).resolve())
-    loader = importlib.machinery.SourceFileLoader("kit_rt", file)
-    made = importlib.util.module_from_spec(importlib.util.spec_from_loader("kit_rt", loader))
-    sys.modules["kit_rt"] = made
+    loader = importlib.machinery.SourceFileLoader(name, str(file))
+    made = importlib.util.module_from_spec(importlib.util.spec_from_loader(name, loader))
+    sys.modules[name] = made
     loader.exec_module(made)
     return made
+
+
+def library_of_rt():
+    """The kit's `rt`, as a module."""
+    return library_of(pathlib.Path(shutil.which("rt")).resolve(), "kit_rt")
 
 
 def minutes_told():

@@ -9,8 +9,6 @@ and the time. A check of a crate above takes these libraries as they are: `rt ch
 The order and the memory are those of `rt ci`, whose work this does without its edits, tests and runs."""
 
 import argparse
-import importlib.machinery
-import importlib.util
 import os
 import pathlib
 import shutil
@@ -18,18 +16,9 @@ import subprocess
 import sys
 import time
 
-from gate_plan import library_of_rt
+from gate_plan import library_of, library_of_rt
 
 TOP = pathlib.Path(__file__).resolve().parent.parent
-
-
-def library_of_prove():
-    """bin/prove, as a module."""
-    loader = importlib.machinery.SourceFileLoader("bin_prove", str(TOP / "bin" / "prove"))
-    made = importlib.util.module_from_spec(importlib.util.spec_from_loader("bin_prove", loader))
-    sys.modules["bin_prove"] = made
-    loader.exec_module(made)
-    return made
 
 
 def run(words, folder, log):
@@ -79,7 +68,7 @@ def main():
     os.chdir(TOP)
     rt.rtlib.guarded()
     # Else each crate's sum is reckoned once for each way that leads down to it.
-    library_of_prove().with_quick_sums(rt.rtlib)
+    library_of(TOP / "bin" / "prove", "bin_prove").with_quick_sums(rt.rtlib)
     crates = sorted(rt.rtlib.crates_below(str(TOP)), key=lambda it: len(it.below()))
     wanted = {it.name for crate in crates if crate.name in (asked.names or [crate.name]) for it in [crate, *crate.below()]}
     os.environ["RT_JOBS"] = str(asked.lanes)

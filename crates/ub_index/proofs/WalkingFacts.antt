@@ -1,4 +1,4 @@
--- A walk over the regions of an index, leaf after leaf: what was given so far, and why it is refused.
+-- What is given along a leaf of an index is given one after the other.
 use Rattle.std.proofs.Common.{◌≡◌, ◌∷◌, [], ℕ, List, Option, Some, None, IfSome, ◌∙◌, ap, subst, refl}
 use Rattle.ub_index.proofs.BehindFacts.{is_later}
 use Rattle.ub_index.proofs.KeyFacts.{le_before}

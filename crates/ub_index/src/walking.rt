@@ -1,4 +1,4 @@
-// A walk over the regions of an index that meet some boxes: along a leaf, and then down to the next one.
+// The next regions of an index that meet some boxes: those that follow one another on a leaf.
 ghost use Rattle.std.specs.Prelude.{◌≡◌, ◌<◌, ◌≤◌, ◌∷◌, [], List, option_copied, IfOk, OnOk};
 ghost use Rattle.ub_bigmin.specs.Box.{Corners};
 ghost use Rattle.ub_index.specs.Along.{ComesToLeaf, HandsAlong, HandsLeaf, IsSlotNext, Meeting};
