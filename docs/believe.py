@@ -127,12 +127,13 @@ words of other libraries at the end; those of Rattle's std (lists, numbers, `cod
 ## The promise
 
 All that the program does but for what touches the process: `crates/ubq/src/main.rt` hands it the
-words, the files and standard output, and ends with its status. `F` is any source of files that
-keeps the contract of the trait `Files` (`crates/ub_files/src/files.rt`) and lends stores that keep
-that of `PageStore` (`crates/ub_store/src/store.rt`); `F.facts` is what contracts see of it. `W` is
-any writer of std, and `W.contents` the bytes in it, where that is told. For the system's files
-`main` hands in `HostFiles`, and `host_facts` in `crates/ub_files/specs/Host.antt` says what is seen
-of those: not what a path holds, and that they give back what was written to them is a premise.
+words, the files, standard output, and standard error, to which a query writes its notes, and ends
+with its status. `F` is any source of files that keeps the contract of the trait `Files`
+(`crates/ub_files/src/files.rt`) and lends stores that keep that of `PageStore`
+(`crates/ub_store/src/store.rt`); `F.facts` is what contracts see of it. `W` and `N` are any writers
+of std, and `W.contents` the bytes in one, where that is told. For the system's files `main` hands in
+`HostFiles`, and `facts_of_host` in `crates/ub_host_files/specs/Host.antt` says what is seen of those:
+not what a path holds, and that they give back what was written to them is a premise.
 
 ```
 {promise}
