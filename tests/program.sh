@@ -384,6 +384,16 @@ asks 'a point with no row lies in one region' 0 'm\n' '-- rows 0, pages 1\n' ask
 holds 'an export is the CSV file again' cmp -s s.csv export.csv
 "$ubq" load export.csv again.ub --dims 2 --page-rows 2 >/dev/null
 holds 'and the same table, byte for byte' cmp -s asked.ub again.ub
+# The same of the examples, by the words with which `describe` ends.
+cp "$root/examples/trips.csv" .
+"$root/examples/words.py" new sales.words date:date shop ware:word pieces euros:2
+"$root/examples/words.py" in sales.words <"$root/examples/sales.csv" >sales.csv
+for name in trips sales; do
+    "$ubq" load "$name.csv" "$name.ub" --dims 2 --name "$name" --page-rows 16 >/dev/null
+    "$ubq" query "$name.ub" "SELECT * FROM $name" >export.csv 2>/dev/null
+    "$ubq" load export.csv again.ub $("$ubq" describe "$name.ub" | sed -n 's/^load-with //p') >/dev/null
+    holds "so is an export of the $name" cmp -s "$name.ub" again.ub
+done
 holds 'a pipe that is closed after a line has that line' test "$("$ubq" query asked.ub 'SELECT * FROM t' 2>/dev/null | head -n 1)" = x,y,m
 if [ -e /dev/full ]; then
     "$ubq" query asked.ub 'SELECT COUNT(*) FROM t' >/dev/full 2>err
