@@ -4,17 +4,21 @@
     tests/tree_transcripts.py [PROGRAM]
 
 PROGRAM is crates/tree_transcripts/out/tree_transcripts where none is named. The text is played as it stands, which must be right; then
-with every answer changed at once, with every number of calls changed in each block by itself, and with every hurt byte left as it is."""
+with every answer changed at once, with every number of calls changed in each block by itself, and with every hurt byte left as it is. Its
+part 'Trials' must be the one that tests/lib/tree_trial.py writes; `--trials` looks at that alone, and needs no program."""
 
 import pathlib
 import re
 import subprocess
 import sys
 
+from lib import tree_trial
+
 TOP = pathlib.Path(__file__).resolve().parent.parent
 CRATE = TOP / "crates/tree_transcripts"
 PROGRAM = sys.argv[1] if len(sys.argv) > 1 else str(CRATE / "out/tree_transcripts")
-LINES = (CRATE / "stdin").read_text().split("\n")
+TEXT = (CRATE / "stdin").read_text()
+LINES = TEXT.split("\n")
 
 
 def play(lines):
@@ -83,9 +87,19 @@ def after_nothing(n):
     return above[-1].startswith("upgrades nothing ")
 
 
+def trials_stand():
+    """Whether the text ends in the trials that are written anew."""
+    stand = TEXT.endswith("\n\n" + tree_trial.text())
+    print(f"the trials {'stand there' if stand else 'are others: cd tests && python3 -m lib.tree_trial'}")
+    return stand
+
+
 def main():
+    stand = trials_stand()
+    if PROGRAM == "--trials":
+        return 0 if stand else 1
     told, last, status = play(LINES)
-    wrong = 0
+    wrong = 0 if stand else 1
     if told or status or last + "\n" != (CRATE / "stdout").read_text():
         print(f"the text as it stands: {told}, {last}, status {status}")
         wrong += 1
@@ -98,7 +112,7 @@ def main():
             wrong += 1
         else:
             print(f"{name}: {len(wanted)} wrong lines told")
-    print(f"{len(trials) + 1 - wrong} right, {wrong} wrong")
+    print(f"{len(trials) + 2 - wrong} right, {wrong} wrong")
     return 1 if wrong else 0
 
 

@@ -40,8 +40,10 @@ def built(work):
     return os.path.join(work, "shim.so")
 
 
-def ended(library, words, due, work):
-    """How these words of a program end where this call for memory fails, the first being 1: their status, text and errors."""
+def ended(library, words, due, work, text=None):
+    """How these words of a program end where this call for memory fails, the first being 1: their status, text and errors. This text is its
+    standard input, if there is one."""
     environment = dict(os.environ, LD_PRELOAD=library, FAIL_AT=str(due))
-    done = subprocess.run(words, capture_output=True, env=environment, cwd=work)
+    given = None if text is None else text.encode()
+    done = subprocess.run(words, input=given, capture_output=True, env=environment, cwd=work)
     return done.returncode, done.stdout.decode(), done.stderr.decode()

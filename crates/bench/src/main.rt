@@ -1,4 +1,4 @@
-//! What bench/run.sh times from outside, and trials of the tree by random changes.
+//! What bench/run.sh times from outside.
 //!
 //! `bench N [D [WAY]]` calls `next_in_box` on boxes and addresses from a fixed generator, N times for each number of
 //! dimensions (or for D alone), and prints a checksum of the answers, which bench/checksum.py finds by another way. WAY
@@ -8,40 +8,21 @@
 //! `bench pages D N` reads a page of 64 rows with D dimensions and one measure into one region N times, filters it by a box each time,
 //! and prints a checksum of the masks.
 //!
-//! `bench trial` tries a UB-tree beside its definition, which is worked on plain lists: by changes at random, each of which is compared;
-//! by tables that are closed and opened again; and by a store that fails at each of its calls in turn. It prints a line for each series.
-//! `bench trial tall` tries one table too whose index gets a third level, and loses it again, and `bench trial levels` only such tables:
-//! three, whose rows come in three orders, and each one's rows are taken out again in three orders. The first wrong answer, or refusal,
-//! ends it with a line that begins with `!` and with status 1.
-//!
 //! `bench` alone does what the lines of standard input ask for, each of which has such words.
 #![tactic(auto)]
 
 mod addresses;
-mod changes;
 mod events;
-mod failing;
 mod generator;
 mod jumps;
-mod levels;
-mod model;
-mod numbers;
 mod pages;
-mod places;
-mod plane;
-mod reopening;
 mod table;
-mod trial;
-mod trouble;
 
 use addresses::{interleaved, spread_out};
 use events::events;
 use jumps::{Way, jumped};
 use pages::read_and_filter;
-use plane::MemPlanar;
-use std::process::ExitCode;
 use std::{env, io};
-use trial::try_tables;
 use ub_zaddr::Shape;
 
 // The checksum of so many calls, as a word asks for, in a space of this shape.
@@ -94,15 +75,14 @@ fn cut(line: &str) -> (&str, &str) {
     line.split_once(' ').unwrap_or((line, ""))
 }
 
-// Does what a line asks for, and tells whether nothing was wrong.
-fn is_done<R: Print + AllocGlobal>(rt: &R, line: &str) -> io::Result<bool> {
+// Does what a line asks for.
+fn answer<R: Print>(rt: &R, line: &str) -> io::Result<()> {
     let (first, rest) = cut(line);
     let (second, rest) = cut(rest);
     let (third, _) = cut(rest);
     match first {
-        "trial" => try_tables::<MemPlanar, R>(rt, second),
-        "pages" => tell_pages(rt, number(second), number(third)).and(Ok(true)),
-        _ => tell_checksums(rt, number(first), number(second), third).and(Ok(true)),
+        "pages" => tell_pages(rt, number(second), number(third)),
+        _ => tell_checksums(rt, number(first), number(second), third),
     }
 }
 
@@ -118,12 +98,10 @@ fn asked(rt: &HostRuntime) -> io::Result<String> {
     Ok(text)
 }
 
-fn main(rt: HostRuntime) -> io::Result<ExitCode> {
+fn main(rt: HostRuntime) -> io::Result<()> {
     let text = asked(&rt)?;
     for line in text.as_str().lines() {
-        if !is_done(&rt, line)? {
-            return Ok(ExitCode::FAILURE);
-        }
+        answer(&rt, line)?;
     }
-    Ok(ExitCode::SUCCESS)
+    Ok(())
 }
