@@ -121,6 +121,31 @@ def told(trials, what, ran, before, after):
         trials.judge(f"{what} tells", ran.returncode == 0 and rows == after, (ran, rows[-100:]))
 
 
+def unread_pages(trials, before):
+    """Each read of a page fails in turn, in a run that puts a row in and then asks for all: what was kept is told."""
+    text = "INSERT INTO t VALUES (1, 1, 77); SELECT * FROM t;"
+    trials.copy("small.ub", "t.ub")
+    trials.run("run", "t.ub", "-", text="INSERT INTO t VALUES (1, 1, 77);")
+    after = trials.rows("t.ub")
+    seen = set()
+    for nth in range(1, 400):
+        trials.copy("small.ub", "t.ub")
+        ran, came = trials.injected("pread64", "error=EIO", nth, "run", "t.ub", "-", text=text)
+        if not came or ran.returncode == 0:
+            # (what is read before the table is opened, as a library, isn't the program's)
+            seen.add("done" if not came else "passed")
+            if not came:
+                break
+            continue
+        kept = re.match(r"ubq: kept in t\.ub, up to a page that can't be read: .+\n$", ran.stderr)
+        lost = re.match(r"ubq: (can't (open|change|use) t\.ub|nothing was kept in t\.ub): .+\n$", ran.stderr)
+        rows = trials.rows("t.ub")
+        is_right = ran.returncode == 4 and ran.stdout.endswith("! Device\n") and (kept and rows == after or lost and rows == before)
+        trials.judge(f"unread: read {nth} tells", bool(is_right) and trials.is_sound("t.ub"), (ran, rows[-100:]))
+        seen.add("kept" if kept else "lost")
+    trials.judge("unread: rows were kept, and not", {"kept", "lost"} <= seen, seen)
+
+
 def recoveries(trials, what, before, after):
     """A change that finishes what was left is killed in turn at each of its calls."""
     trials.copy("t.ub", "left.ub")
@@ -323,6 +348,7 @@ def main():
         for how in ("signal=KILL", "error=ENOSPC", "error=EIO"):
             killed_calls(trials, how, ("run", "t.ub", "-"), CHANGE, before, after, "small.ub")
             killed_calls(trials, how, ("load", "-", "t.ub", "--dims", "2", "--page-rows", "4"), csv, before, loaded, "small.ub")
+        unread_pages(trials, before)
         journals(trials, before, after)
         folders(trials, before, after)
         writers(trials)

@@ -59,6 +59,14 @@ impl Failures {
         }
     }
 
+    // Notes what was missed beside what was done, if something was.
+    fn note_refused(&mut self, missed: Option<Missed>)
+        ensures reads { self.new.reads ≡ self.old.reads }
+        ensures tables { self.new.tables ≡ self.old.tables }
+    {
+        self.missed = missed.or(self.missed);
+    }
+
     // The same of an opening to change or to make.
     fn note_open(&mut self, fault: OpenFault, missed: Missed)
         ensures reads { self.new.reads ≡ self.old.reads }
@@ -273,15 +281,17 @@ fn unkept_at<P: Reasons>(deed: Deed, path: &str, place: &P) -> Missed {
     }
 }
 
+// That this is so of a table file, where a call at its place was refused, as that of a page that couldn't be read.
+fn refused_at<P: Reasons>(deed: Deed, path: &str, place: &P) -> Option<Missed> {
+    Some(Missed::new(deed, path, place.why()?))
+}
+
 // What couldn't be done at a place that is put back: the changes that were held weren't kept, or the table file couldn't be used.
 fn left_at<P: Reasons>(is_changed: bool, path: &str, place: &P) -> Option<Missed> {
     if is_changed && place.is_alone() {
         return Some(missed_at(Deed::Keep, path, place));
     }
-    if place.why().is_some() {
-        return Some(missed_at(Deed::Use, path, place));
-    }
-    None
+    refused_at(Deed::Use, path, place)
 }
 
 // The store of a place that was found, to ask it.
@@ -352,9 +362,15 @@ fn keep_at<P: Place + Reasons>(
     ensures reads { failures.new.reads ≡ failures.old.reads }
     ensures tables { failures.new.tables ≡ counted result failures.old.tables }
 {
+    let deed = if store.is_changed() {
+        Deed::Stop
+    } else {
+        Deed::Use
+    };
     let (place, kept) = ub_keeping::keep(alloc, store);
-    if let Err(fault) = kept {
-        failures.note(fault, unkept_at(Deed::Keep, path, &place));
+    match kept {
+        Ok(()) => failures.note_refused(refused_at(deed, path, &place)),
+        Err(fault) => failures.note(fault, unkept_at(Deed::Keep, path, &place)),
     }
     kept
 }
@@ -446,7 +462,6 @@ where
     }
 
     fn put_back(&mut self, path: &str, store: Overlay<PlaceStore<HostPlace<'r, R>>>) {
-        let missed = let_go(path, store);
-        self.failures.missed = missed.or(self.failures.missed);
+        self.failures.note_refused(let_go(path, store));
     }
 }

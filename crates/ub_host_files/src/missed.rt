@@ -11,6 +11,8 @@ pub enum Deed {
     Make,
     /// A page of a table file that was open couldn't be read.
     Use,
+    /// What a run did before a page couldn't be read is kept.
+    Stop,
     /// Nothing that a run changed was kept.
     Keep,
     /// All that it changed stands in a journal, of this path, which wasn't finished.
@@ -61,13 +63,14 @@ impl Deed {
             Deed::Make => "can't make ",
             Deed::Use => "can't use ",
             Deed::Keep => "nothing was kept in ",
-            Deed::Finish | Deed::Settle => "kept in ",
+            Deed::Stop | Deed::Finish | Deed::Settle => "kept in ",
         }
     }
 
     // What stands after it.
     fn after(self) -> &'static str {
         match self {
+            Deed::Stop => ", up to a page that can't be read",
             Deed::Finish => ", to be finished by the next change",
             _ => "",
         }
