@@ -25,7 +25,7 @@ use ub_words::AppendWords;
 /// text was read and is well, and nothing is kept before all its rows are in: the table file is as it was where both paths are equal,
 /// where a file can't be read or opened, where the text doesn't fit the table, and where a row can't be put in; and each of them is
 /// told. Where the text has no row the table file isn't written. An append that is stopped at any moment, or whose file fails, leaves
-/// the table as it was, or with all the rows. After `Device` with nothing told they are in.
+/// the table as it was, or with all the rows. After `Device` with nothing told they are in, unless a refusal was to be told.
 pub fn append_file<F: Files, W: Out>(
     alloc: Global,
     files: &mut F,

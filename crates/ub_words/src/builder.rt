@@ -21,7 +21,8 @@ Status:
   0  all was done
   1  a statement was refused, and the others were run
   2  wrong arguments
-  3  a CSV file was refused, a table file is none or is damaged, or TABLE has no room for another row
+  3  a CSV file was refused, a table file is none or is damaged, a journal is damaged or another table's, or TABLE has no
+     room for another row
   4  a file or the output failed
   5  memory was refused";
 
@@ -50,7 +51,6 @@ A load that fails says why in its last line:
   ! BadNumber row R column K    this is no whole number: mostly a text, a date, a decimal point, or nothing
   ! OutOfRange row R column K   this is one that the column can't hold: mostly below 0 where that isn't signed
   ! Full                        DATA has over 16777215 rows
-  ! BadSize                     there is no room for another page
   ! SameFile                    DATA and TABLE are one path
   ! BadMask                     MASK names a dimension that isn't there: 4 or more with --dims 2
   ! BadJournal                  the file TABLE-journal is damaged, another table's, or beside no table: move it away
@@ -82,7 +82,8 @@ in the script, in bytes from 0. Each statement runs on the table that those befo
 
 What was put in or taken out is put into TABLE when the run ends, all of it or nothing: a run that is stopped at any
 moment leaves TABLE as it was, or as it is to be. Status 0, 1, 3 and 5 say that what was done is kept. After 4 TABLE holds
-what it held, or all that was done before the fault, and standard error says which: look before running the script again.
+what it held, or all that was done before the fault. Standard error says which, and where it says nothing the output
+failed, and what was done is kept: look before running the script again.
 A script that only asks leaves TABLE as it was, byte for byte. A run with INSERT or DELETE waits for whoever uses TABLE.
 
 A fault ends the run, and the last line says which:
@@ -162,7 +163,7 @@ Status:
   3  TABLE isn't a table file, is damaged, or is refused as OldFormat, Unclean or BadJournal; or it has no room for
      another row, as ! Full
   4  a file or the output failed
-  5  memory was refused";
+  5  memory was refused: look whether what was done is kept";
 
 const APPEND_HELP: &str = "\
 Example:
@@ -192,7 +193,8 @@ Status:
   0  TABLE has all rows of DATA
   2  wrong arguments, or DATA and TABLE are one path, as ! SameFile
   3  DATA was refused, as ! BadNumber row 2 column 1; or TABLE was, or it has no room for all rows, as ! Full
-  4  a file failed, as ! Device; or the output did, which no line says, and then all rows are in
+  4  a file failed, as ! Device; or the output did, which no line says, and then all rows are in, unless the line was to
+     be that of a refusal
   5  memory was refused";
 
 const TRY_HELP: &str = "\
