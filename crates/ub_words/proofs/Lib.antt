@@ -1,3 +1,4 @@
+pub mod AddFacts
 pub mod AskFacts
 pub mod GivenFacts
 pub mod Laws

@@ -1,5 +1,5 @@
 ghost use Rattle.std.specs.Int.{int_max, int_min};
-ghost use Rattle.std.specs.Prelude.{IfOk, Some, codes, pos};
+ghost use Rattle.std.specs.Prelude.{◌≡◌, IfOk, IsOkAnd, Ok, Some, box_value, codes, false, pos, true};
 ghost use Rattle.clap.specs.Words.{App, Rule, new_app, signed_between, with_rule, with_subcommand};
 ghost use Rattle.ub_words.specs.CommandLine.{IsArgFor, IsCommandFor, append_app, data_app, dims_rule, load_app, name_rule, next_app, option_rule, page_rows_rule, query_app, run_app, signed_rule, table_app, try_app, ubq_app, upgrade_app, word_rule};
 
@@ -305,34 +305,62 @@ Status:
   4  the output failed
   5  memory was refused";
 
-// A command in the making, unless memory was refused.
-type Making<'a> = Result<Command<'a>, AllocError>;
+// A command in the making, unless memory was refused. It stands in a box: a function costs the prover little where what it
+// owns is small.
+type Making<'a> = Result<Box<Command<'a>>, AllocError>;
 
-// Adds an argument to a command. Each `?` lets a whole command go, so there is one here, and none where commands are made.
-fn with_arg<'a>(command: Making<'a>, arg: Arg<'a>) -> Making<'a>
-    ensures { (app : App) (rule : Rule) → IfOk command.entry (IsCommandFor app) → IsArgFor rule arg.entry
-        → IfOk result (IsCommandFor (with_rule app rule)) }
+// Puts what was made into a box.
+fn boxed<T: Drop>(alloc: Global, made: T) -> Result<Box<T>, AllocError>
+    ensures { IfOk result (λ boxed. box_value boxed ≡ made) }
 {
-    command?.arg(arg)
+    Ok(Box::new(alloc, made)?)
+}
+
+// Adds something to what is in the making.
+fn added<T: Drop, U: Drop, F: FnOnce(T, U) -> Result<T, AllocError>>(
+    alloc: Global,
+    made: Result<Box<T>, AllocError>,
+    other: U,
+    add: F,
+) -> Result<Box<T>, AllocError>
+    requires { F.IsAlwaysCallable add }
+    ensures { IfOk result (λ after. IsOkAnd made (λ before.
+        F.post add (box_value before) other (Ok (box_value after)))) }
+{
+    let made = add(Box::into_inner(made?), other)?;
+    boxed(alloc, made)
+}
+
+// Adds an argument to a command.
+fn with_arg<'a>(alloc: Global, command: Making<'a>, arg: Arg<'a>) -> Making<'a>
+    ensures { (app : App) (rule : Rule)
+        → IfOk command.entry (λ made. IsCommandFor app (box_value made)) → IsArgFor rule arg.entry
+        → IfOk result (λ made. IsCommandFor (with_rule app rule) (box_value made)) }
+{
+    added(alloc, command, arg, Command::arg)
 }
 
 // Adds a command below another one.
-fn with_command<'a>(command: Making<'a>, below: Making<'a>) -> Making<'a>
-    ensures { (app under : App) → IfOk command.entry (IsCommandFor app)
-        → IfOk below.entry (IsCommandFor under)
-        → IfOk result (IsCommandFor (with_subcommand app under.top)) }
+fn with_command<'a>(alloc: Global, command: Making<'a>, below: Making<'a>) -> Making<'a>
+    ensures { (app under : App) → IfOk command.entry (λ made. IsCommandFor app (box_value made))
+        → IfOk below.entry (λ made. IsCommandFor under (box_value made))
+        → IfOk result (λ made. IsCommandFor (with_subcommand app under.top) (box_value made)) }
 {
-    let (Ok(command), Ok(below)) = (command, below) else {
-        return Err(AllocError);
-    };
-    command.subcommand(below)
+    added(alloc, command, Box::into_inner(below?), Command::subcommand)
 }
 
 // A command of this name, with what the program's help says of it, and what stands at the end of its own.
-fn new_command<'a>(alloc: Global, name: &'a str, about: &'a str, help: &'a str) -> Command<'a>
+fn named<'a>(alloc: Global, name: &'a str, about: &'a str, help: &'a str) -> Command<'a>
     ensures { IsCommandFor (new_app name.entry.now) result }
 {
     Command::new(alloc, name).about(about).after_help(help)
+}
+
+// Such a command, to which words are to be added.
+fn new_command<'a>(alloc: Global, name: &'a str, about: &'a str, help: &'a str) -> Making<'a>
+    ensures { IfOk result (λ made. IsCommandFor (new_app name.entry.now) (box_value made)) }
+{
+    boxed(alloc, named(alloc, name, about, help))
 }
 
 // A word that is to be given at its place.
@@ -344,10 +372,11 @@ fn word_arg<'a>(alloc: Global, id: &'a str, help: &'a str) -> Arg<'a>
 
 // Adds such a word to a command.
 fn with_word<'a>(alloc: Global, command: Making<'a>, id: &'a str, help: &'a str) -> Making<'a>
-    ensures { (app : App) → IfOk command.entry (IsCommandFor app)
-        → IfOk result (IsCommandFor (with_rule app (word_rule id.entry.now))) }
+    ensures { (app : App) → IfOk command.entry (λ made. IsCommandFor app (box_value made))
+        → IfOk result (λ made.
+        IsCommandFor (with_rule app (word_rule id.entry.now)) (box_value made)) }
 {
-    with_arg(command, word_arg(alloc, id, help))
+    with_arg(alloc, command, word_arg(alloc, id, help))
 }
 
 // An option with a value.
@@ -375,52 +404,61 @@ fn number_arg<'a>(
 }
 
 // The option that says how many columns are dimensions.
-fn dims_arg<'a>(alloc: Global) -> Arg<'a>
-    ensures { IsArgFor dims_rule result }
+fn with_dims<'a>(alloc: Global, command: Making<'a>) -> Making<'a>
+    ensures { (app : App) → IfOk command.entry (λ made. IsCommandFor app (box_value made))
+        → IfOk result (λ made. IsCommandFor (with_rule app dims_rule) (box_value made)) }
 {
     let help =
         "How many of the first columns are dimensions, 1 to 4: those that the table is sorted by";
-    number_arg(alloc, "dims", "D", help, 1, 4).required(true)
+    let arg = number_arg(alloc, "dims", "D", help, 1, 4).required(true);
+    with_arg(alloc, command, arg)
 }
 
 // The option that says which dimensions are signed.
-fn signed_arg<'a>(alloc: Global) -> Arg<'a>
-    ensures { IsArgFor signed_rule result }
+fn with_signed<'a>(alloc: Global, command: Making<'a>) -> Making<'a>
+    ensures { (app : App) → IfOk command.entry (λ made. IsCommandFor app (box_value made))
+        → IfOk result (λ made. IsCommandFor (with_rule app signed_rule) (box_value made)) }
 {
     let help = "\
 Which dimensions are signed: 1 for the first, 2 for the second, 4, 8, added up; their values are -2147483648 to 2147483647";
-    number_arg(alloc, "signed", "MASK", help, 0, 15).default_value("0")
+    let arg = number_arg(alloc, "signed", "MASK", help, 0, 15).default_value("0");
+    with_arg(alloc, command, arg)
 }
 
 // The option that says how many rows a page holds.
-fn page_rows_arg<'a>(alloc: Global) -> Arg<'a>
-    ensures { IsArgFor page_rows_rule result }
+fn with_page_rows<'a>(alloc: Global, command: Making<'a>) -> Making<'a>
+    ensures { (app : App) → IfOk command.entry (λ made. IsCommandFor app (box_value made))
+        → IfOk result (λ made. IsCommandFor (with_rule app page_rows_rule) (box_value made)) }
 {
     let help = "How many rows a page holds at most, 2 to 64";
-    number_arg(alloc, "page-rows", "C", help, 2, 64).default_value("64")
+    let arg = number_arg(alloc, "page-rows", "C", help, 2, 64).default_value("64");
+    with_arg(alloc, command, arg)
 }
 
 // The option that says which name the table has.
-fn name_arg<'a>(alloc: Global) -> Arg<'a>
-    ensures { IsArgFor name_rule result }
+fn with_name<'a>(alloc: Global, command: Making<'a>) -> Making<'a>
+    ensures { (app : App) → IfOk command.entry (λ made. IsCommandFor app (box_value made))
+        → IfOk result (λ made. IsCommandFor (with_rule app name_rule) (box_value made)) }
 {
     let help = "The name of the table in the statements";
-    option_arg(alloc, "name", "T", help).default_value("t")
+    let arg = option_arg(alloc, "name", "T", help).default_value("t");
+    with_arg(alloc, command, arg)
 }
 
 // The path of a CSV file, another word beside it, and how a table is made of the file.
-fn with_data<'a>(alloc: Global, command: Command<'a>, id: &'a str, help: &'a str) -> Making<'a>
-    ensures { (app : App) → IsCommandFor app command.entry
-        → IfOk result (IsCommandFor (data_app app (word_rule id.entry.now))) }
+fn with_data<'a>(alloc: Global, command: Making<'a>, id: &'a str, help: &'a str) -> Making<'a>
+    ensures { (app : App) → IfOk command.entry (λ made. IsCommandFor app (box_value made))
+        → IfOk result (λ made.
+        IsCommandFor (data_app app (word_rule id.entry.now)) (box_value made)) }
 {
     let data =
         "A CSV file with a header, the dimensions first and then the measures; - is standard input";
-    let command = with_word(alloc, Ok(command), "DATA", data);
+    let command = with_word(alloc, command, "DATA", data);
     let command = with_word(alloc, command, id, help);
-    let command = with_arg(command, dims_arg(alloc));
-    let command = with_arg(command, signed_arg(alloc));
-    let command = with_arg(command, page_rows_arg(alloc));
-    with_arg(command, name_arg(alloc))
+    let command = with_dims(alloc, command);
+    let command = with_signed(alloc, command);
+    let command = with_page_rows(alloc, command);
+    with_name(alloc, command)
 }
 
 // What the help of `run` and `try` says of the file of a script.
@@ -428,7 +466,7 @@ const SCRIPT: &str = "A file of statements, each ended by a semicolon; - is stan
 
 // The command `load` as `clap` reads it.
 fn load_command<'a>(alloc: Global) -> Making<'a>
-    ensures { IfOk result (IsCommandFor load_app) }
+    ensures { IfOk result (λ made. IsCommandFor load_app (box_value made)) }
 {
     let table = "The table file to make; what it held is lost";
     let about = "Load a CSV file into a table file";
@@ -438,42 +476,43 @@ fn load_command<'a>(alloc: Global) -> Making<'a>
 
 // The command `run` as `clap` reads it.
 fn run_command<'a>(alloc: Global) -> Making<'a>
-    ensures { IfOk result (IsCommandFor run_app) }
+    ensures { IfOk result (λ made. IsCommandFor run_app (box_value made)) }
 {
     let table = "A table file that `load` made; INSERT and DELETE change it";
     let about = "Run a script of statements on a table file";
-    let command = new_command(alloc, "run", about, RUN_HELP).override_usage(RUN_USAGE);
-    let command = with_word(alloc, Ok(command), "TABLE", table);
+    let command = named(alloc, "run", about, RUN_HELP).override_usage(RUN_USAGE);
+    let command = boxed(alloc, command);
+    let command = with_word(alloc, command, "TABLE", table);
     with_word(alloc, command, "SCRIPT", SCRIPT)
 }
 
 // The command `query` as `clap` reads it.
 fn query_command<'a>(alloc: Global) -> Making<'a>
-    ensures { IfOk result (IsCommandFor query_app) }
+    ensures { IfOk result (λ made. IsCommandFor query_app (box_value made)) }
 {
     let table = "A table file that `load` made; INSERT and DELETE change it";
     let statements = "The statements themselves, parted by semicolons";
     let about = "Write the answers of statements on a table file, and nothing else";
     let command = new_command(alloc, "query", about, QUERY_HELP);
-    let command = with_word(alloc, Ok(command), "TABLE", table);
+    let command = with_word(alloc, command, "TABLE", table);
     with_word(alloc, command, "STATEMENTS", statements)
 }
 
 // The command `append` as `clap` reads it.
 fn append_command<'a>(alloc: Global) -> Making<'a>
-    ensures { IfOk result (IsCommandFor append_app) }
+    ensures { IfOk result (λ made. IsCommandFor append_app (box_value made)) }
 {
     let table = "A table file that `load` made; it gets the rows";
     let data = "A CSV file whose header names each column of TABLE; - is standard input";
     let about = "Put the rows of a CSV file into a table file";
     let command = new_command(alloc, "append", about, APPEND_HELP);
-    let command = with_word(alloc, Ok(command), "TABLE", table);
+    let command = with_word(alloc, command, "TABLE", table);
     with_word(alloc, command, "DATA", data)
 }
 
 // The command `try` as `clap` reads it.
 fn try_command<'a>(alloc: Global) -> Making<'a>
-    ensures { IfOk result (IsCommandFor try_app) }
+    ensures { IfOk result (λ made. IsCommandFor try_app (box_value made)) }
 {
     let about = "Run a script of statements on a CSV file, in memory";
     let command = new_command(alloc, "try", about, TRY_HELP);
@@ -482,13 +521,13 @@ fn try_command<'a>(alloc: Global) -> Making<'a>
 
 // The command `upgrade` as `clap` reads it.
 fn upgrade_command<'a>(alloc: Global) -> Making<'a>
-    ensures { IfOk result (IsCommandFor upgrade_app) }
+    ensures { IfOk result (λ made. IsCommandFor upgrade_app (box_value made)) }
 {
     let old = "A table file that an older ubq made; it is left as it was";
     let made = "The table file to make; what it held is lost";
     let about = "Make a table file anew that an older ubq made";
     let command = new_command(alloc, "upgrade", about, UPGRADE_HELP);
-    let command = with_word(alloc, Ok(command), "OLD", old);
+    let command = with_word(alloc, command, "OLD", old);
     with_word(alloc, command, "NEW", made)
 }
 
@@ -500,15 +539,15 @@ fn table_command<'a>(
     table: &'a str,
     help: &'a str,
 ) -> Making<'a>
-    ensures { IfOk result (IsCommandFor (table_app name.entry.now)) }
+    ensures { IfOk result (λ made. IsCommandFor (table_app name.entry.now) (box_value made)) }
 {
     let command = new_command(alloc, name, about, help);
-    with_word(alloc, Ok(command), "TABLE", table)
+    with_word(alloc, command, "TABLE", table)
 }
 
 // The command `describe` as `clap` reads it.
 fn describe_command<'a>(alloc: Global) -> Making<'a>
-    ensures { IfOk result (IsCommandFor (table_app (codes "describe"))) }
+    ensures { IfOk result (λ made. IsCommandFor (table_app (codes "describe")) (box_value made)) }
 {
     let about = "Say what a table file holds, as its header tells it";
     let table = "A table file, also one that an older ubq made; it is only read";
@@ -517,7 +556,7 @@ fn describe_command<'a>(alloc: Global) -> Making<'a>
 
 // The command `check` as `clap` reads it.
 fn check_command<'a>(alloc: Global) -> Making<'a>
-    ensures { IfOk result (IsCommandFor (table_app (codes "check"))) }
+    ensures { IfOk result (λ made. IsCommandFor (table_app (codes "check")) (box_value made)) }
 {
     let about = "Check each page of a table file";
     let table = "The table file to check; it is only read";
@@ -526,34 +565,44 @@ fn check_command<'a>(alloc: Global) -> Making<'a>
 
 // The command `next` as `clap` reads it.
 fn next_command<'a>(alloc: Global) -> Making<'a>
-    ensures { IfOk result (IsCommandFor next_app) }
+    ensures { IfOk result (λ made. IsCommandFor next_app (box_value made)) }
 {
     let low = "The least coordinate in each dimension, joined by commas, as in 2,2";
     let high = "The greatest coordinate in each dimension, joined by commas, as in 6,3";
     let address = "The Z-address from which to look, as in 19";
     let about = "Find the addresses of a box that are nearest to a Z-address, on either side";
     let command = new_command(alloc, "next", about, NEXT_HELP);
-    let command = with_word(alloc, Ok(command), "LO", low);
+    let command = with_word(alloc, command, "LO", low);
     let command = with_word(alloc, command, "HI", high);
     with_word(alloc, command, "Z", address)
 }
 
-// The whole command line.
-pub(crate) fn program<'a>(alloc: Global) -> Making<'a>
-    ensures { IfOk result (IsCommandFor ubq_app) }
+// The program's own name and help, and no commands as yet.
+fn bare_program<'a>(alloc: Global) -> Making<'a>
+    ensures { IfOk result (λ made. IsCommandFor (record (new_app (codes "ubq")) {
+      top = record (new_app (codes "ubq")).top { has_version = true; subcommand_required = true };
+    }) (box_value made)) }
 {
     let command = Command::new(alloc, "ubq")
         .version("0.1.0 (table format 3)")
         .about("Answer SQL queries over a table of whole numbers, kept as a UB-tree in one file")
         .after_help(PROGRAM_HELP)
         .subcommand_required(true);
-    let command = with_command(Ok(command), load_command(alloc));
-    let command = with_command(command, run_command(alloc));
-    let command = with_command(command, query_command(alloc));
-    let command = with_command(command, append_command(alloc));
-    let command = with_command(command, try_command(alloc));
-    let command = with_command(command, upgrade_command(alloc));
-    let command = with_command(command, describe_command(alloc));
-    let command = with_command(command, check_command(alloc));
-    with_command(command, next_command(alloc))
+    boxed(alloc, command)
+}
+
+// The whole command line.
+pub(crate) fn program<'a>(alloc: Global) -> Making<'a>
+    ensures { IfOk result (λ made. IsCommandFor ubq_app (box_value made)) }
+{
+    let command = bare_program(alloc);
+    let command = with_command(alloc, command, load_command(alloc));
+    let command = with_command(alloc, command, run_command(alloc));
+    let command = with_command(alloc, command, query_command(alloc));
+    let command = with_command(alloc, command, append_command(alloc));
+    let command = with_command(alloc, command, try_command(alloc));
+    let command = with_command(alloc, command, upgrade_command(alloc));
+    let command = with_command(alloc, command, describe_command(alloc));
+    let command = with_command(alloc, command, check_command(alloc));
+    with_command(alloc, command, next_command(alloc))
 }

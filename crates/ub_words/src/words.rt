@@ -46,7 +46,7 @@ pub enum Asked<'a> {
 pub fn read_words<'a>(alloc: Global, words: &'a [String]) -> Result<Asked<'a>, AllocError>
     ensures { IfOk result (IsAskedBy (map string_bytes words.now)) }
 {
-    match program(alloc)?.try_get_matches_from(words) {
+    match Box::into_inner(program(alloc)?).try_get_matches_from(words) {
         Ok(matches) => asked_by_matches(alloc, &matches),
         Err(error) => asked_by_refused(alloc, words, &error),
     }

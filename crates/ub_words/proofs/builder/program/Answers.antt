@@ -1,13 +1,12 @@
-use Rattle.std.proofs.Common.{codes, rules}
-use Rattle.ub_words.specs.CommandLine.{IsCommandFor, append_app, load_app, next_app, query_app, run_app, table_app, try_app, ubq_app, upgrade_app}
+use Rattle.std.proofs.Common.{codes}
+use Rattle.ub_words.specs.CommandLine.{append_app, load_app, next_app, query_app, run_app, table_app, try_app, ubq_app, upgrade_app}
 use Rattle.ub_words.proofs.AskFacts.{bare_app}
 use Rattle.ub_words.proofs.builder.program.Goals as goal
 
 pub returns : goal.returns
 unfolding ubq_app
 returns c =
-    let bare : IsCommandFor bare_app c.subcommand_required-command.result = (search rules, search rules) in
-    let first = c.with_command-command.ensures bare_app load_app bare c.load_command.ensures in
+    let first = c.with_command-command.ensures bare_app load_app c.bare_program-command.ensures c.load_command.ensures in
     let second = c.with_command-command-2.ensures _ run_app first c.run_command.ensures in
     let third = c.with_command-command-3.ensures _ query_app second c.query_command.ensures in
     let fourth = c.with_command-command-4.ensures _ append_app third c.append_command.ensures in
