@@ -363,6 +363,19 @@ fn new_command<'a>(alloc: Global, name: &'a str, about: &'a str, help: &'a str) 
     boxed(alloc, named(alloc, name, about, help))
 }
 
+// Such a command, whose help has another usage line.
+fn with_usage<'a>(
+    alloc: Global,
+    name: &'a str,
+    about: &'a str,
+    help: &'a str,
+    usage: &'a str,
+) -> Making<'a>
+    ensures { IfOk result (λ made. IsCommandFor (new_app name.entry.now) (box_value made)) }
+{
+    boxed(alloc, named(alloc, name, about, help).override_usage(usage))
+}
+
 // A word that is to be given at its place.
 fn word_arg<'a>(alloc: Global, id: &'a str, help: &'a str) -> Arg<'a>
     ensures { IsArgFor (word_rule id.entry.now) result }
@@ -480,8 +493,7 @@ fn run_command<'a>(alloc: Global) -> Making<'a>
 {
     let table = "A table file that `load` made; INSERT and DELETE change it";
     let about = "Run a script of statements on a table file";
-    let command = named(alloc, "run", about, RUN_HELP).override_usage(RUN_USAGE);
-    let command = boxed(alloc, command);
+    let command = with_usage(alloc, "run", about, RUN_HELP, RUN_USAGE);
     let command = with_word(alloc, command, "TABLE", table);
     with_word(alloc, command, "SCRIPT", SCRIPT)
 }
@@ -577,25 +589,29 @@ fn next_command<'a>(alloc: Global) -> Making<'a>
     with_word(alloc, command, "Z", address)
 }
 
-// The program's own name and help, and no commands as yet.
-fn bare_program<'a>(alloc: Global) -> Making<'a>
-    ensures { IfOk result (λ made. IsCommandFor (record (new_app (codes "ubq")) {
-      top = record (new_app (codes "ubq")).top { has_version = true; subcommand_required = true };
+// The program's own name and help, and no commands as yet: it has a version, and wants a command.
+fn bare_program<'a>(
+    alloc: Global,
+    name: &'a str,
+    about: &'a str,
+    help: &'a str,
+    version: &'a str,
+) -> Making<'a>
+    ensures { IfOk result (λ made. IsCommandFor (record (new_app name.entry.now) {
+      top = record (new_app name.entry.now).top { has_version = true; subcommand_required = true };
     }) (box_value made)) }
 {
-    let command = Command::new(alloc, "ubq")
-        .version("0.1.0 (table format 3)")
-        .about("Answer SQL queries over a table of whole numbers, kept as a UB-tree in one file")
-        .after_help(PROGRAM_HELP)
-        .subcommand_required(true);
-    boxed(alloc, command)
+    let command = named(alloc, name, about, help).version(version);
+    boxed(alloc, command.subcommand_required(true))
 }
 
 // The whole command line.
 pub(crate) fn program<'a>(alloc: Global) -> Making<'a>
     ensures { IfOk result (λ made. IsCommandFor ubq_app (box_value made)) }
 {
-    let command = bare_program(alloc);
+    let about = "Answer SQL queries over a table of whole numbers, kept as a UB-tree in one file";
+    let version = "0.1.0 (table format 3)";
+    let command = bare_program(alloc, "ubq", about, PROGRAM_HELP, version);
     let command = with_command(alloc, command, load_command(alloc));
     let command = with_command(alloc, command, run_command(alloc));
     let command = with_command(alloc, command, query_command(alloc));
