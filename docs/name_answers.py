@@ -37,14 +37,19 @@ MARK = re.compile(r"-- @(\d+) (\d+)$")
 
 
 def definitions(text):
-    """Each definition of a module that Rattle made: its name, its parameters and its body."""
+    """Each definition of a module that Rattle made: its name, its parameters and its body. Of a function over types they stand in a block, and an
+    answer has these types as its first parameter."""
+    in_block = re.search(r"^module _ ", text, re.M)
+    if in_block:
+        text = re.sub(r"^  ", "", text[in_block.start() :], flags=re.M)
     lines, at = text.split("\n"), 0
     while at < len(lines):
         begun, end = DEFINED.match(lines[at]), at + 1
-        if begun and not lines[at].startswith(("use ", "pub use", "--")):
+        if begun and not lines[at].startswith(("use ", "pub use", "--", "module")):
             while end < len(lines) and lines[end][:1] in ("", " ", ")", "}"):
                 end += 1
-            yield begun[1], begun[2].strip(), begun[3] + "\n" + "\n".join(lines[at + 1 : end])
+            given = ("g " if in_block else "") + begun[2].strip()
+            yield begun[1], given, begun[3] + "\n" + "\n".join(lines[at + 1 : end])
         at = end
 
 
