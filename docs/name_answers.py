@@ -9,8 +9,8 @@ exit of each `?` it tries a costly one before any. This tries all of them for ea
 lemma that says 'a clause on Ok says nothing of Err', elsewhere the tactic that Rattle came to late. What `search rules` proves gets no answer,
 since that is tried first, and what none proves by itself is left as it is. FUNCTION is a part of a function's path, as `parting/split_rows`.
 
-Where searches were a quarter of a crate's check this halved them (`ub_growing`: 93 seconds of processor, then some 78); a must-fail edit that
-leaves such a goal open is refused at once. See PROOF_NOTES, 'Time'. The crate's check must go through before, and is to be run again after it."""
+Where searches were a third of a crate's check (`ub_growing`) this halved them; a must-fail edit that leaves such a goal open is refused at once.
+PROOF_NOTES, 'Time', says in which crates searches are much. The check must go through before, and is to be run again after it."""
 import collections
 import os
 import pathlib
