@@ -131,19 +131,18 @@ def unread_pages(trials, before):
     for nth in range(1, 400):
         trials.copy("small.ub", "t.ub")
         ran, came = trials.injected("pread64", "error=EIO", nth, "run", "t.ub", "-", text=text)
-        if not came or ran.returncode == 0:
-            # (what is read before the table is opened, as a library, isn't the program's)
-            seen.add("done" if not came else "passed")
-            if not came:
-                break
+        if not came:
+            break
+        if ran.returncode == 127:
+            # (a library, which is read before the program begins)
             continue
-        kept = re.match(r"ubq: kept in t\.ub, up to a page that can't be read: .+\n$", ran.stderr)
+        kept = re.match(r"ubq: kept in t\.ub(, up to a page that can't be read|-journal, to be finished by the next change): .+\n$", ran.stderr)
         lost = re.match(r"ubq: (can't (open|change|use) t\.ub|nothing was kept in t\.ub): .+\n$", ran.stderr)
         rows = trials.rows("t.ub")
         is_right = ran.returncode == 4 and ran.stdout.endswith("! Device\n") and (kept and rows == after or lost and rows == before)
         trials.judge(f"unread: read {nth} tells", bool(is_right) and trials.is_sound("t.ub"), (ran, rows[-100:]))
-        seen.add("kept" if kept else "lost")
-    trials.judge("unread: rows were kept, and not", {"kept", "lost"} <= seen, seen)
+        seen.add(kept[1][:6] if kept else "lost")
+    trials.judge("unread: rows were kept, put into the journal, and lost", seen == {", up t", "-journ", "lost"}, seen)
 
 
 def recoveries(trials, what, before, after):
