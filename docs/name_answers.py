@@ -10,9 +10,9 @@ lemma that says 'a clause on Ok says nothing of Err', elsewhere the tactic that 
 since that is tried first, and what none proves by itself is left as it is. FUNCTION is a part of a function's path, as `parting/split_rows`.
 
 Where searches were a third of a crate's check (`ub_growing`) this halved them; a must-fail edit that leaves such a goal open is refused at once.
-PROOF_NOTES, 'Time', says in which crates searches are much. The check must go through before, and is to be run again after it."""
+PROOF_NOTES, 'Time', says in which crates searches are much. The check must go through before, and is to be run again after it. An interrupt
+leaves all candidates in the answers: `git checkout` takes them out."""
 import collections
-import os
 import pathlib
 import re
 import subprocess
@@ -25,8 +25,8 @@ SIGNED = re.compile(r"^(?:pub )?([^\s:(){}]+) : ", re.M)
 IMPORTED = re.compile(r"^(?:pub )?use \S+?\.\{([^}]*)\}", re.M)
 # What Rattle tries first at the exit of a `?`: the step of the code that made the error, and which part of its clause says so.
 EXIT = re.compile(r"as_err (c[^\s()]*?)\.ensures((?:\.\d+)*)\)\.1\) steps")
-# Where each word of an answer stands.
-ROOMS = {
+# In which module each word of an answer is.
+MODULES = {
     "Rattle.std.proofs.Common": ("rules", "arith"),
     "Rattle.std.proofs.lemmas.Grind": ("common_steps", "elements", "moves", "pieces"),
     "Rattle.std.proofs.lemmas.Result": ("IfOk-from_err",),
@@ -70,21 +70,22 @@ def candidates(body):
 
 
 def words_of(term):
-    return [it for names in ROOMS.values() for it in names if re.search(rf"(?<![\w-]){re.escape(it)}(?![\w-])", term)]
+    """The words of an answer that are to be imported."""
+    return [it for names in MODULES.values() for it in names if re.search(rf"(?<![\w-]){re.escape(it)}(?![\w-])", term)]
 
 
 def with_imports(text, terms, goals):
     """The text of a file of answers, with what these terms name, and the module of the function's goals."""
     there = {it.split(" as ")[-1].strip() for names in IMPORTED.findall(text) for it in names.split(",")}
     lines = text.split("\n")
-    for room, names in ROOMS.items():
+    for module, names in MODULES.items():
         new = [it for it in names if it not in there and any(it in words_of(term) for term in terms)]
-        at = next((n for n, line in enumerate(lines) if line.startswith(f"use {room}.{{")), None)
+        at = next((n for n, line in enumerate(lines) if line.startswith(f"use {module}.{{")), None)
         if new and at is not None:
             lines[at] = lines[at].replace("{", "{" + ", ".join(new) + ", ", 1)
         elif new:
             last = max((n for n, line in enumerate(lines) if line.startswith("use Rattle.std.proofs.")), default=-1)
-            lines.insert(last + 1, f"use {room}.{{{', '.join(new)}}}")
+            lines.insert(last + 1, f"use {module}.{{{', '.join(new)}}}")
     if not any(line.startswith("use ") and line.endswith(".Goals as goal") for line in lines):
         lines.insert(max((n for n, line in enumerate(lines) if line.startswith("use ")), default=-1) + 1, f"use {goals}.Goals as goal")
     return "\n".join(lines).rstrip("\n") + "\n"
@@ -103,7 +104,7 @@ class Function:
 
     def write_twins(self):
         """Writes the first candidate of each goal as its answer, and the others beside it under other names."""
-        text, self.places = self.old or "", {}
+        text = self.old or ""
         for n, (goal, given, terms, _) in enumerate(self.open):
             for m, term in enumerate(terms):
                 name = f"twin{n}_{m}" if m else goal
@@ -134,6 +135,7 @@ class Function:
 
 
 def check(crate, *flags):
+    """The status of a check of the crate, and what it said."""
     ran = subprocess.run(["rt", "check", *flags], cwd=TOP / "crates" / crate, stdin=subprocess.DEVNULL, stdout=subprocess.PIPE, stderr=subprocess.STDOUT, text=True)
     return ran.returncode, ran.stdout
 

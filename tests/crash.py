@@ -1,7 +1,7 @@
 #!/usr/bin/env python3
 """Stops the real program in the middle of changes, on real files, and looks what is left: each call of the system of each kind that a change
-makes is killed, or failed, in turn (by strace's injection), in a recovery too; runs are killed at random moments; the disk is full, the folder
-takes no file, the journal is damaged or another table's; and several programs use one table at once.
+makes is killed, or failed, in turn (by strace's injection), in a recovery too; each read of a page fails; runs are killed at random moments; the
+disk is full, the folder takes no file, the journal is damaged or another table's; and several programs use one table at once.
 
 After each the table must be as it was before or as it is to be, `check` must say yes, and what a command told of itself must be so.
 
