@@ -3,7 +3,8 @@ use Rattle.std.proofs.lemmas.Option.{get_or_from_slice_get}
 use Rattle.std.proofs.lemmas.Result.{on_ok_weaker}
 use Rattle.ub_store.specs.Facts.{zero_page}
 use Rattle.ub_journal.specs.Image.{first_page, marked}
-use Rattle.ub_journal.proofs.Runs.{mark_lasts, mark_put, mark_synced}
+use Rattle.ub_journal.proofs.Finishing.{both_count, both_fail}
+use Rattle.ub_journal.proofs.Runs.{found_begins, mark_lasts, mark_put, mark_synced}
 use Rattle.ub_journal.proofs.Moments.{still}
 use Rattle.ub_journal.proofs.committing.mark_first.Goals as goal
 
@@ -39,3 +40,16 @@ returns-clause-done g c =
     let before = mark_put (g.J.Tells.told c.args.journal.now) (c.requires.begun honest) honest (g.met.P.Place.clock c.args.place.now honest) c.read_page.ensures.effect c.mark.ensures.effect apart in
     mark_lasts (g.J.Tells.told c.args.journal.now) (c.requires.begun honest) honest (g.met.P.Place.clock c.args.place.now honest) (g.P.Place.facts c.read_page.new.self).seen at
     (g.met.P.Place.clock c.sync.new.self at.honest) (c.read_page.ensures.seen honest) (c.in_ok-mark.ensures.written (still c.read_page.ensures.effect.counts honest)) (done before.honest)) c.sync.ensures.done
+
+pub returns-then-first-eq1-clause-any_moment : goal.returns-then-first-eq1-clause-any_moment
+returns-then-first-eq1-clause-any_moment g c honest =
+    found_begins (g.J.Tells.told c.args.journal.now) (c.requires.begun honest).found honest (g.met.P.Place.clock c.args.place.now honest) c.read_page.ensures.effect
+
+pub returns-then-first-eq1-clause-cause : goal.returns-then-first-eq1-clause-cause
+returns-then-first-eq1-clause-cause g c = c.in_ok-read_page.ensures.effect.counts
+
+pub returns-in_err-mark-clause-cause : goal.returns-in_err-mark-clause-cause
+returns-in_err-mark-clause-cause g c = both_fail c.in_ok-read_page.ensures.effect.counts c.in_err-mark.ensures.effect.counts c.from_residual-in_err-mark.ensures.0
+
+pub returns-clause-cause : goal.returns-clause-cause
+returns-clause-cause g c = both_count c.in_ok-read_page.ensures.effect.counts (both_count c.in_ok-mark.ensures.effect.counts c.sync.ensures.effect.counts)
