@@ -3,11 +3,10 @@ use crate::damage::is_damaged;
 use crate::marks::Asked;
 use crate::narrow::Narrow;
 use std::alloc::{AllocError, Global};
-use ub_hints::hint;
 use ub_journal::{Journal, TornPlace, is_journal};
 use ub_journal_page::write_journal;
 use ub_memory_files::MemFiles;
-use ub_shell::{Files, Over, WordsFault, run_program};
+use ub_shell::{Files, Over, WordsFault, hint, run_program};
 use ub_store::Page;
 
 /// How a command line has ended: its status, and what it wrote to each of its outputs.

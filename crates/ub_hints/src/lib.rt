@@ -1,8 +1,8 @@
 //! What people are told beside a refusal, where they sit at a terminal: where in which file it is, what stands there, and for words
-//! that other databases have what to write here in their place. Nothing is promised of these texts but that making them changes no
-//! file.
+//! that other databases have what to write here in their place. Nothing is promised of these texts. They are made of what was read
+//! already, so making them changes no file; `ub_shell` reads it (`hinting` there), and promises that.
 //!
-//! `telling` is the whole of it: it asks the words again what was asked, and reads anew what that names (`reading`). Of a CSV text
+//! `telling` is the whole of it: which files a command line names, and what is told by what was read of them. Of a CSV text
 //! `data` tells the first thing that is wrong, by its `heading` and one of its records (`record`); of a script `statements` tells its
 //! first refused statements, `excerpt` shows the line with a mark below it, and `advice` says what to write instead. `shown` is how bytes
 //! of a file are shown, `names` how columns are listed, and `told` a text in the making, into which all of them put their parts. The
@@ -14,11 +14,10 @@ mod data;
 mod excerpt;
 mod heading;
 mod names;
-mod reading;
 mod record;
 mod shown;
 mod statements;
 mod telling;
 mod told;
 
-pub use telling::hint;
+pub use telling::{Found, Named, named_by, text_on};

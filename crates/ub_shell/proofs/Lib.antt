@@ -8,3 +8,4 @@ pub mod Laws
 pub mod AppendLaws
 pub mod ShortFacts
 pub mod ShortLaws
+pub mod UnchangedFacts

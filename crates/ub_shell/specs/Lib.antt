@@ -6,3 +6,4 @@ pub mod Ran
 pub mod Short
 pub mod Program
 pub mod Laws
+pub mod Unchanged

@@ -1,13 +1,12 @@
 //! The program `ubq`: what touches the process, its words, its standard output, the notes of a query on standard error, the status that
 //! it ends with, and two things that are for people, on standard error: a line where a file couldn't be had, and, where that is a
-//! terminal, hints on what was refused. All else is `run_program` of the crate `ub_shell`, and `hint` of `ub_hints`.
+//! terminal, hints on what was refused. All else is `run_program` and `hint` of the crate `ub_shell`.
 #![tactic(auto)]
 
 use std::io::{self, IsTerminal};
 use std::process::ExitCode;
-use ub_hints::hint;
 use ub_host_files::HostFiles;
-use ub_shell::{Over, program_words, run_program};
+use ub_shell::{Over, hint, program_words, run_program};
 
 // The status where a file or the output failed.
 const FAILED: u8 = 4;

@@ -1,5 +1,5 @@
-use Rattle.ub_hints.proofs.LeftFacts.{left_both}
-use Rattle.ub_hints.proofs.telling.hint_on.Goals as goal
+use Rattle.ub_shell.proofs.UnchangedFacts.{left_both}
+use Rattle.ub_shell.proofs.hinting.hint_on.Goals as goal
 
 -- what the words name is read by three calls, one after the other
 pub returns : goal.returns

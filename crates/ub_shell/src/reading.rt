@@ -2,7 +2,7 @@
 
 ghost use Rattle.std.specs.Prelude.{◌↔◌, ◌≡◌, IsTrue};
 ghost use Rattle.ub_files.specs.Files.{standard_input};
-ghost use Rattle.ub_hints.specs.Left.{AreLeft};
+ghost use Rattle.ub_shell.specs.Unchanged.{AreLeft};
 
 use std::alloc::Global;
 use ub_files::Files;

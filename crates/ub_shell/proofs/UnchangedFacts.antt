@@ -3,7 +3,7 @@ use Rattle.std.proofs.Common.{◌∙◌, arith, inl, inr, subst, sym}
 use Rattle.std.specs.Prelude.{IsTrue}
 use Rattle.ub_files.specs.Clock.{FolderClock, Goes, IsSameFolder}
 use Rattle.ub_files.specs.Files.{FilesFacts}
-use Rattle.ub_hints.specs.Left.{AreLeft}
+use Rattle.ub_shell.specs.Unchanged.{AreLeft}
 
 -- one step after another
 goes_both : (old mid new : FolderClock) → Goes IsSameFolder old mid → Goes IsSameFolder mid new → Goes IsSameFolder old new
