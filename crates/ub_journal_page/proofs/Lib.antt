@@ -1,3 +1,4 @@
+pub mod ExitFacts
 pub mod HeldFacts
 pub mod LawFacts
 pub mod Lists

@@ -4,10 +4,11 @@ use Rattle.std.proofs.lemmas.List.{length-append, length-drop, length-take}
 use Rattle.ub_journal.specs.declared.fault.JournalFault.TheVariants.{Damaged}
 use Rattle.ub_store.specs.Facts.{StoreFacts, IsHonest}
 use Rattle.ub_journal_page.specs.Pages.{change_bytes, held_of}
-use Rattle.ub_journal_page.specs.inner.Parts.{stream}
+use Rattle.ub_journal_page.specs.inner.Parts.{stream, IsRead}
 use Rattle.ub_journal_page.proofs.HeldFacts.{held_few}
 use Rattle.ub_journal_page.proofs.PackedFacts.{by_front, length_change}
 use Rattle.ub_journal_page.proofs.StreamFacts.{change_read, front_agrees, last_agrees, page_agrees, page_of_bytes}
+use Rattle.ub_journal_page.proofs.ExitFacts.{count_on, looks_damaged, looks_ok, read_on, refused, not_ok}
 use Rattle.ub_journal_page.proofs.packed.read_change.Goals as goal
 
 pub returns-in_err-number-clause-damaged : goal.returns-in_err-number-clause-damaged
@@ -76,3 +77,62 @@ returns-clause-change g c honest =
     λ some e. let yes = c.ends_in_zero.ensures.1 (some, e) in let no_zero = c.if-ends_in_zero.false in absurd (cc) in
     let is = page_of_bytes held c.read_held.new.page part read long few.1 last in
     change_read bytes c.args.cursor.now.place number held c.read_held.new.cursor.place c.read_held.new.page part (c.in_ok-number.ensures.front honest) refl is.0 is.1 next
+
+pub returns-in_err-number-clause-effect : goal.returns-in_err-number-clause-effect
+returns-in_err-number-clause-effect g c = refused c.from_residual.result _ _ _ _ refl c.from_residual.ensures.1 c.in_err-number.ensures.effect
+
+pub read_held-requires-clause-count : goal.read_held-requires-clause-count
+read_held-requires-clause-count g c = count_on (g.S.PageStore.facts c.args.store.now) (g.S.PageStore.facts c.read_front.new.store) c.in_ok-number.ensures.effect.same ∙ c.requires.count
+
+pub read_held-requires-clause-three : goal.read_held-requires-clause-three
+read_held-requires-clause-three g c = c.requires.three
+
+pub read_held-requires-clause-held : goal.read_held-requires-clause-held
+read_held-requires-clause-held g c = c.in_ok-number.ensures.few.1
+
+pub read_held-requires-clause-blank : goal.read_held-requires-clause-blank
+read_held-requires-clause-blank g c = refl
+
+pub read_held-requires-clause-few : goal.read_held-requires-clause-few
+read_held-requires-clause-few g c = let few = c.requires.few in let held = c.in_ok-number.ensures.few.1 in let at = c.in_ok-number.ensures.place in omega arith
+
+pub read_held-requires-clause-read : goal.read_held-requires-clause-read
+read_held-requires-clause-read g c = read_on (g.S.PageStore.facts c.args.store.now) (g.S.PageStore.facts c.read_front.new.store) c.read_front.new.cursor.place c.read_front.new.cursor.page c.in_ok-number.ensures.effect.same c.in_ok-number.ensures.read
+
+pub returns-in_err-read_held-clause-effect : goal.returns-in_err-read_held-clause-effect
+returns-in_err-read_held-clause-effect g c = refused c.from_residual-in_err-read_held.result _ _ _ _ c.in_ok-number.ensures.effect.same c.from_residual-in_err-read_held.ensures.1 c.in_err-read_held.ensures.effect
+
+pub ends_in_zero-requires : goal.ends_in_zero-requires
+ends_in_zero-requires g c = c.in_ok-number.ensures.few.1
+
+pub returns-then-ends_in_zero-clause-sound : goal.returns-then-ends_in_zero-clause-sound
+returns-then-ends_in_zero-clause-sound g c = tt
+
+pub returns-then-ends_in_zero-clause-few : goal.returns-then-ends_in_zero-clause-few
+returns-then-ends_in_zero-clause-few g c = tt
+
+pub returns-then-ends_in_zero-clause-read : goal.returns-then-ends_in_zero-clause-read
+returns-then-ends_in_zero-clause-read g c = tt
+
+pub returns-then-ends_in_zero-clause-change : goal.returns-then-ends_in_zero-clause-change
+returns-then-ends_in_zero-clause-change g c = tt
+
+pub returns-then-ends_in_zero-clause-effect : goal.returns-then-ends_in_zero-clause-effect
+returns-then-ends_in_zero-clause-effect g c = looks_damaged _ _ (c.in_ok-read_held.ensures.effect.same ∙ c.in_ok-number.ensures.effect.same)
+
+pub returns-clause-sound : goal.returns-clause-sound
+returns-clause-sound g c = record { small = c.in_ok-number.ensures.few.0; full = c.read_held.array_long }
+
+pub returns-clause-few : goal.returns-clause-few
+returns-clause-few g c = let held = c.in_ok-number.ensures.few.1 in let at = c.in_ok-number.ensures.place in let behind = c.in_ok-read_held.ensures.place in omega arith
+
+pub returns-clause-read : goal.returns-clause-read
+returns-clause-read g c =
+    let same : g.S.PageStore.facts c.read_front.new.store ≡ (g.S.PageStore.facts c.args.store.now) = c.in_ok-number.ensures.effect.same in
+    subst (λ (f : StoreFacts). IsHonest f → IsRead f.pages c.read_held.new.cursor.place c.read_held.new.cursor.page) same c.in_ok-read_held.ensures.read
+
+pub returns-clause-damaged : goal.returns-clause-damaged
+returns-clause-damaged g c = λ told honest d rest sound is. not_ok _ _ told
+
+pub returns-clause-effect : goal.returns-clause-effect
+returns-clause-effect g c = looks_ok _ _ _ (c.in_ok-read_held.ensures.effect.same ∙ c.in_ok-number.ensures.effect.same)
