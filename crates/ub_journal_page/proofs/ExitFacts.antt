@@ -1,13 +1,16 @@
 -- What the exits of calls over a store tell.
-use Rattle.std.proofs.Common.{◌≡◌, ◌≤◌, ◌*◌, ◌/◌, ◌+◌, ◌++◌, ◌∷◌, [], ℕ, zero, suc, Bool, true, false, List, Result, Ok, Err, ap, arith, inl, inr, length, refl, subst, sym, take, ◌∙◌}
+use Rattle.std.proofs.Common.{◌≡◌, ◌≢◌, ◌≤◌, ◌*◌, ◌/◌, ◌+◌, ◌++◌, ◌∷◌, [], ℕ, zero, suc, Bool, true, false, List, Result, Ok, Err, ap, arith, inl, inr, length, refl, subst, sym, take, ◌∙◌}
 use Rattle.std.proofs.lemmas.Bool.{true≢false}
 use Rattle.std.proofs.lemmas.List.{length-append}
-use Rattle.std.specs.Prelude.{IsErrOf}
+use Rattle.std.specs.Prelude.{IfErr, IsErrOf, OnOk}
 use Rattle.std.specs.Result.{IsErrAnd, is_ok}
 use Rattle.ub_journal.specs.declared.fault.JournalFault.{JournalFault}
 use Rattle.ub_journal.specs.declared.fault.JournalFault.TheVariants.{Damaged, Device, Memory}
 use Rattle.ub_journal_page.specs.Reading.{BearsOut, Looks, counted}
-use Rattle.ub_journal_page.specs.inner.Parts.{IsRead}
+use Rattle.ub_journal_page.specs.inner.Parts.{AreBody, AreListed, ArePacked, IsRead}
+use Rattle.ub_journal_page.specs.Pages.{byte_parts}
+use Rattle.ub_journal_page.specs.Whole.{total_of}
+use Rattle.ub_journal.specs.declared.journal.Change.{Change}
 use Rattle.ub_store.specs.Facts.{StoreFacts, IsHonest}
 
 counted_as : (A B : Type 0) (e : JournalFault) (n : ℕ) → counted {A = A} (Err e) n ≡ counted {A = B} (Err e) n
@@ -94,3 +97,39 @@ handed_on (Err Device) e s t is h none = absurd (none (ap (λ (x : JournalFault)
 pub three_pages : (total version changes : ℕ) → BearsOut total version changes → 3 ≤ total
 three_pages total version changes (inl one) = let is = one.1 in omega arith
 three_pages total version changes (inr two) = let room = two.1 in omega arith
+
+-- a last call that has no store, and is refused as damaged alone
+pub looks_last : {A : Type 0} (r : Result A JournalFault) (s t : StoreFacts) → t ≡ s → IfErr r (λ e. e ≡ Damaged) → Looks s t r
+looks_last (Ok x) s t is fault = looks_ok x s t is
+looks_last {A} (Err e) s t is fault = subst (λ (f : JournalFault). Looks {A = A} s t (Err f)) (sym fault) (looks_damaged s t is)
+
+pub on_ok : {A : Type 0} {P : Type 0} (r : Result A JournalFault) → P → OnOk r P
+on_ok (Ok x) is = is
+on_ok (Err e) is = tt
+
+pub never_memory : {A : Type 0} (r : Result A JournalFault) → IfErr r (λ e. e ≡ Damaged) → ¬ (IsErrOf r Memory)
+never_memory (Ok x) fault told = not_ok x Memory told
+never_memory (Err e) fault told = true≢false (ap is_memory (sym told ∙ ap (λ (f : JournalFault). Err f) fault))
+
+-- what a head that is borne out tells of the pages behind the first three, and which version they are of
+module _ (total version changes : ℕ) (bears : BearsOut total version changes) where
+  version_two : (v : ℕ) → v ≢ 1 → BearsOut total v changes → v ≡ 2
+  version_two v not (inl one) = absurd (not one.0)
+  version_two v not (inr two) = two.0
+
+  pub whole_there : version ≡ 1 → total ≡ total_of changes
+  whole_there is = elim bears [ inl one ↦ one.1 | inr two ↦ absurd (let wrong = two.0 in omega arith) ]
+
+  pub packed_there : version ≢ 1 → 3 + byte_parts (8 * changes) ≤ total
+  packed_there not = elim bears [ inl one ↦ absurd (not one.0) | inr two ↦ two.1 ]
+
+  pub packed_body : version ≢ 1 → (pages : List (List ℕ)) (cs : List Change) → ArePacked pages cs → AreBody version pages cs
+  packed_body not pages cs are = inr (version_two version not bears, are)
+
+pub body_whole : (version : ℕ) (pages : List (List ℕ)) (cs : List Change) → version ≡ 1 → AreBody version pages cs → AreListed pages cs
+body_whole version pages cs is (inl one) = one.1
+body_whole version pages cs is (inr two) = absurd (let wrong = two.0 in omega arith)
+
+pub body_packed : (version : ℕ) (pages : List (List ℕ)) (cs : List Change) → version ≢ 1 → AreBody version pages cs → ArePacked pages cs
+body_packed version pages cs not (inl one) = absurd (not one.0)
+body_packed version pages cs not (inr two) = two.1
