@@ -36,10 +36,10 @@ not_ok x e is = true≢false (ap is_ok is)
 pub memory_isnt_damaged : {A : Type 0} → ¬ (IsErrOf {T = A} (Err Memory) Damaged)
 memory_isnt_damaged is = true≢false (ap is_memory is)
 
-memory_isnt_device : {A : Type 0} → ¬ (IsErrOf {T = A} (Err Memory) Device)
+pub memory_isnt_device : {A : Type 0} → ¬ (IsErrOf {T = A} (Err Memory) Device)
 memory_isnt_device is = true≢false (ap is_memory is)
 
-damaged_isnt_device : {A : Type 0} → ¬ (IsErrOf {T = A} (Err Damaged) Device)
+pub damaged_isnt_device : {A : Type 0} → ¬ (IsErrOf {T = A} (Err Damaged) Device)
 damaged_isnt_device is = true≢false (ap is_damaged is)
 
 -- a fault that is handed on is the one before it

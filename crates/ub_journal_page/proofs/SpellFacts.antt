@@ -5,7 +5,7 @@ use Rattle.std.specs.Io.KnownBytes.{Appends}
 use Rattle.std.specs.Result.{OnOk}
 use Rattle.ub_journal.specs.Image.{Journal}
 use Rattle.ub_journal.specs.declared.journal.Change.{Change}
-use Rattle.ub_journal_page.specs.Pages.{byte_pages, byte_parts, change_bytes, changes_bytes, head_of, joined, number_page, pages_of}
+use Rattle.ub_journal_page.specs.Pages.{byte_pages, byte_parts, change_bytes, changes_bytes, head_of, held_of, joined, number_bytes, number_page, pages_of}
 use Rattle.ub_journal_page.proofs.Lists.{drop-replicate}
 use Rattle.ub_journal_page.proofs.PackedFacts.{joined_pages}
 
@@ -20,6 +20,13 @@ appends_more None b c xs ys h k = tt
 appends_more (Some zs) None c xs ys h k = absurd h
 appends_more (Some zs) (Some bs) None xs ys h k = k
 appends_more (Some zs) (Some bs) (Some cs) xs ys h k = k ∙ ap (λ (s : List ℕ). s ++ ys) h ∙ append_assoc zs xs ys
+
+-- the front of a change, and then its bytes
+pub change_written : (a b d : Option (List ℕ)) (number held : ℕ) (front page : List ℕ) → held ≡ held_of page → front ≡ number_bytes number ++ number_bytes held → Appends a b front
+    → Appends b d (take held page) → Appends a d (change_bytes (record { number = number; page = page }))
+change_written a b d number held front page same is one two =
+    subst (λ (s : List ℕ). Appends a d s) (ap (λ (s : List ℕ). s ++ take held page) is ∙ append_assoc (number_bytes number) (number_bytes held) (take held page)
+    ∙ ap (λ (n : ℕ). number_bytes number ++ (number_bytes n ++ take n page)) same) (appends_more a b d front (take held page) one two)
 
 -- the zeros behind so many bytes of a page
 pub zeros_part : (within : ℕ) → within < 4096 → (within ≡ 0 → ⊥) → take {A = ℕ} (4096 - within) (drop within (replicate 4096 0)) ≡ replicate ((4096 - within) % 4096) 0
