@@ -17,6 +17,7 @@ pub mod MachineFacts
 pub mod NearFacts
 pub mod NumberFacts
 pub mod OpenFacts
+pub mod OpenedFacts
 pub mod OrderFacts
 pub mod PlaceFacts
 pub mod ReachFacts

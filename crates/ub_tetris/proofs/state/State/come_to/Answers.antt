@@ -1,6 +1,6 @@
-use Rattle.std.proofs.Common.{[], List, ap, refl, subst, sym}
+use Rattle.std.proofs.Common.{arith, ◌∙◌, length, [], List, ap, refl, subst, sym}
 use Rattle.std.specs.List.{filter}
-use Rattle.ub_filter.specs.Choice.{is_chosen}
+use Rattle.ub_filter.specs.Choice.{IsFit, is_chosen}
 use Rattle.ub_table.specs.declared.schema.Schema.{Schema}
 use Rattle.ub_tetris.proofs.AlongFacts.{keys_of}
 use Rattle.ub_tetris.proofs.DueFacts.{region_come}
@@ -13,6 +13,8 @@ use Rattle.ub_tetris.specs.Sweep.{SweepView}
 use Rattle.ub_tetris.specs.inner.Events.{seen}
 use Rattle.ub_tetris.specs.inner.Kept.{HoldsAlso}
 use Rattle.ub_tetris.specs.inner.Turns.{view_of}
+use Rattle.ub_query.specs.Posed.{IsPosed}
+use Rattle.ub_tetris.proofs.OpenedFacts.{opened_holds}
 use Rattle.ub_tetris.proofs.state.State.come_to.Goals as goal
 
 pub returns-in_err-read : goal.returns-in_err-read
@@ -54,3 +56,38 @@ returns g c =
             (schema_read t c.read.new.tree (seen c.args.next.now) region schema read c.schema-2.ensures) holds,
       );
     }
+
+pub open-requires : goal.open-requires
+open-requires g c =
+    omega (arith, c.if-next-gt0.true)
+
+pub returns-then-next-gt0 : goal.returns-then-next-gt0
+returns-then-next-gt0 g c =
+    record {
+      next = c.open.ensures.next;
+      rows = opened_holds c.args.plan.now c.args.tree.now c.open.new.tree (view_of c.args.self.now) (view_of c.open.new.self) (seen c.args.next.now) c.args.tree.now.schema (keys_of c.args.plan.now.asked)
+          c.open.result c.open.ensures.held c.open.ensures.came;
+    }
+
+pub read-requires : goal.read-requires
+read-requires g c =
+    omega (arith, c.if-next-gt0.false)
+
+pub of-choice-requires : goal.of-choice-requires
+of-choice-requires g c =
+    subst (λ (s : Schema). IsPosed (length s.columns) c.args.plan.now.asked)
+    (sym (schema_read c.args.tree.now c.read.new.tree (seen c.args.next.now) c.read.new.self.page.region c.schema.result.now c.in_ok-read.ensures.read c.schema.ensures)) c.requires
+
+pub push_chosen-requires-clause-posed : goal.push_chosen-requires-clause-posed
+push_chosen-requires-clause-posed g c =
+    subst (λ (s : Schema). IsPosed (length s.columns) c.args.plan.now.asked)
+    (sym (schema_read c.args.tree.now c.read.new.tree (seen c.args.next.now) c.read.new.self.page.region c.schema-2.result.now c.in_ok-read.ensures.read c.schema-2.ensures)) c.requires
+
+pub push_chosen-requires-clause-fit : goal.push_chosen-requires-clause-fit
+push_chosen-requires-clause-fit g c =
+    subst (λ (s : Schema). IsFit s c.args.plan.now c.of-choice.result) (c.schema.ensures ∙ sym c.schema-2.ensures) c.of-choice.ensures
+
+pub push_chosen-requires-clause-dims : goal.push_chosen-requires-clause-dims
+push_chosen-requires-clause-dims g c =
+    c.in_ok-read.ensures.dims
+    ∙ sym (ap (λ (s : Schema). s.dims) (schema_read c.args.tree.now c.read.new.tree (seen c.args.next.now) c.read.new.self.page.region c.schema-2.result.now c.in_ok-read.ensures.read c.schema-2.ensures))

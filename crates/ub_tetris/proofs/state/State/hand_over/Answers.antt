@@ -1,4 +1,4 @@
-use Rattle.std.proofs.Common.{Ok, subst, sym}
+use Rattle.std.proofs.Common.{length, Ok, subst, sym}
 use Rattle.ub_table.specs.declared.schema.Schema.{Schema}
 use Rattle.ub_tetris.proofs.DueFacts.{takes_any}
 use Rattle.ub_tetris.proofs.FetchFacts.{fewer_left}
@@ -9,6 +9,7 @@ use Rattle.ub_tetris.specs.Calls.{HandsAll}
 use Rattle.ub_tetris.specs.Sweep.{HandsOver}
 use Rattle.ub_tetris.specs.inner.Events.{Ahead, seen}
 use Rattle.ub_tetris.specs.inner.Turns.{HasComeTo, view_of}
+use Rattle.ub_query.specs.Posed.{IsPosed}
 use Rattle.ub_tetris.proofs.state.State.hand_over.Goals as goal
 
 pub loop-next-init : goal.loop-next-init
@@ -65,3 +66,9 @@ returns g c =
       left = hands_left takes plan t c.loop-next.tree c.args.self.now c.loop-next.self c.args.sink.now c.loop-next.sink inv past;
       effect = inv.effect;
     })
+
+pub hand_next-requires : goal.hand_next-requires
+hand_next-requires g c =
+    subst (λ (s : Schema). IsPosed (length s.columns) c.args.plan.now.asked)
+    (sym (schema_so_far (g.K.RowSink.HasTaken c.args.tree.now.schema c.args.plan.now.asked) c.args.plan.now c.args.tree.now c.loop-next.tree c.args.self.now c.loop-next.self c.args.sink.now c.loop-next.sink
+    c.loop-next.invariant)) c.requires

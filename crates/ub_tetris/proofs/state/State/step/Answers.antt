@@ -1,4 +1,4 @@
-use Rattle.std.proofs.Common.{ap, subst}
+use Rattle.std.proofs.Common.{length, sym, ap, subst}
 use Rattle.ub_tetris.proofs.EffectFacts.{swept_as, swept_with}
 use Rattle.ub_tetris.proofs.FetchFacts.{fewer_left}
 use Rattle.ub_tetris.proofs.StepsFacts.{Fetches-more, Fetches-none, awaits_still, end_unbroken, first_then, placed_asked, step_answers, step_broken, step_effect, step_ends, step_rests}
@@ -8,6 +8,9 @@ use Rattle.ub_tetris.specs.Sweep.{SweepView}
 use Rattle.ub_tetris.specs.inner.Events.{seen}
 use Rattle.ub_tetris.specs.inner.Kept.{TakesFirst}
 use Rattle.ub_tetris.specs.inner.Turns.{view_of}
+use Rattle.ub_query.specs.Posed.{IsPosed}
+use Rattle.ub_table.specs.declared.schema.Schema.{Schema}
+use Rattle.ub_tree.specs.View.{TreeView}
 use Rattle.ub_tetris.proofs.state.State.step.Goals as goal
 
 pub loop-next-init : goal.loop-next-init
@@ -56,3 +59,7 @@ returns g c =
       answers = step_answers plan t c.loop-next.tree c.args.self.now c.loop-next.self inv now c.take_first.result none takes kept;
       effect = swept_with plan tt (view_of c.args.self.now) (view_of c.loop-next.self) (view_of now) t c.loop-next.tree (awaits_still (view_of c.loop-next.self) (view_of now) kept) inv.effect c.take_first.result;
     }
+
+pub come_to-requires : goal.come_to-requires
+come_to-requires g c =
+    subst (λ (s : Schema). IsPosed (length s.columns) c.args.plan.now.asked) (sym (ap (λ (t : TreeView). t.schema) c.loop-next.invariant.effect.same)) c.requires
