@@ -37,3 +37,9 @@ pub search_reads : {T U : Type 0} {Sought : Key → Type 0} (r : Result T ReadFa
 search_reads {Sought = Sought} r e a b is searches =
     tree_reads r e a a b is refl
     (searches.same ∙ ap (λ (t : TreeView). record a { store = record a.store { failed_reads = raised_by e a.store.failed_reads }; trace = t.trace }) (sym searches.same)) (searched_fault Sought a e searches.faults)
+
+-- the same fault of a search handed on
+pub same_search : {T U : Type 0} {Sought : Key → Type 0} (r : Result T TreeFault) (e : TreeFault) (a b : TreeView) → IsErrAnd r (λ x. x ≡ e)
+    → SearchesFor {A = U} Sought a b (Err e) → SearchesFor Sought a b r
+same_search (Ok x) e a b is searches = absurd is
+same_search (Err f) e a b is searches = rw is (record { same = searches.same; faults = searches.faults })

@@ -242,3 +242,10 @@ visited_by t mid new boxes after span region rows sound first kept untraced stan
 -- rows handed over after others
 pub handed_more : (f : Row → Bool) (taken rows more : List Row) → (taken ++ filter f rows) ++ filter f more ≡ taken ++ filter f (rows ++ more)
 handed_more f taken rows more = append_assoc taken (filter f rows) (filter f more) ∙ ap (λ (rs : List Row). taken ++ rs) (sym (filter-append f rows more))
+
+-- the first region behind one, as the boxes that are seen and what is found are named otherwise
+pub first_found : (t : TreeView) (seen boxes : List Corners) (after found next : Option Region) → seen ≡ boxes → found ≡ next
+    → First (λ r. IsLater after r × Meets seen r) (spans_of t) found → First (λ r. IsLater after r × Meets boxes r) (spans_of t) next
+first_found t seen boxes after found next same is first =
+    subst (λ (bs : List Corners). First (λ r. IsLater after r × Meets bs r) (spans_of t) next) same
+    (subst (λ (f : Option Region). First (λ r. IsLater after r × Meets seen r) (spans_of t) f) is first)

@@ -1,4 +1,4 @@
-use Rattle.std.proofs.Common.{◌≡◌, ◌++◌, ◌∙◌, List, [], Err, ap, refl, rules, sym}
+use Rattle.std.proofs.Common.{length, subst, ◌≡◌, ◌++◌, ◌∙◌, List, [], Err, ap, refl, rules, sym}
 use Rattle.std.proofs.lemmas.List.{append-nil}
 use Rattle.std.proofs.lemmas.List.Sorted.{IsNonDecreasingBy-from_sort_by_key}
 use Rattle.std.specs.List.{filter}
@@ -7,10 +7,12 @@ use Rattle.ub_exec.proofs.KeyFacts.{deletion_scans, read_keys, walked_keys}
 use Rattle.ub_exec.proofs.MeantFacts.{walk_fetched}
 use Rattle.ub_exec.proofs.NotedFacts.{notes_err, notes_ok}
 use Rattle.ub_exec.proofs.RefusedFacts.{no_answer, no_result}
-use Rattle.ub_filter.specs.Choice.{is_chosen}
+use Rattle.ub_filter.specs.Choice.{IsFit, is_chosen}
 use Rattle.ub_table.specs.Region.{keys_of}
 use Rattle.ub_table.specs.declared.row.Key.{Key}
 use Rattle.ub_tree.proofs.Laws.{reads_by}
+use Rattle.ub_query.specs.Posed.{IsPosed}
+use Rattle.ub_table.specs.declared.schema.Schema.{Schema}
 use Rattle.ub_exec.proofs.deleting.keys_of_selected.Goals as goal
 
 pub returns-clause-fetches : goal.returns-clause-fetches
@@ -34,7 +36,7 @@ returns-in_err-walk-clause-fetches g c deletion =
 
 pub returns-clause-read : goal.returns-clause-read
 returns-clause-read g c =
-    let none : c.new.result.items ≡ [] = search rules in
+    let none : c.new.result.items ≡ [] = c.new.ensures.items in
     let (handed, held, walk) = c.in_ok-walk.ensures.rows (record { keys = c.new.result }) [] (sym (append-nil c.new.result.items)) in
     let chosen = keys_of c.args.tree.now.schema.dims (filter (is_chosen c.of-choice.result c.args.tree.now.schema c.args.plan.now) handed) in
     let gathered : c.walk.new.sink.keys.items ≡ chosen = held ∙ ap (λ (keys : List Key). keys ++ chosen) none in
@@ -44,7 +46,7 @@ returns-clause-read g c =
 
 pub returns-clause-keys : goal.returns-clause-keys
 returns-clause-keys g c s stand deletion =
-    let none : c.new.result.items ≡ [] = search rules in
+    let none : c.new.result.items ≡ [] = c.new.ensures.items in
     let (handed, held, walk) = c.in_ok-walk.ensures.rows (record { keys = c.new.result }) [] (sym (append-nil c.new.result.items)) in
     let chosen = keys_of c.args.tree.now.schema.dims (filter (is_chosen c.of-choice.result c.args.tree.now.schema c.args.plan.now) handed) in
     let gathered : c.walk.new.sink.keys.items ≡ chosen = held ∙ ap (λ (keys : List Key). keys ++ chosen) none in
@@ -69,3 +71,15 @@ returns-clause-notes g c = notes_ok _ _ c.args.tree.now c.walk.new.tree c.in_ok-
 
 pub returns-clause-effect : goal.returns-clause-effect
 returns-clause-effect g c = record { same = c.in_ok-walk.ensures.effect.same; faults = tt }
+
+pub of-choice-requires : goal.of-choice-requires
+of-choice-requires g c =
+    subst (λ (s : Schema). IsPosed (length s.columns) c.args.plan.now.asked) (sym c.schema.ensures) c.requires
+
+pub walk-requires-clause-posed : goal.walk-requires-clause-posed
+walk-requires-clause-posed g c =
+    c.requires
+
+pub walk-requires-clause-fit : goal.walk-requires-clause-fit
+walk-requires-clause-fit g c =
+    subst (λ (s : Schema). IsFit s c.args.plan.now c.of-choice.result) c.schema.ensures c.of-choice.ensures

@@ -1,4 +1,4 @@
-use Rattle.std.proofs.Common.{Err, List, length, refl}
+use Rattle.std.proofs.Common.{ap, ℕ, Err, List, length, refl}
 use Rattle.ub_exec.proofs.ExecFacts.{answers_err, same_err}
 use Rattle.ub_exec.proofs.NotedFacts.{carries_ok, carries_on}
 use Rattle.ub_exec.proofs.RefusedFacts.{no_answer}
@@ -36,3 +36,11 @@ returns-in_err-rows-clause-executes g c =
       reads = carries_on (λ (cells : List (List Cell)). length cells) _ c.from_residual.result _ _ plan (begun old) new is rows.reads;
       effect = reads_by c.from_residual.result _ old old new is refl rows.effect;
     }
+
+pub returns-in_err-rows-clause-fetched : goal.returns-in_err-rows-clause-fetched
+returns-in_err-rows-clause-fetched g c =
+    no_answer c.from_residual.result _ _ c.from_residual.ensures.1
+
+pub returns-clause-fetched : goal.returns-clause-fetched
+returns-clause-fetched g c =
+    ap (λ (pages : List ℕ). length pages) c.trace.ensures

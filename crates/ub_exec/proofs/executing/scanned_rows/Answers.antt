@@ -12,7 +12,7 @@ use Rattle.ub_exec.proofs.SweptFacts.{shaped_none}
 use Rattle.ub_exec.proofs.NotedFacts.{carries_all, carries_err, carries_none}
 use Rattle.ub_exec.proofs.ReadMeantFacts.{answered_read}
 use Rattle.ub_exec.proofs.RefusedFacts.{memory_reads, no_answer}
-use Rattle.ub_filter.specs.Choice.{is_chosen}
+use Rattle.ub_filter.specs.Choice.{IsFit, is_chosen}
 use Rattle.ub_planning.proofs.Laws.{limit_of_zero_means_nothing}
 use Rattle.ub_query.specs.Shape.{Asked, asked}
 use Rattle.ub_query.specs.declared.cell.Cell.{Cell}
@@ -20,6 +20,8 @@ use Rattle.ub_table.specs.declared.row.Row.{Row}
 use Rattle.ub_table.specs.declared.schema.Schema.{Schema}
 use Rattle.ub_tree.proofs.Laws.{reads_by}
 use Rattle.ub_tree.specs.View.{TreeView}
+use Rattle.ub_query.specs.Posed.{IsPosed}
+use Rattle.ub_exec.proofs.FillFacts.{posed_as}
 use Rattle.ub_exec.proofs.executing.scanned_rows.Goals as goal
 
 is_some : (b : Bool) → b ≡ false → b ≡ true → ⊥
@@ -134,3 +136,28 @@ returns-in_err-finish-clause-done g c ready apart =
     let (handed, held, walk) = c.in_ok-walk.ensures.rows c.new-gathering.result [] (none_taken c.args.tree.now.schema c.args.plan.now.asked c.new-gathering.result) in
     answers_err c.from_residual-in_err-finish.result _ c.args.plan.now c.args.tree.now c.args.tree.now c.walk.new.tree (λ cells. cells) c.from_residual-in_err-finish.ensures.1
     (all_fetched c.args.plan.now c.args.tree.now c.walk.new.tree (walk_fetched c.args.plan.now c.args.tree.now c.walk.new.tree handed ready.sound ready.planned apart (walk.1 ready.sound)))
+
+pub returns-then-asks_for_none-clause-effect : goal.returns-then-asks_for_none-clause-effect
+returns-then-asks_for_none-clause-effect g c =
+    record { same = refl; faults = tt }
+
+pub new-gathering-requires : goal.new-gathering-requires
+new-gathering-requires g c =
+    posed_as c.args.tree.now.schema c.schema.result.now c.args.plan.now.asked (asked c.query-query.result.now) c.schema.ensures c.query-query.ensures c.requires
+
+pub of-choice-requires : goal.of-choice-requires
+of-choice-requires g c =
+    subst (λ (s : Schema). IsPosed (length s.columns) c.args.plan.now.asked) (sym c.schema-2.ensures) c.requires
+
+pub walk-requires-clause-posed : goal.walk-requires-clause-posed
+walk-requires-clause-posed g c =
+    c.requires
+
+pub walk-requires-clause-fit : goal.walk-requires-clause-fit
+walk-requires-clause-fit g c =
+    subst (λ (s : Schema). IsFit s c.args.plan.now c.of-choice.result) c.schema-2.ensures c.of-choice.ensures
+
+pub finish-requires : goal.finish-requires
+finish-requires g c =
+    posed_as c.args.tree.now.schema c.schema-3.result.now c.args.plan.now.asked (asked c.query-query.result.now)
+    (c.schema-3.ensures ∙ ap (λ (t : TreeView). t.schema) c.in_ok-walk.ensures.effect.same) c.query-query.ensures c.requires

@@ -22,6 +22,7 @@ use Rattle.ub_table.specs.declared.row.Row.{Row}
 use Rattle.ub_table.specs.declared.schema.Schema.{Schema}
 use Rattle.ub_tree.proofs.Laws.{Keeps-by, Keeps-more, begun_traced, reads_by}
 use Rattle.ub_tree.specs.View.{TreeView}
+use Rattle.ub_exec.proofs.FillFacts.{posed_as}
 use Rattle.ub_exec.proofs.grouping.all_groups.Goals as goal
 
 -- a gathering that was handed nothing has taken nothing more
@@ -154,3 +155,15 @@ returns g c =
       notes = notes_as (Ok _) (begun start) mid new begins (notes_ok tt _ mid new all.notes);
       effect = record { same = kept_then.traced; faults = tt };
     }
+
+pub new-gathering-requires : goal.new-gathering-requires
+new-gathering-requires g c =
+    let begins = begun_ok c.in_ok-sweep.sweep c.args.tree.now c.new.new.tree c.in_ok-sweep.ensures.effect in
+    posed_as c.args.tree.now.schema c.schema.result.now c.args.plan.now.asked (asked c.query-query.result.now) (c.schema.ensures ∙ ap (λ (t : TreeView). t.schema) begins)
+    c.query-query.ensures c.requires.posed
+
+pub finish-requires : goal.finish-requires
+finish-requires g c =
+    let begins = begun_ok c.in_ok-sweep.sweep c.args.tree.now c.new.new.tree c.in_ok-sweep.ensures.effect in
+    posed_as c.args.tree.now.schema c.schema-2.result.now c.args.plan.now.asked (asked c.query-query.result.now)
+    (c.schema-2.ensures ∙ ap (λ (t : TreeView). t.schema) c.in_ok-hand_over.ensures.hands.effect.same ∙ ap (λ (t : TreeView). t.schema) begins) c.query-query.ensures c.requires.posed

@@ -1,4 +1,4 @@
-use Rattle.std.proofs.Common.{List, None, take, refl, subst, sym}
+use Rattle.std.proofs.Common.{arith, List, None, take, refl, subst, sym}
 use Rattle.std.proofs.lemmas.Result.{IfOk-weaker}
 use Rattle.ub_answer.specs.Shaped.{IsShaped}
 use Rattle.ub_exec.proofs.GivenFacts.{all_taken}
@@ -6,6 +6,9 @@ use Rattle.ub_exec.proofs.RefusedFacts.{no_answer}
 use Rattle.ub_query.specs.Meaning.{IsMeaning}
 use Rattle.ub_query.specs.Shape.{asked}
 use Rattle.ub_query.specs.declared.cell.Cell.{Cell}
+use Rattle.std.proofs.lemmas.List.{take_more}
+use Rattle.ub_answer.specs.Gathered.{IsGathered}
+use Rattle.ub_table.specs.declared.row.Row.{Row}
 use Rattle.ub_exec.proofs.grouping.groups_of.Goals as goal
 
 pub returns-clause-meaning : goal.returns-clause-meaning
@@ -45,3 +48,8 @@ pub returns-clause-shaped : goal.returns-clause-shaped
 returns-clause-shaped c =
     IfOk-weaker c.into_cells.result _ _ (λ cells is. subst (λ (cells : List (List Cell)). IsShaped (asked c.args.query.now) cells) (sym is) c.in_ok-finish.ensures.shaped)
     c.into_cells.ensures
+
+pub loop-row-preserved : goal.loop-row-preserved
+loop-row-preserved c =
+    subst (λ (rows : List Row). IsGathered c.args.schema.now (asked c.args.query.now) rows c.take.new.self)
+    (sym (take_more c.args.rows.now c.loop-row.row-index _ (omega (arith, c.loop-row-test.true)))) (c.in_ok-take.ensures.gathered (take c.loop-row.row-index c.args.rows.now) c.loop-row.invariant)

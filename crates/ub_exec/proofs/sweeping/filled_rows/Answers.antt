@@ -179,3 +179,15 @@ pub result_of-requires-2 : goal.result_of-requires-2
 result_of-requires-2 g c =
     posed_as c.args.tree.now.schema c.schema-2.result.now c.args.plan.now.asked (asked c.query-query.result.now) (c.schema-2.ensures ∙ c.loop-sweep.invariant.filled.kept.regions.schema)
     c.query-query.ensures c.requires.posed
+
+pub returns-in-Ok-None-clause-broken : goal.returns-in-Ok-None-clause-broken
+returns-in-Ok-None-clause-broken g c begins plain =
+    tt
+
+pub returns-in-Err-clause-fills : goal.returns-in-Err-clause-fills
+returns-in-Err-clause-fills g c =
+    tt
+
+pub returns-clause-broken : goal.returns-clause-broken
+returns-clause-broken g c begins plain =
+    tt

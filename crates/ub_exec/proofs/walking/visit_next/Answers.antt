@@ -1,4 +1,4 @@
-use Rattle.std.proofs.Common.{◌≡◌, ◌∙◌, inl, inr, List, [], Ok, Some, None, Result, ap, length, refl, subst, sym}
+use Rattle.std.proofs.Common.{◌≡◌, ◌∙◌, inl, inr, List, [], Ok, Some, None, ap, length, refl, subst, sym, ◌++◌, Option, IfSome}
 use Rattle.std.proofs.lemmas.List.{append-nil}
 use Rattle.std.specs.Option.{option_copied}
 use Rattle.ub_bigmin.specs.Box.{Corners}
@@ -6,24 +6,19 @@ use Rattle.ub_tree.proofs.Laws.{Keeps-by, next_is_later, reads_then, tree_reads,
 use Rattle.ub_exec.proofs.FirstFacts.{asked_some, on_err}
 use Rattle.ub_exec.proofs.NotedFacts.{next_notes, notes_none, notes_one, read_next}
 use Rattle.ub_exec.proofs.RefusedFacts.{memory_reads, no_answer, search_reads}
-use Rattle.ub_exec.proofs.WalkFacts.{visited_by}
+use Rattle.ub_exec.proofs.WalkFacts.{visited_by, first_found}
 use Rattle.ub_exec.specs.Reading.{StandAhead}
-use Rattle.ub_filter.specs.Choice.{IsFit}
+use Rattle.ub_filter.specs.Choice.{IsFit, is_chosen}
 use Rattle.ub_query.specs.Posed.{IsPosed}
 use Rattle.ub_table.specs.declared.row.Row.{Row}
 use Rattle.ub_table.specs.declared.schema.Schema.{Schema}
 use Rattle.ub_tetris.proofs.Laws.{either_noted}
-use Rattle.ub_table.specs.declared.row.Key.{Key}
-use Rattle.ub_tree.specs.Effects.{IsTakenIn, ReadsRegion, SearchesFor}
-use Rattle.ub_tree.specs.Spans.{First, IsLater, Meets, Region}
+use Rattle.ub_tree.specs.Effects.{IsTakenIn}
+use Rattle.ub_tree.specs.Spans.{Region}
 use Rattle.ub_tree.specs.Told.{GivesNext, IsRegionOf}
-use Rattle.ub_tree.specs.View.{TreeView, spans_of}
-use Rattle.ub_tree.specs.declared.fault.TreeFault.{TreeFault}
+use Rattle.ub_tree.specs.View.{TreeView}
+use Rattle.std.specs.List.{filter}
 use Rattle.ub_exec.proofs.walking.visit_next.Goals as goal
-
--- a search and the reading of a region leave the schema as it was
-schema_read : {A B : Type 0} {Sought : Key → Type 0} (r : Result A TreeFault) (q : Result B TreeFault) (span : Region) (a b c : TreeView) → SearchesFor Sought a b r → ReadsRegion span b c q → c.schema ≡ a.schema
-schema_read r q span a b c searches reads = ap (λ (t : TreeView). t.schema) reads.same ∙ ap (λ (t : TreeView). t.schema) searches.same
 
 pub returns-in_default-clause-rows : goal.returns-in_default-clause-rows
 returns-in_default-clause-rows g c before taken has = (
@@ -32,7 +27,7 @@ returns-in_default-clause-rows g c before taken has = (
   (
     refl,
     λ sound. (
-      subst (λ (boxes : List Corners). First (λ s. IsLater (option_copied c.args.after) s × Meets boxes s) (spans_of c.args.tree.now) None) c.boxes.ensures.boxes (rw c.in_default.is at (c.in_ok-region.ensures.found sound)),
+      first_found c.args.tree.now c.boxes.result.now c.args.plan.now.covering.boxes (option_copied c.args.after) _ None c.boxes.ensures.boxes c.in_default.is (c.in_ok-region.ensures.found sound),
       unchanged_trace c.args.tree.now c.take_next.new.tree c.in_ok-region.ensures.effect.same,
       refl,
     ),
@@ -43,14 +38,16 @@ pub returns-clause-rows : goal.returns-clause-rows
 returns-clause-rows g c before taken has =
     let same = c.in_ok-region.ensures.effect.same in
     let schema : c.schema.result.now ≡ c.args.tree.now.schema =
-    c.schema.ensures ∙ schema_read _ _ c.in-Some.region c.args.tree.now c.take_next.new.tree c.read_in_run.new.self c.in_ok-region.ensures.effect c.in_ok-read_in_run.ensures.effect in (
+    c.schema.ensures ∙ ap (λ (t : TreeView). t.schema) c.in_ok-read_in_run.ensures.effect.same ∙ ap (λ (t : TreeView). t.schema) c.in_ok-region.ensures.effect.same in (
       c.read_in_run.new.page.region.rows,
-      (rw schema at (c.in_ok-push_chosen.ensures before taken)) has,
+      subst (λ (s : Schema). g.K.RowSink.HasTaken s c.args.plan.now.asked before taken c.args.sink.now
+          → g.K.RowSink.HasTaken s c.args.plan.now.asked before (taken ++ filter (is_chosen c.args.choice s c.args.plan.now) c.read_in_run.new.page.region.rows) c.push_chosen.new.sink) schema
+          (c.in_ok-push_chosen.ensures before taken) has,
       (
         (c.read_in_run.new.page.region, subst (λ (t : TreeView). IsTakenIn t c.in-Some.region c.read_in_run.new.page.region) same c.in_ok-read_in_run.ensures.taken, refl),
         λ sound. visited_by c.args.tree.now c.take_next.new.tree c.read_in_run.new.self c.args.plan.now.covering.boxes (option_copied c.args.after) c.in-Some.region c.read_in_run.new.page.region
             c.read_in_run.new.page.region.rows sound
-            (subst (λ (boxes : List Corners). First (λ s. IsLater (option_copied c.args.after) s × Meets boxes s) (spans_of c.args.tree.now) (Some c.in-Some.region)) c.boxes.ensures.boxes (rw c.in-Some.is at (c.in_ok-region.ensures.found sound)))
+            (first_found c.args.tree.now c.boxes.result.now c.args.plan.now.covering.boxes (option_copied c.args.after) _ (Some c.in-Some.region) c.boxes.ensures.boxes c.in-Some.is (c.in_ok-region.ensures.found sound))
             (Keeps-by c.args.tree.now c.take_next.new.tree (unchanged_traced c.args.tree.now c.take_next.new.tree same)) (unchanged_trace c.args.tree.now c.take_next.new.tree same) c.in_ok-read_in_run.ensures.stands c.in_ok-read_in_run.ensures.first c.in_ok-read_in_run.ensures.effect.listed refl,
       ),
     )
@@ -58,7 +55,7 @@ returns-clause-rows g c before taken has =
 pub returns-in_err-read_in_run-clause-effect : goal.returns-in_err-read_in_run-clause-effect
 returns-in_err-read_in_run-clause-effect g c =
     let same = c.in_ok-region.ensures.effect.same in
-    let gives = rw c.in-Some.is at c.in_ok-region.ensures.gives in
+    let gives = subst (λ (f : Option Region). GivesNext c.boxes.result.now c.args.tree.now (option_copied c.args.after) f) c.in-Some.is c.in_ok-region.ensures.gives in
     tree_reads c.from_residual-in_err-read_in_run.result _ c.args.tree.now c.take_next.new.tree c.read_in_run.new.self c.from_residual-in_err-read_in_run.ensures.1
     (unchanged_traced c.args.tree.now c.take_next.new.tree same) c.in_err-read_in_run.ensures.effect.same
     (c.in_err-read_in_run.ensures.effect.faults (subst (λ (t : TreeView). IsRegionOf t c.in-Some.region) (sym same) (next_is_later c.args.tree.now _ _ c.in-Some.region gives).0))
@@ -72,7 +69,7 @@ returns-in_err-read_in_run-clause-broken g c sound =
     let same = c.in_ok-region.ensures.effect.same in
     on_err c.from_residual-in_err-read_in_run.result _
     (asked_some c.args.tree.now c.take_next.new.tree c.read_in_run.new.self _ _ c.in-Some.region sound
-    (subst (λ (boxes : List Corners). First (λ s. IsLater (option_copied c.args.after) s × Meets boxes s) (spans_of c.args.tree.now) (Some c.in-Some.region)) c.boxes.ensures.boxes (rw c.in-Some.is at (c.in_ok-region.ensures.found sound)))
+    (first_found c.args.tree.now c.boxes.result.now c.args.plan.now.covering.boxes (option_copied c.args.after) _ (Some c.in-Some.region) c.boxes.ensures.boxes c.in-Some.is (c.in_ok-region.ensures.found sound))
     (Keeps-by c.args.tree.now c.take_next.new.tree (unchanged_traced c.args.tree.now c.take_next.new.tree same)) (unchanged_trace c.args.tree.now c.take_next.new.tree same) (either_noted _ c.take_next.new.tree c.read_in_run.new.self _ c.in_err-read_in_run.ensures.effect.noted))
 
 pub returns-in_err-push_chosen-clause-broken : goal.returns-in_err-push_chosen-clause-broken
@@ -80,13 +77,13 @@ returns-in_err-push_chosen-clause-broken g c sound =
     let same = c.in_ok-region.ensures.effect.same in
     on_err c.from_residual-in_err-push_chosen.result _
     (asked_some c.args.tree.now c.take_next.new.tree c.read_in_run.new.self _ _ c.in-Some.region sound
-    (subst (λ (boxes : List Corners). First (λ s. IsLater (option_copied c.args.after) s × Meets boxes s) (spans_of c.args.tree.now) (Some c.in-Some.region)) c.boxes.ensures.boxes (rw c.in-Some.is at (c.in_ok-region.ensures.found sound)))
+    (first_found c.args.tree.now c.boxes.result.now c.args.plan.now.covering.boxes (option_copied c.args.after) _ (Some c.in-Some.region) c.boxes.ensures.boxes c.in-Some.is (c.in_ok-region.ensures.found sound))
     (Keeps-by c.args.tree.now c.take_next.new.tree (unchanged_traced c.args.tree.now c.take_next.new.tree same)) (unchanged_trace c.args.tree.now c.take_next.new.tree same) (inr c.in_ok-read_in_run.ensures.effect.listed))
 
 pub returns-in_default-clause-next : goal.returns-in_default-clause-next
 returns-in_default-clause-next g c = (
   (
-    subst (λ (boxes : List Corners). GivesNext boxes c.args.tree.now (option_copied c.args.after) None) c.boxes.ensures.boxes (rw c.in_default.is at c.in_ok-region.ensures.gives),
+    subst (λ (boxes : List Corners). GivesNext boxes c.args.tree.now (option_copied c.args.after) None) c.boxes.ensures.boxes (subst (λ (f : Option Region). GivesNext c.boxes.result.now c.args.tree.now (option_copied c.args.after) f) c.in_default.is c.in_ok-region.ensures.gives),
     unchanged_trace c.args.tree.now c.take_next.new.tree c.in_ok-region.ensures.effect.same,
   ),
   tt,
@@ -115,18 +112,18 @@ pub returns-clause-notes : goal.returns-clause-notes
 returns-clause-notes g c =
     next_notes c.args.plan.now.covering.boxes (option_copied c.args.after) c.args.tree.now c.read_in_run.new.self (Some c.in-Some.region)
     (read_next c.boxes.result.now c.args.plan.now.covering.boxes _ c.args.tree.now c.take_next.new.tree c.read_in_run.new.self c.in-Some.region c.read_in_run.new.page.region
-    c.boxes.ensures.boxes c.in_ok-region.ensures.effect.same (rw c.in-Some.is at c.in_ok-region.ensures.gives) c.in_ok-read_in_run.ensures.effect.listed c.in_ok-read_in_run.ensures.taken)
+    c.boxes.ensures.boxes c.in_ok-region.ensures.effect.same (subst (λ (f : Option Region). GivesNext c.boxes.result.now c.args.tree.now (option_copied c.args.after) f) c.in-Some.is c.in_ok-region.ensures.gives) c.in_ok-read_in_run.ensures.effect.listed c.in_ok-read_in_run.ensures.taken)
 
 pub push_chosen-requires-clause-posed : goal.push_chosen-requires-clause-posed
 push_chosen-requires-clause-posed g c =
     let schema : c.schema.result.now ≡ c.args.tree.now.schema =
-    c.schema.ensures ∙ schema_read _ _ c.in-Some.region c.args.tree.now c.take_next.new.tree c.read_in_run.new.self c.in_ok-region.ensures.effect c.in_ok-read_in_run.ensures.effect in
+    c.schema.ensures ∙ ap (λ (t : TreeView). t.schema) c.in_ok-read_in_run.ensures.effect.same ∙ ap (λ (t : TreeView). t.schema) c.in_ok-region.ensures.effect.same in
     subst (λ (s : Schema). IsPosed (length s.columns) c.args.plan.now.asked) (sym schema) c.requires.fit.0
 
 pub push_chosen-requires-clause-fit : goal.push_chosen-requires-clause-fit
 push_chosen-requires-clause-fit g c =
     let schema : c.schema.result.now ≡ c.args.tree.now.schema =
-    c.schema.ensures ∙ schema_read _ _ c.in-Some.region c.args.tree.now c.take_next.new.tree c.read_in_run.new.self c.in_ok-region.ensures.effect c.in_ok-read_in_run.ensures.effect in
+    c.schema.ensures ∙ ap (λ (t : TreeView). t.schema) c.in_ok-read_in_run.ensures.effect.same ∙ ap (λ (t : TreeView). t.schema) c.in_ok-region.ensures.effect.same in
     subst (λ (s : Schema). IsFit s c.args.plan.now c.args.choice) (sym schema) c.requires.fit.1
 
 pub push_chosen-requires-clause-dims : goal.push_chosen-requires-clause-dims
@@ -175,9 +172,17 @@ take_next-requires-clause-ahead g c =
 pub returns-clause-next : goal.returns-clause-next
 returns-clause-next g c = (
   read_next c.boxes.result.now c.args.plan.now.covering.boxes _ c.args.tree.now c.take_next.new.tree c.read_in_run.new.self c.in-Some.region c.read_in_run.new.page.region
-      c.boxes.ensures.boxes c.in_ok-region.ensures.effect.same (rw c.in-Some.is at c.in_ok-region.ensures.gives) c.in_ok-read_in_run.ensures.effect.listed c.in_ok-read_in_run.ensures.taken,
-  subst (λ (boxes : List Corners). StandAhead boxes c.args.tree.now (Some c.in-Some.region) c.take_next.new.ahead.items) c.boxes.ensures.boxes (rw c.in-Some.is at c.in_ok-region.ensures.left),
+      c.boxes.ensures.boxes c.in_ok-region.ensures.effect.same (subst (λ (f : Option Region). GivesNext c.boxes.result.now c.args.tree.now (option_copied c.args.after) f) c.in-Some.is c.in_ok-region.ensures.gives) c.in_ok-read_in_run.ensures.effect.listed c.in_ok-read_in_run.ensures.taken,
+  subst (λ (boxes : List Corners). StandAhead boxes c.args.tree.now (Some c.in-Some.region) c.take_next.new.ahead.items) c.boxes.ensures.boxes (subst (λ (f : Option Region). IfSome f (λ span. StandAhead c.boxes.result.now c.args.tree.now (Some span) c.take_next.new.ahead.items)) c.in-Some.is c.in_ok-region.ensures.left),
 )
 
 pub take_next-requires-clause-told : goal.take_next-requires-clause-told
 take_next-requires-clause-told g c = c.requires.ahead.0
+
+pub returns-in_default-clause-broken : goal.returns-in_default-clause-broken
+returns-in_default-clause-broken g c sound =
+    tt
+
+pub returns-clause-broken : goal.returns-clause-broken
+returns-clause-broken g c sound =
+    tt

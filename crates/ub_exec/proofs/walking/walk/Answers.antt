@@ -136,3 +136,7 @@ visit_next-requires-clause-ahead g c = (
   ahead_still c.args.tree.now c.loop-ahead.tree c.loop-ahead.invariant.kept.traced c.args.plan.now.covering.boxes c.loop-ahead.after _ c.loop-ahead.ahead.items c.as_ref.ensures.value
       c.loop-ahead.invariant.ahead,
 )
+
+pub returns-clause-broken : goal.returns-clause-broken
+returns-clause-broken g c before taken has sound =
+    tt
