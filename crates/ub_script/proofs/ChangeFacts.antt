@@ -1,7 +1,7 @@
 -- What an INSERT and a DELETE make of a tree, and what they leave of it.
-use Rattle.std.proofs.Common.{◌≡◌, ◌∙◌, ◌+◌, ◌-◌, ◌<◌, ◌≤◌, ◌++◌, ◌∷◌, [], inl, inr, ◌⊎◌, ℕ, suc, ℤ, pos, true, false, IsTrue, Result, Ok, Err, Option, List, length, take, drop, map, slice_index_or, subst, sym, ap, refl, arith, add-zero}
+use Rattle.std.proofs.Common.{◌≡◌, ◌∙◌, ◌+◌, ◌-◌, ◌<◌, ◌≤◌, ◌++◌, ◌∷◌, [], inl, inr, ◌⊎◌, ℕ, suc, ℤ, pos, true, false, IsTrue, Result, Ok, Err, Option, Some, List, length, take, drop, map, slice_index_or, subst, sym, ap, refl, arith, add-zero}
 use Rattle.std.proofs.lemmas.Bool.{cases_Bool, true≢false}
-use Rattle.std.proofs.lemmas.List.{length-drop, length-map, length-take-le, take_all}
+use Rattle.std.proofs.lemmas.List.{length-drop, length-map, length-take-le, take_all, take_more}
 use Rattle.std.proofs.lemmas.List.FromFn.{get_or-enumerate_from, length-enumerate_from}
 use Rattle.std.specs.List.{enumerate_from}
 use Rattle.std.specs.Option.{IsSome, unwrap_or}
@@ -28,7 +28,7 @@ use Rattle.ub_script.specs.Text.{deleted_text, inserted_text, reply}
 use Rattle.ub_script.specs.declared.fault.RunFault.TheVariants as run
 use Rattle.ub_store.specs.declared.fault.StoreFault.TheVariants as store
 use Rattle.ub_table.proofs.Laws.{fitting_coordinate}
-use Rattle.ub_table.specs.Region.{RegionRows, key_of}
+use Rattle.ub_table.specs.Region.{RegionRows, key_of, measures_of}
 use Rattle.ub_table.specs.Value.{axes_of, coordinate, fits}
 use Rattle.ub_table.specs.declared.row.Row.{Row}
 use Rattle.ub_table.specs.declared.row.TheConstants.{MAX_ROW_NUMBER}
@@ -71,6 +71,30 @@ pub length_coordinates : (schema : Schema) (values : List ℤ) (i : ℕ) (dims :
 length_coordinates schema values i dims are le =
     ap (λ (ds : List ℕ). length ds) are ∙ length-map (enumerate_from 0 (take i values)) (λ v. unwrap_or (coordinate schema v.0 v.1) 0)
     ∙ length-enumerate_from 0 (take i values) ∙ length-take-le i values le
+
+-- the coordinate of one value more
+pub coordinates_more : (schema : Schema) (values : List ℤ) (i : ℕ) (dims next : List ℕ) (o : Option ℕ) (x : ℕ) → i < length values
+    → dims ≡ coordinates_to schema i values → o ≡ coordinate schema i (slice_index_or values i (pos 0)) → o ≡ Some x → next ≡ dims ++ x ∷ []
+    → next ≡ coordinates_to schema (i + 1) values
+coordinates_more schema values i dims next o x lt are is some grown =
+    let f : ℕ × ℤ → ℕ = λ v. unwrap_or (coordinate schema v.0 v.1) 0 in
+    let at : 0 + length (take i values) ≡ i = omega (arith, length-take-le i values (omega (arith, lt))) in
+    let here : unwrap_or (coordinate schema i (slice_index_or values i (pos 0))) 0 ≡ x = ap (λ (c : Option ℕ). unwrap_or c 0) (sym is ∙ some) in
+    grown ∙ ap (λ (ds : List ℕ). ds ++ x ∷ []) are ∙ ap (λ (y : ℕ). coordinates_to schema i values ++ y ∷ []) (sym here)
+    ∙ ap (λ (k : ℕ). coordinates_to schema i values ++ f (k, slice_index_or values i (pos 0)) ∷ []) (sym at)
+    ∙ sym (one_more f 0 (take i values) (slice_index_or values i (pos 0))) ∙ ap (λ (vs : List ℤ). map f (enumerate_from 0 vs)) (sym (take_more values i (pos 0) lt))
+
+-- values that are given by a schema are given by one that is the same
+pub given_same : (a b : Schema) (values : List ℤ) → a ≡ b → IsGiven b (puts values) → IsGiven a (puts values)
+given_same a b values same = subst (λ (s : Schema). IsGiven s (puts values)) (sym same)
+
+-- as many values are left for the measures as there are
+pub measures_left : (schema : Schema) (values : List ℤ) (k : ℕ) → k ≡ schema.dims → length values ≡ length schema.columns
+    → length (take (length values - k) (drop k values)) ≡ measures_of schema
+measures_left schema values k is long =
+    let left = length-drop k values in
+    let all = length-take-le (length values - k) (drop k values) (omega (arith, left)) in
+    omega (arith, all, is, long)
 
 -- ---- faults
 

@@ -1,10 +1,10 @@
 -- How the bytes grow that an output has taken.
-use Rattle.std.proofs.Common.{◌≡◌, ◌≢◌, ◌≤◌, ◌+◌, ◌-◌, ◌==◌, ℕ, Bool, false, List, [], ◌++◌, Option, Some, None, length, take, drop, refl, sym, ap, subst, ◌∙◌, append_assoc, arith, inl, inr, Ok}
-use Rattle.std.proofs.lemmas.Bool.{cases_Bool, eqb-true}
+use Rattle.std.proofs.Common.{◌≡◌, ◌≢◌, ◌≤◌, ◌+◌, ◌-◌, ◌==◌, ◌&&◌, ℕ, Bool, false, List, [], ◌++◌, Option, Some, None, length, take, drop, refl, sym, ap, subst, ◌∙◌, append_assoc, arith, inl, inr, Ok, ◌<◌, true, nat_lt}
+use Rattle.std.proofs.lemmas.Bool.{cases_Bool, eqb-true, lt-ltb}
 use Rattle.std.proofs.lemmas.List.{append-nil, length-append, length-drop, take_all}
 use Rattle.std.proofs.Math.Seq.{take-add, take-append-add}
 use Rattle.std.specs.Io.KnownBytes.{Appends}
-use Rattle.ub_script.specs.Output.{OutFacts, HasTaken, HasWritten, Puts, IsFrontOf, Takes}
+use Rattle.ub_script.specs.Output.{OutFacts, HasTaken, HasWritten, Puts, IsFrontOf, Takes, Breaks}
 
 Appends-none : (o : Option (List ℕ)) → Appends o o []
 Appends-none None = tt
@@ -56,3 +56,24 @@ Puts-step a b c bytes place n within h some (le, k) = elim (cases_Bool (n == 0))
   | inl none ↦ absurd (some (eqb-true n 0 none))
   | inr more ↦ Puts-on a b c bytes place n false within h le (rw more at k)
 ]
+
+-- all bytes before a place behind them are all of them
+pub Puts-all : (a b : OutFacts) (bytes : List ℕ) (place : ℕ) → length bytes ≤ place → Puts (take place bytes) a b → Puts bytes a b
+Puts-all a b bytes place le = subst (λ (xs : List ℕ). Puts xs a b) (take_all place bytes le)
+
+-- a write failed before all bytes were taken
+pub Puts-broken : (a b c : OutFacts) (bytes : List ℕ) (place : ℕ) → place < length bytes → Puts (take place bytes) a b → HasTaken [] true b c → Breaks bytes a c
+Puts-broken a b c bytes place lt h k =
+    (take place bytes, (place, lt, refl), subst (λ (xs : List ℕ). HasTaken xs true a c) (append-nil (take place bytes)) (Puts-more a b c (take place bytes) [] true h k))
+
+-- a call that takes none of those that are left has failed
+takes_nothing : (b c : OutFacts) (n : ℕ) (some : Bool) (left : List ℕ) → n ≡ 0 → some ≡ true → HasTaken (take n left) (n == 0 && some) b c → HasTaken [] true b c
+takes_nothing b c n some left none is k =
+    subst (λ (s : Bool). HasTaken [] s b c) is (subst (λ (m : ℕ). HasTaken (take m left) (m == 0 && some) b c) none k)
+
+pub Puts-nothing : (a b c : OutFacts) (bytes : List ℕ) (place n : ℕ) → place < length bytes → n ≡ 0 → Puts (take place bytes) a b
+    → HasWritten (take (length bytes - place) (drop place bytes)) (Ok n) b c → Breaks bytes a c
+Puts-nothing a b c bytes place n lt none h (le, k) =
+    let left = take (length bytes - place) (drop place bytes) in
+    let long : length left ≡ length bytes - place = ap (λ (xs : List ℕ). length xs) (rest bytes place) ∙ length-drop place bytes in
+    Puts-broken a b c bytes place lt h (takes_nothing b c n (nat_lt 0 (length left)) left none (lt-ltb 0 (length left) (omega (arith, lt, long))) k)

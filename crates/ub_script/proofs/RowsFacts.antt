@@ -1,5 +1,5 @@
 -- What was carried out over a sound tree is the reply on its table; and what was run on the tree of a CSV text.
-use Rattle.std.proofs.Common.{◌≡◌, ◌≢◌, ◌⊎◌, ◌++◌, ◌∷◌, ◌∙◌, inl, inr, ℕ, List, [], Result, Err, IfErr, true, false, length, sym, ap, refl, subst}
+use Rattle.std.proofs.Common.{◌≡◌, ◌≢◌, ◌⊎◌, ◌++◌, ◌∷◌, ◌∙◌, inl, inr, ℕ, List, [], All, Result, Err, IfErr, true, false, length, sym, ap, refl, subst}
 use Rattle.std.proofs.lemmas.List.{length-map}
 use Rattle.ub_exec.specs.Answers.{begun, IsReady, IsAnswer as IsPlanAnswer}
 use Rattle.ub_exec.specs.Stand.{Stand, IsStandOf}
@@ -9,9 +9,10 @@ use Rattle.ub_plan.specs.Explained.{IsExplained}
 use Rattle.ub_planning.specs.Plan.{PlanView, plan_of}
 use Rattle.ub_planning.specs.Visits.{Span, AreVisits}
 use Rattle.ub_query.specs.Meaning.{IsMeaning}
-use Rattle.ub_query.specs.Posed.{IsPosed}
+use Rattle.ub_query.specs.Posed.{IsItemOver, IsPosed}
 use Rattle.ub_query.specs.Shape.{Asked}
 use Rattle.ub_query.specs.declared.cell.Cell.{Cell}
+use Rattle.ub_query.specs.declared.query.Item.{Item}
 use Rattle.ub_script.specs.Basis.{Basis, on_stand, IsBasisOf}
 use Rattle.ub_script.specs.Loop.{Makes}
 use Rattle.ub_script.specs.Output.{OutFacts, Takes}
@@ -139,3 +140,7 @@ module _ (text : List ℕ) (axes : Axes) (page_rows : ℕ) (name : List ℕ) (t 
     | inl kept ↦ absurd (let bad : Tree fault ≡ Memory = kept.0 in cc)
     | inr ran ↦ stopped_in (Tree fault) Left old new before after ran
   ]
+
+-- items over the columns of a schema are over those of one that is the same
+pub items_same : (a b : Schema) (items : List Item) → a ≡ b → All (λ item. IsItemOver (length b.columns) item) items → All (λ item. IsItemOver (length a.columns) item) items
+items_same a b items same = subst (λ (s : Schema). All (λ item. IsItemOver (length s.columns) item) items) (sym same)

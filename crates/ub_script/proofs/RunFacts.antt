@@ -1,12 +1,13 @@
 -- How a run grows by one statement, and what a run of all statements is.
-use Rattle.std.proofs.Common.{◌≡◌, ◌≢◌, ◌<◌, ◌+◌, ◌-◌, subst, ℕ, zero, suc, Bool, false, true, cond, List, [], ◌∷◌, ◌++◌, length, take, All, Some, slice_get, slice_range, slice_index_or, Result, refl, sym, ap, ◌∙◌, zero-add, IfOk, IfErr, IsErrOf, Ok, Err, inl, inr, arith}
-use Rattle.std.proofs.lemmas.List.{flat_map_more, length-append, take_more}
-use Rattle.std.proofs.lemmas.List.Elements.{All-contains_itself}
+use Rattle.std.proofs.Common.{◌≡◌, ◌≢◌, ◌<◌, ◌≤◌, ◌+◌, ◌-◌, subst, ℕ, zero, suc, Bool, false, true, cond, List, [], ◌∷◌, ◌++◌, length, take, drop, All, Some, slice_get, slice_range, slice_index_or, Result, refl, sym, ap, ◌∙◌, zero-add, IfOk, IfErr, IsErrOf, Ok, Err, inl, inr, arith}
+use Rattle.std.proofs.lemmas.List.{flat_map_more, length-append, length-drop, length-take-le, take_more}
+use Rattle.std.proofs.lemmas.List.Elements.{All-contains_itself, All-drop, All-take}
 use Rattle.std.proofs.lemmas.List.Sums.{sum_by_push}
 use Rattle.std.specs.Result.{IsErrAnd}
 use Rattle.ub_exec.specs.Visits.{fetches_then}
 use Rattle.ub_lexer.specs.Statements.{AreStatements}
-use Rattle.ub_lexer.specs.Tokens.{AreTokens}
+use Rattle.ub_lexer.specs.Tokens.{AreSpelled, AreTokens, text_of}
+use Rattle.ub_lexer.specs.Text.{IsSpelling}
 use Rattle.ub_lexer.specs.declared.token.Token.{Token}
 use Rattle.ub_script.specs.Basis.{Basis, IsBasisOf, IsRestOf}
 use Rattle.ub_script.specs.Faults.{Runs, RunsReading, failures_after}
@@ -27,6 +28,18 @@ use Rattle.ub_tree.specs.View.{TreeView}
 pub All-ranges : (tokens : List Token) (ranges : List (ℕ × ℕ)) → AreStatements tokens ranges → All (λ range. IsRange tokens range) ranges
 All-ranges tokens ranges h k d below =
     let is = (h.1 (slice_index_or ranges k d)).0 (All-contains_itself ranges k d below) in (is.0, is.1)
+
+-- a range has tokens, and they are spelled as all are
+pub some_in : (tokens : List Token) (range : ℕ × ℕ) → IsRange tokens range → 0 < length (take (range.1 - range.0) (drop range.0 tokens))
+some_in tokens range is =
+    let left = length-drop range.0 tokens in
+    let all = length-take-le (range.1 - range.0) (drop range.0 tokens) (omega (arith, left, is.0, is.1)) in
+    omega (arith, all, is.0)
+
+pub spelled_in : (source : List ℕ) (tokens : List Token) (range : ℕ × ℕ) → AreSpelled source tokens → AreSpelled source (take (range.1 - range.0) (drop range.0 tokens))
+spelled_in source tokens range are =
+    let P : Token → Type 0 = λ t. (t.from < t.to) × (t.to ≤ length source) × IsSpelling t.kind (text_of source t) in
+    All-take P (range.1 - range.0) (drop range.0 tokens) (All-drop P range.0 tokens are)
 
 -- where none of the statements changes the table, the one at a place doesn't
 pub asks_at : (schema other : Schema) (source : List ℕ) (tokens : List Token) (ranges : List (ℕ × ℕ)) (i : ℕ) (d : ℕ × ℕ) → other ≡ schema → AreAsking schema source tokens ranges

@@ -1,5 +1,5 @@
-use Rattle.std.proofs.Common.{◌≡◌, ◌∙◌, ℕ, ap}
-use Rattle.ub_script.proofs.ChangeFacts.{if_err, insert_replies, insert_stopped, insert_unbegun, put_by, put_row, runs_change}
+use Rattle.std.proofs.Common.{◌≡◌, ◌∙◌, ℕ, ap, List, length}
+use Rattle.ub_script.proofs.ChangeFacts.{if_err, insert_replies, insert_stopped, insert_unbegun, put_by, put_row, runs_change, given_same, measures_left}
 use Rattle.ub_parser.specs.Outcome.{IsGiven, puts}
 use Rattle.ub_script.proofs.EndFacts.{memory_no_write, no_answer, no_write_by, no_write_ok, runs_put, runs_unbegun, tree_no_write}
 use Rattle.ub_script.proofs.KeptFacts.{runs_err}
@@ -57,3 +57,16 @@ returns g c =
       effect = runs_put _ c.in_ok-insert.field-0 _ _ _ c.in_ok-insert.ensures.inserted c.in_ok-insert.ensures.effect;
       asked = λ asks. absurd (asks tt);
     }
+
+pub coordinates-dims-requires : goal.coordinates-dims-requires
+coordinates-dims-requires g c = given_same _ _ c.args.values.now c.schema.ensures c.requires
+
+pub insert-requires-clause-dims : goal.insert-requires-clause-dims
+insert-requires-clause-dims g c =
+    ap (λ (ds : List ℕ). length ds) c.as_slice.ensures.value ∙ c.coordinates-dims.ensures.all ∙ ap (λ (s : Schema). s.dims) c.schema.ensures
+
+pub insert-requires-clause-measures : goal.insert-requires-clause-measures
+insert-requires-clause-measures g c =
+    let long : c.len.result ≡ c.args.tree.now.schema.dims =
+    c.len.ensures.value ∙ c.coordinates-dims.ensures.all ∙ ap (λ (s : Schema). s.dims) c.schema.ensures in
+    measures_left c.args.tree.now.schema c.args.values.now c.len.result long c.requires.0

@@ -1,7 +1,7 @@
 use Rattle.std.proofs.Common.{◌∙◌, ap, refl}
 use Rattle.ub_query.specs.Shape.{asked}
 use Rattle.ub_script.proofs.FormedFacts.{reply_on}
-use Rattle.ub_script.proofs.RowsFacts.{posed_by_plan}
+use Rattle.ub_script.proofs.RowsFacts.{posed_by_plan, items_same}
 use Rattle.ub_script.proofs.StartFacts.{on_err, starts_of_all, starts_of_plan}
 use Rattle.ub_tree.specs.View.{TreeView}
 use Rattle.ub_script.proofs.EndFacts.{memory_no_write, no_answer, no_write_by, no_write_ok, read_no_write, reads_done, reads_refused, reads_untold}
@@ -40,3 +40,7 @@ returns-in_err-answer_text g c = record {
 
 pub execute-requires : goal.execute-requires
 execute-requires g c = posed_by_plan c.args.tree.now.schema _ (asked c.args.query.now) c.requires.planned c.requires.posed
+
+pub answer_text-requires : goal.answer_text-requires
+answer_text-requires g c =
+    items_same _ _ c.args.query.now.items (c.schema.ensures ∙ ap (λ (t : TreeView). t.schema) c.in_ok-answer.ensures.executes.effect.same) c.requires.posed.items

@@ -2,7 +2,7 @@ use Rattle.std.proofs.Common.{Err, ap, refl}
 use Rattle.ub_script.proofs.ChangeFacts.{if_err}
 use Rattle.ub_script.proofs.EndFacts.{failures_kept, failures_raised, no_answer, no_write_by, no_write_ok, only_write}
 use Rattle.ub_script.proofs.KeptFacts.{reads_err, reads_ok, reads_write, runs_err, runs_ok, runs_write}
-use Rattle.ub_script.proofs.RunFacts.{answer_front, other_err}
+use Rattle.ub_script.proofs.RunFacts.{answer_front, other_err, some_in, spelled_in}
 use Rattle.ub_script.specs.declared.fault.RunFault.{RunFault}
 use Rattle.ub_script.proofs.script.run_statement.Goals as goal
 
@@ -54,3 +54,9 @@ returns-clause-begun g c = tt
 
 pub returns-clause-stopped : goal.returns-clause-stopped
 returns-clause-stopped g c basis is = tt
+
+pub answer_to-requires-clause-some : goal.answer_to-requires-clause-some
+answer_to-requires-clause-some g c = some_in c.args.tokens.now c.args.range c.requires.range
+
+pub answer_to-requires-clause-spelled : goal.answer_to-requires-clause-spelled
+answer_to-requires-clause-spelled g c = spelled_in c.args.source.now c.args.tokens.now c.args.range c.requires.spelled
