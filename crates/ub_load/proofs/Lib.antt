@@ -13,3 +13,4 @@ pub mod PlacedFacts
 pub mod RowsFacts
 pub mod PutFacts
 pub mod Laws
+pub mod ExitFacts

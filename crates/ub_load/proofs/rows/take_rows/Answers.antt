@@ -1,13 +1,14 @@
-use Rattle.std.proofs.Common.{◌≡◌, ◌∙◌, ℕ, List, ap, length, sym, arith}
+use Rattle.std.proofs.Common.{◌≡◌, ◌∙◌, ◌∷◌, ℕ, List, [], ap, arith, inr, length, refl, sym}
 use Rattle.std.proofs.lemmas.List.{length-map}
 use Rattle.std.proofs.lemmas.Result.{err_from_is_err_and}
 use Rattle.csv.specs.Records.{fields_of}
 use Rattle.ub_load.specs.Appending.{place_in}
+use Rattle.ub_load.specs.declared.fault.LoadFault.TheVariants.{Memory}
 use Rattle.ub_load.specs.Field.{trimmed}
 use Rattle.ub_load.specs.LoadedTable.{columns_of}
 use Rattle.ub_load.proofs.NamedFacts.{heading_few, places_inside}
 use Rattle.ub_load.proofs.ReadingFacts.{read_none, read_one}
-use Rattle.ub_load.proofs.RowsFacts.{all_read, reading_full, reading_none, reading_step, reading_unfit}
+use Rattle.ub_load.proofs.RowsFacts.{all_read, reading_full, reading_none, reading_step, reading_unfit, unread}
 use Rattle.ub_load.proofs.rows.take_rows.Goals as goal
 use Rattle.ub_table.specs.declared.axes.Axes.{Axes}
 use Rattle.ub_table.specs.declared.schema.Schema.{Schema}
@@ -70,3 +71,16 @@ returns-clause-rows c =
     let call = c.read_record in
     let r = fields_of call.new.fields in
     all_read c.loop-rows.invariant call.new.reader r (read_none c.loop-rows.reader call.new.reader c.in_ok-read_record.field-0 r c.in_ok-read_record.ensures.read c.if-branch.false) c.requires.fine
+
+pub returns-in_err-read_record-clause-refused : goal.returns-in_err-read_record-clause-refused
+returns-in_err-read_record-clause-refused c =
+    let p = err_from_is_err_and c.from_residual.result c.from_residual.ensures.1 in
+    rw (p.1, p.2) (unread c.args.reader.now (fields_of c.args.fields.now ∷ []) c.args.schema.now c.args.next c.in_err-read_record.field-0.0 c.in_err-read_record.ensures.refused)
+
+pub returns-in_err-push-clause-refused : goal.returns-in_err-push-clause-refused
+returns-in_err-push-clause-refused c =
+    let p = err_from_is_err_and c.from_residual-in_err-push.result c.from_residual-in_err-push.ensures.1 in
+    rw (p.1, p.2) (unread c.args.reader.now (fields_of c.args.fields.now ∷ []) c.args.schema.now c.args.next Memory (inr refl))
+
+pub returns-clause-suit : goal.returns-clause-suit
+returns-clause-suit c = c.loop-rows.invariant.suit
