@@ -4,10 +4,9 @@ use Rattle.std.proofs.lemmas.List.{length-append}
 use Rattle.ub_index.specs.Standing.{IsGrowFault}
 use Rattle.ub_index.specs.View.{index_view}
 use Rattle.ub_laying.proofs.LayFacts.{some_regions}
-use Rattle.ub_laying.proofs.SizeFacts.{index_few}
 use Rattle.ub_laying.specs.Begun.{CanLay, IsFresh, IsLaidFor, LaysBegun, begun_view}
 use Rattle.ub_laying.specs.Effects.{Counts, HasNotFailed, written}
-use Rattle.ub_laying.specs.Laying.{CanBeLaid, LaysRegions, laid_pages}
+use Rattle.ub_laying.specs.Laying.{CanBeLaid, LaysRegions, most_laid}
 use Rattle.ub_laying.specs.declared.levels.Root.{Root}
 use Rattle.ub_region.specs.Regions.{rows_of}
 use Rattle.ub_store.specs.Cache.{Renews, page_at}
@@ -58,7 +57,7 @@ pub laid_for : (schema : Schema) (next : ℕ) (grown : List RegionRows) (old new
     (index_view root.page root.level (last_address schema.dims)) new
 laid_for schema next grown old new root can fresh lays =
     let adds = lays.effect.adds in
-    let count = lays.rooted.count in
+    let count = lays.count in
     let one = fresh.count in
     record {
       schema_is = refl;
@@ -67,7 +66,7 @@ laid_for schema next grown old new root can fresh lays =
       regions_are = refl;
       unclean = refl;
       index_is = refl;
-      root = lays.rooted.root;
+      root = lays.root;
       one = one;
       count = omega arith;
       laid = lays.laid;
@@ -91,15 +90,13 @@ laid_not facts schema next grown old new refused can fresh lays store_is =
     let adds = lays.effect.adds in
     let one = fresh.count in
     let few = few_pages schema next grown can in
-    let some = few.0 in
     let less = few.1 in
-    let index = index_few (length grown) some in
     let stores : new.store ≡ written old.store new.store = ap (λ (p : PagerView). p.store) adds.same in
     record {
       laid = tt;
       unopened = λ honest.
           subst (λ (s : StoreFacts). HasMark schema s.pages) (sym store_is) (mark_kept schema old.store.pages new.store.pages (adds.grows.kept honest 0 (omega arith)) (fresh.marked honest));
-      refused = lay_fault (laid_pages (length grown)) old.store refused.fault (omega arith) lays.effect.refused;
+      refused = lay_fault (most_laid (length grown)) old.store refused.fault (omega arith) lays.effect.refused;
       same = subst (λ (s : StoreFacts). s ≡ written old.store s) (sym store_is) stores;
       counts = subst (λ (s : StoreFacts). Counts {A = Root} (Err refused.fault) old.store s) (sym store_is) lays.effect.counts;
     }

@@ -1,5 +1,5 @@
 -- Regions on pages that follow each other, and their entries.
-use Rattle.std.proofs.Common.{◌≡◌, ◌≤◌, ◌<◌, ◌+◌, ◌-◌, ◌^◌, ◌++◌, ◌∙◌, ℕ, zero, suc, List, [], ◌∷◌, Some, Result, Ok, Err, IfErr, IfOk, IsTrue, ap, arith, append_assoc, drop, length, map, refl, slice_get, slice_set, subst, sym, take}
+use Rattle.std.proofs.Common.{◌≡◌, ◌≤◌, ◌<◌, ◌+◌, ◌-◌, ◌^◌, ◌++◌, ◌∙◌, ℕ, zero, suc, List, [], ◌∷◌, Some, Result, Ok, Err, IfErr, IfOk, IsTrue, OnOk, ap, arith, append_assoc, drop, length, map, refl, slice_get, slice_set, subst, sym, take}
 use Rattle.std.proofs.lemmas.List.{length-append}
 use Rattle.std.proofs.lemmas.Result.{on_ok_weaker}
 use Rattle.std.specs.List.{AllByRecursion}
@@ -201,8 +201,8 @@ pub on_root : (P Q : Root → Type 0) (r : Result Root StoreFault) → ((root : 
 on_root P Q (Ok root) f h = f root h
 on_root P Q (Err fault) f h = tt
 
-pub rooted_on : (m n : ℕ) (a b c : StoreFacts) (r : Result Root StoreFault) → page_count b + m ≡ page_count a + n → PutsRoot m b c r → PutsRoot n a c r
-rooted_on m n a b c r is h = record { root = h.root; count = on_ok_weaker r (λ count. omega arith) h.count }
+pub count_on : (m n : ℕ) (a b c : StoreFacts) (r : Result Root StoreFault) → page_count b + m ≤ page_count a + n → PutsRoot m b c r → OnOk r (page_count c ≤ page_count a + n)
+count_on m n a b c r le h = on_ok_weaker r (λ count. omega arith) h.count
 
 pub grow_on : {A : Type 0} (m n : ℕ) (a b : StoreFacts) (r : Result A StoreFault) → page_count b + m ≤ page_count a + n → (IsTrue b.can_fail → IsTrue a.can_fail) → IfErr r (IsGrowFault m b)
     → IfErr r (IsGrowFault n a)

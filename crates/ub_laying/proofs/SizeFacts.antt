@@ -1,7 +1,7 @@
 -- How many pages a level has, and how many levels there are.
 use Rattle.std.proofs.Common.{rules, ◌≡◌, ◌≤◌, ◌+◌, ◌-◌, inl, inr, ℕ, zero, suc, arith, refl}
 use Rattle.std.proofs.lemmas.Bool.{cases_lt, lt-leb}
-use Rattle.ub_laying.specs.Levels.{index_pages, most_pages, pages_above, pages_for}
+use Rattle.ub_laying.specs.Levels.{most_leaves, most_pages, pages_above, pages_for}
 
 -- a level of two pages or more is the fourth at most, and the one above it has so few as it must
 pub low_level : (level count : ℕ) → 2 ≤ count → count ≤ most_pages level → level ≤ 4
@@ -38,6 +38,9 @@ fewer_above (suc levels) count some = elim (cases_lt 1 count) [
       omega arith
 ]
 
--- an index has no more pages than regions
-pub index_few : (regions : ℕ) → 1 ≤ regions → index_pages regions ≤ regions
-index_few regions some = let fewer = fewer_above 4 (pages_for regions) (omega arith) in omega arith
+-- leaves that are half full, but the last one, and all pages above them are no more than their regions
+pub leaves_few : (regions leaves : ℕ) → 1 ≤ regions → pages_for regions ≤ leaves → leaves ≤ most_leaves regions → leaves + pages_above 4 leaves ≤ regions
+leaves_few regions leaves some fewest most = elim (cases_lt 1 leaves) [
+  | inl more ↦ let fewer = fewer_above 4 leaves (omega arith) in omega arith
+  | inr one ↦ let none = above_none 4 leaves (omega arith) in omega arith
+]

@@ -2,7 +2,7 @@
 use Rattle.std.specs.Prelude.{◌≡◌, ◌≤◌, ◌<◌, ◌+◌, ℕ, true, List, None, Result, Err, IfErr, IfOk, length}
 use Rattle.ub_index.specs.View.{IndexView, index_view}
 use Rattle.ub_laying.specs.Effects.{Counts, written}
-use Rattle.ub_laying.specs.Laying.{AreLaid, laid_pages}
+use Rattle.ub_laying.specs.Laying.{AreLaid, most_laid}
 use Rattle.ub_laying.specs.Levels.{IsRoot}
 use Rattle.ub_laying.specs.declared.levels.Root.{Root}
 use Rattle.ub_page.specs.declared.header.Header.{Header}
@@ -74,7 +74,7 @@ pub record IsLaidFor (begun : BegunView) (next : ℕ) (grown : List RegionRows) 
   pub index_is : index ≡ index_view header.root header.levels (last_address begun.schema.dims)
   pub root : IsRoot (page_count pager.store) (root_in header)
   pub one : page_count begun.store ≡ 1
-  pub count : page_count pager.store ≡ 1 + laid_pages (length grown)
+  pub count : page_count pager.store ≤ 1 + most_laid (length grown)
   pub laid : IsHonest begun.store → AreLaid begun.schema grown begun.store.pages pager.store.pages (root_in header)
   pub marked : IsHonest begun.store → HasMark begun.schema pager.store.pages
   pub store_is : pager.store ≡ record begun.store { pages = pager.store.pages; synced = pager.store.synced }

@@ -1,13 +1,13 @@
 -- Regions on pages that follow each other, and what is laid behind the pages of a store.
-use Rattle.std.specs.Prelude.{◌≡◌, ◌+◌, ℕ, suc, List, [], ◌∷◌, ◌++◌, Some, Result, IfOk, length, map, slice_get}
+use Rattle.std.specs.Prelude.{◌≡◌, ◌≤◌, ◌+◌, ◌*◌, ℕ, suc, List, [], ◌∷◌, ◌++◌, Some, Result, IfOk, OnOk, length, map, slice_get}
 use Rattle.std.specs.List.{AllByRecursion}
 use Rattle.ub_laying.specs.Effects.{Adds}
-use Rattle.ub_laying.specs.Levels.{IsIndexOf, PutsRoot, index_pages}
+use Rattle.ub_laying.specs.Levels.{IsIndexOf, IsRoot}
 use Rattle.ub_laying.specs.declared.levels.Root.{Root}
 use Rattle.ub_region.specs.RegionPage.{region_page}
 use Rattle.ub_region.specs.Regions.{firsts_of}
 use Rattle.ub_region.specs.declared.entry.Entry.{Entry}
-use Rattle.ub_store.specs.Facts.{IsHonest}
+use Rattle.ub_store.specs.Facts.{IsHonest, page_count}
 use Rattle.ub_store.specs.View.{PagerView}
 use Rattle.ub_store.specs.declared.fault.StoreFault.{StoreFault}
 use Rattle.ub_table.specs.Keys.{AreKeysAscending, origin}
@@ -32,12 +32,13 @@ pub record AreLaid (schema : Schema) (regions : List RegionRows) (old new : List
   pub pages : (index : List (List ℕ)) × (new ≡ (old ++ map (region_page schema) regions) ++ index)
   pub indexed : IsIndexOf (last_address schema.dims) new (length old + length regions) (length new) root (entries_from (length old) (firsts_of regions))
 
--- how many pages so many regions take: one each, and those of their index
-abbrev pub laid_pages : ℕ → ℕ
-laid_pages regions = regions + index_pages regions
+-- how many pages so many regions take at most: one each, and those of their index, which are no more than the regions
+abbrev pub most_laid : ℕ → ℕ
+most_laid regions = 2 * regions
 
 -- these regions were to be laid behind the pages of a store, and this was answered
 pub record LaysRegions (schema : Schema) (regions : List RegionRows) (old new : PagerView) (result : Result Root StoreFault) : Type 0 where
   pub laid : IsHonest old.store → IfOk result (AreLaid schema regions old.store.pages new.store.pages)
-  pub rooted : PutsRoot (laid_pages (length regions)) old.store new.store result
-  pub effect : Adds (laid_pages (length regions)) old new result
+  pub root : IfOk result (IsRoot (page_count new.store))
+  pub count : OnOk result (page_count new.store ≤ page_count old.store + most_laid (length regions))
+  pub effect : Adds (most_laid (length regions)) old new result

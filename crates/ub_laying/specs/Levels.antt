@@ -33,6 +33,10 @@ Cut pages level n (suc count) entries =
 abbrev pub pages_for : ℕ → ℕ
 pages_for count = (count + (MAX_ENTRIES - 1)) / MAX_ENTRIES
 
+-- the most pages that so many entries stand on, half of 170 at least on each but the last
+abbrev pub most_leaves : ℕ → ℕ
+most_leaves count = (count + (MAX_ENTRIES / 2 - 1)) / (MAX_ENTRIES / 2)
+
 -- how many pages stand above a level of so many pages, on so many levels at most, up to one that has one page alone
 unfoldable pub pages_above : ℕ → ℕ → ℕ
 pages_above zero count = 0
@@ -43,7 +47,8 @@ pages_above (suc levels) count = if nat_le count 1 then 0 else pages_for count +
 abbrev pub index_pages : ℕ → ℕ
 index_pages regions = pages_for regions + pages_above 4 (pages_for regions)
 
--- the most pages that a level of an index of fewer than 2^32 regions has, levels counted from 1 on
+-- the most pages that a level has, levels counted from 1 on, of an index of fewer than 2^32 regions with 170 entries on each page but the
+-- last of a level; or of fewer than 2^31 with half of that at least on each leaf but the last
 abbrev pub most_pages : ℕ → ℕ
 most_pages zero = 0
 most_pages (suc zero) = 25264514
@@ -62,6 +67,14 @@ pub record PutsLevel {E : Type 0} (many : ℕ) (old new : StoreFacts) (result : 
   pub small : OnOk result (page_count new < 4294967296)
   pub first : IfOk result (λ low. low.first ≡ page_count old)
   pub count : IfOk result (λ low. low.count ≡ many)
+
+-- the lowest level of an index of so many regions is put behind the pages that there were, with this result
+pub record PutsLeaves {E : Type 0} (regions : ℕ) (old new : StoreFacts) (result : Result Level E) : Type 0 where
+  pub last : IfOk result (IsLast new)
+  pub small : OnOk result (page_count new < 4294967296)
+  pub first : IfOk result (λ low. low.first ≡ page_count old)
+  pub fewest : IfOk result (λ low. pages_for regions ≤ low.count)
+  pub most : IfOk result (λ low. low.count ≤ most_leaves regions)
 
 -- the root of an index stands on one of the pages that there are, which isn't the first, and its level is one that there can be
 pub record IsRoot (count : ℕ) (root : Root) : Type 0 where

@@ -78,6 +78,7 @@ impl<S: PageStore> Begun<S> {
     /// Memory comes where memory was refused, Device where the store failed in this call; the store is then handed back.
     pub fn lay(
         self,
+        alloc: Global,
         grown: &Grown,
         next: u32,
     ) -> Result<(Header, Index, Pager<S>), Rejected<S, StoreFault>>
@@ -85,7 +86,7 @@ impl<S: PageStore> Begun<S> {
         ensures { LaysBegun S.facts self next grown.now result }
     {
         let mut pager = self.pager;
-        match lay_regions(&mut pager, &self.schema, grown) {
+        match lay_regions(alloc, &mut pager, &self.schema, grown) {
             Ok(root) => {
                 let end = last(self.schema.shape());
                 let index = Index::new(root.page, root.level, end);

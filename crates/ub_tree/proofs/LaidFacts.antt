@@ -10,7 +10,6 @@ use Rattle.ub_index.specs.Index.{pages_under, top}
 use Rattle.ub_index.specs.Standing.{IsOutside}
 use Rattle.ub_index.specs.View.{IndexView, index_view}
 use Rattle.ub_laying.proofs.BegunFacts.{few_pages}
-use Rattle.ub_laying.proofs.SizeFacts.{index_few}
 use Rattle.ub_laying.specs.Begun.{BegunView, CanLay, IsLaidFor, LaysBegun, root_in}
 use Rattle.ub_laying.specs.Effects.{Counts}
 use Rattle.ub_laying.specs.Laying.{AreLaid, entries_from}
@@ -196,8 +195,6 @@ laid_tree begun next grown header index pager can on =
     let still : IsHonest begun.store → IsHonest pager.store = λ honest. ap (λ (s : StoreFacts). s.honest) on.store_is ∙ honest in
     let level = on.root.low in
     let count = on.count in
-    let some = (few_pages schema next grown can).0 in
-    let few = index_few (length grown) some in
     rw (on.schema_is, on.index_is, on.regions_are, on.next_is, on.rows_are) (record {
       schema_is = refl;
       sound = λ honest. laid_sound schema next grown can begun.store pager root on.one (on.laid honest) (still honest) level (on.marked honest);

@@ -25,7 +25,7 @@ impl<S: PageStore> Tree<S> {
         requires { CanLay begun.schema next grown.now }
         ensures { LaysTable S.facts begun next grown.now result }
     {
-        match begun.lay(grown, next) {
+        match begun.lay(alloc, grown, next) {
             Ok((head, index, pager)) => Ok(Tree::over(alloc, head, index, Mark::Written, pager)),
             Err(refused) => Err(Rejected {
                 store: refused.store,

@@ -12,9 +12,9 @@ invariant-loop-named g l = record {
   long : length l.entries ≡ 170;
   start : l.first ≡ page_count l.fn.pager.store;
   more : l.first ≤ page_count l.pager.store;
-  few : 170 * (page_count l.pager.store - l.first) < l.named + 170;
+  few : 85 * (page_count l.pager.store - l.first) < l.named + 85;
   some : l.named ≤ 170 * (page_count l.pager.store - l.first);
-  full : l.named < length l.grown → l.named ≡ 170 * (page_count l.pager.store - l.first);
+  full : l.named < length l.grown → 85 * (page_count l.pager.store - l.first) ≤ l.named;
   adds : AddsPages l.fn.pager l.pager;
   counts : HasNotFailed l.fn.pager.store l.pager.store;
   cut : IsHonest l.fn.pager.store → Cut l.pager.store.pages 1 l.first (page_count l.pager.store - l.first) (entries_from l.from (take l.named (firsts_of l.grown)));

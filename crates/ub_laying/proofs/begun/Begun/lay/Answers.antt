@@ -1,6 +1,5 @@
-use Rattle.std.proofs.Common.{Err, Ok, ap, arith, length, subst, sym}
+use Rattle.std.proofs.Common.{Err, Ok, ap, arith, subst, sym}
 use Rattle.ub_laying.proofs.BegunFacts.{few_pages, laid_for, laid_not}
-use Rattle.ub_laying.proofs.SizeFacts.{index_few}
 use Rattle.ub_laying.proofs.begun.Begun.lay.Goals as goal
 use Rattle.ub_laying.specs.Begun.{BegunView, CanLay, IsLaidFor, LaysBegun, begun_view}
 use Rattle.ub_table.specs.declared.schema.Schema.{Schema}
@@ -8,9 +7,7 @@ use Rattle.ub_table.specs.declared.schema.Schema.{Schema}
 pub lay_regions-requires-clause-room : goal.lay_regions-requires-clause-room
 lay_regions-requires-clause-room g c =
     let few = few_pages c.args.self.schema c.args.next c.args.grown.now c.requires in
-    let some = few.0 in
     let less = few.1 in
-    let index = index_few (length c.args.grown.now) some in
     let one = c.self.invariant.count in
     omega arith
 
