@@ -26,7 +26,7 @@ hints.py $ubq
 completions.py $ubq
 damaged_index.py $ubq
 limits.py $ubq
-loads.py 300 1 $ubq
+loads.py 400 1 $ubq
 statements.sh 1000000 $ubq
 sweeps.py 500 1 $ubq
 signed.py 500 1 $ubq

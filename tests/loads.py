@@ -1,13 +1,14 @@
 #!/usr/bin/env python3
-"""The regions of a load beside those of the same rows put in one by one, by hand.
+"""The regions and leaves of a load beside those of the same rows put in one by one, by hand.
 
-    tests/loads.py [ROWS [SEED [PROGRAM]]]      (default 300 rows, seed 1)
+    tests/loads.py [ROWS [SEED [PROGRAM]]]      (default 400 rows, seed 1)
 
 Tables of so many rows come in several orders: at random, ascending, descending, at one point, at few points, from both ends in turn;
 of 1 to 4 dimensions, with 2, 3, 16 and 64 rows a page; and of no row, of one, of a full page, of one row more, and of four full pages
 and one. Each is loaded, and made a second time by a header alone and an INSERT for each row. Both files must be sound (`check`), and
-their region pages, in the order of their keys, the same byte for byte. In the loaded file the regions must stand on the pages from 1
-on, in that order. The last line tells how many tables were right and wrong; the status is 1 where one was wrong.
+their region pages, in the order of their keys, the same byte for byte, and on the leaves of their indexes as many entries. In the
+loaded file the regions must stand on the pages from 1 on, in that order, and the leaves behind them. The last line tells how many
+tables were right and wrong; the status is 1 where one was wrong.
 """
 import os
 import random
@@ -43,15 +44,25 @@ def cases(rng, count):
                 yield f"{few} rows, {dims} dimensions, {page_rows} rows a page", dims, page_rows, points
 
 
-def regions(whole):
-    """The numbers of the region pages of a table file, and the pages, in the order of their keys."""
+def named(whole, level):
+    """The numbers of the pages of a level of a table file's index, in the order of their keys: of the regions' at level 0."""
 
-    def below(number, level):
-        page = whole[number * PAGE :][:PAGE]
-        return [number] if level == 0 else [it for _, named in entries_on(page) for it in below(named, level - 1)]
+    def below(number, on):
+        if on == level:
+            return [number]
+        return [it for _, page in entries_on(whole[number * PAGE :][:PAGE]) for it in below(page, on - 1)]
 
-    numbers = below(number_at(whole, 24), number_at(whole, 28))
-    return numbers, [whole[it * PAGE :][:PAGE] for it in numbers]
+    return below(number_at(whole, 24), number_at(whole, 28))
+
+
+def pages(whole, numbers):
+    """The pages of these numbers."""
+    return [whole[it * PAGE :][:PAGE] for it in numbers]
+
+
+def counts_on(whole):
+    """How many entries each leaf has, in the order of their keys."""
+    return [len(entries_on(page)) for page in pages(whole, named(whole, 1))]
 
 
 class Tables:
@@ -75,7 +86,8 @@ class Tables:
             return file.read(), 0
 
     def are_alike(self, dims, page_rows, points):
-        """Whether a load and insertions make the same region pages, and the load's stand in order; else what is wrong."""
+        """Whether a load and insertions make the same region pages, and leaves of as many entries, and the load's stand in order; else
+        what is wrong."""
         options = ["--dims", str(dims), "--page-rows", str(page_rows), "--name", "t"]
         header = ",".join(NAMES[:dims]) + ",m\n"
         rows = [", ".join(map(str, [*point, i - 5])) for i, point in enumerate(points)]
@@ -83,14 +95,16 @@ class Tables:
         other, other_status = self.made("other", header, options, "".join(f"INSERT INTO t VALUES ({row});\n" for row in rows))
         if status or other_status:
             return f"status {status}, {other_status}"
-        numbers, pages = regions(loaded)
-        if numbers != list(range(1, len(numbers) + 1)):
-            return f"the loaded regions stand on {numbers[:8]}"
-        return "" if pages == regions(other)[1] else "other regions"
+        numbers, leaves = named(loaded, 0), named(loaded, 1)
+        if numbers + leaves != list(range(1, len(numbers) + len(leaves) + 1)):
+            return f"the loaded regions stand on {numbers[:8]}, the leaves on {leaves[:8]}"
+        if pages(loaded, numbers) != pages(other, named(other, 0)):
+            return "other regions"
+        return "" if counts_on(loaded) == counts_on(other) else f"leaves of {counts_on(loaded)[:8]}, not {counts_on(other)[:8]}"
 
 
 def main():
-    count, seed = int(word(1, 300)), int(word(2, 1))
+    count, seed = int(word(1, 400)), int(word(2, 1))
     with tempfile.TemporaryDirectory() as work:
         tables = Tables(program(3), work)
         for name, dims, page_rows, points in cases(random.Random(seed), count):
