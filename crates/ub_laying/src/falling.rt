@@ -1,4 +1,4 @@
-// How many entries the leaves of an index have that insertions leave behind them.
+// How many entries the leaves of an index have where its regions come one after the other.
 ghost use Rattle.std.specs.Prelude.{◌≡◌, ◌<◌, IfErr, OnOk, length};
 
 use std::alloc::{AllocError, Global};
@@ -6,8 +6,8 @@ use ub_growing::Grown;
 use ub_page::MAX_ENTRIES;
 use ub_store::StoreFault;
 
-// How many entries of a leaf stay on it where it has one more than a page holds, as where a region is inserted; the others stand on a
-// new leaf behind it.
+// How many entries of a leaf stay on it where it has one more than a page holds, as in `ub_index_change`; the others stand on a new leaf
+// behind it.
 const LEFT_ENTRIES: usize = MAX_ENTRIES / 2 + 1;
 
 // A leaf: the regions that it names, each by its index in the order of their keys, in that order. The interval of keys that belongs to
