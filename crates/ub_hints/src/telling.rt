@@ -1,5 +1,8 @@
 //! What is told beside a refusal, by what the command line named.
 
+ghost use Rattle.std.specs.Prelude.{◌≡◌, option_map};
+ghost use Rattle.ub_hints.specs.Naming.{data_named, script_named, table_named};
+
 use crate::data::{appended_hint, loaded_hint, loaded_schema};
 use crate::statements::statement_hints;
 use std::alloc::{AllocError, Global};
@@ -28,8 +31,14 @@ pub struct Found {
     pub schema: Option<Schema>,
 }
 
-/// The paths that a command line names.
-pub fn named_by<'a>(asked: &Asked<'a>) -> Named<'a> {
+/// The paths that a command line names of what is read again where it was refused: the CSV file that it loads, tries or appends, the
+/// script that it runs or tries, and the table file that this runs over or that rows are appended to. A table file that it makes isn't
+/// read again, nor is what it only asks for, checks or upgrades.
+pub fn named_by<'a>(asked: &Asked<'a>) -> Named<'a>
+    ensures csv { option_map (λ path. path.now) result.data ≡ data_named asked.now }
+    ensures script { option_map (λ path. path.now) result.script ≡ script_named asked.now }
+    ensures table { option_map (λ path. path.now) result.table ≡ table_named asked.now }
+{
     match asked {
         Asked::Load(words) => naming(Some(words.source.path), None, None),
         Asked::Append(words) => naming(Some(words.data), None, Some(words.table)),
@@ -40,9 +49,12 @@ pub fn named_by<'a>(asked: &Asked<'a>) -> Named<'a> {
     }
 }
 
-fn naming<'a>(data: Option<&'a str>, script: Option<&'a str>, table: Option<&'a str>) -> Named<'a> {
+// The record of these paths.
+fn naming<'a>(csv: Option<&'a str>, script: Option<&'a str>, table: Option<&'a str>) -> Named<'a>
+    ensures { result ≡ record { «data» = csv.entry; script = script.entry; table = table.entry } }
+{
     Named {
-        data,
+        data: csv,
         script,
         table,
     }
