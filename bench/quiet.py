@@ -4,8 +4,8 @@
     bench/quiet.py [ROUNDS]     (20 rounds where none are named, a quarter of a second each and processor)
 
 It takes a chain of multiplications, each of which waits for the one before, three cycles each: so it tells how quick a cycle is, whatever else
-the core does. Then it takes additions that don't wait for each other, of which a core with four adders, as Intel's since 2015, does 3.2 a
-cycle in this loop, and fewer where another thread takes its part. Only the processor's own time counts, so work of this machine that takes
+the core does. Then it takes additions that don't wait for each other, of which a core with four adders, as Intel's since 2015, does four a
+cycle, and fewer where another thread takes its part. Only the processor's own time counts, so work of this machine that takes
 turns with it changes nothing, and what runs beside it on the same core does. Started with nothing else running, it says whether the cores are
 quiet; the figures of two machines compare where their cores are alike. It needs a C compiler."""
 
@@ -18,8 +18,8 @@ import sys
 import tempfile
 import time
 
-# So many additions a cycle a core does in this loop, of two instructions more than its eight additions, with four adders.
-WHOLE = 3.2
+# So many additions a cycle a core with four adders does.
+WHOLE = 4
 ROUNDS = 20
 
 CODE = r"""
@@ -29,17 +29,18 @@ static double seconds(void) {
     clock_gettime(CLOCK_THREAD_CPUTIME_ID, &t);
     return t.tv_sec + t.tv_nsec * 1e-9;
 }
+#define EACH "add $1,%0\nadd $1,%1\nadd $1,%2\nadd $1,%3\nadd $1,%4\nadd $1,%5\nadd $1,%6\nadd $1,%7\n"
 double part(void) {
-    unsigned long a = 3, b = 5, c = 7, d = 9;
+    unsigned long a = 3, b = 5, c = 7, d = 9, e = 11, f = 13, g = 15, h = 17;
     double start = seconds();
     for (long i = 0; i < 4000000; i++)
         __asm__ volatile("imul %0,%0" : "+r"(a));
     double cycle = (seconds() - start) / 12e6;
     start = seconds();
-    for (long i = 0; i < 4000000; i++)
-        __asm__ volatile("add $1,%0\nadd $1,%1\nadd $1,%2\nadd $1,%3\nadd $1,%0\nadd $1,%1\nadd $1,%2\nadd $1,%3"
-                         : "+r"(a), "+r"(b), "+r"(c), "+r"(d));
-    return 32e6 * cycle / (seconds() - start);
+    for (long i = 0; i < 1000000; i++)
+        __asm__ volatile(EACH EACH EACH EACH EACH EACH EACH EACH
+                         : "+r"(a), "+r"(b), "+r"(c), "+r"(d), "+r"(e), "+r"(f), "+r"(g), "+r"(h));
+    return 64e6 * cycle / (seconds() - start);
 }
 """
 

@@ -5,7 +5,7 @@ crate's sizes, the dearest edits, and how much of the processors the host took b
     docs/gate_times.py LOG      in a clean clone; what `rt ci` prints goes to LOG
 
 It looks every second at the processes that `rt ci` starts, so what runs for less than a second can be missed. First it checks the kit's
-empty crate, whose seconds say how quick the machine is."""
+empty crate, whose seconds say how quick the machine is; before and after the gate `bench/quiet.py` says how much of a core a processor gives."""
 
 import collections
 import os
@@ -43,6 +43,12 @@ def pace():
         subprocess.run(["rt", "check", "--jobs", "1"], cwd=f"{folder}/empty", check=True, capture_output=True)
         after = os.times()
     return after.children_user + after.children_system - before.children_user - before.children_system
+
+
+def quietness():
+    """What `bench/quiet.py` says of all processors, where there is a compiler for it."""
+    told = subprocess.run([TOP / "bench" / "quiet.py", "10"], capture_output=True, text=True, check=False).stdout.splitlines()
+    return told[-1] if told else "no C compiler: not said how quiet the cores are"
 
 
 def what_runs(pid):
@@ -92,8 +98,6 @@ class Sampler:
                 self.seen[key] = work, ticks
 
 
-
-
 def tell(used, wall, before, after):
     """Prints the table, the dearest edits and what the processors did."""
     minutes = collections.Counter()
@@ -119,14 +123,16 @@ def tell(used, wall, before, after):
 def main():
     if len(sys.argv) != 2 or sys.argv[1].startswith("-"):
         sys.exit(__doc__)
-    print(f"the kit's empty crate: {pace():.1f} s of processor", flush=True)
+    print(f"the kit's empty crate: {pace():.1f} s of processor\n{quietness()}", flush=True)
     sampler, began, before = Sampler(), time.time(), processors()
     with open(sys.argv[1], "w", encoding="utf-8") as log:
         gate = subprocess.Popen(["bash", ".ci/run"], cwd=TOP, stdin=subprocess.DEVNULL, stdout=log, stderr=subprocess.STDOUT)
         while gate.poll() is None:
             sampler.sample()
             time.sleep(1)
-    tell(sampler.used, time.time() - began, before, processors())
+    wall, after = time.time() - began, processors()
+    tell(sampler.used, wall, before, after)
+    print(quietness())
     times = os.times()
     print(f"user and system of the gate: {(times.children_user + times.children_system) / 60:.0f} minutes; its status: {gate.returncode}")
     sys.exit(gate.returncode)
