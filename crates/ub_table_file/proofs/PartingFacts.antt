@@ -1,12 +1,14 @@
 -- How a text is parted: where its first line ends, and which lines of one kind stand together.
-use Rattle.std.proofs.Common.{◌≡◌, ◌≤◌, ◌<◌, ◌+◌, ◌-◌, ◌==◌, ◌∙◌, ℕ, zero, suc, Bool, true, false, not, if◌then◌else◌, List, [], ◌∷◌, ◌++◌, length, take, drop, get_or, Result, Ok, Err, inl, inr, ap, arith, eqb-true, refl, subst, sym, append-nil, append_assoc, length-append, length-drop, drop-drop, take-add, take_all}
+use Rattle.std.proofs.Common.{◌≡◌, ◌≤◌, ◌<◌, ◌+◌, ◌-◌, ◌==◌, ◌∙◌, ℕ, zero, suc, Bool, true, false, not, if◌then◌else◌, List, [], ◌∷◌, ◌++◌, length, take, drop, get_or, Result, Ok, Err, inl, inr, ap, arith, codes, eqb-true, nat_eq, refl, subst, sym, ◌||◌, append-nil, append_assoc, length-append, length-drop, drop-drop, take-add, take_all}
 use Rattle.std.proofs.lemmas.Bool.{cases_Bool}
 use Rattle.std.proofs.lemmas.List.{drop_all, take-append-le}
+use Rattle.std.specs.List.{starts_with}
 use Rattle.std.specs.Prelude.{OnErr, OnOk}
 use Rattle.ub_script.proofs.HeldFacts.{Puts-more, Puts-none, front_after}
 use Rattle.ub_script.specs.Output.{OutFacts, Breaks, IsFrontOf, Puts}
 use Rattle.ub_script.specs.Parts.{answers_in, before_lines, is_note, lines_of, notes_in}
 use Rattle.ub_table_file.specs.Queried.{Notes}
+use mathlib.Core.Bool.{beq}
 
 -- ---- where the first line ends
 
@@ -82,6 +84,20 @@ part are_notes text = if are_notes then notes_in text else answers_in text
 -- whether a line is one of them
 abbrev pub wanted : Bool → List ℕ → Bool
 wanted are_notes line = if are_notes then is_note line else not (is_note line)
+
+-- a line is a note by the first of the two beginnings, or else by the second
+pub is_first : (line : List ℕ) (r : Bool) → r ≡ starts_with nat_eq line (codes "-- ") → r ≡ true → r ≡ is_note line
+is_first line r is so = so ∙ ap (λ (a : Bool). a || starts_with nat_eq line (codes "! ")) (sym so ∙ is)
+
+pub is_second : (line : List ℕ) (r s : Bool) → r ≡ starts_with nat_eq line (codes "-- ") → r ≡ false → s ≡ starts_with nat_eq line (codes "! ") → s ≡ is_note line
+is_second line r s is none second = second ∙ ap (λ (a : Bool). a || starts_with nat_eq line (codes "! ")) (sym none ∙ is)
+
+-- and it is one of them where it is what is wanted
+pub is_wanted_by : (line : List ℕ) (note are_notes : Bool) → note ≡ is_note line → beq note are_notes ≡ wanted are_notes line
+is_wanted_by line true true is = is
+is_wanted_by line false true is = is
+is_wanted_by line true false is = ap not is
+is_wanted_by line false false is = ap not is
 
 -- a first line of this kind, and one of the other
 part-taken : (b : Bool) (text line rest : List ℕ) → lines_of text ≡ line ∷ lines_of rest → wanted b line ≡ true → part b text ≡ line ++ part b rest
