@@ -7,128 +7,144 @@ use ub_bigmin::laws::{next_by_bits, next_by_words, prev_by_bits, prev_by_words};
 use ub_bigmin::{ZBox, greatest_value, least_value, next_in_any};
 use ub_zaddr::{Point, Shape, ZFault, interleave};
 
-// An address, whether the box from (2,2) to (6,3) holds it, and the nearest ones of it at or above and at or below it.
-struct Neighbours(u128, bool, Option<u128>, Option<u128>);
+// An address, whether the first box holds it, the nearest ones of that box at or above it and at or below it, and the nearest one at or
+// above it of any of the boxes.
+struct Near(u128, bool, Option<u128>, Option<u128>, Option<u128>);
 
-static NEIGHBOURS: &[Neighbours] = &[
-    Neighbours(19, false, Some(36), Some(15)),
-    Neighbours(0, false, Some(12), None),
-    Neighbours(46, false, None, Some(45)),
-    Neighbours(11, false, Some(12), None),
-    Neighbours(12, true, Some(12), Some(12)),
-    Neighbours(45, true, Some(45), Some(45)),
-    Neighbours(u128::MAX, false, None, Some(45)),
-];
+// A span, and the least and the greatest first coordinate that the boxes have there.
+struct Span(u128, u128, Option<u32>, Option<u32>);
 
-impl Case<ZBox> for Neighbours {
-    fn holds(&self, zbox: &ZBox) -> bool {
-        (zbox.holds(self.0) == self.1)
-            & (zbox.next_in_box(self.0) == self.2)
-            & (zbox.prev_in_box(self.0) == self.3)
-    }
+// Two boxes of so many dimensions, by their corners, of which the first alone is looked at where there is to be one; addresses near
+// them, and spans.
+struct Boxes {
+    dims: u32,
+    corners: [([u32; 4], [u32; 4]); 2],
+    count: usize,
+    near: &'static [Near],
+    spans: &'static [Span],
 }
 
-// Spans, and the least and the greatest first coordinate that this box has there.
-static SPANS: &[(u128, u128, Option<u32>, Option<u32>)] = &[
-    (13, 35, Some(2), Some(3)),
-    (16, 35, None, None),
-    (16, 36, Some(4), Some(4)),
-    (40, 45, Some(6), Some(6)),
+// From the first point to the last.
+const WHOLE: ([u32; 4], [u32; 4]) = ([0; 4], [4_294_967_295; 4]);
+
+static BOXES: &[Boxes] = &[
+    // From (2,2) to (6,3).
+    Boxes {
+        dims: 2,
+        corners: [([2, 2, 0, 0], [6, 3, 0, 0]), ([2, 2, 0, 0], [6, 3, 0, 0])],
+        count: 1,
+        near: &[
+            Near(19, false, Some(36), Some(15), Some(36)),
+            Near(0, false, Some(12), None, Some(12)),
+            Near(46, false, None, Some(45), None),
+            Near(11, false, Some(12), None, Some(12)),
+            Near(12, true, Some(12), Some(12), Some(12)),
+            Near(45, true, Some(45), Some(45), Some(45)),
+            Near(u128::MAX, false, None, Some(45), None),
+        ],
+        spans: &[
+            Span(13, 35, Some(2), Some(3)),
+            Span(16, 35, None, None),
+            Span(16, 36, Some(4), Some(4)),
+            Span(40, 45, Some(6), Some(6)),
+        ],
+    },
+    // From (6,3) to (6,3), and from (2,2) to (3,3).
+    Boxes {
+        dims: 2,
+        corners: [([6, 3, 0, 0], [6, 3, 0, 0]), ([2, 2, 0, 0], [3, 3, 0, 0])],
+        count: 2,
+        near: &[
+            Near(13, false, Some(45), None, Some(13)),
+            Near(16, false, Some(45), None, Some(45)),
+            Near(46, false, None, Some(45), None),
+        ],
+        spans: &[Span(15, 45, Some(3), Some(6))],
+    },
+    // The last address is its own neighbour in the box of all points.
+    Boxes {
+        dims: 4,
+        corners: [WHOLE, WHOLE],
+        count: 1,
+        near: &[Near(
+            u128::MAX,
+            true,
+            Some(u128::MAX),
+            Some(u128::MAX),
+            Some(u128::MAX),
+        )],
+        spans: &[],
+    },
 ];
 
-// The box of so many dimensions between two corners.
-pub(crate) fn box_between(dims: u32, lo: &[u32], hi: &[u32]) -> Option<ZBox>
-    ensures { IfSome result (λ b. length b.lo ≡ dims) }
+// The box of so many dimensions between two corners, of which the coordinates behind these aren't looked at.
+pub(crate) fn box_between(dims: u32, lo: &[u32; 4], hi: &[u32; 4]) -> Option<ZBox>
+    ensures dims { IfSome result (λ b. length b.lo ≡ dims) }
+    ensures some { IfSome result (λ b. 0 < length b.lo) }
 {
     let Ok(shape) = Shape::new(dims) else {
         return None;
     };
-    let (Ok(lo), Ok(hi)) = (Point::new(shape, lo), Point::new(shape, hi)) else {
+    let count = shape.dims() as usize;
+    let (Ok(lo), Ok(hi)) = (
+        Point::new(shape, &lo[..count]),
+        Point::new(shape, &hi[..count]),
+    ) else {
         return None;
     };
     ZBox::new(shape, &lo, &hi)
 }
 
-// Whether a box has the corners (2,2) and (6,3).
-fn has_corners(zbox: &ZBox) -> bool {
-    (zbox.lo().values() == [2, 2].as_slice())
-        & (zbox.hi().values() == [6, 3].as_slice())
-        & (zbox.shape().dims() == 2)
+// Whether a box has these corners.
+fn has_corners(zbox: &ZBox, lo: &[u32; 4], hi: &[u32; 4]) -> bool {
+    let count = (zbox.shape().dims() as usize).min(4);
+    (zbox.lo().values() == &lo[..count]) & (zbox.hi().values() == &hi[..count])
 }
 
-// Whether boxes have these least and greatest first coordinates within these spans.
-fn have_values(boxes: &[ZBox], spans: &[(u128, u128, Option<u32>, Option<u32>)]) -> bool
+// Whether these are the addresses nearest to boxes, the first of which is given too.
+fn are_near(first: &ZBox, boxes: &[ZBox], near: &[Near]) -> bool {
+    for row in near {
+        let is_right = (first.holds(row.0) == row.1)
+            & (first.next_in_box(row.0) == row.2)
+            & (first.prev_in_box(row.0) == row.3)
+            & (next_in_any(boxes, row.0) == row.4);
+        if !is_right {
+            return false;
+        }
+    }
+    true
+}
+
+// Whether boxes have these least and greatest first coordinates within spans.
+fn have_values(boxes: &[ZBox], spans: &[Span]) -> bool
     requires { All (λ b. 0 < length b.lo) boxes.now }
 {
-    for (from, to, least, greatest) in spans {
-        if (least_value(boxes, *from, *to, 0) != *least)
-            | (greatest_value(boxes, *from, *to, 0) != *greatest)
-        {
+    for span in spans {
+        let is_right = (least_value(boxes, span.0, span.1, 0) == span.2)
+            & (greatest_value(boxes, span.0, span.1, 0) == span.3);
+        if !is_right {
             return false;
         }
     }
     true
 }
 
-// Whether the box from (2,2) to (6,3) has them.
-fn has_spans() -> bool {
-    match box_between(2, &[2, 2], &[6, 3]) {
-        Some(zbox) => have_values(&[zbox], SPANS),
-        None => false,
-    }
-}
-
-// Addresses, and the nearest ones at or above them of the boxes from (6,3) to (6,3) and from (2,2)
-// to (3,3).
-static NEXT: &[(u128, Option<u128>)] = &[(13, Some(13)), (16, Some(45)), (46, None)];
-
-// A span, and the least and the greatest first coordinate of these boxes there.
-static SPAN: &[(u128, u128, Option<u32>, Option<u32>)] = &[(15, 45, Some(3), Some(6))];
-
-// Whether these addresses lead to the nearest ones of boxes.
-fn lead_on(boxes: &[ZBox]) -> bool {
-    for (z, next) in NEXT {
-        if next_in_any(boxes, *z) != *next {
+impl Case<()> for Boxes {
+    fn holds(&self, _: &()) -> bool {
+        let [(lo, hi), (other_lo, other_hi)] = &self.corners;
+        let (Some(first), Some(other)) = (
+            box_between(self.dims, lo, hi),
+            box_between(self.dims, other_lo, other_hi),
+        ) else {
             return false;
-        }
+        };
+        let are_right = if self.count == 1 {
+            are_near(&first, &[first], self.near) & have_values(&[first], self.spans)
+        } else {
+            are_near(&first, &[first, other], self.near) & have_values(&[first, other], self.spans)
+        };
+        are_right & (first.shape().dims() == self.dims) & has_corners(&first, lo, hi)
     }
-    true
-}
-
-// Whether those two boxes are as told.
-fn are_two_boxes() -> bool {
-    let Some(high) = box_between(2, &[6, 3], &[6, 3]) else {
-        return false;
-    };
-    let Some(low) = box_between(2, &[2, 2], &[3, 3]) else {
-        return false;
-    };
-    let boxes = [high, low];
-    have_values(&boxes, SPAN) & lead_on(&boxes)
-}
-
-// Whether the last address is its own neighbour in the box of all points.
-fn is_whole() -> bool {
-    let last = Some(u128::MAX);
-    match box_between(4, &[0; 4], &[4294967295; 4]) {
-        Some(whole) => {
-            (whole.next_in_box(u128::MAX) == last) & (whole.prev_in_box(u128::MAX) == last)
-        }
-        None => false,
-    }
-}
-
-// There is no box from the last point to the first.
-#[test]
-fn boxes_and_their_neighbours(rt: HostRuntime) {
-    let zbox = box_between(2, &[2, 2], &[6, 3]).expect(&rt, "a box");
-    all_hold(&rt, "neighbours", &zbox, NEIGHBOURS);
-    holds(&rt, "corners", has_corners(&zbox));
-    holds(&rt, "spans", has_spans());
-    holds(&rt, "two boxes", are_two_boxes());
-    holds(&rt, "the last address", is_whole());
-    let turned = box_between(4, &[4294967295; 4], &[0; 4]);
-    holds(&rt, "no box", turned.is_none());
 }
 
 // The coordinates of the boxes that both ways of a jump are compared on: each up to 7, and those at
@@ -223,7 +239,14 @@ impl Case<()> for Agreement {
     }
 }
 
+// There is no box from the last point to the first.
 #[test]
-fn words_and_bits_agree(rt: HostRuntime) {
-    all_hold(&rt, "how often they agree", &(), AGREEMENTS);
+fn boxes_and_their_neighbours(rt: HostRuntime) {
+    all_hold(&rt, "boxes", &(), BOXES);
+    holds(
+        &rt,
+        "no box",
+        box_between(4, &[4294967295; 4], &[0; 4]).is_none(),
+    );
+    all_hold(&rt, "how often words and bits agree", &(), AGREEMENTS);
 }

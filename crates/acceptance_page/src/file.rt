@@ -3,26 +3,16 @@
 ghost use Rattle.std.specs.Prelude.{◌≡◌, ◌<◌, IfOk};
 ghost use Rattle.ub_store.specs.Facts.{IsHonest};
 
-use crate::calls::{Answer, Call, Made, byte_of, is_such, made_answers};
-use crate::samples::{Case, all_hold, holds};
+use crate::calls::{Answer, Call, Made, is_such, made_answers};
+use crate::samples::{Case, all_hold};
 use std::alloc::{Alloc, Global};
 use std::os::unix::fs::FileExt;
+use std::process::Abort;
 use std::rt::Files;
 use std::{fs, io, process};
 use ub_file::host::{Refusal, create_store, open_store};
 use ub_file::{FileStore, HostFile, Medium, MemMedium, Opened, RawFile};
 use ub_store::{Page, PageStore, StoreFault};
-
-// A medium of so many pages that are full of one byte and bytes after them, that fails at its k-th
-// call.
-fn medium(alloc: Global, pages: u16, byte: u8, rest: u16, k: u64) -> Result<MemMedium, StoreFault>
-    requires { rest < 4096 }
-{
-    match vec![in alloc; [byte; 4096]; usize::from(pages)] {
-        Ok(pages) => Ok(MemMedium::new(pages, rest, k)),
-        Err(_) => Err(StoreFault::Memory),
-    }
-}
 
 // A file whose bytes can't be had: it refuses each call.
 #[derive(Drop)]
@@ -99,10 +89,14 @@ enum Start {
 
 // The medium that fails at its k-th call.
 fn medium_of(alloc: Global, start: Start, k: u64) -> Result<MemMedium, StoreFault> {
-    match start {
-        Start::Zeros(pages) => medium(alloc, pages, 0, 0, k),
-        Start::Part(pages, rest) => medium(alloc, pages, 0, rest % 4096, k),
-        Start::Created => medium(alloc, 2, 7, 100, k),
+    let (count, byte, rest) = match start {
+        Start::Zeros(count) => (count, 0, 0),
+        Start::Part(count, rest) => (count, 0, rest),
+        Start::Created => (2, 7, 100),
+    };
+    match vec![in alloc; [byte; 4096]; usize::from(count)] {
+        Ok(pages) => Ok(MemMedium::new(pages, rest % 4096, k)),
+        Err(_) => Err(StoreFault::Memory),
     }
 }
 
@@ -157,6 +151,13 @@ impl Case<Global> for Script {
 }
 
 static SCRIPTS: &[Script] = &[
+    // a page that is written and read stands on the medium that is given back
+    Script(
+        Start::Zeros(2),
+        0,
+        Ok(&[(Call::Write(1, 7), Ok(0)), (Call::Read(1), Ok(7))]),
+        Ok(&[(Call::Pages, Ok(2)), (Call::Read(1), Ok(7))]),
+    ),
     // no pages
     Script(
         Start::Zeros(0),
@@ -336,37 +337,22 @@ fn write_and_read<M: Medium>(
     store.read_page(n)
 }
 
-// Whether page 1 is written and read.
-fn is_kept<M: Medium>(store: &mut FileStore<M>) -> bool
-    requires { IsHonest (M.facts store.old) }
+// A medium in memory is one.
+fn write_and_read_in_memory(
+    store: &mut FileStore<MemMedium>,
+    n: u32,
+    page: &Page,
+) -> Result<Page, StoreFault>
+    ensures { IfOk result (λ read. read ≡ page.now) }
 {
-    match write_and_read(store, 1, &[7; 4096]) {
-        Ok(page) => byte_of(&page) == 7,
-        Err(_) => false,
-    }
-}
-
-// What the store of two pages answers then.
-const GIVEN_BACK: &[(Call, Answer)] = &[(Call::Pages, Ok(2)), (Call::Read(1), Ok(7))];
-
-// Whether a page that is written and read stands on the medium that is given back.
-fn is_given_back(alloc: Global) -> bool {
-    let Ok(zeros) = medium(alloc, 2, 0, 0, 0) else {
-        return false;
-    };
-    let Ok(mut store) = FileStore::open(zeros) else {
-        return false;
-    };
-    is_kept(&mut store) & made_answers(store_on(store.into_medium(), false), Ok(GIVEN_BACK))
+    write_and_read(store, n, page)
 }
 
 // Whole pages alone are taken, calls are answered, and the medium is given back.
 #[test]
 fn stores_over_media(rt: HostRuntime) {
-    let alloc = rt.alloc();
     all_hold(&rt, "lengths", &(), LENGTHS);
-    all_hold(&rt, "media", &alloc, SCRIPTS);
-    holds(&rt, "a medium that is given back", is_given_back(alloc));
+    all_hold(&rt, "media", &rt.alloc(), SCRIPTS);
 }
 
 // Calls of a store that is made in a file, and of the same once it is opened again.
@@ -416,14 +402,10 @@ enum Deed {
     Write(&'static [u8]),
     // So many bytes 65 are written, of two pages at most.
     Fill(usize),
-    // A store is opened or made in the file so, and becomes this.
-    Store(Opening, Made),
-    // None is opened or made at this path, for want of a folder, or of a file.
-    Elsewhere(&'static str),
-    // No file is there.
-    IsMissing,
-    // The file holds a page of zeros and one of the byte 65.
-    HoldsTwoPages,
+    // A store is opened or made so in the file, or at another path, and becomes this.
+    Store(Opening, Option<&'static str>, Made),
+    // Whether the file is read as a page of zeros and one of the byte 65; otherwise there is none.
+    Read(bool),
     Remove,
 }
 
@@ -432,25 +414,28 @@ enum Deed {
 // whole number of pages; and an empty one has no page. A store that is made keeps its pages, and
 // opening the file again leaves all of its bytes. A short read is taken for a failure.
 static DEEDS: &[Deed] = &[
-    Deed::Store(Opening::Open, Err(StoreFault::Device)),
-    Deed::IsMissing,
-    Deed::Elsewhere(NOWHERE),
-    Deed::Elsewhere("/tmp"),
+    Deed::Store(Opening::Open, None, Err(StoreFault::Device)),
+    Deed::Read(false),
+    Deed::Store(Opening::Open, Some(NOWHERE), Err(StoreFault::Device)),
+    Deed::Store(Opening::Make, Some(NOWHERE), Err(StoreFault::Device)),
+    Deed::Store(Opening::Open, Some("/tmp"), Err(StoreFault::Device)),
+    Deed::Store(Opening::Make, Some("/tmp"), Err(StoreFault::Device)),
     Deed::Write(&[65]),
-    Deed::Store(Opening::Open, Err(StoreFault::BadSize)),
+    Deed::Store(Opening::Open, None, Err(StoreFault::BadSize)),
     Deed::Fill(4097),
-    Deed::Store(Opening::Open, Err(StoreFault::BadSize)),
+    Deed::Store(Opening::Open, None, Err(StoreFault::BadSize)),
     Deed::Write(b""),
     Deed::Store(
         Opening::Open,
+        None,
         Ok(&[(Call::Read(0), Err(StoreFault::NoPage))]),
     ),
     Deed::Write(b"nothing that is kept"),
-    Deed::Store(Opening::Make, Ok(MADE)),
-    Deed::Store(Opening::Open, Ok(OPENED)),
-    Deed::HoldsTwoPages,
+    Deed::Store(Opening::Make, None, Ok(MADE)),
+    Deed::Store(Opening::Open, None, Ok(OPENED)),
+    Deed::Read(true),
     Deed::Fill(8192),
-    Deed::Store(Opening::Cut(5000), Ok(CUT)),
+    Deed::Store(Opening::Cut(5000), None, Ok(CUT)),
     Deed::Remove,
 ];
 
@@ -488,11 +473,11 @@ fn are_two_pages(bytes: &[u8]) -> bool {
     bytes.len() == 8192 && bytes[4095] == 0 && bytes[4096] == 65
 }
 
-// Whether a file holds them.
-fn holds_two_pages<R: Files + Alloc>(rt: &R, path: &str) -> bool {
+// Whether a file holds them, or there is none.
+fn is_read<R: Files + Alloc>(rt: &R, path: &str, is_there: bool) -> bool {
     match fs::read(rt, path) {
-        Ok(bytes) => are_two_pages(bytes.as_slice()),
-        Err(_) => false,
+        Ok(bytes) => is_there & are_two_pages(bytes.as_slice()),
+        Err(_) => !is_there,
     }
 }
 
@@ -504,14 +489,21 @@ where
     match deed {
         Deed::Write(bytes) => fs::write(rt, path, *bytes).is_ok(),
         Deed::Fill(count) => is_filled(rt, path, *count),
-        Deed::Store(opening, wanted) => is_opened(rt, path, *opening, *wanted),
-        Deed::Elsewhere(other) => {
-            is_opened(rt, other, Opening::Open, Err(StoreFault::Device))
-                & is_opened(rt, other, Opening::Make, Err(StoreFault::Device))
+        Deed::Store(opening, other, wanted) => {
+            is_opened(rt, (*other).unwrap_or(path), *opening, *wanted)
         }
-        Deed::IsMissing => fs::metadata(rt, path).is_err(),
-        Deed::HoldsTwoPages => holds_two_pages(rt, path),
+        Deed::Read(is_there) => is_read(rt, path, *is_there),
         Deed::Remove => fs::remove_file(rt, path).is_ok(),
+    }
+}
+
+// Asserts that all of it is done with the file of this path, and is so.
+fn all_is_done<R: Files + Alloc + Abort>(rt: &R, path: &str)
+where
+    R::File: FileExt,
+{
+    for (i, deed) in DEEDS.iter().enumerate() {
+        assert!(rt; is_done(rt, path, deed), "deed {i}");
     }
 }
 
@@ -520,7 +512,5 @@ where
 fn stores_in_files(rt: HostRuntime) {
     let id = process::id(rt.process());
     let path = format!(in rt.alloc(); "/tmp/hablozen-{id}.ub").expect(&rt, "memory");
-    for (i, deed) in DEEDS.iter().enumerate() {
-        assert!(rt; is_done(&rt, path.as_str(), deed), "deed {i}");
-    }
+    all_is_done(&rt, path.as_str());
 }

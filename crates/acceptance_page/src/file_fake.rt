@@ -224,10 +224,15 @@ struct Start {
     k: u64,
 }
 
-// Whether a store that is opened answers these calls so, and this is left of its file.
-fn is_played(store: FileStore<HostFile<FakeFile>>, script: &Script) -> bool {
-    let mut store = store;
-    answers(&mut store, script.calls) & is_left(&store.into_medium().into_file(), &script.left)
+// What a store that is opened leaves of its file once it has answered these calls, and whether it answered them so; or there is none.
+fn left_of<R: RawFile>(file: HostFile<R>, calls: &[(Call, Answer)]) -> Option<(R, bool)> {
+    match FileStore::open(file) {
+        Ok(mut store) => {
+            let is_right = answers(&mut store, calls);
+            Some((store.into_medium().into_file(), is_right))
+        }
+        Err(_) => None,
+    }
 }
 
 // A file of zeros, calls of the store on it with their answers, and what is left of it.
@@ -237,17 +242,22 @@ struct Script {
     left: Left,
 }
 
+// Whether a store in a file answers these calls so, and this is left of its file.
+fn is_played(file: FakeFile, script: &Script) -> bool
+    requires { IsUntouched (⟦<FakeFile as RawFile>⟧.facts file) script.now.start.length }
+{
+    let file = HostFile::new(file, script.start.length as u64, Opened::Found);
+    match left_of(file, script.calls) {
+        Some((file, is_right)) => is_right & is_left(&file, &script.left),
+        None => false,
+    }
+}
+
 impl Case<Global> for Script {
     fn holds(&self, alloc: &Global) -> bool {
         let start = &self.start;
         match FakeFile::new(*alloc, start.length, start.kind, start.k) {
-            Ok(file) => {
-                let file = HostFile::new(file, start.length as u64, Opened::Found);
-                match FileStore::open(file) {
-                    Ok(store) => is_played(store, self),
-                    Err(_) => false,
-                }
-            }
+            Ok(file) => is_played(file, self),
             Err(_) => false,
         }
     }

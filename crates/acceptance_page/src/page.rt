@@ -32,62 +32,6 @@ const HEADER: &[(usize, u8)] = &[
     (132, b'm'),
 ];
 
-// Writes the directory that a page tells of.
-fn rewrite(schema: &Schema, page: &Page, draft: &mut Draft) -> bool {
-    match read_directory(schema, page) {
-        Ok(directory) => {
-            write_directory(directory.entries(), directory.next(), draft);
-            true
-        }
-        Err(_) => false,
-    }
-}
-
-// Whether the page is read as that header, and written so over another page.
-fn is_header_page(page: &Page) -> bool {
-    let Ok(read) = read_header(page) else {
-        return false;
-    };
-    let mut draft = Draft::new();
-    rewrite(&read.schema, &page_of(DIRECTORY, &[]), &mut draft);
-    write_header(&read, &mut draft);
-    let numbers = [read.next, read.rows, read.regions, read.root, read.levels];
-    (draft.page() == page) & (numbers == [6, 5, 3, 4, 1]) & !read.unclean & is_plane(&read.schema)
-}
-
-// A byte of a header that is changed, and the level of the root and the mask of the signed dimensions that are read then.
-struct Kept(usize, u8, u32, u32);
-
-static KEPT: &[Kept] = &[
-    Kept(31, 2, 2, 0),
-    Kept(31, 16, 16, 0),
-    Kept(9, 0, 1, 0),
-    Kept(9, 1, 1, 1),
-    Kept(9, 2, 1, 2),
-    Kept(9, 3, 1, 3),
-];
-
-// Such a header is read, and written so.
-impl Case<()> for Kept {
-    fn holds(&self, _: &()) -> bool {
-        let page = page_of(HEADER, &[(self.0, self.1)]);
-        let Ok(read) = read_header(&page) else {
-            return false;
-        };
-        let mut draft = Draft::new();
-        write_header(&read, &mut draft);
-        (draft.page() == &page) & (read.levels == self.2) & (read.schema.signed() == self.3)
-    }
-}
-
-// An entry of a region from this address on, which a page keeps.
-fn entry(z: u128, page: u32) -> Entry {
-    Entry {
-        first: Key { z, number: 0 },
-        page,
-    }
-}
-
 // The bytes of a directory of regions from 0, 10 and 13 on, kept on the pages 1, 3 and 2.
 const DIRECTORY: &[(usize, u8)] = &[
     (0, 0x44),
@@ -113,29 +57,6 @@ const LONGER: &[(usize, u8)] = &[
     (111, 9),
 ];
 
-// Whether the page is written so over the longer one.
-fn is_written(schema: &Schema, page: &Page) -> bool {
-    let longer = page_of(LONGER, &[]);
-    let mut draft = Draft::new();
-    rewrite(schema, &longer, &mut draft)
-        & (draft.page() == &longer)
-        & rewrite(schema, page, &mut draft)
-        & (draft.page() == page)
-}
-
-// Whether the page is read as that directory, and written so over another one.
-fn is_directory_page(schema: &Schema, page: &Page) -> bool {
-    let entries = [entry(0, 1), entry(10, 3), entry(13, 2)];
-    match read_directory(schema, page) {
-        Ok(directory) => {
-            is_written(schema, page)
-                & (directory.entries() == entries.as_slice())
-                & (directory.next() == 0)
-        }
-        Err(_) => false,
-    }
-}
-
 // The bytes of a page of an index that leads to the same regions.
 const INDEX: &[(usize, u8)] = &[
     (0, 0x49),
@@ -147,6 +68,111 @@ const INDEX: &[(usize, u8)] = &[
     (79, 13),
     (87, 2),
 ];
+
+// The entries of both: regions whose first keys have these addresses, and their pages; and one more of the longer one.
+const FIRST: Entry = Entry {
+    first: Key { z: 0, number: 0 },
+    page: 1,
+};
+
+const SECOND: Entry = Entry {
+    first: Key { z: 10, number: 0 },
+    page: 3,
+};
+
+const THIRD: Entry = Entry {
+    first: Key { z: 13, number: 0 },
+    page: 2,
+};
+
+const FOURTH: Entry = Entry {
+    first: Key { z: 14, number: 0 },
+    page: 9,
+};
+
+// An entry of another page.
+const SEVENTH: Entry = Entry {
+    first: Key { z: 7, number: 0 },
+    page: 7,
+};
+
+// What a page tells.
+enum Told {
+    // The next row's number, how many rows and regions a table has, the page of its index's root, and the level of that; the mask of the
+    // signed dimensions.
+    Header([u32; 5], u32),
+    // The entries of a directory, and the page that it names as the next.
+    Directory(&'static [Entry], u32),
+    // The entries of a page of an index, and its level.
+    Index(&'static [Entry], u32),
+}
+
+// Writes what the page of a header tells, and tells whether it is this of a table as the plane.
+fn is_header(page: &Page, numbers: &[u32; 5], signed: u32, draft: &mut Draft) -> bool {
+    let Ok(read) = read_header(page) else {
+        return false;
+    };
+    write_header(&read, draft);
+    let told = [read.next, read.rows, read.regions, read.root, read.levels];
+    (told == *numbers) & !read.unclean & is_plane(&read.schema, signed)
+}
+
+// Writes what a page tells, and tells whether it is this.
+fn is_told(schema: &Schema, page: &Page, told: &Told, draft: &mut Draft) -> bool {
+    match told {
+        Told::Header(numbers, signed) => is_header(page, numbers, *signed, draft),
+        Told::Directory(entries, next) => match read_directory(schema, page) {
+            Ok(read) => {
+                write_directory(read.entries(), read.next(), draft);
+                (read.entries() == *entries) & (read.next() == *next)
+            }
+            Err(_) => false,
+        },
+        Told::Index(entries, level) => match read_index(schema, page) {
+            Ok(read) => {
+                write_index(read.entries(), (*level).min(16), draft);
+                (read.entries() == *entries) & (read.level() == *level)
+            }
+            Err(_) => false,
+        },
+    }
+}
+
+// Whether this is read from a page, and written as that page.
+fn is_written(schema: &Schema, page: &Page, told: &Told, draft: &mut Draft) -> bool {
+    is_told(schema, page, told, draft) & (draft.page() == page)
+}
+
+// The bytes of a page, one of them that is changed, and what is told of it.
+struct Written(&'static [(usize, u8)], &'static [(usize, u8)], Told);
+
+static WRITTEN: &[Written] = &[
+    Written(HEADER, &[], Told::Header([6, 5, 3, 4, 1], 0)),
+    // The level of the root, up to the last one there can be.
+    Written(HEADER, &[(31, 2)], Told::Header([6, 5, 3, 4, 2], 0)),
+    Written(HEADER, &[(31, 16)], Told::Header([6, 5, 3, 4, 16], 0)),
+    // The mask of the signed dimensions.
+    Written(HEADER, &[(9, 0)], Told::Header([6, 5, 3, 4, 1], 0)),
+    Written(HEADER, &[(9, 1)], Told::Header([6, 5, 3, 4, 1], 1)),
+    Written(HEADER, &[(9, 2)], Told::Header([6, 5, 3, 4, 1], 2)),
+    Written(HEADER, &[(9, 3)], Told::Header([6, 5, 3, 4, 1], 3)),
+    Written(DIRECTORY, &[], Told::Directory(&[FIRST, SECOND, THIRD], 0)),
+    Written(INDEX, &[], Told::Index(&[FIRST, SECOND, THIRD], 1)),
+];
+
+static LONGER_TOLD: Told = Told::Directory(&[FIRST, SECOND, THIRD, FOURTH], 7);
+
+// Each page is written over the longer directory, and over the page of an index of four entries on level 7.
+impl Case<Schema> for Written {
+    fn holds(&self, schema: &Schema) -> bool {
+        let page = page_of(self.0, self.1);
+        let mut draft = Draft::new();
+        let is_longer = is_written(schema, &page_of(LONGER, &[]), &LONGER_TOLD, &mut draft);
+        let is_over_longer = is_written(schema, &page, &self.2, &mut draft);
+        write_index(&[SEVENTH; 4], 7, &mut draft);
+        is_longer & is_over_longer & is_written(schema, &page, &self.2, &mut draft)
+    }
+}
 
 // The address and the number of a key, and the slot of that page to which it falls.
 struct Slot(u128, u32, usize);
@@ -173,26 +199,12 @@ impl Case<Page> for Slot {
 // The last address of the plane.
 const LAST: u128 = 0xffff_ffff_ffff_ffff;
 
-// Whether the page is read as that page of an index, and written so over another one.
-fn is_index_page(schema: &Schema, page: &Page) -> bool {
-    let entries = [entry(0, 1), entry(10, 3), entry(13, 2)];
-    let mut draft = Draft::new();
-    write_index(&[entry(7, 7); 4], 7, &mut draft);
-    write_index(&entries, 1, &mut draft);
-    match read_index(schema, page) {
-        Ok(index) => {
-            (draft.page() == page) & (index.entries() == entries.as_slice()) & (index.level() == 1)
-        }
-        Err(_) => false,
-    }
-}
-
 // Whether the page is looked into where it stands.
 fn is_looked_into(page: &Page) -> bool {
     let head = Ok(Head { level: 1, count: 3 });
     (read_head(page) == head)
         & (check_index(LAST, page) == head)
-        & (entry_at(page, 1) == entry(10, 3))
+        & (entry_at(page, 1) == SECOND)
         & (first_at(page, 2).z == 13)
 }
 
@@ -359,18 +371,10 @@ impl Case<Schema> for Faults {
 }
 
 #[test]
-fn headers_are_written_and_read(rt: HostRuntime) {
-    holds(&rt, "a header", is_header_page(&page_of(HEADER, &[])));
-    all_hold(&rt, "levels and masks of headers", &(), KEPT);
-}
-
-#[test]
 fn pages_are_written_and_read_or_refused(rt: HostRuntime) {
     let schema = plane().expect(&rt, "a table");
-    let directory = page_of(DIRECTORY, &[]);
-    holds(&rt, "a directory", is_directory_page(&schema, &directory));
+    all_hold(&rt, "pages that are written and read", &schema, WRITTEN);
     let index = page_of(INDEX, &[]);
-    holds(&rt, "an index", is_index_page(&schema, &index));
     holds(&rt, "an index in its place", is_looked_into(&index));
     all_hold(&rt, "slots", &index, SLOTS);
     all_hold(&rt, "bytes that are refused", &schema, FAULTS);

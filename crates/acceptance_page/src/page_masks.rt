@@ -23,9 +23,23 @@ const BOUNDS: [(u32, u32); 10] = [
     (4_294_967_295, 4_294_967_295),
 ];
 
-// 64 rows in the order of their keys, at all points of up to three dimensions with coordinates of
-// VALUES, and at every fourth of four. The rank of a point by address tells of each coordinate the
+// The point of so many dimensions with coordinates of VALUES that has this rank by address. The rank tells of each coordinate the
 // highest bit, and behind these of each whether its other bits are ones.
+fn point_of_rank(dims: u32, rank: u32) -> [u32; 4]
+    requires { dims ≤ 4 }
+{
+    let mut point = [0; 4];
+    for dim in 0..dims {
+        let place = dims - 1 - dim;
+        let high = (rank >> (dims + place)) % 2;
+        let rest = (rank >> place) % 2;
+        point[dim as usize] = VALUES[(2 * high + rest) as usize];
+    }
+    point
+}
+
+// 64 rows in the order of their keys, at all points of up to three dimensions with such coordinates,
+// and at every fourth of four.
 fn rows_of(dims: u32) -> [Row; 64]
     requires { dims ≤ 4 }
 {
@@ -37,15 +51,8 @@ fn rows_of(dims: u32) -> [Row; 64]
             3 => i,
             _ => 4 * i + i % 4,
         };
-        let mut point = [0; 4];
-        for dim in 0..dims {
-            let place = dims - 1 - dim;
-            let high = (rank >> (dims + place)) % 2;
-            let rest = (rank >> place) % 2;
-            point[dim as usize] = VALUES[(2 * high + rest) as usize];
-        }
         rows[i as usize].number = i + 1;
-        rows[i as usize].dims = point;
+        rows[i as usize].dims = point_of_rank(dims, rank);
     }
     rows
 }
@@ -66,7 +73,7 @@ fn corners(number: usize) -> ([u32; 4], [u32; 4]) {
 // The mask for these corners of the region whose page has these rows, if as many are read.
 fn mask(schema: &Schema, rows: &[Row], lo: &[u32; 4], hi: &[u32; 4]) -> Option<u64> {
     let (dims, measures) = (schema.dims() as usize, schema.measures() as usize);
-    let zbox = box_between(schema.dims(), &lo[..dims], &hi[..dims])?;
+    let zbox = box_between(schema.dims(), lo, hi)?;
     let page = region_page(dims, measures, Key { z: 0, number: 0 }, rows);
     match RegionPage::read(schema, &page) {
         Ok(region) if region.len() == rows.len() => Some(region.mask(&zbox)),
@@ -74,17 +81,22 @@ fn mask(schema: &Schema, rows: &[Row], lo: &[u32; 4], hi: &[u32; 4]) -> Option<u
     }
 }
 
+// Whether a row is within these corners in the first dimensions.
+fn is_inside(dims: u32, row: &Row, lo: &[u32; 4], hi: &[u32; 4]) -> bool {
+    let mut is_inside = true;
+    for dim in 0..4usize {
+        let is_between = (lo[dim] <= row.dims[dim]) & (row.dims[dim] <= hi[dim]);
+        is_inside &= (dims as usize <= dim) | is_between;
+    }
+    is_inside
+}
+
 // The same by membership, row by row.
 fn membership(dims: u32, rows: &[Row], lo: &[u32; 4], hi: &[u32; 4]) -> u64 {
     let mut mask = 0;
     let mut bit = 1u64;
     for row in rows {
-        let mut is_inside = true;
-        for dim in 0..4usize {
-            let is_between = lo[dim] <= row.dims[dim] && row.dims[dim] <= hi[dim];
-            is_inside = is_inside && (dims as usize <= dim || is_between);
-        }
-        if is_inside {
+        if is_inside(dims, row, lo, hi) {
             mask |= bit;
         }
         bit = bit.wrapping_mul(2);

@@ -13,7 +13,7 @@ const ORIGIN: Key = Key { z: 0, number: 0 };
 // Rows of a space of four dimensions in the order of their keys: the number, the coordinates, and
 // the address, in which bit k of the coordinates stands at the bits 4 * k + 3 to 4 * k. Three of
 // them are at one address.
-const SAMPLES: [(u32, [u32; 4], u128); 7] = [
+static SAMPLES: [(u32, [u32; 4], u128); 7] = [
     (7, [0, 0, 0, 1], 1),
     (2, [0, 1, 0, 2], 20),
     (3, [1, 2, 3, 4], 362),
@@ -65,13 +65,20 @@ fn key(z: u128, number: u32) -> Key {
 fn sample(place: usize) -> (Row, u128) {
     let (number, dims, z) = SAMPLES[place % 7];
     let m = i64::from(number);
-    let measures = [m, -m, i64::MIN + m, i64::MAX - m];
-    let row = Row {
-        number,
-        dims,
-        measures,
-    };
-    (row, z)
+    let measures = [
+        m,
+        m.wrapping_neg(),
+        i64::MIN.wrapping_add(m),
+        i64::MAX.wrapping_sub(m),
+    ];
+    (
+        Row {
+            number,
+            dims,
+            measures,
+        },
+        z,
+    )
 }
 
 // Puts a row in at an index, where there is room for it.

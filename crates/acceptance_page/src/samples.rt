@@ -56,16 +56,16 @@ pub(crate) fn row(number: u32, x: u32, y: u32, m: i64) -> Row {
     }
 }
 
-// Whether this is the table t of two dimensions x and y and a measure m, none of them signed, with
-// two rows on a page.
-pub(crate) fn is_plane(schema: &Schema) -> bool {
+// Whether this is the table t of two dimensions x and y and a measure m, with two rows on a page, where the dimensions whose bits this
+// mask has are signed.
+pub(crate) fn is_plane(schema: &Schema, signed: u32) -> bool {
     let numbers = [
         schema.dims(),
         schema.measures(),
         schema.page_rows(),
         schema.signed(),
     ];
-    (numbers == [2, 1, 2, 0])
+    (numbers == [2, 1, 2, signed])
         & (schema.name().bytes() == b"t".as_slice())
         & are_named(schema.columns(), b"xym")
 }

@@ -58,11 +58,11 @@ fn store_failing_at(alloc: Global, k: u64) -> FaultyStore<MemStore>
     FaultyStore::new(MemStore::new(alloc), k)
 }
 
-// A store that never fails, over one that fails at its k-th call.
-fn store_over_one_failing_at(alloc: Global, k: u64) -> FaultyStore<FaultyStore<MemStore>>
-    ensures { result ≡ faulty_view (faulty_view [] k 0 0) 0 0 0 }
+// A store that fails at its k-th call, over one that fails at its j-th call.
+fn store_over_one_failing_at(alloc: Global, j: u64, k: u64) -> FaultyStore<FaultyStore<MemStore>>
+    ensures { result ≡ faulty_view (faulty_view [] j 0 0) k 0 0 }
 {
-    FaultyStore::new(store_failing_at(alloc, k), 0)
+    FaultyStore::new(store_failing_at(alloc, j), k)
 }
 
 // A sync that is due to fail, and then one that isn't, are one failure of a call that isn't a read.
@@ -77,13 +77,13 @@ fn fail_once(store: &mut FaultyStore<MemStore>)
     let _ = store.sync();
 }
 
-// Whether a store stands over one in memory, which it then passes each call on to once; which call of that one fails; calls, and their
-// answers.
-struct Calls(bool, u64, &'static [(Call, Answer)]);
+// Which call of a store over one in memory fails in that one, and which in the store itself, which then passes it on to none (0: no
+// call); calls, and their answers.
+struct Calls(u64, u64, &'static [(Call, Answer)]);
 
 static CALLS: &[Calls] = &[
     Calls(
-        false,
+        0,
         2,
         &[
             (Call::Extend, Ok(0)),
@@ -94,7 +94,7 @@ static CALLS: &[Calls] = &[
         ],
     ),
     Calls(
-        false,
+        0,
         0,
         &[
             (Call::Extend, Ok(0)),
@@ -105,8 +105,8 @@ static CALLS: &[Calls] = &[
         ],
     ),
     Calls(
-        true,
         2,
+        0,
         &[
             (Call::Extend, Ok(0)),
             (Call::Extend, Err(StoreFault::Device)),
@@ -114,8 +114,8 @@ static CALLS: &[Calls] = &[
         ],
     ),
     Calls(
-        true,
         2,
+        0,
         &[
             (Call::Sync, Ok(0)),
             (Call::Sync, Err(StoreFault::Device)),
@@ -123,8 +123,8 @@ static CALLS: &[Calls] = &[
         ],
     ),
     Calls(
-        true,
         3,
+        0,
         &[
             (Call::Extend, Ok(0)),
             (Call::Read(0), Ok(0)),
@@ -133,8 +133,8 @@ static CALLS: &[Calls] = &[
         ],
     ),
     Calls(
-        true,
         3,
+        0,
         &[
             (Call::Extend, Ok(0)),
             (Call::Write(0, 7), Ok(0)),
@@ -144,52 +144,51 @@ static CALLS: &[Calls] = &[
     ),
 ];
 
+// Whether a store answers these calls so.
 impl Case<Global> for Calls {
     fn holds(&self, alloc: &Global) -> bool {
-        if self.0 {
-            answers(&mut store_over_one_failing_at(*alloc, self.1), self.2)
-        } else {
-            answers(&mut store_failing_at(*alloc, self.1), self.2)
-        }
+        answers(
+            &mut store_over_one_failing_at(*alloc, self.0, self.1),
+            self.2,
+        )
     }
 }
 
 // What is put is what is brought and lent, cached or not.
-fn put_and_bring<S: PageStore>(pager: &mut Pager<S>, n: u32, page: &Page) -> Result<(), StoreFault>
+fn put_and_bring<S: PageStore>(
+    pager: &mut Pager<S>,
+    n: u32,
+    page: &Page,
+) -> Result<bool, StoreFault>
     requires { IsHonest pager.old.store }
     ensures stored { OnOk result (slice_get pager.new.store.pages n ≡ Some page.now) }
     ensures cached { OnOk result (IsCached pager.new n) }
 {
     pager.put(n, page)?;
-    pager.bring(n)?;
-    Ok(())
+    pager.bring(n)
 }
 
-// A pager over three pages more of this store, whose cache holds one page.
-fn three_pages<S: PageStore>(alloc: Global, store: S) -> Result<Pager<S>, StoreFault>
+// A pager over this store, whose cache holds one page.
+fn pager_over<S: PageStore>(alloc: Global, store: S) -> Result<Pager<S>, StoreFault>
     ensures honest { IsHonest (S.facts store) → IfOk result (λ pager. IsHonest pager.store) }
     ensures trace { IfOk result (λ pager. pager.trace.pages ≡ []) }
 {
-    let mut pager = match Pager::new(alloc, store, NonZeroUsize::MIN) {
-        Ok(pager) => pager,
-        Err(refused) => return Err(refused.fault),
-    };
-    let first = pager.extend();
-    let second = pager.extend();
-    let third = pager.extend();
-    match first.and(second).and(third) {
-        Ok(_) => Ok(pager),
-        Err(fault) => Err(fault),
+    match Pager::new(alloc, store, NonZeroUsize::MIN) {
+        Ok(pager) => Ok(pager),
+        Err(refused) => Err(refused.fault),
     }
 }
 
-type MemPager = Pager<FaultyStore<MemStore>>;
-
-// Such a pager, over a store in memory that fails at its k-th call.
-fn three_in_memory(alloc: Global, k: u64) -> Result<MemPager, StoreFault>
-    ensures { IfOk result (λ pager. IsHonest pager.store) }
+// Adds three pages, and tells the number of the last one.
+fn add_three<S: PageStore>(pager: &mut Pager<S>) -> Answer
+    requires { IsHonest pager.old.store }
+    ensures honest { IsHonest pager.new.store }
+    ensures trace { pager.new.trace.pages ≡ pager.old.trace.pages }
 {
-    three_pages(alloc, store_failing_at(alloc, k))
+    let first = pager.extend();
+    let second = pager.extend();
+    let third = pager.extend();
+    first.and(second).and(third)
 }
 
 // A call of a pager. A page that is put is full of one byte.
@@ -197,6 +196,8 @@ fn three_in_memory(alloc: Global, k: u64) -> Result<MemPager, StoreFault>
 enum Deed {
     Bring(u32),
     Region(u32),
+    // The same, and memory may be refused for it.
+    Try(u32),
     Put(u32, u8),
     Sync,
     Begin,
@@ -213,6 +214,12 @@ fn digits(pages: &[u32]) -> u32 {
     number
 }
 
+// Brings the page of a region, and tells the byte that it is full of.
+fn region<S: PageStore>(pager: &mut Pager<S>, n: u32) -> Answer {
+    pager.bring_region(n)?;
+    Ok(byte_of(pager.cached(n)))
+}
+
 // What a call answers: how many pages there are, the digits of those that were noted, the byte that
 // the page is full of which is brought, or 0.
 fn done<S: PageStore>(pager: &mut Pager<S>, deed: Deed) -> Answer {
@@ -221,10 +228,11 @@ fn done<S: PageStore>(pager: &mut Pager<S>, deed: Deed) -> Answer {
             pager.bring(n)?;
             Ok(byte_of(pager.cached(n)))
         }
-        Deed::Region(n) => {
-            pager.bring_region(n)?;
-            Ok(byte_of(pager.cached(n)))
-        }
+        Deed::Region(n) => region(pager, n),
+        Deed::Try(n) => match region(pager, n) {
+            Err(StoreFault::Memory) => Ok(0),
+            told => told,
+        },
         Deed::Put(n, byte) => pager.put(n, &[byte; 4096]).and(Ok(0)),
         Deed::Sync => pager.sync().and(Ok(0)),
         Deed::Begin => {
@@ -236,14 +244,15 @@ fn done<S: PageStore>(pager: &mut Pager<S>, deed: Deed) -> Answer {
     }
 }
 
-// Whether each of the calls is answered so.
-fn does<S: PageStore>(pager: &mut Pager<S>, deeds: &[(Deed, Answer)]) -> bool {
+// Whether each of the calls is answered so; or the fault that isn't to be told.
+fn does<S: PageStore>(pager: &mut Pager<S>, deeds: &[(Deed, Answer)]) -> Result<bool, StoreFault> {
     for asked in deeds {
-        if done(pager, asked.0) != asked.1 {
-            return false;
+        let answer = done(pager, asked.0);
+        if answer != asked.1 {
+            return answer.and(Ok(false));
         }
     }
-    true
+    Ok(true)
 }
 
 // Which call of the store fails, the byte that page 1 is full of in the end, and calls of a pager with their answers. Three pages were
@@ -289,22 +298,45 @@ static DEEDS: &[Deeds] = &[
     ),
 ];
 
-// Whether a pager that is made does this, and leaves page 1 full of this byte.
-fn are_done<S: PageStore>(made: Result<Pager<S>, StoreFault>, deeds: &Deeds) -> bool
-    requires { IfOk made (λ pager. IsHonest pager.store) }
+// The same once three pages are added, and a page of eights is put.
+fn does_then<S: PageStore>(
+    pager: &mut Pager<S>,
+    deeds: &[(Deed, Answer)],
+) -> Result<bool, StoreFault>
+    requires { IsHonest pager.old.store }
 {
-    let Ok(mut pager) = made else {
-        return false;
-    };
-    let is_put = put_and_bring(&mut pager, 0, &[8; 4096]).is_ok();
-    let is_right = is_put & does(&mut pager, deeds.2);
+    if add_three(pager)? != 2 {
+        return Ok(false);
+    }
+    put_and_bring(pager, 0, &[8; 4096])?;
+    does(pager, deeds)
+}
+
+// Whether a pager does this, and leaves page 1 full of this byte.
+fn are_done<S: PageStore>(pager: Pager<S>, deeds: &Deeds) -> Result<bool, StoreFault>
+    requires { IsHonest pager.store }
+{
+    let mut pager = pager;
+    let told = does_then(&mut pager, deeds.2);
     let calls = [(Call::Read(1), Ok(u32::from(deeds.1)))];
-    is_right & answers(&mut pager.into_store(), &calls)
+    let is_left = answers(&mut pager.into_store(), &calls);
+    match told {
+        Ok(is_right) => Ok(is_right & is_left),
+        Err(fault) => Err(fault),
+    }
+}
+
+// The same of a pager over a store in memory that fails at that call.
+fn are_done_in_memory(alloc: Global, deeds: &Deeds) -> Result<bool, StoreFault> {
+    match pager_over(alloc, store_failing_at(alloc, deeds.0)) {
+        Ok(pager) => are_done(pager, deeds),
+        Err(fault) => Err(fault),
+    }
 }
 
 impl Case<Global> for Deeds {
     fn holds(&self, alloc: &Global) -> bool {
-        are_done(three_in_memory(*alloc, self.0), self)
+        are_done_in_memory(*alloc, self) == Ok(true)
     }
 }
 
@@ -317,45 +349,24 @@ fn stores_and_pagers(rt: HostRuntime) {
     all_hold(&rt, "calls of pagers", &alloc, DEEDS);
 }
 
-// What follows where memory was refused for the page 1: it was noted, and is brought in the next
-// call.
-const AGAIN: &[(Deed, Answer)] = &[
-    (Deed::Noted, Ok(11)),
-    (Deed::Region(1), Ok(0)),
-    (Deed::Noted, Ok(111)),
-];
-
-// Whether a region's page is noted that memory is refused for, or isn't; and brought, in this call
-// or in the next.
-fn brings_at_last<S: PageStore>(pager: &mut Pager<S>) -> Result<bool, StoreFault> {
-    pager.begin();
-    match done(pager, Deed::Region(1)) {
-        Ok(byte) => Ok(byte == 0 && does(pager, &[(Deed::Noted, Ok(11))])),
-        Err(StoreFault::Memory) => Ok(does(pager, AGAIN)),
-        Err(fault) => Err(fault),
-    }
-}
-
-// The same once another page is brought.
-fn brings_both<S: PageStore>(pager: &mut Pager<S>) -> Result<bool, StoreFault> {
-    match done(pager, Deed::Region(0)) {
-        Ok(_) => brings_at_last(pager),
-        Err(fault) => Err(fault),
-    }
-}
-
-// The same of a pager that is made.
-fn brings_all<S: PageStore>(made: Result<Pager<S>, StoreFault>) -> Result<bool, StoreFault> {
-    match made {
-        Ok(mut pager) => brings_both(&mut pager),
-        Err(fault) => Err(fault),
-    }
-}
+// A page is noted whether memory is refused for it or not; it is brought in this call, or in the next.
+static NOTED: Deeds = Deeds(
+    0,
+    0,
+    &[
+        (Deed::Region(0), Ok(8)),
+        (Deed::Begin, Ok(0)),
+        (Deed::Try(1), Ok(0)),
+        (Deed::Noted, Ok(11)),
+        (Deed::Region(1), Ok(0)),
+        (Deed::Noted, Ok(111)),
+    ],
+);
 
 // The trace has room from the call before, so what memory is refused for is the page.
 // `tests/store_allocations.sh` makes each allocation of this test fail in turn.
 #[test]
 fn notes_a_page_that_memory_is_refused_for(rt: HostRuntime) -> Result<(), Fail> {
-    assert!(rt; brings_all(three_in_memory(rt.alloc(), 0))?);
+    assert!(rt; are_done_in_memory(rt.alloc(), &NOTED)?);
     Ok(())
 }

@@ -36,16 +36,18 @@ impl Case<()> for Text {
     }
 }
 
-// Whether columns of these two names are held in their order.
-fn are_held(names: &[Name]) -> bool {
-    let [first, second] = names else {
+// Whether columns of the names of a table's first two are held in their order.
+fn holds_columns(schema: &Schema) -> bool {
+    let [first, second, ..] = schema.columns() else {
         return false;
     };
+    let names = [*first, *second];
     let mut columns = Columns::new(*first);
     if columns.as_slice().len() < MAX_COLUMNS {
         columns.push(*second);
     }
-    columns.as_slice() == names && Columns::from_slice(names).as_slice() == names
+    (columns.as_slice() == names.as_slice())
+        & (Columns::from_slice(&names).as_slice() == names.as_slice())
 }
 
 // How many rows a page has, the mask of the signed dimensions, and why there is no table of two columns of a name with them: the count of
@@ -62,14 +64,6 @@ static REFUSED: &[Refused] = &[
 impl Case<Name> for Refused {
     fn holds(&self, t: &Name) -> bool {
         Schema::new(*t, &[*t, *t], 2, self.0, self.1).err() == Some(self.2)
-    }
-}
-
-// Whether the first two columns of a table are held as such.
-fn holds_columns(schema: &Schema) -> bool {
-    match schema.columns().get(..2) {
-        Some(names) => are_held(names),
-        None => false,
     }
 }
 
@@ -128,11 +122,17 @@ fn fits(schema: &Schema, column: usize, number: i128) -> bool {
     column < schema.columns().len() && schema.fits(column, number)
 }
 
-impl Case<Schema> for Number {
-    fn holds(&self, schema: &Schema) -> bool {
-        (fits(schema, 0, self.0) == self.1)
-            & (schema.coordinate(0, self.0).is_some() == self.1)
-            & (fits(schema, 3, self.0) == self.2)
+// Whether the columns of a table can hold this number, or not.
+fn is_fitting(schema: &Schema, number: &Number) -> bool {
+    (fits(schema, 0, number.0) == number.1)
+        & (schema.coordinate(0, number.0).is_some() == number.1)
+        & (fits(schema, 3, number.0) == number.2)
+}
+
+// The same where the second dimension is signed.
+impl Case<[Schema; 2]> for Number {
+    fn holds(&self, tables: &[Schema; 2]) -> bool {
+        is_fitting(&tables[0], self) & is_fitting(&tables[1], self)
     }
 }
 
@@ -201,27 +201,22 @@ impl Case<Schema> for Signed {
 }
 
 #[test]
-fn names_and_keys(rt: HostRuntime) {
+fn names_columns_and_schemas(rt: HostRuntime) {
     all_hold(&rt, "names", &(), TEXTS);
     holds(&rt, "keys", are_ordered());
-}
-
-#[test]
-fn columns_schemas_and_rows(rt: HostRuntime) {
     all_hold(&rt, "masks", &(), MASKS);
     let schema = plane().expect(&rt, "a plane");
-    holds(&rt, "a plane", is_plane(&schema));
+    holds(&rt, "a plane", is_plane(&schema, 0));
     holds(&rt, "columns", holds_columns(&schema));
     all_hold(&rt, "two columns of a name", schema.name(), REFUSED);
-    let schema = table(b"xymn", 2, 2).expect(&rt, "a table");
-    holds(&rt, "values that are read", are_read(&schema, &VALUES));
-    all_hold(&rt, "numbers that fit", &schema, NUMBERS);
 }
 
 #[test]
-fn signed_dimensions(rt: HostRuntime) {
-    let schema = signed_table(b"xymn", 2, 2, 2).expect(&rt, "a table");
-    holds(&rt, "values", are_read(&schema, &SIGNED_VALUES));
-    all_hold(&rt, "the same numbers fit others", &schema, NUMBERS);
-    all_hold(&rt, "signed numbers", &schema, SIGNED);
+fn rows_and_signed_dimensions(rt: HostRuntime) {
+    let schema = table(b"xymn", 2, 2).expect(&rt, "a table");
+    let signed = signed_table(b"xymn", 2, 2, 2).expect(&rt, "a table");
+    holds(&rt, "values", are_read(&schema, &VALUES));
+    holds(&rt, "signed values", are_read(&signed, &SIGNED_VALUES));
+    all_hold(&rt, "signed numbers", &signed, SIGNED);
+    all_hold(&rt, "numbers that fit", &[schema, signed], NUMBERS);
 }
