@@ -5,7 +5,7 @@ ghost use Rattle.std.specs.Prelude.{◌≡◌, ◌<◌, length, All, IfOk, IfSom
 use crate::samples::{Case, all_hold, holds};
 use ub_bigmin::laws::{next_by_bits, next_by_words, prev_by_bits, prev_by_words};
 use ub_bigmin::{ZBox, greatest_value, least_value, next_in_any};
-use ub_zaddr::{Point, Shape, ZFault, interleave};
+use ub_zaddr::{Point, Shape, interleave};
 
 // An address, whether the first box holds it, the nearest ones of that box at or above it and at or below it, and the nearest one at or
 // above it of any of the boxes.
@@ -154,9 +154,8 @@ const SMALL: [u32; 8] = [0, 1, 2, 3, 4, 5, 6, 7];
 const ENDS: [u32; 4] = [0, 1, 2147483648, 4294967295];
 
 // The point number n of those with all coordinates among these.
-fn point_among(shape: Shape, values: &[u32], n: usize) -> Result<Point, ZFault>
+fn places_among(values: &[u32], n: usize) -> [u32; 4]
     requires { 0 < length values.now }
-    ensures { IfOk result (λ p. length p ≡ shape) }
 {
     let mut rest = n;
     let mut places = [0u32; 4];
@@ -164,7 +163,7 @@ fn point_among(shape: Shape, values: &[u32], n: usize) -> Result<Point, ZFault>
         places[dim] = values[rest % values.len()];
         rest /= values.len();
     }
-    Point::new(shape, &places[..shape.dims() as usize])
+    places
 }
 
 // Whether the jumps by words and by bits from this address lead to the same neighbours.
@@ -183,21 +182,12 @@ fn agreements_in(zbox: &ZBox, values: &[u32], points: usize) -> u64
     let shape = zbox.shape();
     let mut count = u64::from(agrees(zbox, 64));
     for n in 0..points {
-        if let Ok(point) = point_among(shape, values, n) {
+        if let Ok(point) = Point::new(shape, &places_among(values, n)[..shape.dims() as usize]) {
             let z = interleave(shape, &point);
             count = count.wrapping_add(u64::from(agrees(zbox, z)));
         }
     }
     count
-}
-
-// The box between two of the points with these coordinates.
-fn box_among(shape: Shape, values: &[u32], low: usize, high: usize) -> Option<ZBox>
-    requires { 0 < length values.now }
-{
-    let lo = point_among(shape, values, low).ok()?;
-    let hi = point_among(shape, values, high).ok()?;
-    ZBox::new(shape, &lo, &hi)
 }
 
 // How many dimensions and which coordinates points have, how many of them are corners, from which to which pair of corners boxes are
@@ -215,13 +205,15 @@ static AGREEMENTS: &[Agreement] = &[
 ];
 
 // In how many of these boxes, and from how many addresses there both ways agree.
-fn agreements(shape: Shape, values: &[u32], points: usize, from: usize, to: usize) -> u64
+fn agreements(dims: u32, values: &[u32], points: usize, from: usize, to: usize) -> u64
     requires values { 0 < length values.now }
     requires points { 0 < points }
 {
     let mut count = 0u64;
     for pair in from..to {
-        if let Some(zbox) = box_among(shape, values, pair / points, pair % points) {
+        let low = places_among(values, pair / points);
+        let high = places_among(values, pair % points);
+        if let Some(zbox) = box_between(dims, &low, &high) {
             count = count.wrapping_add(agreements_in(&zbox, values, points));
         }
     }
@@ -230,12 +222,10 @@ fn agreements(shape: Shape, values: &[u32], points: usize, from: usize, to: usiz
 
 impl Case<()> for Agreement {
     fn holds(&self, _: &()) -> bool {
-        match Shape::new(self.0) {
-            Ok(shape) if !self.1.is_empty() && self.2 != 0 => {
-                agreements(shape, self.1, self.2, self.3, self.4) == self.5
-            }
-            _ => false,
+        if self.1.is_empty() || self.2 == 0 {
+            return false;
         }
+        agreements(self.0, self.1, self.2, self.3, self.4) == self.5
     }
 }
 

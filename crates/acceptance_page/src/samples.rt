@@ -11,8 +11,8 @@ pub(crate) trait Case<T> {
 
 // Asserts that all cases hold of this, by what they show and the place of the first one that doesn't.
 pub(crate) fn all_hold<T, C: Case<T>>(rt: &impl Abort, shown: &str, of: &T, cases: &[C]) {
-    for (i, case) in cases.iter().enumerate() {
-        assert!(rt; case.holds(of), "{shown}: case {i}");
+    for i in 0..cases.len() {
+        assert!(rt; cases[i].holds(of), "{shown}: case {i}");
     }
 }
 
@@ -65,22 +65,14 @@ pub(crate) fn is_plane(schema: &Schema, signed: u32) -> bool {
         schema.page_rows(),
         schema.signed(),
     ];
+    let [x, y, m] = schema.columns() else {
+        return false;
+    };
     (numbers == [2, 1, 2, signed])
         & (schema.name().bytes() == b"t".as_slice())
-        & are_named(schema.columns(), b"xym")
-}
-
-// Whether columns have these letters for names.
-fn are_named(columns: &[Name], letters: &[u8]) -> bool {
-    if columns.len() != letters.len() {
-        return false;
-    }
-    for i in 0..letters.len() {
-        if columns[i].bytes() != &letters[i..=i] {
-            return false;
-        }
-    }
-    true
+        & (x.bytes() == b"x".as_slice())
+        & (y.bytes() == b"y".as_slice())
+        & (m.bytes() == b"m".as_slice())
 }
 
 // Puts these bytes into a page, one after the other.
@@ -129,6 +121,14 @@ impl Ink {
         poke(&mut self.page, self.at, width, number);
         self.at = self.at.wrapping_add(width as usize);
     }
+
+    // Puts a column of rows.
+    fn put_column(&mut self, rows: &[Row], column: usize) {
+        for row in rows {
+            let (width, number) = cell_of(row, column);
+            self.put(width, number);
+        }
+    }
 }
 
 // The bytes and the number of a row's column: its number, four coordinates, and four measures.
@@ -154,12 +154,8 @@ pub(crate) fn region_page(dims: usize, measures: usize, first: Key, rows: &[Row]
     ink.put(16, first.z);
     ink.put(4, u128::from(first.number));
     for column in 0..9usize {
-        let is_there = column <= dims || (5..5 + measures.min(4)).contains(&column);
-        for row in rows {
-            if is_there {
-                let (width, number) = cell_of(row, column);
-                ink.put(width, number);
-            }
+        if column <= dims || (5 <= column && column - 5 < measures) {
+            ink.put_column(rows, column);
         }
     }
     ink.page
