@@ -316,39 +316,57 @@ impl Case<Shape> for Calls {
 const BEGIN: Key = Key { z: 362, number: 5 };
 
 // A right half that is split again begins where it did, and also once rows are taken out of it, put in and joined. The region of a right
-// half was another one before.
-static SPLIT_AGAIN: &[Calls] = &[Calls(&[
-    Call::Take(FOUR),
-    Call::Turn,
-    Call::Turn,
-    Call::Take(&[1, 2, 3]),
-    Call::Split(3, 4),
-    Call::Is(ORIGIN, &[1, 2]),
-    Call::Turn,
-    Call::Split(2, 6),
-    Call::Is(BEGIN, &[3, 4]),
-    Call::Turn,
-    Call::Is(
-        Key {
-            z: 262_401,
-            number: 0,
-        },
-        &[6],
-    ),
-    Call::Turn,
-    Call::Is(ORIGIN, &[1, 2]),
-    Call::Turn,
-    Call::Remove(362, 6, true),
-    Call::Is(BEGIN, &[3]),
-    Call::Put(1, 5),
-    Call::Is(BEGIN, &[3, 5]),
-    Call::Join(3, true),
-    Call::Is(BEGIN, &[3, 5, 6]),
-    Call::Turn,
-    Call::Turn,
-    Call::Join(5, true),
-    Call::Is(ORIGIN, &[1, 2, 3, 5, 6]),
-])];
+// half was another one before. And the rows of some places stand behind those of others.
+static SPLIT_AGAIN: &[Calls] = &[
+    Calls(&[
+        Call::Take(FOUR),
+        Call::Turn,
+        Call::Turn,
+        Call::Take(&[1, 2, 3]),
+        Call::Split(3, 4),
+        Call::Is(ORIGIN, &[1, 2]),
+        Call::Turn,
+        Call::Split(2, 6),
+        Call::Is(BEGIN, &[3, 4]),
+        Call::Turn,
+        Call::Is(
+            Key {
+                z: 262_401,
+                number: 0,
+            },
+            &[6],
+        ),
+        Call::Turn,
+        Call::Is(ORIGIN, &[1, 2]),
+        Call::Turn,
+        Call::Remove(362, 6, true),
+        Call::Is(BEGIN, &[3]),
+        Call::Put(1, 5),
+        Call::Is(BEGIN, &[3, 5]),
+        Call::Join(3, true),
+        Call::Is(BEGIN, &[3, 5, 6]),
+        Call::Turn,
+        Call::Turn,
+        Call::Join(5, true),
+        Call::Is(ORIGIN, &[1, 2, 3, 5, 6]),
+    ]),
+    Calls(&[
+        Call::Append(&[]),
+        Call::Is(ORIGIN, &[]),
+        Call::Take(&[0, 1]),
+        Call::Append(&[]),
+        Call::Is(ORIGIN, &[0, 1]),
+        Call::Take(&[]),
+        Call::Append(&[2, 6]),
+        Call::Is(ORIGIN, &[2, 6]),
+        Call::Take(&[0]),
+        Call::Append(&[1, 4, 5]),
+        Call::Is(ORIGIN, &[0, 1, 4, 5]),
+        Call::Take(&[0, 1, 2]),
+        Call::Append(&[6]),
+        Call::Is(ORIGIN, &[0, 1, 2, 6]),
+    ]),
+];
 
 // A row is taken out of a region, and put in again: the first of them, the second, the third, the last. And rows are taken out by their
 // keys, where they are, and only then: by number and address both, among others of one address, and to the last one.
@@ -437,32 +455,18 @@ static FEW: &[Calls] = &[
     ]),
 ];
 
-// The rows of some places stand behind those of others.
-static APPENDED: &[Calls] = &[Calls(&[
-    Call::Append(&[]),
-    Call::Is(ORIGIN, &[]),
-    Call::Take(&[0, 1]),
-    Call::Append(&[]),
-    Call::Is(ORIGIN, &[0, 1]),
-    Call::Take(&[]),
-    Call::Append(&[2, 6]),
-    Call::Is(ORIGIN, &[2, 6]),
-    Call::Take(&[0]),
-    Call::Append(&[1, 4, 5]),
-    Call::Is(ORIGIN, &[0, 1, 4, 5]),
-    Call::Take(&[0, 1, 2]),
-    Call::Append(&[6]),
-    Call::Is(ORIGIN, &[0, 1, 2, 6]),
-])];
-
 #[test]
 fn rows_are_put_in_and_taken_out(rt: HostRuntime) {
     let shape = Shape::new(4).expect(&rt, "four dimensions");
     let line = Shape::new(1).expect(&rt, "one dimension");
     all_hold(&rt, "halves of a page and a row", &[shape, line], HALVES);
-    all_hold(&rt, "halves of a half", &shape, SPLIT_AGAIN);
+    all_hold(
+        &rt,
+        "halves of a half, and rows appended",
+        &shape,
+        SPLIT_AGAIN,
+    );
     all_hold(&rt, "rows taken out and put in", &shape, TAKEN_OUT);
     all_hold(&rt, "few rows, and few rows joined", &shape, FEW);
-    all_hold(&rt, "rows appended", &shape, APPENDED);
     all_hold(&rt, "halves of a full page", &line, FULL);
 }
