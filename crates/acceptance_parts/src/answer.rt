@@ -2,22 +2,10 @@
 ghost use Rattle.std.specs.Prelude.{◌≡◌, IfOk, length};
 ghost use Rattle.std.specs.List.{AllByRecursion};
 
-use crate::cases::{Case, all_hold};
+use crate::cases::Case;
 use std::alloc::{AllocError, Global};
 use ub_answer::Cells;
 use ub_query::Cell;
-
-// Two rows of two cells each: a number, and NULL.
-fn pair(alloc: Global, first: u8, second: u8) -> Result<Cells, AllocError>
-    ensures { IfOk result (AllByRecursion (λ cells. length cells ≡ 2)) }
-{
-    let mut cells = Vec::new(alloc);
-    cells.push(Cell::Number(i128::from(first)))?;
-    cells.push(Cell::Null)?;
-    cells.push(Cell::Number(i128::from(second)))?;
-    cells.push(Cell::Null)?;
-    Ok(Cells::new(cells, 2, 2))
-}
 
 // Whether there are just these rows: a number, and NULL.
 fn has(cells: &Cells, numbers: &[u8]) -> bool {
@@ -41,21 +29,28 @@ fn extend(cells: &mut Cells, more: &Cells, limit: Option<u64>, numbers: &[u8]) -
     cells.extend(more, limit).is_ok() & has(cells, numbers)
 }
 
-// Those two rows, the second of which has the next number, or none where the first number is 0.
+// Two rows of two cells each, a number and NULL, the second of which has the next number; or none where the first number is 0.
 fn rows(alloc: Global, first: u8) -> Result<Cells, AllocError>
     ensures { IfOk result (AllByRecursion (λ cells. length cells ≡ 2)) }
 {
-    match first {
-        0 => Ok(Cells::none(alloc)),
-        _ => pair(alloc, first, first.saturating_add(1)),
+    if first == 0 {
+        return Ok(Cells::none(alloc));
     }
+    let second = first.saturating_add(1);
+    let pair = [
+        Cell::Number(i128::from(first)),
+        Cell::Null,
+        Cell::Number(i128::from(second)),
+        Cell::Null,
+    ];
+    Ok(Cells::new(Vec::from_slice(alloc, &pair)?, 2, 2))
 }
 
 // The number of the first row of two, or 0, that of the first row of those that are put after them, or 0, a limit, and the rows that stand
 // then: as many of them as the limit says, also where it is in the rows that there were.
-struct Limited(u8, u8, Option<u64>, &'static [u8]);
+pub(crate) struct Limited(u8, u8, Option<u64>, &'static [u8]);
 
-static LIMITED: &[Limited] = &[
+pub(crate) static LIMITED: &[Limited] = &[
     Limited(1, 3, None, &[1, 2, 3, 4]),
     Limited(1, 3, Some(5), &[1, 2, 3, 4]),
     Limited(1, 3, Some(3), &[1, 2, 3]),
@@ -84,9 +79,4 @@ impl Case for Limited {
             Err(_) => false,
         }
     }
-}
-
-#[test]
-fn puts_rows_as_far_as_the_limit_goes(rt: HostRuntime) {
-    all_hold(&rt, rt.alloc(), "limits", LIMITED);
 }

@@ -1,5 +1,5 @@
 // The boxes of conditions, where they are many, and of a signed dimension; and how many points they have.
-use crate::cases::{Case, all_hold, table};
+use crate::cases::{Case, table};
 use std::alloc::{AllocError, Global};
 use ub_boxes::{Cover, boxes, points, total};
 use ub_query::{Cond, Operator};
@@ -31,15 +31,6 @@ fn many(alloc: Global) -> Result<Cond, AllocError> {
     Ok(some)
 }
 
-// a <= 2 OR b >= 2.
-fn corner(alloc: Global) -> Result<Cond, AllocError> {
-    either(
-        alloc,
-        compare(0, Operator::AtMost, 2),
-        compare(1, Operator::AtLeast, 2),
-    )
-}
-
 // A condition.
 #[derive(Clone, Copy)]
 enum Filter {
@@ -47,7 +38,7 @@ enum Filter {
     All,
     // The one of many cells.
     Many,
-    // The one of two comparisons.
+    // a <= 2 OR b >= 2.
     Corner,
     // A comparison of the first dimension.
     Compare(Operator, i128),
@@ -57,7 +48,10 @@ fn filter_of(alloc: Global, filter: Filter) -> Result<Option<Cond>, AllocError> 
     match filter {
         Filter::All => Ok(None),
         Filter::Many => Ok(Some(many(alloc)?)),
-        Filter::Corner => Ok(Some(corner(alloc)?)),
+        Filter::Corner => {
+            let low = compare(0, Operator::AtMost, 2);
+            Ok(Some(either(alloc, low, compare(1, Operator::AtLeast, 2))?))
+        }
         Filter::Compare(operator, value) => Ok(Some(Cond::Compare {
             column: 0,
             operator,
@@ -68,9 +62,9 @@ fn filter_of(alloc: Global, filter: Filter) -> Result<Option<Cond>, AllocError> 
 
 // The dimensions of a table, the mask of those that are signed, a condition, how many boxes it has, how many points the boxes but the first
 // have, and how many all of them have, if that can be told.
-struct Covered(&'static [u8], u32, Filter, usize, u128, Option<u128>);
+pub(crate) struct Covered(&'static [u8], u32, Filter, usize, u128, Option<u128>);
 
-static COVERED: &[Covered] = &[
+pub(crate) static COVERED: &[Covered] = &[
     // The space of four dimensions has 2^128 points.
     Covered(b"abcd", 0, Filter::All, 1, 0, None),
     // Beside the first box there are (2^32 - 3) * (2^32 - 2) points, and 3 * 2^32 in it.
@@ -239,9 +233,4 @@ impl Case for Covered {
             Err(_) => false,
         }
     }
-}
-
-#[test]
-fn conditions_have_these_boxes(rt: HostRuntime) {
-    all_hold(&rt, rt.alloc(), "boxes", COVERED);
 }

@@ -1,7 +1,7 @@
 // Regions worked out by hand, with two rows on a page: three rows split into the first two by their keys and the last one.
 ghost use Rattle.std.specs.Prelude.{◌≤◌, length};
 
-use crate::cases::{Case, all_hold};
+use crate::cases::Case;
 use std::alloc::{AllocError, Global};
 use ub_growing::{Grown, grow};
 use ub_table::{Key, Row};
@@ -11,9 +11,9 @@ use ub_zaddr::Shape;
 type Worked = (u128, u32, u32, &'static [u32]);
 
 // The dimensions of a space, the points of rows that are put in one after the other, numbered from 1 on, and the regions that they make.
-struct Growth(u32, &'static [[u32; 2]], &'static [Worked]);
+pub(crate) struct Growth(u32, &'static [[u32; 2]], &'static [Worked]);
 
-static GROWN: &[Growth] = &[
+pub(crate) static GROWN: &[Growth] = &[
     // At the addresses 3, 13, 10, 4 and 13. The third row splits the first region at 10 and 13, the fourth at 4 and 10, and the last one
     // goes to the region that begins with 13.
     Growth(
@@ -148,11 +148,6 @@ impl Case for Growth {
     }
 }
 
-#[test]
-fn rows_make_these_regions(rt: HostRuntime) {
-    all_hold(&rt, rt.alloc(), "regions", GROWN);
-}
-
 // Where the row of a number stands on the line: the first 200 rows at the even places 2 to 400, and then 200 at the odd ones.
 fn place_of(number: u32) -> u32 {
     if number <= 200 {
@@ -205,7 +200,7 @@ fn are_many(grown: &Grown) -> bool {
 }
 
 // Whether the regions of rows that come to the even places, and then to the odd ones, are as they should be.
-fn is_many(alloc: Global) -> bool {
+pub(crate) fn is_many(alloc: Global) -> bool {
     let mut points = [[0, 0]; 400];
     for i in 0..400u32 {
         points[i as usize] = [place_of(i + 1), 0];
@@ -214,9 +209,4 @@ fn is_many(alloc: Global) -> bool {
         Ok(grown) => are_many(&grown),
         Err(_) => false,
     }
-}
-
-#[test]
-fn rows_come_to_many_regions(rt: HostRuntime) {
-    assert!(rt; is_many(rt.alloc()));
 }

@@ -157,7 +157,7 @@ static ONE_PARTED: &[(Step, Answer)] = &[
     (Step::Added, Answer::Told(2)),
     (Step::Grow, Answer::Done),
     (Step::Commit, Answer::Done),
-    (Step::LeadToAll, Answer::Done),
+    (Step::Lead(0, 170, 1000), Answer::Done),
     (Step::Find(0, 2), Answer::Told(2)),
 ];
 
@@ -169,7 +169,7 @@ static THREE_PARTED: &[(Step, Answer)] = &[
     (Step::Added, Answer::Told(4)),
     (Step::Grow, Answer::Done),
     (Step::Commit, Answer::Done),
-    (Step::LeadToAll, Answer::Done),
+    (Step::Lead(0, 170, 1000), Answer::Done),
     (Step::Find(0, 2), Answer::Told(4)),
 ];
 

@@ -200,28 +200,18 @@ static MIDDLES: &[Damage] = &[
 fn is_told(trial: &mut Trial, damage: &Damage) -> bool {
     let find = Step::Find(damage.z, 0);
     let put = Step::Put(damage.page, damage.sheet);
-    let told = [
-        trial.answer(&Step::Six(3, 0, 4)),
-        trial.answer(&Step::Index(6, 3, 63)),
-        trial.answer(&find),
-        trial.answer(&put),
-        trial.answer(&find),
-        trial.answer(&Step::Six(3, 0, 4)),
-        trial.answer(&put),
-        trial.answer(&find),
-        trial.answer(&find),
+    let wanted = [
+        (Step::Six(3, 0, 4), Answer::Done),
+        (Step::Index(6, 3, 63), Answer::Done),
+        (find, Answer::Told(damage.told)),
+        (put, Answer::Done),
+        (find, damage.held),
+        (Step::Six(3, 0, 4), Answer::Done),
+        (put, Answer::Done),
+        (find, damage.read),
+        (find, damage.read),
     ];
-    told == [
-        Answer::Done,
-        Answer::Done,
-        Answer::Told(damage.told),
-        Answer::Done,
-        damage.held,
-        Answer::Done,
-        Answer::Done,
-        damage.read,
-        damage.read,
-    ]
+    trial.count_right(&wanted) == 9
 }
 
 // After how many of these the searches are answered so, up to the first after which one isn't.

@@ -80,13 +80,11 @@ static LEVELS: [Level; 6] = [
 
 // In which order regions are dropped.
 #[derive(Clone, Copy)]
-enum Order {
+pub(crate) enum Order {
     Ascending,
     Descending,
     Middle,
 }
-
-static ORDERS: &[Order; 3] = &[Order::Ascending, Order::Descending, Order::Middle];
 
 // Whether the index is the flat list of the regions that are left, one bit for each from the lowest: gone through from the first to
 // the last, each has the one before it for a neighbour.
@@ -118,11 +116,15 @@ fn root_over(left: u32) -> Answer {
     Answer::Wrong
 }
 
-// The region before which so many are left, and its bit.
-fn ranked(left: u32, rank: u32) -> Option<(Listed, u32)> {
+// The region that is dropped next of those that are left, and its bit. Before it so many are left as the order says.
+fn next_of(left: u32, order: Order) -> Option<(Listed, u32)> {
+    let mut ahead = match order {
+        Order::Ascending => 1,
+        Order::Descending => left.count_ones().saturating_sub(1),
+        Order::Middle => left.count_ones() / 2,
+    };
     let mut rest = left;
     let mut bit = 1u32;
-    let mut ahead = rank;
     for region in REGIONS {
         if rest % 2 == 1 {
             if ahead == 0 {
@@ -136,47 +138,30 @@ fn ranked(left: u32, rank: u32) -> Option<(Listed, u32)> {
     None
 }
 
-// Before which of the regions that are left so many are, when the next one is dropped.
-fn next_rank(left: u32, order: Order) -> u32 {
-    let count = left.count_ones();
-    match order {
-        Order::Ascending => 1,
-        Order::Descending => count.saturating_sub(1),
-        Order::Middle => count / 2,
-    }
-}
-
 // Whether this region is dropped, the root is that of those that are left then, and they are the index.
 fn drops(trial: &mut Trial, region: Listed, left: u32) -> bool {
-    let found = trial.answer(&Step::Find(region.0, region.1));
-    let prepared = trial.answer(&Step::Drop);
-    let grown = trial.answer(&Step::Grow);
-    let made = trial.answer(&Step::Commit);
-    (found == Answer::Told(region.2))
-        & (prepared == root_over(left))
-        & (grown == Answer::Done)
-        & (made == Answer::Done)
-        & is_left(trial, left)
-}
-
-// Whether the index of this level is the flat list of the regions below it.
-fn is_listed(trial: &mut Trial, level: &Level) -> bool {
-    let told = [
-        trial.answer(&Step::Store(PAGES, 0, 4)),
-        trial.answer(&Step::Index(level.1, level.0, 63)),
-        trial.answer(&Step::List(REGIONS, level.2 as usize)),
+    let wanted = [
+        (Step::Find(region.0, region.1), Answer::Told(region.2)),
+        (Step::Drop, root_over(left)),
+        (Step::Grow, Answer::Done),
+        (Step::Commit, Answer::Done),
     ];
-    told == [Answer::Done; 3]
+    trial.count_right(&wanted) == 4 && is_left(trial, left)
 }
 
-// Whether the index of this level is that list, and all of its regions but the first are dropped in this order.
-fn drops_each(trial: &mut Trial, level: &Level, order: Order) -> bool {
-    if !is_listed(trial, level) {
+// Whether the index of this level is the flat list of the regions below it, and all of them but the first are dropped in this order.
+pub(crate) fn drops_each(trial: &mut Trial, level: &Level, order: Order) -> bool {
+    let wanted = [
+        (Step::Store(PAGES, 0, 4), Answer::Done),
+        (Step::Index(level.1, level.0, 63), Answer::Done),
+        (Step::List(REGIONS, level.2 as usize), Answer::Done),
+    ];
+    if trial.count_right(&wanted) != 3 {
         return false;
     }
     let mut left = u32::MAX.wrapping_shr(32 - level.2.clamp(1, 32));
     for _ in 1..level.2 {
-        let Some((region, bit)) = ranked(left, next_rank(left, order)) else {
+        let Some((region, bit)) = next_of(left, order) else {
             return false;
         };
         left &= !bit;
@@ -187,21 +172,27 @@ fn drops_each(trial: &mut Trial, level: &Level, order: Order) -> bool {
     left == 1
 }
 
-// In how many of the three orders they are, up to the first in which they aren't.
-pub(crate) fn orders_right(trial: &mut Trial, level: &Level) -> u64 {
-    let mut right = 0u64;
-    for order in ORDERS {
-        if !drops_each(trial, level, *order) {
-            return right;
-        }
-        right = right.saturating_add(1);
-    }
-    right
-}
-
 #[test]
 fn drops_to_one(rt: HostRuntime) {
+    let alloc = rt.alloc();
     for level in &LEVELS {
-        goes(&rt, rt.alloc(), "an index is emptied", Play::Drops(level));
+        goes(
+            &rt,
+            alloc,
+            "ascending",
+            Play::Drops(level, Order::Ascending),
+        );
+        goes(
+            &rt,
+            alloc,
+            "descending",
+            Play::Drops(level, Order::Descending),
+        );
+        goes(
+            &rt,
+            alloc,
+            "from the middle",
+            Play::Drops(level, Order::Middle),
+        );
     }
 }

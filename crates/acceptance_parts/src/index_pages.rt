@@ -21,33 +21,15 @@ pub(crate) enum Sheet {
     Blank,
 }
 
-// The first four bytes of a page as a number: its kind, its level and its count.
-fn head_of(sheet: &Sheet) -> u32 {
-    match sheet {
-        Sheet::Index(level, entries) => {
-            let count = entries.len().min(170) as u32;
-            0x4900_0000 + *level.min(&255) * 65536 + count
-        }
-        Sheet::Full(level, _) => 0x4900_00aa + *level.min(&255) * 65536,
-        Sheet::Blank => 0,
-    }
-}
-
-// The entry at an index of a full page.
-fn full_at(level: u32, below: u32, i: u32) -> Listed {
-    let mut apart = 1u128;
-    for _ in 1..level {
-        apart = apart.saturating_mul(200);
-    }
-    let page = if i == 0 { below } else { i.wrapping_add(1000) };
-    (apart.saturating_mul(u128::from(i)), 0, page)
-}
-
 // The entry at an index of a page, if there is one.
 fn listed_at(sheet: &Sheet, i: u32) -> Option<Listed> {
     match sheet {
         Sheet::Index(_, entries) => entries.get(i as usize).copied(),
-        Sheet::Full(level, below) => Some(full_at(*level, *below, i)),
+        Sheet::Full(level, below) => {
+            let apart = 200u128.saturating_pow(level.saturating_sub(1));
+            let page = if i == 0 { *below } else { i.wrapping_add(1000) };
+            Some((apart.saturating_mul(u128::from(i)), 0, page))
+        }
         Sheet::Blank => None,
     }
 }
@@ -64,10 +46,17 @@ fn poke(page: &mut [u8], at: usize, width: u32, number: u128) {
     }
 }
 
-// The bytes of a page: its head, and of each entry an address of 16 bytes, a number and a page.
+// The bytes of a page: its kind, its level and its count, and of each entry an address of 16 bytes, a number and a page.
 pub(crate) fn page_of(sheet: &Sheet) -> Page {
+    let (kind, level, count) = match sheet {
+        Sheet::Index(level, entries) => (0x49, *level, entries.len()),
+        Sheet::Full(level, _) => (0x49, *level, 170),
+        Sheet::Blank => (0, 0, 0),
+    };
     let mut page = [0; 4096];
-    poke(&mut page, 0, 4, u128::from(head_of(sheet)));
+    poke(&mut page, 0, 1, kind);
+    poke(&mut page, 1, 1, u128::from(level));
+    poke(&mut page, 2, 2, count as u128);
     for i in 0..170u32 {
         let Some((z, number, below)) = listed_at(sheet, i) else {
             break;

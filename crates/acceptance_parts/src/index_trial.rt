@@ -1,11 +1,11 @@
-// Steps on an index and on the pager of its store, as data.
+// Steps on an index and on the pager of its store, as data. None of them may note a page in the trace.
 use crate::index_faults::{Case, calls_right};
 use crate::index_held::{Damage, count_told};
-use crate::index_keys::{is_list, leads, leads_to_all, meets_each, page_given};
-use crate::index_levels::{Level, orders_right};
+use crate::index_keys::{is_list, leads, meets_each};
+use crate::index_levels::{Level, Order, drops_each};
 use crate::index_opening::begins;
 use crate::index_pages::{Listed, Sheet, Tried, page_of, stored};
-use crate::index_searches::six_under;
+use crate::index_searches::stock_of;
 use std::alloc::Global;
 use std::process::Abort;
 use ub_index::{Index, IndexFault};
@@ -25,7 +25,7 @@ pub(crate) enum Step {
     Index(u32, u32, u128),
     // Opens that index, and takes it.
     Open(u32, u32, u128),
-    // The same over a new store of the index of six regions with three levels; the trace must note no page.
+    // The same over a new store of the index of six regions with three levels.
     OpenAnew(u32, u32, u128),
     // Makes the index of the region on page 5 on this page, with this last address, and takes it.
     Create(u32, u128),
@@ -33,7 +33,7 @@ pub(crate) enum Step {
     Put(u32, Sheet),
     // Takes the region that holds a key: its page.
     Find(u128, u32),
-    // Takes this region.
+    // Takes this region: its page.
     Take(Region),
     // Whether this is the region that was taken.
     Is(Region),
@@ -41,7 +41,8 @@ pub(crate) enum Step {
     After,
     // The page of the region before, or 0.
     Before,
-    // The page of the first region later than another, or of the first of all, whose span ends at an address or later, or 0.
+    // Takes the first region later than another, or the first of all, whose span ends at an address or later, if there is one: its
+    // page, or 0.
     Seek(u128, Option<Region>),
     // Prepares that a region comes at a key behind the one that was taken: the root from then on, and its level.
     Add(u128, u32),
@@ -55,14 +56,10 @@ pub(crate) enum Step {
     Commit,
     // Whether the index answers as the first so many of a flat list do.
     List(&'static [Listed], usize),
-    // Whether the least key of each address leads to its page.
-    Lead(&'static [(u128, u32)]),
-    // Whether each of the 170 addresses of the lowest full page does.
-    LeadToAll,
+    // Whether the least keys of so many addresses from one on lead to as many pages from one on: the address, how many, the page.
+    Lead(u128, u32, u32),
     // Whether boxes meet those of the six regions of `index_searches` that they meet.
     Meet,
-    // Whether the trace notes no page.
-    Trace,
     // How many pages the store has.
     Pages,
     // Whether a page begins with these bytes, and has zeros behind them.
@@ -100,6 +97,7 @@ const NO_REGION: Region = Region {
 // An index, the region that was taken last, and the change that was prepared last.
 #[derive(Drop)]
 struct Held {
+    alloc: Global,
     index: Index,
     region: Region,
     change: Option<Change>,
@@ -108,7 +106,6 @@ struct Held {
 // That, and the pager of a store.
 #[derive(Drop)]
 pub(crate) struct Trial {
-    alloc: Global,
     held: Held,
     pager: Option<Tried>,
 }
@@ -120,63 +117,46 @@ pub(crate) enum Play {
     Steps(&'static [(Step, Answer)]),
     // Pages that are damaged.
     Damages(&'static [Damage]),
-    // An index of a level, from which regions are dropped in each order.
-    Drops(&'static Level),
+    // An index of a level, from which regions are dropped in an order.
+    Drops(&'static Level, Order),
     // What is made over a store that fails at each of its calls, and at the first after them.
     Calls(&'static Case),
 }
 
 // Asserts that all of a play is right, by what it shows.
 pub(crate) fn goes(rt: &impl Abort, alloc: Global, shown: &str, play: Play) {
-    let right = right_of(alloc, play);
-    assert!(rt; right == size_of(play), "{shown}: {right} were right");
+    let (right, all) = right_of(alloc, play);
+    assert!(rt; right == all, "{shown}: {right} were right");
 }
 
-// How many parts of a play on a trial are right, up to the first wrong one.
-fn right_on(trial: &mut Trial, play: Play) -> u64 {
+// How many parts of a play on a trial are right, up to the first wrong one, and how many it has.
+fn right_on(trial: &mut Trial, play: Play) -> (u64, u64) {
     match play {
-        Play::Steps(steps) => trial.count_right(steps),
-        Play::Damages(damages) => count_told(trial, damages),
-        Play::Drops(level) => orders_right(trial, level),
-        Play::Calls(case) => calls_right(trial, case),
+        Play::Steps(steps) => (trial.count_right(steps), steps.len() as u64),
+        Play::Damages(damages) => (count_told(trial, damages), damages.len() as u64),
+        Play::Drops(level, order) => (u64::from(drops_each(trial, level, order)), 1),
+        Play::Calls(case) => (calls_right(trial, case), case.calls.saturating_add(1)),
     }
 }
 
-// The same on a new one.
-fn right_of(alloc: Global, play: Play) -> u64 {
-    let mut trial = Trial::new(alloc);
+// The same on a new one, with no store yet.
+fn right_of(alloc: Global, play: Play) -> (u64, u64) {
+    let held = Held {
+        alloc,
+        index: Index::new(1, 1, 0),
+        region: NO_REGION,
+        change: None,
+    };
+    let mut trial = Trial { held, pager: None };
     right_on(&mut trial, play)
 }
 
-// How many parts a play has.
-fn size_of(play: Play) -> u64 {
-    match play {
-        Play::Steps(steps) => steps.len() as u64,
-        Play::Damages(damages) => damages.len() as u64,
-        Play::Drops(_) => 3,
-        Play::Calls(case) => case.calls.saturating_add(1),
-    }
-}
-
 impl Trial {
-    // No store yet.
-    pub(crate) fn new(alloc: Global) -> Trial {
-        Trial {
-            alloc,
-            held: Held {
-                index: Index::new(1, 1, 0),
-                region: NO_REGION,
-                change: None,
-            },
-            pager: None,
-        }
-    }
-
     // How many of these steps are answered so, up to the first wrong one.
-    fn count_right(&mut self, steps: &[(Step, Answer)]) -> u64 {
+    pub(crate) fn count_right(&mut self, steps: &[(Step, Answer)]) -> u64 {
         let mut right = 0u64;
-        for asked in steps {
-            if self.answer(&asked.0) != asked.1 {
+        for (step, wanted) in steps {
+            if self.answer(step) != *wanted {
                 return right;
             }
             right = right.saturating_add(1);
@@ -184,88 +164,50 @@ impl Trial {
         right
     }
 
-    // What a step answers.
+    // What a step answers: that it is wrong also where the trace notes a page then.
     pub(crate) fn answer(&mut self, step: &Step) -> Answer {
-        match step {
-            Step::Store(pages, due, room) => self.stock(pages, *due, *room),
-            Step::Six(levels, due, room) => self.stock(six_under(*levels), *due, *room),
-            Step::OpenAnew(root, levels, last) => {
-                self.stock(six_under(3), 0, 4);
-                let opened = self.asked(&Step::Open(*root, *levels, *last));
-                let noted = self.asked(&Step::Trace);
-                if noted == Answer::Done { opened } else { noted }
-            }
-            _ => self.asked(step),
+        if let Some((pages, due, room)) = stock_of(step) {
+            self.pager = stored(self.held.alloc, pages, due, room);
         }
-    }
-
-    // What a step on the index or on the pager of the store answers.
-    fn asked(&mut self, step: &Step) -> Answer {
         match &mut self.pager {
-            Some(pager) => ask(self.alloc, &mut self.held, pager, step),
+            Some(pager) => self.held.answer(pager, step),
             None => Answer::Wrong,
         }
-    }
-
-    // Takes a store of these pages.
-    fn stock(&mut self, pages: &[Sheet], due: u64, room: usize) -> Answer {
-        self.pager = stored(self.alloc, pages, due, room);
-        Answer::Done
-    }
-}
-
-// What a step on an index answers.
-fn ask<S: PageStore>(alloc: Global, held: &mut Held, pager: &mut Pager<S>, step: &Step) -> Answer {
-    match step {
-        Step::Index(root, levels, last) => {
-            held.index = Index::new((*root).max(1), (*levels).max(1).min(16), *last);
-            Answer::Done
-        }
-        Step::Open(root, levels, last) => {
-            let opened = Index::open(pager, (*root).max(1), (*levels).max(1).min(16), *last);
-            held.take(opened)
-        }
-        Step::Create(root, last) => {
-            match Index::create(pager, (*root).max(1), 5, *last) {
-                Ok(index) => held.take(Ok(index)),
-                Err(fault) => Answer::Store(fault),
-            }
-        }
-        Step::Take(region) => {
-            held.region = *region;
-            Answer::Done
-        }
-        Step::Is(region) => whether(held.region == *region),
-        Step::Add(z, number) => held.prepare(alloc, pager, Some(&key_of(*z, *number))),
-        Step::Drop => held.prepare(alloc, pager, None),
-        Step::Added | Step::Grow | Step::Commit => held.make(pager, step),
-        Step::Put(number, sheet) => ended(pager.put(*number, &page_of(sheet))),
-        _ => held.search(pager, step),
-    }
-}
-
-// What a step that changes nothing answers.
-fn look<S: PageStore>(index: &Index, pager: &mut Pager<S>, step: &Step) -> Answer {
-    match step {
-        Step::Seek(z, after) => {
-            match index.seek(pager, *z, after.as_ref()) {
-                Ok(Some(region)) => Answer::Told(region.page),
-                Ok(None) => Answer::Told(0),
-                Err(fault) => refused(fault),
-            }
-        }
-        Step::List(flat, count) => whether(is_list(index, pager, &flat[..flat.len().min(*count)])),
-        Step::Lead(pages) => whether(leads(index, pager, pages)),
-        Step::LeadToAll => whether(leads_to_all(index, pager)),
-        Step::Meet => whether(meets_each(index, pager)),
-        Step::Trace => whether(pager.trace().is_empty()),
-        Step::Pages => Answer::Told(pager.pages()),
-        Step::Begins(number, bytes) => begins(pager, *number, bytes),
-        _ => Answer::Wrong,
     }
 }
 
 impl Held {
+    // What a step answers once its store is taken.
+    fn answer<S: PageStore>(&mut self, pager: &mut Pager<S>, step: &Step) -> Answer {
+        let told = match step {
+            Step::Store(_, _, _) | Step::Six(_, _, _) => Answer::Done,
+            Step::Index(root, levels, last) => {
+                let index = Index::new((*root).max(1), (*levels).clamp(1, 16), *last);
+                self.take(Ok(index))
+            }
+            Step::Open(root, levels, last) | Step::OpenAnew(root, levels, last) => {
+                let opened = Index::open(pager, (*root).max(1), (*levels).clamp(1, 16), *last);
+                self.take(opened)
+            }
+            Step::Create(root, last) => {
+                match Index::create(pager, (*root).max(1), 5, *last) {
+                    Ok(index) => self.take(Ok(index)),
+                    Err(fault) => Answer::Store(fault),
+                }
+            }
+            Step::Add(z, number) => self.prepare(pager, Some(&key_of(*z, *number))),
+            Step::Drop => self.prepare(pager, None),
+            Step::Added | Step::Grow | Step::Commit => self.make(pager, step),
+            Step::Put(number, sheet) => ended(pager.put(*number, &page_of(sheet))),
+            _ => self.search(pager, step),
+        };
+        if pager.trace().is_empty() {
+            told
+        } else {
+            Answer::Wrong
+        }
+    }
+
     // Takes an index.
     fn take(&mut self, made: Result<Index, IndexFault>) -> Answer {
         match made {
@@ -279,36 +221,50 @@ impl Held {
 
     // Takes the region that a search gives.
     fn found(&mut self, found: Result<Option<Region>, IndexFault>) -> Answer {
-        match found {
-            Ok(Some(region)) => {
-                self.region = region;
-                Answer::Told(region.page)
-            }
-            Ok(None) => Answer::Told(0),
-            Err(fault) => refused(fault),
+        if let Ok(Some(region)) = found {
+            self.region = region;
         }
+        told(found)
     }
 
-    // What a search for a region answers.
+    // What a step that changes neither the index nor its pages answers.
     fn search<S: PageStore>(&mut self, pager: &mut Pager<S>, step: &Step) -> Answer {
+        let index = &self.index;
         match step {
+            Step::Take(region) => self.found(Ok(Some(*region))),
+            Step::Is(region) => whether(self.region == *region),
             Step::Find(z, number) => {
-                match self.index.region_holding(pager, &key_of(*z, *number)) {
+                match index.region_holding(pager, &key_of(*z, *number)) {
                     Ok(region) => self.found(Ok(Some(region))),
                     Err(fault) => refused(fault),
                 }
             }
             Step::After => {
-                let found = self.index.after(pager, &self.region);
+                let found = index.after(pager, &self.region);
                 self.found(found)
             }
-            Step::Before => Answer::Told(page_given(self.index.before(pager, &self.region))),
-            _ => look(&self.index, pager, step),
+            Step::Seek(z, after) => {
+                let found = index.seek(pager, *z, after.as_ref());
+                self.found(found)
+            }
+            Step::Before => told(index.before(pager, &self.region)),
+            Step::List(flat, count) => {
+                whether(is_list(index, pager, &flat[..flat.len().min(*count)]))
+            }
+            Step::Lead(z, count, page) => whether(leads(index, pager, *z, *count, *page)),
+            Step::Meet => whether(meets_each(index, pager)),
+            Step::Pages => Answer::Told(pager.pages()),
+            Step::Begins(number, bytes) => begins(pager, *number, bytes),
+            _ => Answer::Wrong,
         }
     }
 
-    // Takes a change that was prepared.
-    fn hold(&mut self, prepared: Result<Change, IndexFault>) -> Answer {
+    // Takes the change that a region comes at a key behind the one that was taken, or where there is no key that this one goes.
+    fn prepare<S: PageStore>(&mut self, pager: &mut Pager<S>, key: Option<&Key>) -> Answer {
+        let prepared = match key {
+            Some(key) => prepare_add(&self.index, self.alloc, pager, &self.region, key),
+            None => prepare_drop(&self.index, self.alloc, pager, &self.region),
+        };
         match prepared {
             Ok(change) => {
                 let (root, level) = change.root();
@@ -317,20 +273,6 @@ impl Held {
             }
             Err(fault) => refused(fault),
         }
-    }
-
-    // Prepares that a region comes at a key behind the one that was taken, or where there is no key that this one goes.
-    fn prepare<S: PageStore>(
-        &mut self,
-        alloc: Global,
-        pager: &mut Pager<S>,
-        key: Option<&Key>,
-    ) -> Answer {
-        let prepared = match key {
-            Some(key) => prepare_add(&self.index, alloc, pager, &self.region, key),
-            None => prepare_drop(&self.index, alloc, pager, &self.region),
-        };
-        self.hold(prepared)
     }
 
     // Tells the page of the region that the prepared change adds, grows the store as that needs, or makes the change.
@@ -354,6 +296,15 @@ fn key_of(z: u128, number: u32) -> Key {
 // Done where that is so.
 pub(crate) fn whether(is_so: bool) -> Answer {
     if is_so { Answer::Done } else { Answer::Wrong }
+}
+
+// The page of the region that a search gives, or 0.
+fn told(found: Result<Option<Region>, IndexFault>) -> Answer {
+    match found {
+        Ok(Some(region)) => Answer::Told(region.page),
+        Ok(None) => Answer::Told(0),
+        Err(fault) => refused(fault),
+    }
 }
 
 // What a call of the store answers.

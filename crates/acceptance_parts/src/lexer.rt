@@ -1,5 +1,5 @@
 // How sources are cut into tokens.
-use crate::cases::{Case, all_hold};
+use crate::cases::Case;
 use std::alloc::Global;
 use ub_lexer::{Token, TokenKind, lex};
 
@@ -7,9 +7,9 @@ use ub_lexer::{Token, TokenKind, lex};
 type Cut = (TokenKind, usize, usize);
 
 // A source, and the tokens into which it is cut.
-struct Source(&'static [u8], &'static [Cut]);
+pub(crate) struct Source(&'static [u8], &'static [Cut]);
 
-static SOURCES: &[Source] = &[
+pub(crate) static CUT: &[Source] = &[
     Source(
         b"SELECT * FROM t WHERE x BETWEEN 2 AND 3;",
         &[
@@ -86,9 +86,4 @@ impl Case for Source {
             Err(_) => false,
         }
     }
-}
-
-#[test]
-fn cuts_sources_into_tokens(rt: HostRuntime) {
-    all_hold(&rt, rt.alloc(), "sources", SOURCES);
 }

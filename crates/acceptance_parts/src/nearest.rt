@@ -1,24 +1,18 @@
 // The addresses of boxes that are nearest to one, beside those that are found by counting, and as sums that another search made.
-ghost use Rattle.std.specs.Prelude.{◌≡◌, length, IfSome};
+use crate::cases::between;
+use ub_zaddr::{Shape, interleave_places};
 
-use ub_bigmin::ZBox;
-use ub_zaddr::{Point, Shape, interleave};
-
-// Whether an address of two dimensions below 64 lies between two corners, by looking: its bits are the coordinates', taken in
-// turn.
-fn is_inside(low: [u32; 2], high: [u32; 2], z: u32) -> bool {
-    let x = ((z >> 1) & 1) + 2 * ((z >> 3) & 1) + 4 * ((z >> 5) & 1);
-    let y = (z & 1) + 2 * ((z >> 2) & 1) + 4 * ((z >> 4) & 1);
-    low[0] <= x && x <= high[0] && low[1] <= y && y <= high[1]
-}
-
-// The least address from z on and the greatest up to z that lie between two corners below 8, by counting.
+// The least address from z on and the greatest up to z that lie between two corners below 8, by counting: by looking at
+// each of 64.
 fn counted(low: [u32; 2], high: [u32; 2], z: u128) -> (Option<u128>, Option<u128>) {
     let mut next = None;
     let mut prev = None;
     for n in 0..64u32 {
         let at = u128::from(n);
-        if is_inside(low, high, n) {
+        // The bits of an address are the coordinates', taken in turn.
+        let x = ((n >> 1) & 1) + 2 * ((n >> 3) & 1) + 4 * ((n >> 5) & 1);
+        let y = (n & 1) + 2 * ((n >> 2) & 1) + 4 * ((n >> 4) & 1);
+        if low[0] <= x && x <= high[0] && low[1] <= y && y <= high[1] {
             if at <= z {
                 prev = Some(at);
             }
@@ -30,17 +24,9 @@ fn counted(low: [u32; 2], high: [u32; 2], z: u128) -> (Option<u128>, Option<u128
     (next, prev)
 }
 
-// The box of two dimensions between two corners.
-fn rectangle(low: [u32; 2], high: [u32; 2]) -> Option<ZBox> {
-    let shape = Shape::new(2).ok()?;
-    let lo = Point::new(shape, &low).ok()?;
-    let hi = Point::new(shape, &high).ok()?;
-    ZBox::new(shape, &lo, &hi)
-}
-
 // Whether the nearest addresses of one box are those found by counting, from each address up to 64.
 fn is_as_counted(low: [u32; 2], high: [u32; 2]) -> bool {
-    let Some(zbox) = rectangle(low, high) else {
+    let Some(zbox) = between(&low, &high) else {
         return low[0] > high[0] || low[1] > high[1];
     };
     for n in 0..65u32 {
@@ -53,38 +39,23 @@ fn is_as_counted(low: [u32; 2], high: [u32; 2]) -> bool {
     true
 }
 
-#[test]
-fn agrees_with_counting_on_small_boxes(rt: HostRuntime) {
-    for corner in 0..4096u32 {
-        let low = [corner & 7, (corner >> 3) & 7];
-        let high = [(corner >> 6) & 7, (corner >> 9) & 7];
-        assert!(rt; is_as_counted(low, high));
-    }
-}
-
 // The coordinates at which carries and borrows happen.
 static EDGES: [u32; 4] = [0, 1, 2147483648, 4294967295];
 
-// The point of edges, chosen by two bits each.
-fn edge_point(shape: Shape, choice: u32) -> Option<Point>
-    ensures { IfSome result (λ p. length p ≡ shape) }
-{
+// Edges as coordinates, chosen by two bits each.
+fn edges(choice: u32) -> [u32; 4] {
     let mut values = [0u32; 4];
     for i in 0..4u32 {
         values[i as usize] = EDGES[((choice >> (2 * i)) & 3) as usize];
     }
-    match Point::new(shape, &values[..shape.dims() as usize]) {
-        Ok(point) => Some(point),
-        Err(_) => None,
-    }
+    values
 }
 
 // The nearest addresses of the box with these corners from the address of a point, as one number.
 fn edge_sum(shape: Shape, low: u32, high: u32, from: u32, sum: u128) -> Option<u128> {
-    let lo = edge_point(shape, low)?;
-    let hi = edge_point(shape, high)?;
-    let zbox = ZBox::new(shape, &lo, &hi)?;
-    let z = interleave(shape, &edge_point(shape, from)?);
+    let dims = shape.dims() as usize;
+    let zbox = between(&edges(low)[..dims], &edges(high)[..dims])?;
+    let z = interleave_places(shape, &edges(from));
     let next = sum.rotate_left(1) ^ zbox.next_in_box(z).unwrap_or(u128::MAX);
     Some(next.rotate_left(1) ^ zbox.prev_in_box(z).unwrap_or(u128::MAX))
 }
@@ -104,9 +75,20 @@ fn edge_checksum(dims: u32, choices: u32) -> Option<u128> {
 
 // The sums are those of a search that halves the cells of the curve (bench/checksum.py has its like).
 #[test]
-fn agrees_with_halving_cells_at_the_edges(rt: HostRuntime) {
+fn nearest_addresses_are_those_found_otherwise(rt: HostRuntime) {
+    for corner in 0..4096u32 {
+        let low = [corner & 7, (corner >> 3) & 7];
+        let high = [(corner >> 6) & 7, (corner >> 9) & 7];
+        assert!(rt; is_as_counted(low, high), "counted: corners {corner}");
+    }
     let cube = edge_checksum(3, 64);
-    assert!(rt; cube == Some(158063738300030818516008930306565074344));
+    assert!(rt;
+        cube == Some(158063738300030818516008930306565074344),
+        "three dimensions"
+    );
     let four = edge_checksum(4, 256);
-    assert!(rt; four == Some(188845783252535545128684400960967465514));
+    assert!(rt;
+        four == Some(188845783252535545128684400960967465514),
+        "four dimensions"
+    );
 }

@@ -1,67 +1,212 @@
-// The syntax that is built of statements, and a symbol that no statement has.
+// The syntax that is built of statements, where others are refused, and a symbol that no statement has.
 ghost use Rattle.ub_lexer.specs.Tokens.{AreSpelled};
 
-use crate::cases::{Case, all_hold};
-use std::alloc::{AllocError, Global};
+use crate::cases::Case;
+use std::alloc::Global;
 use ub_lexer::{Token, TokenKind, lex};
 use ub_syntax::{
     Aggregate, Condition, Insertion, Item, Literal, OrderKey, Selection, Sentence, Symbol, Syntax,
     Value, Verdict, build, recognise, symbol_of, too_many,
 };
 
-// The syntax of a source of one statement, if it is one within the limits.
-fn sentence_of(alloc: Global, source: &[u8]) -> Result<Option<Sentence>, AllocError> {
-    let tokens = lex(alloc, source)?;
-    let tokens = tokens.as_slice();
-    if tokens.is_empty() || recognise(alloc, source, tokens)? != Verdict::Statement {
-        return Ok(None);
-    }
-    match too_many(source, tokens) {
-        Some(_) => Ok(None),
-        None => Ok(Some(build(alloc, source, tokens)?)),
-    }
+// What a source is to be.
+#[derive(Clone, Copy)]
+pub(crate) enum Wanted {
+    // A statement that takes all of a table: whether it is explained, the token that says so, the table, and whether it has a condition.
+    All(bool, Token, Token, bool),
+    // One with each list of `has_lists`.
+    Lists,
+    // One in whose condition AND and OR group from the left.
+    Grouped,
+    // An INSERT with the parts of `is_insert`.
+    Insert,
+    // An INSERT of so many values.
+    Values(usize),
+    // The same of a DELETE as of one that takes all.
+    Delete(Token, Token, bool),
+    // None, which is refused at this byte.
+    Refused(usize),
 }
 
-fn word(from: usize, to: usize) -> Token {
+// A source, and what it is to be.
+pub(crate) struct Source(&'static [u8], Wanted);
+
+pub(crate) static STATEMENTS: &[Source] = &[
+    Source(
+        b"EXPLAIN SELECT * FROM t",
+        Wanted::All(
+            true,
+            Token {
+                kind: TokenKind::Star,
+                from: 15,
+                to: 16,
+            },
+            Token {
+                kind: TokenKind::Word,
+                from: 22,
+                to: 23,
+            },
+            false,
+        ),
+    ),
+    Source(
+        b"SELECT COUNT(*), SUM(m) FROM t GROUP BY x, y ORDER BY x DESC, COUNT(*) LIMIT 5",
+        Wanted::Lists,
+    ),
+    Source(
+        b"select * from t where a=1 or b=2 and c=3 and(d=4 or e=5 or not not f=6)",
+        Wanted::Grouped,
+    ),
+    Source(b"INSERT INTO t VALUES (10, -2)", Wanted::Insert),
+    // The values of an INSERT have no limit.
+    Source(
+        b"INSERT INTO t VALUES (1,2,3,4,5,6,7,8,9,10)",
+        Wanted::Values(10),
+    ),
+    // The * of a DELETE is its first token.
+    Source(
+        b"delete from t",
+        Wanted::Delete(
+            Token {
+                kind: TokenKind::Word,
+                from: 0,
+                to: 6,
+            },
+            Token {
+                kind: TokenKind::Word,
+                from: 12,
+                to: 13,
+            },
+            false,
+        ),
+    ),
+    Source(
+        b"DELETE FROM t WHERE x = 1 OR NOT y = 2",
+        Wanted::Delete(
+            Token {
+                kind: TokenKind::Word,
+                from: 0,
+                to: 6,
+            },
+            Token {
+                kind: TokenKind::Word,
+                from: 12,
+                to: 13,
+            },
+            true,
+        ),
+    ),
+    // What an INSERT or a DELETE doesn't have is refused where it stands.
+    Source(b"EXPLAIN DELETE FROM t", Wanted::Refused(8)),
+    Source(b"EXPLAIN INSERT INTO t VALUES (1)", Wanted::Refused(8)),
+    Source(b"DELETE FROM t GROUP BY x", Wanted::Refused(14)),
+    Source(b"DELETE FROM t LIMIT 1", Wanted::Refused(14)),
+    Source(b"DELETE FROM t WHERE x = 1 ORDER BY x", Wanted::Refused(26)),
+    Source(b"INSERT INTO t VALUES ()", Wanted::Refused(22)),
+    Source(b"INSERT INTO t VALUES (1, )", Wanted::Refused(25)),
+    Source(b"INSERT INTO t VALUES (1", Wanted::Refused(23)),
+    Source(b"INSERT INTO t VALUES (1), (2)", Wanted::Refused(24)),
+];
+
+// The values of INSERT INTO t VALUES (10, -2).
+static VALUES: [Value; 2] = [
+    Value {
+        first: Token {
+            kind: TokenKind::Number,
+            from: 22,
+            to: 24,
+        },
+        literal: Literal {
+            is_negative: false,
+            digits: Token {
+                kind: TokenKind::Number,
+                from: 22,
+                to: 24,
+            },
+        },
+    },
+    Value {
+        first: Token {
+            kind: TokenKind::Minus,
+            from: 26,
+            to: 27,
+        },
+        literal: Literal {
+            is_negative: true,
+            digits: Token {
+                kind: TokenKind::Number,
+                from: 27,
+                to: 28,
+            },
+        },
+    },
+];
+
+// The items COUNT(*) and SUM(m), the names x and y, and the keys x DESC and COUNT(*).
+static ITEMS: [Item; 2] = [
+    Item::Count(Token {
+        kind: TokenKind::Word,
+        from: 7,
+        to: 12,
+    }),
+    Item::Aggregate(
+        Aggregate::Sum,
+        Token {
+            kind: TokenKind::Word,
+            from: 17,
+            to: 20,
+        },
+        Token {
+            kind: TokenKind::Word,
+            from: 21,
+            to: 22,
+        },
+    ),
+];
+
+static NAMES: [Token; 2] = [
     Token {
         kind: TokenKind::Word,
-        from,
-        to,
-    }
-}
-
-fn number(from: usize, to: usize) -> Token {
+        from: 40,
+        to: 41,
+    },
     Token {
-        kind: TokenKind::Number,
-        from,
-        to,
-    }
-}
+        kind: TokenKind::Word,
+        from: 43,
+        to: 44,
+    },
+];
+
+static KEYS: [OrderKey; 2] = [
+    OrderKey {
+        item: Item::Column(Token {
+            kind: TokenKind::Word,
+            from: 54,
+            to: 55,
+        }),
+        is_descending: true,
+    },
+    OrderKey {
+        item: Item::Count(Token {
+            kind: TokenKind::Word,
+            from: 62,
+            to: 67,
+        }),
+        is_descending: false,
+    },
+];
+
+// The table of both INSERTs.
+static TABLE: Token = Token {
+    kind: TokenKind::Word,
+    from: 12,
+    to: 13,
+};
 
 // Whether it is that of INSERT INTO t VALUES (10, -2).
 fn is_insert(insertion: &Insertion) -> bool {
-    let values = [
-        Value {
-            first: number(22, 24),
-            literal: Literal {
-                is_negative: false,
-                digits: number(22, 24),
-            },
-        },
-        Value {
-            first: Token {
-                kind: TokenKind::Minus,
-                from: 26,
-                to: 27,
-            },
-            literal: Literal {
-                is_negative: true,
-                digits: number(27, 28),
-            },
-        },
-    ];
-    (insertion.table == word(12, 13))
-        & (insertion.values.as_slice() == values.as_slice())
+    (insertion.table == TABLE)
+        & (insertion.values.as_slice() == VALUES.as_slice())
         & (insertion.close.from == 28)
 }
 
@@ -75,51 +220,12 @@ fn takes_all(syntax: &Syntax, all: Token, table: Token, has_filter: bool) -> boo
         & syntax.limit.is_none()
 }
 
-// Whether it is that of DELETE FROM t, with a condition or without one.
-fn is_delete(syntax: &Syntax, has_filter: bool) -> bool {
-    !syntax.is_explained & takes_all(syntax, word(0, 6), word(12, 13), has_filter)
-}
-
-// Whether it is that of EXPLAIN SELECT * FROM t.
-fn is_least(syntax: &Syntax) -> bool {
-    let star = Token {
-        kind: TokenKind::Star,
-        from: 15,
-        to: 16,
-    };
-    syntax.is_explained & takes_all(syntax, star, word(22, 23), false)
-}
-
-// Whether the items are COUNT(*) at 7 and SUM(m) at 17.
-fn are_items(selection: &Selection) -> bool {
-    let items = [
-        Item::Count(word(7, 12)),
-        Item::Aggregate(Aggregate::Sum, word(17, 20), word(21, 22)),
-    ];
-    matches!(selection, Selection::Listed(list) if list.as_slice() == items.as_slice())
-}
-
-// Whether the keys are x DESC at 54 and COUNT(*) at 62.
-fn are_keys(order: &[OrderKey]) -> bool {
-    let keys = [
-        OrderKey {
-            item: Item::Column(word(54, 55)),
-            is_descending: true,
-        },
-        OrderKey {
-            item: Item::Count(word(62, 67)),
-            is_descending: false,
-        },
-    ];
-    order == keys.as_slice()
-}
-
 // Whether it is a statement with each list.
 fn has_lists(syntax: &Syntax) -> bool {
     !syntax.is_explained
-        & are_items(&syntax.selection)
-        & (syntax.group.as_slice() == [word(40, 41), word(43, 44)].as_slice())
-        & are_keys(syntax.order.as_slice())
+        & matches!(&syntax.selection, Selection::Listed(list) if list.as_slice() == ITEMS.as_slice())
+        & (syntax.group.as_slice() == NAMES.as_slice())
+        & (syntax.order.as_slice() == KEYS.as_slice())
         & matches!(&syntax.limit, Some(limit) if limit.from == 77)
 }
 
@@ -137,139 +243,65 @@ fn groups_from_the_left(syntax: &Syntax) -> bool {
     matches!(&**both, Condition::And(_, _)) && matches!(&**either, Condition::Or(_, _))
 }
 
-// What the syntax of a statement is to be.
-#[derive(Clone, Copy)]
-enum Built {
-    Least,
-    Lists,
-    // AND and OR group from the left.
-    Grouped,
-    Insert,
-    // Whether it has a condition.
-    Delete(bool),
-}
-
-// A source, and what its syntax is to be.
-struct Source(&'static [u8], Built);
-
-static BUILT: &[Source] = &[
-    Source(b"EXPLAIN SELECT * FROM t", Built::Least),
-    Source(
-        b"SELECT COUNT(*), SUM(m) FROM t GROUP BY x, y ORDER BY x DESC, COUNT(*) LIMIT 5",
-        Built::Lists,
-    ),
-    Source(
-        b"select * from t where a=1 or b=2 and c=3 and(d=4 or e=5 or not not f=6)",
-        Built::Grouped,
-    ),
-    Source(b"INSERT INTO t VALUES (10, -2)", Built::Insert),
-    Source(b"delete from t", Built::Delete(false)),
-    Source(
-        b"DELETE FROM t WHERE x = 1 OR NOT y = 2",
-        Built::Delete(true),
-    ),
-];
-
 // Whether a sentence is so.
-fn is_so(sentence: &Sentence, built: Built) -> bool {
-    match built {
-        Built::Least => matches!(sentence, Sentence::Select(syntax) if is_least(syntax)),
-        Built::Lists => matches!(sentence, Sentence::Select(syntax) if has_lists(syntax)),
-        Built::Grouped => {
-            matches!(sentence, Sentence::Select(syntax) if groups_from_the_left(syntax))
+fn is_so(sentence: &Sentence, wanted: Wanted) -> bool {
+    match (sentence, wanted) {
+        (Sentence::Select(syntax), Wanted::All(is_explained, all, table, has_filter)) => {
+            syntax.is_explained == is_explained && takes_all(syntax, all, table, has_filter)
         }
-        Built::Insert => { matches!(sentence, Sentence::Insert(insertion) if is_insert(insertion)) }
-        Built::Delete(has_filter) => {
-            matches!(sentence, Sentence::Delete(syntax) if is_delete(syntax, has_filter))
+        (Sentence::Delete(syntax), Wanted::Delete(all, table, has_filter)) => {
+            !syntax.is_explained && takes_all(syntax, all, table, has_filter)
         }
+        (Sentence::Select(syntax), Wanted::Lists) => has_lists(syntax),
+        (Sentence::Select(syntax), Wanted::Grouped) => groups_from_the_left(syntax),
+        (Sentence::Insert(insertion), Wanted::Insert) => is_insert(insertion),
+        (Sentence::Insert(insertion), Wanted::Values(count)) => {
+            insertion.table == TABLE && insertion.values.as_slice().len() == count
+        }
+        _ => false,
     }
 }
 
-// Whether there is a sentence, and it is so.
-fn is_there(sentence: Option<&Sentence>, built: Built) -> bool {
-    match sentence {
-        Some(sentence) => is_so(sentence, built),
-        None => false,
-    }
-}
-
-impl Case for Source {
-    fn holds(&self, alloc: Global) -> bool {
-        match sentence_of(alloc, self.0) {
-            Ok(sentence) => is_there(sentence.as_ref(), self.1),
-            Err(_) => false,
-        }
-    }
-}
-
-#[test]
-fn statements_have_their_syntax(rt: HostRuntime) {
-    all_hold(&rt, rt.alloc(), "statements", BUILT);
-}
-
-// What an INSERT or a DELETE doesn't have, which is refused where it stands: a source, and this byte.
-struct Refused(&'static [u8], usize);
-
-static REFUSED: &[Refused] = &[
-    Refused(b"EXPLAIN DELETE FROM t", 8),
-    Refused(b"EXPLAIN INSERT INTO t VALUES (1)", 8),
-    Refused(b"DELETE FROM t GROUP BY x", 14),
-    Refused(b"DELETE FROM t LIMIT 1", 14),
-    Refused(b"DELETE FROM t WHERE x = 1 ORDER BY x", 26),
-    Refused(b"INSERT INTO t VALUES ()", 22),
-    Refused(b"INSERT INTO t VALUES (1, )", 25),
-    Refused(b"INSERT INTO t VALUES (1", 23),
-    Refused(b"INSERT INTO t VALUES (1), (2)", 24),
-];
-
-// Whether tokens of a source, of which there are some, are refused at this byte.
-fn is_refused(alloc: Global, source: &[u8], tokens: &[Token], at: usize) -> bool
+// Whether tokens of a source are so.
+fn are_so(alloc: Global, source: &[u8], tokens: &[Token], wanted: Wanted) -> bool
     requires { AreSpelled source.now tokens.now }
 {
     if tokens.is_empty() {
         return false;
     }
     match recognise(alloc, source, tokens) {
-        Ok(verdict) => verdict == Verdict::Syntax { at },
-        Err(_) => false,
+        Ok(Verdict::Statement) => {}
+        Ok(verdict) => {
+            return matches!(wanted, Wanted::Refused(at) if verdict == Verdict::Syntax { at });
+        }
+        Err(_) => return false,
+    }
+    match too_many(source, tokens) {
+        Some(_) => false,
+        None => {
+            match build(alloc, source, tokens) {
+                Ok(sentence) => is_so(&sentence, wanted),
+                Err(_) => false,
+            }
+        }
     }
 }
 
-impl Case for Refused {
+impl Case for Source {
     fn holds(&self, alloc: Global) -> bool {
         match lex(alloc, self.0) {
-            Ok(tokens) => is_refused(alloc, self.0, tokens.as_slice(), self.1),
+            Ok(tokens) => are_so(alloc, self.0, tokens.as_slice(), self.1),
             Err(_) => false,
         }
     }
 }
 
-#[test]
-fn refuses_other_changes(rt: HostRuntime) {
-    all_hold(&rt, rt.alloc(), "changes", REFUSED);
-}
-
-// Whether no part of a source is one too many.
-fn is_within(alloc: Global, source: &[u8]) -> bool {
-    match lex(alloc, source) {
-        Ok(tokens) => too_many(source, tokens.as_slice()).is_none(),
-        Err(_) => false,
-    }
-}
-
-// The values of an INSERT have no limit.
-#[test]
-fn limits_no_values(rt: HostRuntime) {
-    assert!(rt; is_within(rt.alloc(), b"INSERT INTO t VALUES (1,2,3,4,5,6,7,8,9,10)"));
-}
-
-// A byte that begins no token: a statement that has it is refused before its grammar is asked.
-#[test]
-fn takes_no_bad_byte_for_a_part(rt: HostRuntime) {
+// Whether a byte that begins no token is no part of any statement: one that has it is refused before its grammar is asked.
+pub(crate) fn bad_byte_is_no_part() -> bool {
     let token = Token {
         kind: TokenKind::Bad,
         from: 0,
         to: 1,
     };
-    assert!(rt; symbol_of(b"?", &token) == Symbol::Other);
+    symbol_of(b"?", &token) == Symbol::Other
 }

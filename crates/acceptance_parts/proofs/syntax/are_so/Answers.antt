@@ -1,6 +1,6 @@
 use Rattle.std.proofs.Common.{◌≡◌, ◌∙◌, sym, refl, List, [], ◌∷◌, Option, None, slice_get}
 use Rattle.ub_lexer.specs.declared.token.Token.{Token}
-use Rattle.acceptance_parts.proofs.syntax.sentence_of.Goals as goal
+use Rattle.acceptance_parts.proofs.syntax.are_so.Goals as goal
 
 none_past : (ts : List Token) → ◌≡◌ {A = Option Token} None (slice_get ts 0) → ts ≡ []
 none_past [] e = refl
