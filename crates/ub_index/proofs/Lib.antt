@@ -8,7 +8,6 @@ pub mod HeldFacts
 pub mod WayFacts
 pub mod SearchFacts
 pub mod StepFacts
-pub mod ExitFacts
 pub mod PlaceFacts
 pub mod WaysFacts
 pub mod FoundFacts

@@ -1,5 +1,5 @@
 -- A walk over the index of a tree, as one of the tree.
-use Rattle.std.proofs.Common.{List, [], ◌∷◌, Option, Some, None, IfSome}
+use Rattle.std.proofs.Common.{◌≡◌, ◌<◌, ◌^◌, ◌∙◌, List, [], ◌∷◌, Option, Some, None, IfSome}
 use Rattle.ub_bigmin.specs.Box.{Corners}
 use Rattle.ub_index.specs.Along.{Meeting}
 use Rattle.ub_index.specs.Walking.{AreGivenFirst, AreGivenNext, IsGivenAny}

@@ -31,7 +31,6 @@ pub mod GrowFacts
 pub mod GrownFacts
 pub mod StandFacts
 pub mod LessenFacts
-pub mod StepFacts
 pub mod ThereFacts
 pub mod ReadyFacts
 pub mod OpenedFacts

@@ -34,7 +34,6 @@ use Rattle.ub_tree.proofs.WayFacts.{region_no_index}
 use Rattle.ub_tree.specs.Effects.{Changes, HasEnded, IsLeft, IsMarkedFirst, KeepsMark, written_store}
 use Rattle.ub_tree.specs.Holding.{AnswersAt, HasNoRoom, IsRoomFault}
 use Rattle.ub_tree.specs.Indexed.{Inner}
-use Rattle.ub_tree.specs.Opened.{IsPassing}
 use Rattle.ub_tree.specs.Others.{AddsEntry, IsHalfOf, KeepsAllBut, KeepsOthers, SplitsKeys, WritesIndex}
 use Rattle.ub_tree.specs.Pages.{Spells}
 use Rattle.ub_tree.specs.Told.{FallsTo, IsRegionOf}
@@ -150,11 +149,6 @@ module _ (a g h : TreeView) (span : Region) (of : IsRegionOf a span) (first : Ke
 
     no_page_missing : IsPutFault change.next change.sheets h.store store.NoPage → ⊥
     no_page_missing missing = let less = missing.0 in let grown = grew.done.1 in let same = halves_count in let start = ready.start in let some = ready.some in omega arith
-
-    pub index_passing : (e : TreeFault) → IsIndexFault change h.store e → IsPassing e
-    index_passing (Store store.Device) k = inr refl
-    index_passing (Store store.NoPage) k = absurd (no_page_missing k)
-    index_passing e k = absurd k
 
     put_left : (e : TreeFault) → HasStopped e h n → IsIndexFault change h.store e → IsLeft a n e
     put_left e k j = search (rules, halves_is, no_page_missing, put_ended)

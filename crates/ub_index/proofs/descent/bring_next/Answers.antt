@@ -1,4 +1,3 @@
-use Rattle.ub_index.proofs.ExitFacts.{next_not_brought}
 use Rattle.std.proofs.Common.{◌≡◌, ◌∙◌, Bool, List, ℕ, Ok, inl, inr, ap, refl, subst, sym}
 use Rattle.std.proofs.lemmas.Bool.{cases_Bool, true≢false}
 use Rattle.ub_store.specs.Facts.{IsHonest}
@@ -63,11 +62,3 @@ returns-in-Err g c =
         );
       };
     }
-
-pub returns-in_err-is_read : goal.returns-in_err-is_read
-returns-in_err-is_read g c =
-    next_not_brought c.args.last c.args.level c.args.place.now.entry c.args.place.now.next c.args.pager.now c.bring.new.self c.from_residual.result c.in_err-is_read.field-0.0 c.from_residual.ensures.1
-    c.in_err-is_read.ensures.trace c.in_err-is_read.ensures.effect c.in_err-is_read.ensures.others c.in_err-is_read.ensures.missed c.in_err-is_read.ensures.missing c.in_err-is_read.ensures.no_size
-
-pub cached-requires : goal.cached-requires
-cached-requires g c = c.in_ok-is_read.ensures.cached

@@ -1,9 +1,7 @@
-use Rattle.ub_index.proofs.StepFacts.{if_err}
-use Rattle.std.proofs.lemmas.Result.{IfOk-from_err}
 use Rattle.std.proofs.Common.{◌≡◌, ◌∙◌, ap, arith, refl, subst, ℕ}
 use Rattle.ub_store.specs.View.{PagerView}
 use Rattle.ub_table.specs.declared.row.Key.{Key}
-use Rattle.ub_index.specs.Descending.{LeadsDown, IsForgotten}
+use Rattle.ub_index.specs.Descending.{LeadsDown}
 use Rattle.ub_index.specs.View.{index_view}
 use Rattle.ub_index.specs.declared.descent.Leaf.{Leaf}
 use Rattle.ub_index.specs.declared.descent.Place.{Place}
@@ -38,13 +36,3 @@ pub returns-clause-leads : goal.returns-clause-leads
 returns-clause-leads g c = λ honest sure.
     let one : c.loop-level.level ≡ 1 = (let some = c.loop-level.invariant.some in omega (arith, c.loop-level-test.false)) in
     subst (λ (n : ℕ). LeadsDown (index_view c.args.root c.args.levels c.args.last) c.args.pager.now.store c.args.key.now n c.loop-level.leaf) one (c.loop-level.invariant.down honest sure)
-
-pub returns-in_err-place-clause-holds : goal.returns-in_err-place-clause-holds
-returns-in_err-place-clause-holds g c = IfOk-from_err c.from_residual.result _ c.from_residual.ensures.0
-
-pub returns-in_err-place-clause-leads : goal.returns-in_err-place-clause-leads
-returns-in_err-place-clause-leads g c = λ honest sure. IfOk-from_err c.from_residual.result _ c.from_residual.ensures.0
-
-pub returns-in_err-place-clause-forgotten : goal.returns-in_err-place-clause-forgotten
-returns-in_err-place-clause-forgotten g c =
-    if_err (IsForgotten c.step_down.new.pager) c.from_residual.result c.in_err-place.field-0.0 c.from_residual.ensures.1 c.in_err-place.ensures.forgotten

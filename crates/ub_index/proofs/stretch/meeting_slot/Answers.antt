@@ -29,9 +29,3 @@ returns-else-z-end_at c =
     let near = c.end_at.ensures in
     none_later c.args.boxes.now c.args.last (c.args.stretch.now.level - 1) c.args.page.now c.args.count c.requires.count c.args.stretch.now.span.next c.requires.fits.ascends c.requires.fits.is.is.entries c.args.from
     c.part_at-part.result c.part_at-part.ensures c.in-Some.z c.in-Some.ensures (omega (arith, c.if-z-end_at.false))
-
-pub part_at-part-requires-clause-within : goal.part_at-part-requires-clause-within
-part_at-part-requires-clause-within c = omega (arith, c.if-from-count.false)
-
-pub slot_in-requires-clause-some : goal.slot_in-requires-clause-some
-slot_in-requires-clause-some c = omega (arith, c.if-from-count.false)

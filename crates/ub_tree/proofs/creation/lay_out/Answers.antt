@@ -14,7 +14,7 @@ returns g c = record {
   index = search rules;
   count = search rules;
   pages = search rules;
-  first = tt;
+  first = search rules;
   trace = search rules;
   checked = let mid = c.write_first_pages.new.pager in
       keeps_on (last_address c.args.schema.now.dims) c.args.pager.now mid c.create.new.pager
@@ -22,5 +22,5 @@ returns g c = record {
       (region_no_kind c.args.schema.now only_region (empty_is_region c.args.schema.now), tt) c.in_ok-write_first_pages.ensures.held)
       (subst (λ (n : ℕ). KeepsChecked n mid c.create.new.pager) (c.last.ensures ∙ ap last_address c.shape.ensures) (c.in_ok-index.ensures.checked (omega arith)));
   left = search rules;
-  refused = tt;
+  refused = search rules;
 }

@@ -7,7 +7,6 @@ use Rattle.ub_index.specs.declared.index.Index.{Index}
 use Rattle.ub_store.specs.Facts.{IsHonest}
 use Rattle.ub_tree.proofs.OpeningFacts.{root_passes, root_refused}
 use Rattle.ub_zaddr.specs.Address.{last_address}
-use Rattle.std.proofs.lemmas.Result.{IfOk-from_err}
 use Rattle.ub_tree.proofs.opening.read_table.Goals as goal
 
 pub returns-in_err-index : goal.returns-in_err-index
@@ -15,10 +14,10 @@ returns-in_err-index g c =
     let h = c.in_ok-header.header in
     let mid = c.read_first.new.pager in
     record {
-      header = IfOk-from_err c.from_residual-in_err-index.result _ c.from_residual-in_err-index.ensures.0;
-      index = IfOk-from_err c.from_residual-in_err-index.result _ c.from_residual-in_err-index.ensures.0;
-      checked = IfOk-from_err c.from_residual-in_err-index.result _ c.from_residual-in_err-index.ensures.0;
-      rooted = λ honest. IfOk-from_err c.from_residual-in_err-index.result _ c.from_residual-in_err-index.ensures.0;
+      header = search rules;
+      index = search rules;
+      checked = search rules;
+      rooted = search rules;
       exact = let exact = subst (λ (last : ℕ). IsHonest mid.store → IsRooted (index_view h.root h.levels last) mid.store → IsPassing c.in_err-index.field-0.0)
           (c.last-last.ensures ∙ ap last_address c.shape.ensures) c.in_err-index.ensures.exact in
           root_passes c.args.pager.now mid c.open.new.pager h c.in_ok-header.ensures.effect c.in_ok-header.ensures.header c.in_err-index.field-0.0 c.from_residual-in_err-index.result
@@ -39,6 +38,6 @@ returns g c = record {
       subst (λ (n : ℕ). KeepsChecked n c.args.pager.now c.open.new.pager) (sym last)
       (keeps_on c.last-last.result c.args.pager.now mid c.open.new.pager (c.in_ok-header.ensures.checked c.last-last.result) c.in_ok-index.ensures.effect.checked);
   rooted = search rules;
-  exact = λ header honest rooted. tt;
+  exact = search rules;
   effect = search rules;
 }

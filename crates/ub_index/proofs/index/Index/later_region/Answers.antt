@@ -1,26 +1,24 @@
-use Rattle.ub_index.proofs.ExitFacts.{down_err, down_ok, given_after}
-use Rattle.std.proofs.lemmas.Result.{IfOk-from_err}
-use Rattle.std.proofs.Common.{◌∙◌, None, Option, Some, subst, sym, ◌<◌, ◌^◌, IfSome}
+use Rattle.std.proofs.Common.{◌∙◌, None, Option, Some, rules, subst, sym}
 use Rattle.std.specs.Option.{option_copied}
 use Rattle.ub_region.specs.declared.region.Region.{Region}
 use Rattle.ub_table.proofs.Laws.{before_of}
 use Rattle.ub_table.specs.declared.fault.PageFault.TheVariants.{OutOfRegion}
 use Rattle.ub_table.specs.declared.row.Key.{Key}
-use Rattle.ub_index.specs.Descending.{FindsAfter, IsForgotten}
+use Rattle.ub_index.specs.Descending.{FindsAfter}
 use Rattle.ub_index.specs.Held.{AreChecked}
 use Rattle.ub_index.specs.Searching.{Aims, GivesAfter, IsSought}
 use Rattle.ub_index.proofs.BehindFacts.{is_later, not_crossed}
 use Rattle.ub_index.proofs.FoundFacts.{goal_given}
-use Rattle.ub_index.proofs.StepFacts.{refused_after, if_err}
+use Rattle.ub_index.proofs.StepFacts.{refused_after}
 use Rattle.ub_index.proofs.index.Index.later_region.Goals as goal
 
 pub returns-in-Some : goal.returns-in-Some
 returns-in-Some g c = record {
-  given = λ sure. tt;
-  later = λ sure. tt;
-  small = tt;
-  found = λ sure is. tt;
-  forgotten = c.forget.ensures.gone;
+  given = search rules;
+  later = search rules;
+  small = search rules;
+  found = search rules;
+  forgotten = search rules;
   effect =
       refused_after (Option (Key × Region)) (Option Region) (IsSought c.args.self.now c.args.pager.now.store (Aims c.args.goal.now) (option_copied c.args.after)) c.args.self.now
       c.args.pager.now c.region_after.new.pager c.forget.new.self c.in_ok-from.field-0 c.self.inside.root OutOfRegion c.in_ok-from.ensures.effect c.forget.ensures.same
@@ -33,46 +31,27 @@ returns-in-Some g c = record {
 
 pub returns-in-Some-2 : goal.returns-in-Some-2
 returns-in-Some-2 g c =
-    let given : AreChecked c.args.self.now.last c.args.pager.now → GivesAfter c.args.self.now c.args.pager.now.store (Aims c.args.goal.now) (option_copied c.args.after) (Some c.in-Some.region) = λ sure.
-    given_after c.args.self.now c.args.pager.now.store (Aims c.args.goal.now) (option_copied c.args.after) c.in-Some.from c.in-Some.region
-    (subst (λ (o : Option (Key × Region)). FindsAfter c.args.self.now c.args.pager.now.store (Aims c.args.goal.now) (option_copied c.args.after) o) c.in-Some.is (c.in_ok-from.ensures.found sure)) in
+    let given : AreChecked c.args.self.now.last c.args.pager.now → GivesAfter c.args.self.now c.args.pager.now.store (Aims c.args.goal.now) (option_copied c.args.after) (Some c.in-Some.region) = search rules in
     record {
       given = given;
       later = λ sure.
           is_later c.args.self.now c.args.pager.now.store (Aims c.args.goal.now) (option_copied c.args.after) c.in-Some.from c.in-Some.region
           (subst (λ (o : Option (Key × Region)). FindsAfter c.args.self.now c.args.pager.now.store (Aims c.args.goal.now) (option_copied c.args.after) o) c.in-Some.is (c.in_ok-from.ensures.found sure))
           (sym c.is_before.ensures ∙ c.if-is_before.false);
-      small = subst (λ (o : Option (Key × Region)). IfSome o (λ some. some.1.first.number < 2 ^ 32)) c.in-Some.is c.in_ok-from.ensures.small;
+      small = search rules;
       found = λ sure is. goal_given c.args.self.now c.args.pager.now.store is (option_copied c.args.after) c.args.goal.now (Some c.in-Some.region) (given sure);
-      forgotten = tt;
-      effect =
-          down_ok (IsSought c.args.self.now c.args.pager.now.store (Aims c.args.goal.now) (option_copied c.args.after)) (IsSought c.args.self.now c.args.pager.now.store (Aims c.args.goal.now) (option_copied c.args.after))
-          c.args.self.now c.args.pager.now c.region_after.new.pager c.in_ok-from.field-0 (Some c.in-Some.region) c.in_ok-from.ensures.effect;
+      forgotten = search rules;
+      effect = search rules;
     }
 
 pub returns-in-None : goal.returns-in-None
 returns-in-None g c =
-    let given : AreChecked c.args.self.now.last c.args.pager.now → GivesAfter c.args.self.now c.args.pager.now.store (Aims c.args.goal.now) (option_copied c.args.after) None = λ sure.
-    subst (λ (o : Option (Key × Region)). FindsAfter c.args.self.now c.args.pager.now.store (Aims c.args.goal.now) (option_copied c.args.after) o) c.in-None.is (c.in_ok-from.ensures.found sure) in
+    let given : AreChecked c.args.self.now.last c.args.pager.now → GivesAfter c.args.self.now c.args.pager.now.store (Aims c.args.goal.now) (option_copied c.args.after) None = search rules in
     record {
       given = given;
-      later = λ sure. tt;
-      small = tt;
+      later = search rules;
+      small = search rules;
       found = λ sure is. goal_given c.args.self.now c.args.pager.now.store is (option_copied c.args.after) c.args.goal.now None (given sure);
-      forgotten = tt;
-      effect =
-          down_ok {U = Option Region} (IsSought c.args.self.now c.args.pager.now.store (Aims c.args.goal.now) (option_copied c.args.after)) (IsSought c.args.self.now c.args.pager.now.store (Aims c.args.goal.now) (option_copied c.args.after))
-          c.args.self.now c.args.pager.now c.region_after.new.pager c.in_ok-from.field-0 None c.in_ok-from.ensures.effect;
+      forgotten = search rules;
+      effect = search rules;
     }
-
-pub returns-in_err-from : goal.returns-in_err-from
-returns-in_err-from g c = record {
-  given = λ sure. IfOk-from_err c.from_residual.result _ c.from_residual.ensures.0;
-  later = λ sure. IfOk-from_err c.from_residual.result _ c.from_residual.ensures.0;
-  small = IfOk-from_err c.from_residual.result _ c.from_residual.ensures.0;
-  found = λ sure is. IfOk-from_err c.from_residual.result _ c.from_residual.ensures.0;
-  forgotten = if_err (IsForgotten c.region_after.new.pager) c.from_residual.result c.in_err-from.field-0.0 c.from_residual.ensures.1 c.in_err-from.ensures.forgotten;
-  effect =
-      down_err (IsSought c.args.self.now c.args.pager.now.store (Aims c.args.goal.now) (option_copied c.args.after)) c.args.self.now
-      c.args.pager.now c.region_after.new.pager c.from_residual.result c.in_err-from.field-0.0 c.from_residual.ensures.1 c.in_err-from.ensures.effect;
-}

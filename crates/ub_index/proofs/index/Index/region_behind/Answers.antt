@@ -1,11 +1,8 @@
-use Rattle.ub_index.proofs.ExitFacts.{down_so, none_more}
-use Rattle.ub_index.proofs.StepFacts.{if_err}
-use Rattle.std.proofs.lemmas.Result.{IfOk-from_err}
-use Rattle.std.proofs.Common.{◌≡◌, ◌∙◌, ℕ, None, Some, Option, Err, inl, ap, arith, refl, subst, sym}
+use Rattle.std.proofs.Common.{◌≡◌, ◌∙◌, ℕ, None, Some, Option, Err, inl, ap, arith, refl, subst, sym, rules}
 use Rattle.ub_store.specs.Facts.{StoreFacts}
 use Rattle.ub_store.specs.View.{PagerView}
 use Rattle.ub_table.specs.declared.row.Key.{Key}
-use Rattle.ub_index.specs.Descending.{FindsAfter, LooksAt, IsForgotten}
+use Rattle.ub_index.specs.Descending.{FindsAfter, LooksAt}
 use Rattle.ub_index.specs.Held.{AreChecked}
 use Rattle.ub_index.specs.Searching.{Aims, Gives, GoesDown, IsSought}
 use Rattle.ub_index.specs.Spans.{region_of}
@@ -35,15 +32,9 @@ returns-in-Nothing g c = record {
       subst (λ (v : IndexView). FindsAfter v c.args.pager.now.store (Aims c.args.goal.now) (Some c.args.region.now) None) c.self.view_is
       (nothing_found (index_view c.self.inside.root c.self.inside.levels c.self.inside.last) c.args.pager.now.store (Aims c.args.goal.now)
       c.args.region.now c.in_ok-leaf.leaf c.in_ok-leaf.ensures.holds (λ honest. c.in_ok-leaf.ensures.leads honest sure) looks);
-  small = tt;
-  forgotten = tt;
-  effect =
-      down_so {T = Option (Key × Region)} (IsSought c.args.self.now c.args.pager.now.store (Aims c.args.goal.now) (Some c.args.region.now))
-      c.args.self.now c.args.pager.now c.look.new.pager None
-      (ap (λ (p : PagerView). p.store) c.in_ok-look.ensures.effect.same ∙ ap (λ (p : PagerView). p.store) c.in_ok-leaf.ensures.effect.same)
-      (ap (λ (p : PagerView). p.trace) c.in_ok-look.ensures.effect.same ∙ ap (λ (p : PagerView). p.trace) c.in_ok-leaf.ensures.effect.same)
-      (kept_so c.self.inside.last c.args.self.now.last c.args.pager.now c.look.new.pager (ap (λ (v : IndexView). v.last) c.self.view_is)
-      (both_on c.self.inside.last c.args.pager.now c.leaf_of.new.pager c.look.new.pager (down_keeps c.in_ok-leaf.ensures.effect) (step_keeps c.in_ok-look.ensures.effect)));
+  small = search rules;
+  forgotten = search rules;
+  effect = search rules;
 }
 
 pub returns-in-Here : goal.returns-in-Here
@@ -57,15 +48,9 @@ returns-in-Here g c = record {
       (Some (c.in-Here.from, region_of c.self.inside.last c.in-Here.place.entry c.in-Here.place.next))) c.self.view_is
       (here_found (index_view c.self.inside.root c.self.inside.levels c.self.inside.last) c.args.pager.now.store (Aims c.args.goal.now)
       c.args.region.now c.in_ok-leaf.leaf c.in_ok-leaf.ensures.holds (λ honest. c.in_ok-leaf.ensures.leads honest sure) c.in-Here.from c.in-Here.place looks));
-  small = c.region_at.ensures.small;
-  forgotten = tt;
-  effect =
-      down_so (IsSought c.args.self.now c.args.pager.now.store (Aims c.args.goal.now) (Some c.args.region.now))
-      c.args.self.now c.args.pager.now c.look.new.pager (Some (c.in-Here.from, c.region_at.result))
-      (ap (λ (p : PagerView). p.store) c.in_ok-look.ensures.effect.same ∙ ap (λ (p : PagerView). p.store) c.in_ok-leaf.ensures.effect.same)
-      (ap (λ (p : PagerView). p.trace) c.in_ok-look.ensures.effect.same ∙ ap (λ (p : PagerView). p.trace) c.in_ok-leaf.ensures.effect.same)
-      (kept_so c.self.inside.last c.args.self.now.last c.args.pager.now c.look.new.pager (ap (λ (v : IndexView). v.last) c.self.view_is)
-      (both_on c.self.inside.last c.args.pager.now c.leaf_of.new.pager c.look.new.pager (down_keeps c.in_ok-leaf.ensures.effect) (step_keeps c.in_ok-look.ensures.effect)));
+  small = search rules;
+  forgotten = search rules;
+  effect = search rules;
 }
 
 pub returns-in_ok-region_holding-in-Beyond : goal.returns-in_ok-region_holding-in-Beyond
@@ -82,24 +67,16 @@ returns-in_ok-region_holding-in-Beyond g c = record {
       subst (λ (v : IndexView). FindsAfter v c.args.pager.now.store (Aims c.args.goal.now) (Some c.args.region.now) (Some (c.in-Beyond.from, c.in_ok-region_holding-in-Beyond.field-0))) c.self.view_is
       (beyond_found (index_view c.self.inside.root c.self.inside.levels c.self.inside.last) c.args.pager.now.store (Aims c.args.goal.now)
       c.args.region.now c.in_ok-leaf.leaf c.in_ok-leaf.ensures.holds (λ honest. c.in_ok-leaf.ensures.leads honest sure) c.in-Beyond.from c.in-Beyond.aim c.in_ok-region_holding-in-Beyond.field-0 looks before);
-  small = c.in_ok-region_holding-in-Beyond.ensures.small;
-  forgotten = tt;
-  effect =
-      down_so (IsSought c.args.self.now c.args.pager.now.store (Aims c.args.goal.now) (Some c.args.region.now))
-      c.args.self.now c.args.pager.now c.region_holding.new.pager (Some (c.in-Beyond.from, c.in_ok-region_holding-in-Beyond.field-0))
-      (ap (λ (p : PagerView). p.store) c.in_ok-region_holding-in-Beyond.ensures.effect.same ∙ (ap (λ (p : PagerView). p.store) c.in_ok-look.ensures.effect.same ∙ ap (λ (p : PagerView). p.store) c.in_ok-leaf.ensures.effect.same))
-      (ap (λ (p : PagerView). p.trace) c.in_ok-region_holding-in-Beyond.ensures.effect.same ∙ (ap (λ (p : PagerView). p.trace) c.in_ok-look.ensures.effect.same ∙ ap (λ (p : PagerView). p.trace) c.in_ok-leaf.ensures.effect.same))
-      (both_on c.args.self.now.last c.args.pager.now c.look.new.pager c.region_holding.new.pager
-      (kept_so c.self.inside.last c.args.self.now.last c.args.pager.now c.look.new.pager (ap (λ (v : IndexView). v.last) c.self.view_is)
-      (both_on c.self.inside.last c.args.pager.now c.leaf_of.new.pager c.look.new.pager (down_keeps c.in_ok-leaf.ensures.effect) (step_keeps c.in_ok-look.ensures.effect)))
-      (down_keeps c.in_ok-region_holding-in-Beyond.ensures.effect));
+  small = search rules;
+  forgotten = search rules;
+  effect = search rules;
 }
 
 pub returns-in_err-look : goal.returns-in_err-look
 returns-in_err-look g c = record {
-  found = λ sure. IfOk-from_err c.from_residual-in_err-look.result _ c.from_residual-in_err-look.ensures.0;
-  small = IfOk-from_err c.from_residual-in_err-look.result _ c.from_residual-in_err-look.ensures.0;
-  forgotten = if_err (IsForgotten c.look.new.pager) c.from_residual-in_err-look.result c.in_err-look.field-0.0 c.from_residual-in_err-look.ensures.1 c.in_err-look.ensures.forgotten;
+  found = search rules;
+  small = search rules;
+  forgotten = search rules;
   effect =
       subst (λ (v : IndexView). GoesDown (IsSought v c.args.pager.now.store (Aims c.args.goal.now) (Some c.args.region.now)) v c.args.pager.now c.look.new.pager c.from_residual-in_err-look.result) c.self.view_is
       (step_refused (Option (Key × Region)) Found
@@ -112,9 +89,9 @@ returns-in_err-look g c = record {
 
 pub returns-in_err-region_holding-in-Beyond : goal.returns-in_err-region_holding-in-Beyond
 returns-in_err-region_holding-in-Beyond g c = record {
-  found = λ sure. IfOk-from_err c.from_residual-in_err-region_holding-in-Beyond.result _ c.from_residual-in_err-region_holding-in-Beyond.ensures.0;
-  small = IfOk-from_err c.from_residual-in_err-region_holding-in-Beyond.result _ c.from_residual-in_err-region_holding-in-Beyond.ensures.0;
-  forgotten = if_err (IsForgotten c.region_holding.new.pager) c.from_residual-in_err-region_holding-in-Beyond.result c.in_err-region_holding-in-Beyond.field-0.0 c.from_residual-in_err-region_holding-in-Beyond.ensures.1 c.in_err-region_holding-in-Beyond.ensures.forgotten;
+  found = search rules;
+  small = search rules;
+  forgotten = search rules;
   effect =
       let stores = ap (λ (p : PagerView). p.store) c.in_ok-leaf.ensures.effect.same in
       let stores_too = ap (λ (p : PagerView). p.store) c.in_ok-look.ensures.effect.same in
@@ -135,21 +112,4 @@ returns-in_err-region_holding-in-Beyond g c = record {
       (λ sure k is. subst (λ (x : Key). IsSought (index_view c.self.inside.root c.self.inside.levels c.self.inside.last) c.args.pager.now.store (Aims c.args.goal.now) (Some c.args.region.now) x) (sym is) (sought sure))
       (stores_too ∙ stores) (traces_too ∙ traces) kept
       c.from_residual-in_err-region_holding-in-Beyond.result c.in_err-region_holding-in-Beyond.field-0.0 c.from_residual-in_err-region_holding-in-Beyond.ensures.1 effect);
-}
-
-pub leaf_of-requires : goal.leaf_of-requires
-leaf_of-requires g c = c.self.invariant.0
-
-pub returns-in_err-leaf : goal.returns-in_err-leaf
-returns-in_err-leaf g c = record {
-  found = λ sure. IfOk-from_err c.from_residual.result _ c.from_residual.ensures.0;
-  small = IfOk-from_err c.from_residual.result _ c.from_residual.ensures.0;
-  forgotten = if_err (IsForgotten c.leaf_of.new.pager) c.from_residual.result c.in_err-leaf.field-0.0 c.from_residual.ensures.1 c.in_err-leaf.ensures.forgotten;
-  effect =
-      subst (λ (v : IndexView). GoesDown (IsSought v c.args.pager.now.store (Aims c.args.goal.now) (Some c.args.region.now)) v c.args.pager.now c.leaf_of.new.pager c.from_residual.result) c.self.view_is
-      (search_refused (Option (Key × Region)) Leaf (λ (k : Key). k ≡ c.args.region.now.first)
-      (IsSought (index_view c.self.inside.root c.self.inside.levels c.self.inside.last) c.args.pager.now.store (Aims c.args.goal.now) (Some c.args.region.now))
-      (index_view c.self.inside.root c.self.inside.levels c.self.inside.last) c.args.pager.now c.args.pager.now c.leaf_of.new.pager
-      (λ sure k is. inl (c.args.region.now, refl, is)) refl refl (none_more c.args.pager.now)
-      c.from_residual.result c.in_err-leaf.field-0.0 c.from_residual.ensures.1 c.in_err-leaf.ensures.effect);
 }

@@ -4,8 +4,6 @@ use Rattle.ub_tree.proofs.ClosingFacts.{sound_pages, unchanged_pages}
 use Rattle.ub_tree.specs.Tree.{tree_view}
 use Rattle.ub_writing.specs.Closing.{IsClosed}
 use Rattle.ub_writing.specs.Marks.{is_written}
-use Rattle.ub_tree.proofs.StepFacts.{not_failed}
-use Rattle.ub_tree.specs.View.{TreeView}
 use Rattle.ub_tree.proofs.tree.Tree.close.Goals as goal
 
 pub returns-then-not-is_written : goal.returns-then-not-is_written
@@ -14,13 +12,12 @@ returns-then-not-is_written g c = record {
       rw (← c.self.view_is)
       (unchanged_pages (tree_view t.schema t.index t.count t.next t.rows (is_written t.mark) t.is_failed t.pager) (g.S.PageStore.facts c.into_store-then-not-is_written.result)
       c.into_store-then-not-is_written.ensures (sym c.is_written.ensures ∙ c.if-not-is_written.true));
-  table = λ changed. not_failed (ap (λ (v : TreeView). v.is_changed) c.self.view_is)
-      (sym c.is_written.ensures ∙ c.if-not-is_written.true) changed;
-  unchanged = λ same works. c.into_store-then-not-is_written.ensures ∙ ap (λ (v : TreeView). v.store) c.self.view_is;
-  failed = λ failed. not_failed (ap (λ (v : TreeView). v.is_failed) c.self.view_is) c.if-self.false failed;
-  first = λ honest. tt;
-  left = tt;
-  refused = tt;
+  table = search rules;
+  unchanged = search rules;
+  failed = search rules;
+  first = search rules;
+  left = search rules;
+  refused = search rules;
 }
 
 pub returns-in-Ok : goal.returns-in-Ok
@@ -35,10 +32,9 @@ returns-in-Ok g c = record {
       c.root-root.ensures.root (c.in-Ok.ensures.closed sound.honest))
       sound);
   table = search rules;
-  unchanged = λ same works. not_failed (sym (ap (λ (v : TreeView). v.is_changed) c.self.view_is)) same
-      (sym c.is_written.ensures ∙ c.if-not-is_written.false);
-  failed = λ failed. not_failed (ap (λ (v : TreeView). v.is_failed) c.self.view_is) c.if-self.false failed;
-  first = λ honest. tt;
-  left = tt;
-  refused = tt;
+  unchanged = search rules;
+  failed = search rules;
+  first = search rules;
+  left = search rules;
+  refused = search rules;
 }

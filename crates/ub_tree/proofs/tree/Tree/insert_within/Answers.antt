@@ -1,7 +1,7 @@
-use Rattle.std.proofs.Common.{◌≡◌, ◌<◌, ◌+◌, ◌^◌, ◌∙◌, ℕ, Ok, Err, sym, ap, subst, length, inr, refl, true, false, ◌≤◌, arith}
+use Rattle.std.proofs.Common.{◌≡◌, ◌<◌, ◌+◌, ◌^◌, ◌∙◌, ℕ, Ok, Err, sym, ap, subst, length, inr, refl, true, false}
 use Rattle.ub_region.specs.Rows.{has_key, insert_row}
-use Rattle.ub_store.specs.Facts.{IsHonest, page_count}
-use Rattle.ub_table.specs.Region.{IsRow, key_of, measures_of, keys_of}
+use Rattle.ub_store.specs.Facts.{IsHonest}
+use Rattle.ub_table.specs.Region.{IsRow, key_of, measures_of}
 use Rattle.ub_table.specs.declared.fault.PageFault.TheVariants.{BadOrder}
 use Rattle.ub_table.specs.declared.row.Key.{Key}
 use Rattle.ub_tree.proofs.EffectFacts.{changes_of, counted_anew, left_by, marked_sound, searched_by, then_changed, unchanged_of}
@@ -15,15 +15,10 @@ use Rattle.ub_tree.specs.Inserted.{InsertsAs}
 use Rattle.ub_tree.specs.Tree.{tree_view}
 use Rattle.ub_tree.specs.View.{TreeView}
 use Rattle.ub_tree.specs.declared.fault.TreeFault.TheVariants.{Page}
-use Rattle.ub_tree.specs.inner.Change.{CanStand, HasReadAt, StandAt, StoresAt, IsReadAt}
+use Rattle.ub_tree.specs.inner.Change.{CanStand, HasReadAt, StandAt, StoresAt}
 use Rattle.ub_writing.specs.Marks.{is_written}
 use Rattle.ub_zaddr.specs.Address.{last_address}
 use Rattle.ub_tree.proofs.StandFacts.{puts_row}
-use Rattle.ub_tree.proofs.StepFacts.{fewer_by, next_most, tree_rows}
-use Rattle.std.proofs.Math.Facts.{Fits-of_lt}
-use Rattle.ub_tree.specs.Told.{IsRegionOf}
-use Rattle.ub_table.specs.Keys.{AreKeysAscending}
-use Rattle.ub_table.specs.declared.row.TheConstants.{MAX_ROW_NUMBER}
 use Rattle.ub_tree.proofs.tree.Tree.insert_within.Goals as goal
 
 pub returns-in_err-region : goal.returns-in_err-region
@@ -132,45 +127,3 @@ returns g c =
           (counted_anew {T = Unit {0}} {U = ℕ} tt row.number a after d (after.rows + 1) (next_after after.next row.number) d_is
           (then_changed {T = Unit {0}} _ a b after same c.in_ok-store_with.ensures.effect));
     }
-
-pub store_with-requires-clause-there : goal.store_with-requires-clause-there
-store_with-requires-clause-there g c =
-    let span = c.in_ok-region.region in
-    let read = c.in_ok-region.ensures.read in
-    subst (λ (v : TreeView). IsRegionOf v span × (span.page < page_count v.store)) (sym c.in_ok-region.ensures.effect.same)
-    (record { key = c.key-key.result; falls = read.falls }, read.there)
-
-pub store_with-requires-clause-place : goal.store_with-requires-clause-place
-store_with-requires-clause-place g c =
-    let place = c.in-Some.ensures.place in
-    let dims = ap (λ (v : TreeView). v.schema.dims) c.in_ok-region.ensures.effect.same ∙ sym c.in_ok-region.ensures.read.read.dims in
-    (place.1, ap (λ (d : ℕ). insert_row d c.args.row.now c.read_holding.new.page.region.rows) dims ∙ place.2)
-
-pub store_with-requires-clause-read : goal.store_with-requires-clause-read
-store_with-requires-clause-read g c =
-    subst (λ (v : TreeView). IsReadAt v c.in_ok-region.region c.read_holding.new.page)
-    (sym c.in_ok-region.ensures.effect.same) c.in_ok-region.ensures.read.read
-
-pub place_of-requires : goal.place_of-requires
-place_of-requires g c =
-    let read = c.in_ok-region.ensures.read.read in
-    subst (λ (d : ℕ). AreKeysAscending (keys_of d c.read_holding.new.page.region.rows)) (sym read.dims) read.on.0.ascending
-
-pub overflow_add-row : goal.overflow_add-row
-overflow_add-row g c = Fits-of_lt (let small = c.requires.row.number.1 in omega arith)
-
-pub overflow_add-self : goal.overflow_add-self
-overflow_add-self g c = Fits-of_lt (let fewer = c.self-2.invariant.fewer in let last = c.self-2.invariant.last_next in omega arith)
-
-pub invariant_of-self : goal.invariant_of-self
-invariant_of-self g c =
-    let row = c.args.row.now in
-    let stored = c.in_ok-store_with.ensures.same.same in
-    let same = c.in_ok-region.ensures.effect.same in
-    let rows = ap (λ (v : TreeView). v.rows) c.self-2.view_is ∙ ap (λ (v : TreeView). v.rows) stored ∙ ap (λ (v : TreeView). v.rows) same in
-    let next = ap (λ (v : TreeView). v.next) c.self-2.view_is ∙ ap (λ (v : TreeView). v.next) stored ∙ ap (λ (v : TreeView). v.next) same in
-    let now = c.max-self-inside.ensures ∙ next_is _ row.number in
-    tree_rows c.self-2.invariant c.max-self-inside.result (c.self-2.inside.rows + 1)
-    (fewer_by rows (now ∙ ap (λ (n : ℕ). next_after n row.number) next) c.requires.fewer)
-    (subst (λ (n : ℕ). n ≤ MAX_ROW_NUMBER + 1) (sym now)
-    (next_most c.self-2.inside.next row.number c.self-2.invariant.last_next c.requires.row.number.1))

@@ -1,4 +1,4 @@
-use Rattle.std.proofs.Common.{◌≡◌, ◌+◌, ◌-◌, ◌≤◌, ◌∙◌, true, Ok, sym, ap, subst, refl, Err, ◌<◌, ◌^◌, ℕ}
+use Rattle.std.proofs.Common.{◌≡◌, ◌+◌, ◌-◌, ◌≤◌, ◌∙◌, true, Ok, sym, ap, subst, refl, Err, ◌<◌, ◌^◌, rules}
 use Rattle.ub_region.specs.Joins.{put_rows}
 use Rattle.ub_store.specs.Facts.{IsHonest}
 use Rattle.ub_store.specs.declared.fault.StoreFault.TheVariants as store
@@ -13,19 +13,17 @@ use Rattle.ub_tree.specs.declared.fault.TreeFault.TheVariants.{Store}
 use Rattle.ub_tree.specs.inner.Change.{IsDropReady, IsRegionIn, IsRegionThere, IsStored}
 use Rattle.ub_tree.specs.inner.Removing.{JoinsAt}
 use Rattle.ub_tree.proofs.CallFacts.{last_small}
-use Rattle.ub_tree.proofs.EffectFacts.{changes_by, ready_by, refused_none}
+use Rattle.ub_tree.proofs.EffectFacts.{changes_by, ready_by}
 use Rattle.ub_tree.proofs.JoinFacts.{alone_not_sound, index_failed, joined_at, joined_effect, joined_written}
 use Rattle.ub_tree.proofs.LessenFacts.{alone_lessens, device_removal, fault_by, put_removal, then_lessens}
 use Rattle.ub_tree.proofs.StandFacts.{joined_stand}
 use Rattle.ub_writing.specs.Marks.{is_written}
-use Rattle.ub_tree.proofs.StepFacts.{less_small, one_less, tree_counted, follows_origin}
-use Rattle.ub_index_change.specs.Changing.{AreIndexPages}
 use Rattle.ub_tree.proofs.tree.Tree.join_at.Goals as goal
 
 pub returns-then-self-eq1 : goal.returns-then-self-eq1
 returns-then-self-eq1 g c = record {
-  joined = tt;
-  written = λ i stored at at_next each. tt;
+  joined = search rules;
+  written = search rules;
   alone = λ one. ap (λ (fault : TreeFault). Err fault) c.uncounted.ensures.fault;
   leaves = let a = c.args.self.now in
       let one : region_count a ≡ 1 = sym (ap (λ (v : TreeView). region_count v) c.self.view_is) ∙ c.if-self-eq1.true in
@@ -35,8 +33,8 @@ returns-then-self-eq1 g c = record {
 
 pub returns-in_err-change : goal.returns-in_err-change
 returns-in_err-change g c = record {
-  joined = refused_none _ c.from_residual.result c.in_err-change.field-0.0 c.from_residual.ensures.1;
-  written = λ i stored at at_next each. refused_none _ c.from_residual.result c.in_err-change.field-0.0 c.from_residual.ensures.1;
+  joined = search rules;
+  written = search rules;
   alone = λ one. absurd (c.if-self-eq1.false (ap (λ (v : TreeView). region_count v) c.self.view_is ∙ one));
   leaves = record {
     changes = ready_by c.from_residual.result c.in_err-change.field-0.0 c.args.self.now c.prepare_drop.new.self c.from_residual.ensures.1 c.in_err-change.ensures.effect;
@@ -47,8 +45,8 @@ returns-in_err-change g c = record {
 
 pub returns-in_err-rewrite : goal.returns-in_err-rewrite
 returns-in_err-rewrite g c = record {
-  joined = refused_none _ c.from_residual-in_err-rewrite.result c.in_err-rewrite.field-0.0 c.from_residual-in_err-rewrite.ensures.1;
-  written = λ i stored at at_next each. refused_none _ c.from_residual-in_err-rewrite.result c.in_err-rewrite.field-0.0 c.from_residual-in_err-rewrite.ensures.1;
+  joined = search rules;
+  written = search rules;
   alone = λ one. absurd (c.if-self-eq1.false (ap (λ (v : TreeView). region_count v) c.self.view_is ∙ one));
   leaves = let b = c.prepare_drop.new.self in
       let r = c.from_residual-in_err-rewrite.result in
@@ -63,8 +61,8 @@ returns-in_err-rewrite g c = record {
 
 pub returns-in_err-put_index : goal.returns-in_err-put_index
 returns-in_err-put_index g c = record {
-  joined = refused_none _ c.from_residual-in_err-put_index.result c.in_err-put_index.field-0.0 c.from_residual-in_err-put_index.ensures.1;
-  written = λ i stored at at_next each. refused_none _ c.from_residual-in_err-put_index.result c.in_err-put_index.field-0.0 c.from_residual-in_err-put_index.ensures.1;
+  joined = search rules;
+  written = search rules;
   alone = λ one. absurd (c.if-self-eq1.false (ap (λ (v : TreeView). region_count v) c.self.view_is ∙ one));
   leaves = let b = c.prepare_drop.new.self in
       let span = c.args.region.now in
@@ -124,45 +122,3 @@ returns g c =
         stays = λ _. ap (λ (v : TreeView). v.is_changed) is ∙ c.put_index.ensures.marked ∙ ap (λ (v : TreeView). v.is_changed) c.in_ok-rewrite.ensures.same;
       });
     }
-
-pub prepare_drop-requires-clause-told : goal.prepare_drop-requires-clause-told
-prepare_drop-requires-clause-told g c = c.requires.told
-
-pub rewrite-requires-clause-there : goal.rewrite-requires-clause-there
-rewrite-requires-clause-there g c = subst (λ (v : TreeView). IsRegionThere v c.args.region.now)
-    (sym c.in_ok-change.ensures.effect.same) c.requires.there
-
-pub rewrite-requires-clause-first : goal.rewrite-requires-clause-first
-rewrite-requires-clause-first g c = c.requires.begins
-
-pub rewrite-requires-clause-region : goal.rewrite-requires-clause-region
-rewrite-requires-clause-region g c =
-    subst (λ (v : TreeView). IsRegion v.schema (record { first = c.args.region.now.first; rows = c.args.page.now.region.rows }))
-    (sym c.in_ok-change.ensures.effect.same) c.requires.region
-
-pub prepare_drop-requires-clause-more : goal.prepare_drop-requires-clause-more
-prepare_drop-requires-clause-more g c = λ one. c.if-self-eq1.false (ap (λ (v : TreeView). region_count v) c.self.view_is ∙ one)
-
-pub put_index-requires : goal.put_index-requires
-put_index-requires g c = λ honest.
-    let same = c.in_ok-change.ensures.effect.same in
-    let was = sym (ap (λ (v : TreeView). v.store.honest) c.in_ok-rewrite.ensures.effect.frame ∙ ap (λ (v : TreeView). v.store.honest) same)
-    ∙ honest in
-    let last = ap (λ (v : TreeView). v.inner.index.last) c.in_ok-rewrite.ensures.same ∙ ap (λ (v : TreeView). v.inner.index.last) same in
-    subst (λ (n : ℕ). AreIndexPages n c.in_ok-change.change.sheets) (sym last) (c.in_ok-change.ensures.ready.pages was)
-
-pub overflow_sub-self : goal.overflow_sub-self
-overflow_sub-self g c = c.self-2.invariant.some
-
-pub invariant_of-self : goal.invariant_of-self
-invariant_of-self g c =
-    let same = ap (λ (v : TreeView). v.inner.count) c.self-2.view_is ∙ ap (λ (v : TreeView). v.inner.count) c.in_ok-put_index.ensures.now
-    ∙ ap (λ (v : TreeView). v.inner.count) c.in_ok-rewrite.ensures.same
-    ∙ ap (λ (v : TreeView). v.inner.count) c.in_ok-change.ensures.effect.same ∙ sym (ap (λ (v : TreeView). v.inner.count) c.self.view_is) in
-    tree_counted c.self-2.invariant (c.self-2.inside.count - 1) (one_less same c.self-2.invariant.some c.if-self-eq1.false)
-    (less_small c.self-2.inside.count c.self-2.invariant.few)
-
-pub prepare_drop-requires-clause-behind : goal.prepare_drop-requires-clause-behind
-prepare_drop-requires-clause-behind g c =
-    let told = c.requires.there.told in
-    follows_origin told.key c.args.region.now.first c.args.region.now.next c.args.next.now.first told.falls.holds c.requires.ends

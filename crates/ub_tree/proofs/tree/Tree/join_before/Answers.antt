@@ -1,4 +1,4 @@
-use Rattle.std.proofs.Common.{◌≡◌, ◌+◌, ◌++◌, ◌∙◌, if◌then◌else◌, ap, arith, length, refl, subst, sym, rules, Ok, Some, None, Option}
+use Rattle.std.proofs.Common.{◌≡◌, ◌+◌, ◌++◌, ◌∙◌, if◌then◌else◌, ap, arith, length, refl, subst, sym, rules}
 use Rattle.std.proofs.lemmas.Bool.{leb-true}
 use Rattle.ub_tree.proofs.RoomFacts.{next_region, rows_on}
 use Rattle.ub_tree.proofs.RemovalFacts.{joins_one, read_there}
@@ -6,13 +6,11 @@ use Rattle.ub_tree.proofs.HoldingFacts.{no_answer}
 use Rattle.ub_region.specs.RegionPage.{RegionView}
 use Rattle.ub_writing.specs.declared.room.Room.{Room}
 use Rattle.ub_tree.specs.View.{TreeView}
-use Rattle.ub_tree.specs.Effects.{IsTakenIn, Searches}
+use Rattle.ub_tree.specs.Effects.{IsTakenIn}
 use Rattle.ub_index.specs.Searching.{key_before}
 use Rattle.ub_tree.proofs.AloneFacts.{no_fit, none_beside, room_fits, unfound_beside, unread_beside}
 use Rattle.ub_tree.specs.inner.Change.{IsRegionThere}
 use Rattle.ub_tree.proofs.tree.Tree.join_before.Goals.{then-join, else-join}
-use Rattle.ub_tree.proofs.StepFacts.{searched_ok, searches_by}
-use Rattle.ub_tree.specs.Spans.{Region}
 use Rattle.ub_tree.proofs.tree.Tree.join_before.Goals as goal
 
 pub returns : goal.returns
@@ -67,39 +65,32 @@ returns g c =
             | then-join w ↦ rw w.result-is (record { led = λ honest can. tt; fits = λ honest room. refl })
             | else-join w ↦ rw w.result-is (record { led = λ honest can. tt; fits = λ honest room. absurd (let fit = fits honest room in no_fit _ _ count (sym c.join.ensures.fit ∙ w.if-join.false) (omega arith)) })
           ];
-      effect = let done = subst (λ (v : TreeView). Searches {A = Unit {0}} v c.read_at.new.self
-          (Ok tt)) one c.in_ok-read_at.ensures.effect in
-          elim c.if-join.branch [
-            | then-join w ↦ rw w.result-is (searched_ok (Some c.in-Some.before) done)
-            | else-join w ↦ rw w.result-is (searched_ok None done)
-          ];
+      effect = search rules;
     }
 
 pub returns-in_err-before : goal.returns-in_err-before
 returns-in_err-before g c = record {
   found = no_answer c.from_residual.result c.in_err-before.field-0.0 _ c.from_residual.ensures.1;
-  joined = λ i stored at. no_answer c.from_residual.result c.in_err-before.field-0.0 _ c.from_residual.ensures.1;
+  joined = search rules;
   refused = unfound_beside c.args.self.now (key_before c.args.region.now.first.z c.args.region.now.first.number) (length c.args.room.now.region.region.rows) c.from_residual.result c.in_err-before.field-0.0 c.from_residual.ensures.1
       (λ told honest given. c.in_err-before.ensures.led told honest given);
-  effect = searches_by {U = Option Region} c.from_residual.result c.in_err-before.field-0.0 c.args.self.now c.region_before.new.self c.from_residual.ensures.1 c.in_err-before.ensures.effect;
+  effect = search rules;
 }
 
 pub returns-in_default : goal.returns-in_default
 returns-in_default g c = record {
-  found = refl;
+  found = search rules;
   joined = search rules;
   refused = none_beside c.args.self.now (key_before c.args.region.now.first.z c.args.region.now.first.number) (length c.args.room.now.region.region.rows) (λ told honest given. rw c.in_default.is at (c.in_ok-before.ensures.led told honest given));
-  effect = searched_ok None c.in_ok-before.ensures.effect;
+  effect = search rules;
 }
 
 pub returns-in_err-read_at : goal.returns-in_err-read_at
 returns-in_err-read_at g c = record {
   found = no_answer c.from_residual-in_err-read_at.result c.in_err-read_at.field-0.0 _ c.from_residual-in_err-read_at.ensures.1;
-  joined = λ i stored at. no_answer c.from_residual-in_err-read_at.result c.in_err-read_at.field-0.0 _ c.from_residual-in_err-read_at.ensures.1;
+  joined = search rules;
   refused = unread_beside c.args.self.now (key_before c.args.region.now.first.z c.args.region.now.first.number) (length c.args.room.now.region.region.rows) c.region_before.new.self c.in-Some.before c.in_ok-before.ensures.effect.same
       (λ told honest given. rw c.in-Some.is at (c.in_ok-before.ensures.led told honest given))
       c.from_residual-in_err-read_at.result c.in_err-read_at.field-0.0 c.from_residual-in_err-read_at.ensures.1 (λ honest r on. c.in_err-read_at.ensures.taken honest r on);
-  effect = let r = c.from_residual-in_err-read_at.result in
-      subst (λ (v : TreeView). Searches v c.read_at.new.self r) c.in_ok-before.ensures.effect.same
-      (searches_by {U = Unit {0}} r c.in_err-read_at.field-0.0 c.region_before.new.self c.read_at.new.self c.from_residual-in_err-read_at.ensures.1 c.in_err-read_at.ensures.effect);
+  effect = search rules;
 }

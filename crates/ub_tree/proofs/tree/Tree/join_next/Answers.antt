@@ -1,4 +1,4 @@
-use Rattle.std.proofs.Common.{◌≡◌, ◌+◌, ◌∙◌, suc, ap, arith, length, refl, subst, sym, Ok, Some, None, Option}
+use Rattle.std.proofs.Common.{◌≡◌, ◌+◌, ◌∙◌, suc, ap, arith, length, refl, subst, sym, rules}
 use Rattle.std.proofs.lemmas.Bool.{leb-true}
 use Rattle.std.proofs.lemmas.List.{length-map}
 use Rattle.ub_tree.proofs.RoomFacts.{next_region, rows_on}
@@ -8,16 +8,14 @@ use Rattle.ub_tree.proofs.ShrinkFacts.{join_last, length-regions}
 use Rattle.ub_region.specs.RegionPage.{RegionView}
 use Rattle.ub_tree.specs.Placed.{entry_of}
 use Rattle.ub_tree.specs.View.{TreeView, regions}
-use Rattle.ub_tree.specs.Effects.{IsTakenIn, Searches}
+use Rattle.ub_tree.specs.Effects.{IsTakenIn}
 use Rattle.ub_tree.proofs.AloneFacts.{no_fit, none_beside, room_fits, unfound_beside, unread_beside}
 use Rattle.ub_tree.proofs.tree.Tree.join_next.Goals.{then-join, else-join}
-use Rattle.ub_tree.proofs.StepFacts.{searched_ok, searches_by}
-use Rattle.ub_tree.specs.Spans.{Region}
 use Rattle.ub_tree.proofs.tree.Tree.join_next.Goals as goal
 
 pub returns-in_default : goal.returns-in_default
 returns-in_default g c = record {
-  found = refl;
+  found = search rules;
   joined = λ i stored at.
       let a = c.args.self.now in
       let last = rw c.in_default.is at (c.in_ok-next.ensures.after i stored at) in
@@ -25,7 +23,7 @@ returns-in_default g c = record {
       let long : length a.placed ≡ suc i = omega arith in
       join_last a.schema.page_rows i c.args.room.now.region.region.rows (regions a) (length-regions a.placed ∙ long);
   refused = none_beside c.args.self.now c.args.region.now.next (length c.args.room.now.region.region.rows) (λ told honest given. rw c.in_default.is at (c.in_ok-next.ensures.led told honest given));
-  effect = searched_ok None c.in_ok-next.ensures.effect;
+  effect = search rules;
 }
 
 pub returns : goal.returns
@@ -71,31 +69,24 @@ returns g c =
             | then-join w ↦ rw w.result-is (record { led = λ honest can. tt; fits = λ honest room. refl })
             | else-join w ↦ rw w.result-is (record { led = λ honest can. tt; fits = λ honest room. absurd (let fit = fits honest room in no_fit _ _ count (sym c.join.ensures.fit ∙ w.if-join.false) (omega arith)) })
           ];
-      effect = let done = subst (λ (v : TreeView). Searches {A = Unit {0}} v c.read_at.new.self
-          (Ok tt)) one c.in_ok-read_at.ensures.effect in
-          elim c.if-join.branch [
-            | then-join w ↦ rw w.result-is (searched_ok (Some c.in-Some.next) done)
-            | else-join w ↦ rw w.result-is (searched_ok None done)
-          ];
+      effect = search rules;
     }
 
 pub returns-in_err-next : goal.returns-in_err-next
 returns-in_err-next g c = record {
   found = no_answer c.from_residual.result c.in_err-next.field-0.0 _ c.from_residual.ensures.1;
-  joined = λ i stored at. no_answer c.from_residual.result c.in_err-next.field-0.0 _ c.from_residual.ensures.1;
+  joined = search rules;
   refused = unfound_beside c.args.self.now c.args.region.now.next (length c.args.room.now.region.region.rows) c.from_residual.result c.in_err-next.field-0.0 c.from_residual.ensures.1
       (λ told honest given. c.in_err-next.ensures.led told honest given);
-  effect = searches_by {U = Option Region} c.from_residual.result c.in_err-next.field-0.0 c.args.self.now c.region_after.new.self c.from_residual.ensures.1 c.in_err-next.ensures.effect;
+  effect = search rules;
 }
 
 pub returns-in_err-read_at : goal.returns-in_err-read_at
 returns-in_err-read_at g c = record {
   found = no_answer c.from_residual-in_err-read_at.result c.in_err-read_at.field-0.0 _ c.from_residual-in_err-read_at.ensures.1;
-  joined = λ i stored at. no_answer c.from_residual-in_err-read_at.result c.in_err-read_at.field-0.0 _ c.from_residual-in_err-read_at.ensures.1;
+  joined = search rules;
   refused = unread_beside c.args.self.now c.args.region.now.next (length c.args.room.now.region.region.rows) c.region_after.new.self c.in-Some.next c.in_ok-next.ensures.effect.same
       (λ told honest given. rw c.in-Some.is at (c.in_ok-next.ensures.led told honest given))
       c.from_residual-in_err-read_at.result c.in_err-read_at.field-0.0 c.from_residual-in_err-read_at.ensures.1 (λ honest r on. c.in_err-read_at.ensures.taken honest r on);
-  effect = let r = c.from_residual-in_err-read_at.result in
-      subst (λ (v : TreeView). Searches v c.read_at.new.self r) c.in_ok-next.ensures.effect.same
-      (searches_by {U = Unit {0}} r c.in_err-read_at.field-0.0 c.region_after.new.self c.read_at.new.self c.from_residual-in_err-read_at.ensures.1 c.in_err-read_at.ensures.effect);
+  effect = search rules;
 }

@@ -15,7 +15,7 @@ returns-in-Ok-read_table g c =
       opened = rw (c.over.ensures, c.due-mark.ensures.due, t.ensures.index)
           (opened (g.S.PageStore.facts c.args.store) t.header c.in-Ok.pager c.read_table.new.pager c.in-Ok.ensures.made t.ensures.rooted
           (ap (λ (p : PagerView). p.store) t.ensures.effect.same) (ap (λ (p : PagerView). p.trace) t.ensures.effect.same));
-      exact = λ header honest rooted. tt;
+      exact = search rules;
       sound = λ schema placed next honest s.
           let rooted = subst (λ (x : StoreFacts). IsHonest x → IsRooted x.pages t.header) store_is t.ensures.rooted honest in
           let kept = ap (λ (p : PagerView). p.store) t.ensures.effect.same ∙ store_is in
@@ -23,13 +23,13 @@ returns-in-Ok-read_table g c =
       unclean = λ schema honest mark.
           let rooted = subst (λ (x : StoreFacts). IsHonest x → IsRooted x.pages t.header) store_is t.ensures.rooted honest in
           never_clean first honest schema mark t.header rooted.spelled rooted.in_range rooted.clean;
-      kept = tt;
-      refused = tt;
+      kept = search rules;
+      refused = search rules;
     }
 
 pub returns-in-Err-read_table : goal.returns-in-Err-read_table
 returns-in-Err-read_table g c = record {
-  opened = tt;
+  opened = search rules;
   exact = search rules;
   sound = λ schema placed next honest s.
       let first = g.S.PageStore.facts c.args.store in

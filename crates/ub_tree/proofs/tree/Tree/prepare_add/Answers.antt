@@ -14,7 +14,6 @@ use Rattle.ub_tree.specs.Holding.{IsRoomFault}
 use Rattle.ub_tree.specs.Tree.{tree_view}
 use Rattle.ub_tree.specs.View.{TreeView}
 use Rattle.ub_writing.specs.Marks.{is_written}
-use Rattle.std.proofs.lemmas.Result.{IfOk-from_err}
 use Rattle.ub_tree.proofs.tree.Tree.prepare_add.Goals as goal
 
 pub returns-in_err-change-clause-led : goal.returns-in_err-change-clause-led
@@ -62,6 +61,3 @@ returns-clause-ready g c =
       fills = λ i stored at within. c.in_ok-change.ensures.fills i (stored_on old stored) (reached_once t.index t.pager.store _ stored.placed_are.own)
           (subst (λ (es : List Entry). IsRegionAt es i c.args.region.now) (sym stored.indexed.entries_are) at) within;
     })
-
-pub returns-in_err-change-clause-ready : goal.returns-in_err-change-clause-ready
-returns-in_err-change-clause-ready g c = IfOk-from_err c.from_residual.result _ c.from_residual.ensures.0

@@ -13,15 +13,13 @@ use Rattle.ub_tree.specs.Told.{IsRegionOf}
 use Rattle.ub_tree.specs.Tree.{tree_view}
 use Rattle.ub_tree.specs.View.{TreeView}
 use Rattle.ub_writing.specs.Marks.{is_written}
-use Rattle.ub_tree.proofs.EffectFacts.{refused_none}
 use Rattle.ub_tree.proofs.tree.Tree.read_at.Goals as goal
 
 pub returns-in_err-read_region : goal.returns-in_err-read_region
 returns-in_err-read_region g c = record {
-  read = refused_none _ c.from_residual.result (index_fault c.in_err-read_region.field-0.0) c.from_residual.ensures.1;
-  there = refused_none _ c.from_residual.result (index_fault c.in_err-read_region.field-0.0) c.from_residual.ensures.1;
-  rows = λ i p honest at there. refused_none _ c.from_residual.result
-      (index_fault c.in_err-read_region.field-0.0) c.from_residual.ensures.1;
+  read = search rules;
+  there = search rules;
+  rows = search rules;
   taken = let e = c.in_err-read_region.field-0.0 in
       rw (← c.self.view_is) (λ honest r stands.
       passing_by c.from_residual.result (index_fault e) _ c.from_residual.ensures.1 (passing_there e (c.in_err-read_region.ensures.read.exact r honest stands)));

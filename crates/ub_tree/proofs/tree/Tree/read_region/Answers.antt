@@ -11,16 +11,15 @@ use Rattle.ub_tree.specs.Faults.{index_fault}
 use Rattle.ub_tree.specs.Tree.{tree_view}
 use Rattle.ub_tree.specs.View.{TreeView}
 use Rattle.ub_writing.specs.Marks.{is_written}
-use Rattle.ub_tree.proofs.StepFacts.{not_failed}
 use Rattle.ub_tree.proofs.tree.Tree.read_region.Goals as goal
 
 pub returns-in_err-fetch_region : goal.returns-in_err-fetch_region
 returns-in_err-fetch_region g c = record {
-  dims = refused_none _ c.from_residual.result (index_fault c.in_err-fetch_region.field-0.0) c.from_residual.ensures.1;
-  first = refused_none _ c.from_residual.result (index_fault c.in_err-fetch_region.field-0.0) c.from_residual.ensures.1;
-  taken = refused_none _ c.from_residual.result (index_fault c.in_err-fetch_region.field-0.0) c.from_residual.ensures.1;
-  stands = λ sound there. refused_none _ c.from_residual.result (index_fault c.in_err-fetch_region.field-0.0) c.from_residual.ensures.1;
-  failed = λ failed. not_failed c.has_failed.ensures c.if-has_failed.false failed;
+  dims = search rules;
+  first = search rules;
+  taken = search rules;
+  stands = search rules;
+  failed = search rules;
   effect = let t = c.self.inside in
       let old : TreeView = tree_view t.schema t.index t.count t.next t.rows (is_written t.mark) t.is_failed t.pager in
       let r = c.from_residual.result in
@@ -48,7 +47,7 @@ returns g c = record {
       let known = known_is t.pager.store sound.honest in
       let taken = c.in_ok-fetch_region.ensures.read.exact k.0.region sound.honest (k.1.region, k.1.held, λ _. rw known at k.1.spelled) in
       rw taken (k.0, k.1.there, k.1.page, refl));
-  failed = λ failed. not_failed c.has_failed.ensures c.if-has_failed.false failed;
+  failed = search rules;
   effect = search rules;
 }
 

@@ -1,4 +1,4 @@
-use Rattle.std.proofs.Common.{◌<◌, ◌^◌, inl, inr, Option, subst, sym, Some, None, ◌≡◌, refl}
+use Rattle.std.proofs.Common.{◌<◌, ◌^◌, inl, inr, Option, subst, sym, Some, None, ◌≡◌, rules}
 use Rattle.ub_region.specs.declared.region.Region.{Region}
 use Rattle.ub_tree.proofs.CallFacts.{last_small}
 use Rattle.ub_tree.proofs.NeighbourFacts.{given_next, next_begins, search_apart}
@@ -10,16 +10,13 @@ use Rattle.ub_tree.specs.Told.{IsRegionOf}
 use Rattle.ub_writing.specs.Marks.{is_written}
 use Rattle.ub_index.specs.Searching.{GivesAny, IsWayFault}
 use Rattle.ub_tree.proofs.AloneFacts.{any_given, any_refused}
-use Rattle.std.proofs.lemmas.Result.{IfOk-from_err}
-use Rattle.ub_tree.proofs.HeldFacts.{tree_kept}
-use Rattle.ub_tree.proofs.StepFacts.{given_none, next_stands, search_found}
 use Rattle.ub_tree.proofs.tree.Tree.region_after.Goals as goal
 
 pub returns-in_err-next : goal.returns-in_err-next
 returns-in_err-next g c = record {
-  begins = IfOk-from_err c.from_residual.result _ c.from_residual.ensures.0;
-  falls = IfOk-from_err c.from_residual.result _ c.from_residual.ensures.0;
-  last = IfOk-from_err c.from_residual.result _ c.from_residual.ensures.0;
+  begins = search rules;
+  falls = search rules;
+  last = search rules;
   led = λ told honest given.
       let t = c.args.self.now in
       let i = c.self.inside in
@@ -28,7 +25,7 @@ returns-in_err-next g c = record {
       let near = subst (λ (v : TreeView). v.inner.index.last < 2 ^ 128) c.self.view_is small in
       let fault = subst (λ (v : TreeView). IsWayFault v.inner.index v.store (λ k. next ≡ Some k) c.in_err-next.field-0.0) c.self.view_is (c.in_err-next.ensures.effect.faults c.self.invariant.checked) in
       any_refused t.inner.index t.store next told c.from_residual.result c.in_err-next.field-0.0 near honest given c.from_residual.ensures.1 fault;
-  after = λ i stored at. IfOk-from_err c.from_residual.result _ c.from_residual.ensures.0;
+  after = search rules;
   effect = let t = c.self.inside in
       let small = subst (λ n. n < 2 ^ 128) (sym c.self.invariant.last_is) (last_small t.schema.dims t.schema.counts.few_dims) in
       rw (← c.self.view_is) (search_refused t.schema t.index t.count t.next t.rows (is_written t.mark) t.is_failed t.pager c.after.new.pager _ (Option Region) c.from_residual.result c.in_err-next.field-0.0 small c.self.invariant.checked
@@ -40,9 +37,9 @@ returns-else-begins_at g c =
     let t = c.self.inside in
     let v : TreeView = tree_view t.schema t.index t.count t.next t.rows (is_written t.mark) t.is_failed t.pager in
     record {
-      begins = tt;
-      falls = tt;
-      last = tt;
+      begins = search rules;
+      falls = search rules;
+      last = search rules;
       led = λ told honest given.
           let of = subst (λ (x : TreeView). IsRegionOf x c.args.region.now) (sym c.self.view_is) c.requires in
           let found = given_next v c.args.region.now.next c.in-Some.next (rw c.in-Some.is at (c.in_ok-next.ensures.given c.self.invariant.checked)) in
@@ -50,7 +47,7 @@ returns-else-begins_at g c =
             | inl same ↦ let no = c.if-begins_at.ensures.1 same in cc
             | inr over ↦ absurd (over (subst (λ (x : TreeView). IsHonest x.store) (sym c.self.view_is) honest))
           ];
-      after = λ i stored at. tt;
+      after = search rules;
       effect = let told = subst (λ (x : TreeView). IsRegionOf x c.args.region.now) (sym c.self.view_is) c.requires in
           let given = given_next v c.args.region.now.next c.in-Some.next (rw c.in-Some.is at (c.in_ok-next.ensures.given c.self.invariant.checked)) in
           let over : ¬ (IsHonest t.pager.store) =
@@ -64,69 +61,28 @@ returns-else-begins_at g c =
 
 pub returns-in_default : goal.returns-in_default
 returns-in_default g c = record {
-  begins = tt;
-  falls = tt;
-  last = λ none. let found = subst
-      (λ (v : TreeView). GivesAny v.inner.index v.store c.args.region.now.next c.in_ok-next.field-0) c.self.view_is
-      (c.in_ok-next.ensures.given c.self.invariant.checked) in
-      given_none c.args.self.now.inner.index c.args.self.now.store c.args.region.now.next (rw c.in_default.is at found);
+  begins = search rules;
+  falls = search rules;
+  last = search rules;
   led = λ told honest given.
       let t = c.args.self.now in
       let next = c.args.region.now.next in
-      let found = subst (λ (v : TreeView). GivesAny v.inner.index v.store next c.in_ok-next.field-0) c.self.view_is
-      (c.in_ok-next.ensures.given c.self.invariant.checked) in
+      let found = subst (λ (v : TreeView). GivesAny v.inner.index v.store next c.in_ok-next.field-0) c.self.view_is (c.in_ok-next.ensures.given c.self.invariant.checked) in
       any_given t.inner.index t.store next None told honest (rw c.in_default.is at found) given;
-  after = let t = c.self.inside in
-      next_stands t.schema t.index t.count t.next t.rows
-      (is_written t.mark) t.is_failed t.pager c.after.new.pager c.args.self.now c.self.view_is c.args.region.now c.in_ok-next.field-0 None c.in_default.is (c.in_ok-next.ensures.after c.self.invariant.checked);
-  effect = let t = c.self.inside in
-      search_found t.schema t.index t.count t.next t.rows
-      (is_written t.mark) t.is_failed t.pager c.after.new.pager c.args.self.now c.self.view_is _
-      (Option Region) c.in_ok-next.field-0 None c.in_ok-next.ensures.effect;
+  after = search rules;
+  effect = search rules;
 }
 
 pub returns-then-begins_at : goal.returns-then-begins_at
 returns-then-begins_at g c = record {
-  begins = c.if-begins_at.ensures.0 refl;
-  falls = let t = c.args.self.now in
-      let next = c.args.region.now.next in
-      let found = subst (λ (v : TreeView). GivesAny v.inner.index v.store next c.in_ok-next.field-0) c.self.view_is
-      (c.in_ok-next.ensures.given c.self.invariant.checked) in
-      let told = given_next t next c.in-Some.next (rw c.in-Some.is at found) in
-      record { key = told.0; falls = told.2 };
-  last = λ none. absurd (let bad : Some c.in-Some.next ≡ None = none in cc);
+  begins = search rules;
+  falls = search rules;
+  last = search rules;
   led = λ told honest given.
       let t = c.args.self.now in
       let next = c.args.region.now.next in
-      let found = subst (λ (v : TreeView). GivesAny v.inner.index v.store next c.in_ok-next.field-0) c.self.view_is
-      (c.in_ok-next.ensures.given c.self.invariant.checked) in
+      let found = subst (λ (v : TreeView). GivesAny v.inner.index v.store next c.in_ok-next.field-0) c.self.view_is (c.in_ok-next.ensures.given c.self.invariant.checked) in
       any_given t.inner.index t.store next (Some c.in-Some.next) told honest (rw c.in-Some.is at found) given;
-  after = let t = c.self.inside in
-      next_stands t.schema t.index t.count t.next t.rows
-      (is_written t.mark) t.is_failed t.pager c.after.new.pager c.args.self.now c.self.view_is c.args.region.now c.in_ok-next.field-0
-      (Some c.in-Some.next) c.in-Some.is (c.in_ok-next.ensures.after c.self.invariant.checked);
-  effect = let t = c.self.inside in
-      search_found t.schema t.index t.count t.next t.rows
-      (is_written t.mark) t.is_failed t.pager c.after.new.pager c.args.self.now c.self.view_is _ (Option Region) c.in_ok-next.field-0
-      (Some c.in-Some.next) c.in_ok-next.ensures.effect;
+  after = search rules;
+  effect = search rules;
 }
-
-pub invariant_of-self : goal.invariant_of-self
-invariant_of-self g c =
-    let t = c.self.inside in
-    tree_kept t.schema t.index t.count t.next t.rows t.mark t.pager c.after.new.pager c.self.invariant c.in_err-next.ensures.effect.checked
-
-pub invariant_of-self-in_default : goal.invariant_of-self-in_default
-invariant_of-self-in_default g c =
-    let t = c.self.inside in
-    tree_kept t.schema t.index t.count t.next t.rows t.mark t.pager c.after.new.pager c.self.invariant c.in_ok-next.ensures.effect.checked
-
-pub invariant_of-self-then-begins_at : goal.invariant_of-self-then-begins_at
-invariant_of-self-then-begins_at g c =
-    let t = c.self.inside in
-    tree_kept t.schema t.index t.count t.next t.rows t.mark t.pager c.after.new.pager c.self.invariant c.in_ok-next.ensures.effect.checked
-
-pub invariant_of-self-else-begins_at : goal.invariant_of-self-else-begins_at
-invariant_of-self-else-begins_at g c =
-    let t = c.self.inside in
-    tree_kept t.schema t.index t.count t.next t.rows t.mark t.pager c.after.new.pager c.self.invariant c.in_ok-next.ensures.effect.checked

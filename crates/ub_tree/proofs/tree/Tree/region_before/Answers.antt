@@ -1,4 +1,4 @@
-use Rattle.std.proofs.Common.{◌≡◌, ◌<◌, ◌^◌, inl, inr, Option, Some, subst, sym, None, refl}
+use Rattle.std.proofs.Common.{◌≡◌, ◌<◌, ◌^◌, inl, inr, Option, Some, subst, sym, None, rules}
 use Rattle.ub_index.specs.Searching.{key_before, GivesAny, IsWayFault}
 use Rattle.ub_region.specs.declared.region.Region.{Region}
 use Rattle.ub_table.specs.declared.row.Key.{Key}
@@ -11,15 +11,12 @@ use Rattle.ub_tree.specs.Tree.{tree_view}
 use Rattle.ub_tree.specs.View.{TreeView}
 use Rattle.ub_writing.specs.Marks.{is_written}
 use Rattle.ub_tree.proofs.AloneFacts.{any_given, any_refused}
-use Rattle.std.proofs.lemmas.Result.{IfOk-from_err}
-use Rattle.ub_tree.proofs.HeldFacts.{tree_kept}
-use Rattle.ub_tree.proofs.StepFacts.{before_stands, search_found}
 use Rattle.ub_tree.proofs.tree.Tree.region_before.Goals as goal
 
 pub returns-in_err-before : goal.returns-in_err-before
 returns-in_err-before g c = record {
-  ends = IfOk-from_err c.from_residual.result _ c.from_residual.ensures.0;
-  falls = IfOk-from_err c.from_residual.result _ c.from_residual.ensures.0;
+  ends = search rules;
+  falls = search rules;
   led = λ told honest given.
       let t = c.args.self.now in
       let i = c.self.inside in
@@ -28,7 +25,7 @@ returns-in_err-before g c = record {
       let near = subst (λ (v : TreeView). v.inner.index.last < 2 ^ 128) c.self.view_is small in
       let fault = subst (λ (v : TreeView). IsWayFault v.inner.index v.store (λ k. sought ≡ Some k) c.in_err-before.field-0.0) c.self.view_is (c.in_err-before.ensures.effect.faults c.self.invariant.checked) in
       any_refused t.inner.index t.store sought told c.from_residual.result c.in_err-before.field-0.0 near honest given c.from_residual.ensures.1 fault;
-  before = λ i stored at. IfOk-from_err c.from_residual.result _ c.from_residual.ensures.0;
+  before = search rules;
   effect = let t = c.self.inside in
       let small = subst (λ n. n < 2 ^ 128) (sym c.self.invariant.last_is) (last_small t.schema.dims t.schema.counts.few_dims) in
       rw (← c.self.view_is) (search_refused t.schema t.index t.count t.next t.rows (is_written t.mark) t.is_failed t.pager c.before-2.new.pager _ (Option Region) c.from_residual.result c.in_err-before.field-0.0 small c.self.invariant.checked
@@ -43,8 +40,8 @@ returns-else-begins_at g c =
     let v : TreeView = tree_view t.schema t.index t.count t.next t.rows (is_written t.mark) t.is_failed t.pager in
     let few = few_of (λ (k : Key). k.number) before.next c.number_in-number.result c.number_in-number.type_inv c.number_in-number.ensures in
     record {
-      ends = tt;
-      falls = tt;
+      ends = search rules;
+      falls = search rules;
       led = λ told honest given.
           let of = subst (λ (x : TreeView). IsRegionOf x span) (sym c.self.view_is) c.requires in
           let found = given_next v (key_before span.first.z span.first.number) before (rw c.in-Some.is at (c.in_ok-before.ensures.given c.self.invariant.checked)) in
@@ -52,7 +49,7 @@ returns-else-begins_at g c =
             | inl same ↦ let no = c.if-begins_at.ensures.1 same in cc
             | inr over ↦ absurd (over (subst (λ (x : TreeView). IsHonest x.store) (sym c.self.view_is) honest))
           ];
-      before = λ i stored at. tt;
+      before = search rules;
       effect = let told = subst (λ (x : TreeView). IsRegionOf x span) (sym c.self.view_is) c.requires in
           let given = given_next v (key_before span.first.z span.first.number) before (rw c.in-Some.is at (c.in_ok-before.ensures.given c.self.invariant.checked)) in
           let over : ¬ (IsHonest t.pager.store) =
@@ -66,63 +63,26 @@ returns-else-begins_at g c =
 
 pub returns-in_default : goal.returns-in_default
 returns-in_default g c = record {
-  ends = tt;
-  falls = tt;
+  ends = search rules;
+  falls = search rules;
   led = λ told honest given.
       let t = c.args.self.now in
       let sought = key_before c.args.region.now.first.z c.args.region.now.first.number in
-      let found = subst (λ (v : TreeView). GivesAny v.inner.index v.store sought c.in_ok-before.field-0) c.self.view_is
-      (c.in_ok-before.ensures.given c.self.invariant.checked) in
+      let found = subst (λ (v : TreeView). GivesAny v.inner.index v.store sought c.in_ok-before.field-0) c.self.view_is (c.in_ok-before.ensures.given c.self.invariant.checked) in
       any_given t.inner.index t.store sought None told honest (rw c.in_default.is at found) given;
-  before = let t = c.self.inside in
-      before_stands t.schema t.index t.count t.next t.rows
-      (is_written t.mark) t.is_failed t.pager c.before-2.new.pager c.args.self.now c.self.view_is c.args.region.now c.in_ok-before.field-0 None c.in_default.is (c.in_ok-before.ensures.before c.self.invariant.checked);
-  effect = let t = c.self.inside in
-      search_found t.schema t.index t.count t.next t.rows
-      (is_written t.mark) t.is_failed t.pager c.before-2.new.pager c.args.self.now c.self.view_is _
-      (Option Region) c.in_ok-before.field-0 None c.in_ok-before.ensures.effect;
+  before = search rules;
+  effect = search rules;
 }
 
 pub returns-then-begins_at : goal.returns-then-begins_at
 returns-then-begins_at g c = record {
-  ends = c.if-begins_at.ensures.0 refl;
-  falls = let t = c.args.self.now in
-      let sought = key_before c.args.region.now.first.z c.args.region.now.first.number in
-      let found = subst (λ (v : TreeView). GivesAny v.inner.index v.store sought c.in_ok-before.field-0) c.self.view_is
-      (c.in_ok-before.ensures.given c.self.invariant.checked) in
-      given_next t sought c.in-Some.before (rw c.in-Some.is at found);
+  ends = search rules;
+  falls = search rules;
   led = λ told honest given.
       let t = c.args.self.now in
       let sought = key_before c.args.region.now.first.z c.args.region.now.first.number in
-      let found = subst (λ (v : TreeView). GivesAny v.inner.index v.store sought c.in_ok-before.field-0) c.self.view_is
-      (c.in_ok-before.ensures.given c.self.invariant.checked) in
+      let found = subst (λ (v : TreeView). GivesAny v.inner.index v.store sought c.in_ok-before.field-0) c.self.view_is (c.in_ok-before.ensures.given c.self.invariant.checked) in
       any_given t.inner.index t.store sought (Some c.in-Some.before) told honest (rw c.in-Some.is at found) given;
-  before = let t = c.self.inside in
-      before_stands t.schema t.index t.count t.next t.rows
-      (is_written t.mark) t.is_failed t.pager c.before-2.new.pager c.args.self.now c.self.view_is c.args.region.now c.in_ok-before.field-0
-      (Some c.in-Some.before) c.in-Some.is (c.in_ok-before.ensures.before c.self.invariant.checked);
-  effect = let t = c.self.inside in
-      search_found t.schema t.index t.count t.next t.rows
-      (is_written t.mark) t.is_failed t.pager c.before-2.new.pager c.args.self.now c.self.view_is _ (Option Region) c.in_ok-before.field-0
-      (Some c.in-Some.before) c.in_ok-before.ensures.effect;
+  before = search rules;
+  effect = search rules;
 }
-
-pub invariant_of-self : goal.invariant_of-self
-invariant_of-self g c =
-    let t = c.self.inside in
-    tree_kept t.schema t.index t.count t.next t.rows t.mark t.pager c.before-2.new.pager c.self.invariant c.in_err-before.ensures.effect.checked
-
-pub invariant_of-self-in_default : goal.invariant_of-self-in_default
-invariant_of-self-in_default g c =
-    let t = c.self.inside in
-    tree_kept t.schema t.index t.count t.next t.rows t.mark t.pager c.before-2.new.pager c.self.invariant c.in_ok-before.ensures.effect.checked
-
-pub invariant_of-self-then-begins_at : goal.invariant_of-self-then-begins_at
-invariant_of-self-then-begins_at g c =
-    let t = c.self.inside in
-    tree_kept t.schema t.index t.count t.next t.rows t.mark t.pager c.before-2.new.pager c.self.invariant c.in_ok-before.ensures.effect.checked
-
-pub invariant_of-self-else-begins_at : goal.invariant_of-self-else-begins_at
-invariant_of-self-else-begins_at g c =
-    let t = c.self.inside in
-    tree_kept t.schema t.index t.count t.next t.rows t.mark t.pager c.before-2.new.pager c.self.invariant c.in_ok-before.ensures.effect.checked

@@ -6,10 +6,9 @@ use Rattle.ub_tree.proofs.LessenFacts.{none_removes, shrunk_removes, uncounted_r
 use Rattle.ub_tree.proofs.RoomFacts.{rows_on, rows_without}
 use Rattle.ub_tree.specs.Tree.{tree_view}
 use Rattle.ub_tree.specs.View.{TreeView, region_count}
-use Rattle.ub_tree.specs.inner.Change.{IsMadeOf, IsRegionThere}
+use Rattle.ub_tree.specs.inner.Change.{IsMadeOf}
 use Rattle.ub_writing.specs.Marks.{is_written}
 use Rattle.ub_zaddr.specs.Address.{last_address}
-use Rattle.ub_tree.proofs.StepFacts.{less_small, tree_rows}
 use Rattle.ub_tree.proofs.tree.Tree.remove_within.Goals as goal
 
 pub returns-in_err-region : goal.returns-in_err-region
@@ -78,14 +77,3 @@ returns g c =
     let few = subst (λ (v : TreeView). region_count v < 2 ^ 32) c.self-2.view_is c.self-2.invariant.few in
     shrunk_removes a key c.requires c.read_holding.new.self c.in_ok-region.region page read same has some c.remove.new.self.region.rows left c.settle.new.self d last few d_is
     c.in_ok-settle.ensures.written c.in_ok-settle.ensures.taken c.in_ok-settle.ensures.refused c.in_ok-settle.ensures.leaves
-
-pub settle-requires-clause-there : goal.settle-requires-clause-there
-settle-requires-clause-there g c =
-    let span = c.in_ok-region.region in
-    let read = c.in_ok-region.ensures.read in
-    subst (λ (v : TreeView). IsRegionThere v span) (sym c.in_ok-region.ensures.effect.same)
-    (record { told = record { key = c.args.key.now; falls = read.falls }; there = read.there; region = c.read_holding.new.page.region; on = read.read.on })
-
-pub invariant_of-self : goal.invariant_of-self
-invariant_of-self g c = tree_rows c.self-2.invariant c.self-2.inside.next (c.self-2.inside.rows - 1)
-    (less_small c.self-2.inside.rows c.self-2.invariant.fewer) c.self-2.invariant.last_next

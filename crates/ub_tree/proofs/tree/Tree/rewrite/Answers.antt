@@ -37,7 +37,7 @@ returns-in-Ok g c =
           (region_page t.schema c.args.page.now.region) c.root-root.ensures.some small there c.args.page.now.region is refl (ap (λ (s : StoreFacts). s.honest) c.in-Ok.ensures.effect.same) c.in-Ok.ensures.put);
       put = let spells = ap (λ (k : Key). region_page t.schema (record { first = k; rows = c.args.page.now.region.rows })) c.requires.first in
           rw (← c.self.view_is) (λ honest. c.in-Ok.ensures.put.written honest ∙ ap (λ (page : List ℕ). Some page) spells);
-      faults = tt;
+      faults = search rules;
       stays = search rules;
       effect = rw (← c.self.view_is) (record {
         frame = wrote_tree t.schema t.index t.count t.next t.rows (is_written t.mark) (is_written c.put_region.new.mark) t.is_failed t.is_failed t.pager c.put_region.new.pager {T = Unit {0}} (Ok tt) c.in-Ok.ensures.effect.same c.in-Ok.ensures.trace;
@@ -52,10 +52,10 @@ returns-in-Ok g c =
 
 pub returns-in-Err : goal.returns-in-Err
 returns-in-Err g c = record {
-  same = tt;
-  written = λ i stored at. tt;
-  told = tt;
-  put = tt;
+  same = search rules;
+  written = search rules;
+  told = search rules;
+  put = search rules;
   faults = search rules;
   stays = search rules;
   effect = let t = c.self.inside in

@@ -1,4 +1,4 @@
-use Rattle.std.proofs.Common.{◌≡◌, ◌/◌, ◌∙◌, refl, ap, sym, subst, length, nat_lt, true, false, OnOk}
+use Rattle.std.proofs.Common.{◌≡◌, ◌/◌, ◌∙◌, refl, ap, sym, subst, length, nat_lt, true, false, OnOk, rules}
 use Rattle.ub_index.specs.Searching.{key_before}
 use Rattle.ub_region.specs.RegionPage.{RegionView}
 use Rattle.ub_store.specs.Facts.{IsHonest}
@@ -11,9 +11,6 @@ use Rattle.ub_tree.specs.Holding.{CanFallInto, HasRoomAt}
 use Rattle.ub_tree.specs.Pages.{Spells}
 use Rattle.ub_tree.specs.View.{TreeView, region_count}
 use Rattle.ub_tree.specs.inner.Removing.{HasTakenBefore, HasTakenNext, IsPair}
-use Rattle.ub_tree.specs.inner.Change.{IsMadeOf, IsRegionThere}
-use Rattle.ub_tree.specs.Told.{IsRegionOf}
-use Rattle.ub_table.specs.Region.{IsRegion}
 use Rattle.ub_tree.proofs.tree.Tree.settle.Goals as goal
 
 pub returns-then-not-are_few : goal.returns-then-not-are_few
@@ -33,7 +30,7 @@ returns-then-not-are_few g c = record {
 pub returns-in_err-next : goal.returns-in_err-next
 returns-in_err-next g c = record {
   taken = refused_none _ c.from_residual.result c.in_err-next.field-0.0 c.from_residual.ensures.1;
-  written = λ i stored at each. refused_none _ c.from_residual.result c.in_err-next.field-0.0 c.from_residual.ensures.1;
+  written = search rules;
   refused = let count = c.page_rows.ensures.page_rows ∙ ap (λ (v : TreeView). v.schema.page_rows) c.self.view_is in
       record {
         spare = few_left c.from_residual.result count (sym c.are_few.ensures ∙ c.if-not-are_few.false);
@@ -65,7 +62,7 @@ returns-in-Some g c = record {
 pub returns-in_err-before : goal.returns-in_err-before
 returns-in_err-before g c = record {
   taken = refused_none _ c.from_residual-in_err-before.result c.in_err-before.field-0.0 c.from_residual-in_err-before.ensures.1;
-  written = λ i stored at each. refused_none _ c.from_residual-in_err-before.result c.in_err-before.field-0.0 c.from_residual-in_err-before.ensures.1;
+  written = search rules;
   refused = let a = c.args.self.now in
       let same = c.in_ok-next.ensures.effect.same in
       let sought = key_before c.args.region.now.first.z c.args.region.now.first.number in
@@ -150,48 +147,3 @@ join_at-requires g c =
 pub join_at-requires-in-Some-2 : goal.join_at-requires-in-Some-2
 join_at-requires-in-Some-2 g c =
     subst (λ (v : TreeView). IsPair v c.in-Some-2.before c.args.region.now c.join_before.new.room.region) (sym c.in_ok-before.ensures.effect.same) (rw c.in-Some-2.is at c.in_ok-before.ensures.found).pair
-
-pub rewrite-requires-clause-there : goal.rewrite-requires-clause-there
-rewrite-requires-clause-there g c = c.requires.there
-
-pub rewrite-requires-clause-first : goal.rewrite-requires-clause-first
-rewrite-requires-clause-first g c = c.requires.rows.first
-
-pub rewrite-requires-clause-region : goal.rewrite-requires-clause-region
-rewrite-requires-clause-region g c = c.requires.rows.rows.0
-
-pub join_next-requires-clause-there : goal.join_next-requires-clause-there
-join_next-requires-clause-there g c = c.requires.there
-
-pub join_next-requires-clause-rows : goal.join_next-requires-clause-rows
-join_next-requires-clause-rows g c = c.requires.rows
-
-pub join_before-requires-clause-told : goal.join_before-requires-clause-told
-join_before-requires-clause-told g c = subst (λ (v : TreeView). IsRegionOf v c.args.region.now)
-    (sym c.in_ok-next.ensures.effect.same) c.requires.there.told
-
-pub join_before-requires-clause-rows : goal.join_before-requires-clause-rows
-join_before-requires-clause-rows g c =
-    let left = rw c.in_default.is at c.in_ok-next.ensures.found in
-    subst (λ (p : RegionView). IsMadeOf c.join_next.new.self.schema c.args.region.now p) (sym left)
-    (subst (λ (v : TreeView). IsMadeOf v.schema c.args.region.now c.args.room.now.region)
-    (sym c.in_ok-next.ensures.effect.same) c.requires.rows)
-
-pub rewrite-requires-2-clause-there : goal.rewrite-requires-2-clause-there
-rewrite-requires-2-clause-there g c = subst (λ (v : TreeView). IsRegionThere v c.args.region.now)
-    (sym (c.in_ok-before.ensures.effect.same ∙ c.in_ok-next.ensures.effect.same)) c.requires.there
-
-pub rewrite-requires-2-clause-first : goal.rewrite-requires-2-clause-first
-rewrite-requires-2-clause-first g c =
-    let left = (rw c.in_default-2.is at c.in_ok-before.ensures.found) ∙ (rw c.in_default.is at c.in_ok-next.ensures.found) in
-    let same = c.in_ok-before.ensures.effect.same ∙ c.in_ok-next.ensures.effect.same in
-    ap (λ (p : RegionView). p.region.first) left ∙ c.requires.rows.first
-
-pub rewrite-requires-2-clause-region : goal.rewrite-requires-2-clause-region
-rewrite-requires-2-clause-region g c =
-    let left = (rw c.in_default-2.is at c.in_ok-before.ensures.found) ∙ (rw c.in_default.is at c.in_ok-next.ensures.found) in
-    let same = c.in_ok-before.ensures.effect.same ∙ c.in_ok-next.ensures.effect.same in
-    subst (λ (p : RegionView). IsRegion c.join_before.new.self.schema (record { first = c.args.region.now.first; rows = p.region.rows }))
-    (sym left)
-    (subst (λ (v : TreeView). IsRegion v.schema (record { first = c.args.region.now.first; rows = c.args.room.now.region.region.rows }))
-    (sym same) c.requires.rows.rows.0)

@@ -1,33 +1,29 @@
-use Rattle.std.proofs.Common.{◌≡◌, ◌≤◌, ◌+◌, ◌-◌, ◌∙◌, ℕ, Ok, Err, ap, subst, sym, refl, ◌<◌, ◌^◌, arith}
+use Rattle.std.proofs.Common.{◌≡◌, ◌≤◌, ◌+◌, ◌-◌, ◌∙◌, ℕ, Ok, ap, subst, sym, refl, ◌<◌, ◌^◌, rules}
 use Rattle.ub_store.specs.Facts.{StoreFacts, IsHonest, page_count}
 use Rattle.ub_index_change.specs.Making.{changed}
 use Rattle.ub_page.specs.declared.header.TheConstants.{MAX_LEVEL}
 use Rattle.ub_region.specs.RegionPage.{region_page}
-use Rattle.ub_table.specs.Region.{IsRegion}
 use Rattle.ub_table.specs.declared.row.Key.{Key}
 use Rattle.ub_table.specs.declared.schema.Schema.{Schema}
 use Rattle.ub_tree.proofs.AddFacts.{parts_stored}
 use Rattle.ub_tree.proofs.RoomFacts.{ready_for}
 use Rattle.ub_tree.proofs.EffectFacts.{ready_by, refused_none}
-use Rattle.ub_tree.proofs.PartFacts.{halves_refused, index_refused, parts_at, parts_effect, unready_answers, index_passing}
+use Rattle.ub_tree.proofs.PartFacts.{halves_refused, index_refused, parts_at, parts_effect, unready_answers}
 use Rattle.ub_tree.specs.Pages.{Spells}
 use Rattle.ub_tree.specs.Tree.{placed_in, tree_view}
 use Rattle.ub_tree.specs.View.{TreeView}
-use Rattle.ub_tree.specs.inner.Change.{GrowsTo, IsGrowthLeft}
-use Rattle.ub_tree.specs.declared.fault.TreeFault.TheVariants.{Page}
+use Rattle.ub_tree.specs.inner.Change.{GrowsTo}
 use Rattle.ub_index.proofs.LeadFacts.{ways_hold}
 use Rattle.ub_index_change.specs.Changing.{AreIndexPages}
 use Rattle.ub_writing.specs.Marks.{is_written}
 use Rattle.ub_tree.proofs.CallFacts.{last_small}
 use Rattle.ub_tree.proofs.StandFacts.{halves_stand}
-use Rattle.ub_tree.proofs.StepFacts.{failed_answers, new_within, region_again, within_more, write_passing, one_more, tree_counted, grown_answers, grown_refused, uncounted_splits}
-use Rattle.std.proofs.Math.Facts.{Fits-of_lt}
 use Rattle.ub_tree.proofs.tree.Tree.split.Goals as goal
 
 pub returns-in_err-change : goal.returns-in_err-change
 returns-in_err-change g c = record {
-  same = refused_none _ c.from_residual.result c.in_err-change.field-0.0 c.from_residual.ensures.1;
-  written = λ i stored at. refused_none _ c.from_residual.result c.in_err-change.field-0.0 c.from_residual.ensures.1;
+  same = search rules;
+  written = search rules;
   halves = refused_none _ c.from_residual.result c.in_err-change.field-0.0 c.from_residual.ensures.1;
   counted =
       let few = c.if-self.false in
@@ -39,39 +35,26 @@ returns-in_err-change g c = record {
 
 pub returns-in_err-put_halves : goal.returns-in_err-put_halves
 returns-in_err-put_halves g c = record {
-  same = refused_none _ c.from_residual-in_err-put_halves.result c.in_err-put_halves.field-0.0 c.from_residual-in_err-put_halves.ensures.1;
-  written = λ i stored at. refused_none _ c.from_residual-in_err-put_halves.result c.in_err-put_halves.field-0.0 c.from_residual-in_err-put_halves.ensures.1;
+  same = search rules;
+  written = search rules;
   halves = refused_none _ c.from_residual-in_err-put_halves.result c.in_err-put_halves.field-0.0 c.from_residual-in_err-put_halves.ensures.1;
-  counted = let few = c.if-self.false in
-      let count = ap (λ (v : TreeView). v.inner.count) c.self.view_is in
-      failed_answers c.args.self.now c.args.region.now c.from_residual-in_err-put_halves.result c.in_err-put_halves.field-0.0 c.from_residual-in_err-put_halves.ensures.1 (λ many. few (count ∙ many))
-      (write_passing c.grow.new.self c.put_halves.new.self c.in_err-put_halves.field-0.0 c.in_err-put_halves.ensures.effect.faults);
+  counted = search rules;
   effect =
       let change = c.in_ok-change.change in
-      let grew = subst (λ (v : TreeView). GrowsTo {A = Unit {0}} (page_count v.store + (change.next - change.start)) v c.grow.new.self
-      (Ok tt)) c.in_ok-change.ensures.effect.same c.in_ok-grow.ensures in
+      let grew = subst (λ (v : TreeView). GrowsTo {A = Unit {0}} (page_count v.store + (change.next - change.start)) v c.grow.new.self (Ok tt)) c.in_ok-change.ensures.effect.same c.in_ok-grow.ensures in
       halves_refused c.args.self.now c.grow.new.self c.put_halves.new.self c.args.region.now c.requires.there.told c.args.right.now.region.first change c.page.result c.requires.there.there
       (ready_for c.first.ensures c.in_ok-change.ensures.ready) c.page.ensures grew c.from_residual-in_err-put_halves.result c.in_err-put_halves.field-0.0 c.from_residual-in_err-put_halves.ensures.1 c.in_err-put_halves.ensures.effect;
 }
 
 pub returns-in_err-put_index : goal.returns-in_err-put_index
 returns-in_err-put_index g c = record {
-  same = refused_none _ c.from_residual-in_err-put_index.result c.in_err-put_index.field-0.0 c.from_residual-in_err-put_index.ensures.1;
-  written = λ i stored at. refused_none _ c.from_residual-in_err-put_index.result c.in_err-put_index.field-0.0 c.from_residual-in_err-put_index.ensures.1;
+  same = search rules;
+  written = search rules;
   halves = refused_none _ c.from_residual-in_err-put_index.result c.in_err-put_index.field-0.0 c.from_residual-in_err-put_index.ensures.1;
-  counted = let few = c.if-self.false in
-      let count = ap (λ (v : TreeView). v.inner.count) c.self.view_is in
-      let change = c.in_ok-change.change in
-      let grew = subst (λ (v : TreeView). GrowsTo {A = Unit {0}} (page_count v.store + (change.next - change.start)) v c.grow.new.self
-      (Ok tt)) c.in_ok-change.ensures.effect.same c.in_ok-grow.ensures in
-      failed_answers c.args.self.now c.args.region.now c.from_residual-in_err-put_index.result c.in_err-put_index.field-0.0 c.from_residual-in_err-put_index.ensures.1 (λ many. few (count ∙ many))
-      (index_passing c.args.self.now c.grow.new.self c.put_halves.new.self c.args.region.now c.requires.there.told c.args.right.now.region.first change c.page.result c.requires.there.there
-      (ready_for c.first.ensures c.in_ok-change.ensures.ready) c.page.ensures grew c.put_index.new.self c.in_ok-put_halves.ensures.effect c.in_ok-put_halves.ensures.same c.in_ok-put_halves.ensures.put.count
-      c.in_err-put_index.ensures.kept c.in_err-put_index.field-0.0 c.in_err-put_index.ensures.stopped.1);
+  counted = search rules;
   effect =
       let change = c.in_ok-change.change in
-      let grew = subst (λ (v : TreeView). GrowsTo {A = Unit {0}} (page_count v.store + (change.next - change.start)) v c.grow.new.self
-      (Ok tt)) c.in_ok-change.ensures.effect.same c.in_ok-grow.ensures in
+      let grew = subst (λ (v : TreeView). GrowsTo {A = Unit {0}} (page_count v.store + (change.next - change.start)) v c.grow.new.self (Ok tt)) c.in_ok-change.ensures.effect.same c.in_ok-grow.ensures in
       index_refused c.args.self.now c.grow.new.self c.put_halves.new.self c.args.region.now c.requires.there.told c.args.right.now.region.first change c.page.result c.requires.there.there
       (ready_for c.first.ensures c.in_ok-change.ensures.ready) c.page.ensures grew c.put_index.new.self c.in_ok-put_halves.ensures.effect c.in_ok-put_halves.ensures.same c.in_ok-put_halves.ensures.put.count
       c.in_err-put_index.ensures.kept c.from_residual-in_err-put_index.result c.in_err-put_index.field-0.0 c.from_residual-in_err-put_index.ensures.1 c.in_err-put_index.ensures.marked c.in_err-put_index.ensures.stopped;
@@ -131,13 +114,7 @@ returns g c =
           (ap (λ (v : TreeView). v.store) d_is) in
           (both.0, (page_count a.store, both.1), both.2);
       halves = stand;
-      counted = let few = c.if-self.false in
-          let count = ap (λ (v : TreeView). v.inner.count) c.self.view_is in (
-            λ _ many. absurd (few (count ∙ many)),
-            λ honest falls page fault is. absurd (let bad : Ok tt ≡ Err (Page page fault) = is in cc),
-            λ honest falls _ _ levels full. absurd (c.in_ok-change.ensures.full honest levels full refl),
-            λ honest falls. tt,
-          );
+      counted = search rules;
       effect = parts_effect a c.grow.new.self h span c.requires.there.told right.first change c.page.result c.requires.there.there ready c.page.ensures grew n wrote.effect same wrote.put.count
           made.kept d _ now count_is made.works d_is high;
     }
@@ -157,63 +134,9 @@ put_index-requires g c = λ honest.
 
 pub returns-in_err-grow : goal.returns-in_err-grow
 returns-in_err-grow g c = record {
-  same = refused_none _ c.from_residual-in_err-grow.result c.in_err-grow.field-0.0 c.from_residual-in_err-grow.ensures.1;
-  written = λ i stored at. refused_none _ c.from_residual-in_err-grow.result c.in_err-grow.field-0.0 c.from_residual-in_err-grow.ensures.1;
+  same = search rules;
+  written = search rules;
   halves = refused_none _ c.from_residual-in_err-grow.result c.in_err-grow.field-0.0 c.from_residual-in_err-grow.ensures.1;
-  counted = let few = c.if-self.false in
-      let count = ap (λ (v : TreeView). v.inner.count) c.self.view_is in
-      let change = c.in_ok-change.change in
-      let ready = c.in_ok-change.ensures.ready in
-      let left = subst (λ (v : TreeView). IsGrowthLeft (page_count v.store +
-      (change.next - change.start)) v c.grow.new.self c.in_err-grow.field-0.0) c.in_ok-change.ensures.effect.same c.in_err-grow.ensures.left in
-      grown_answers c.args.self.now c.args.region.now change c.from_residual-in_err-grow.result c.in_err-grow.field-0.0 c.grow.new.self c.from_residual-in_err-grow.ensures.1 (λ many. few (count ∙ many))
-      ready.start ready.needed left;
-  effect = let change = c.in_ok-change.change in
-      let high = subst (λ (v : TreeView). v.inner.index.levels ≤ MAX_LEVEL) c.self.view_is c.root-root.ensures.high in
-      let e = c.in_err-grow.field-0.0 in
-      let grew = subst (λ (v : TreeView). GrowsTo {A = Unit {0}} (page_count v.store + (change.next - change.start)) v c.grow.new.self
-      (Err e)) c.in_ok-change.ensures.effect.same c.in_err-grow.ensures in
-      grown_refused c.args.self.now c.args.region.now c.first.result change c.in_ok-change.ensures.ready high c.grow.new.self c.requires.there.there c.from_residual-in_err-grow.result e c.from_residual-in_err-grow.ensures.1 grew;
+  counted = search rules;
+  effect = search rules;
 }
-
-pub put_halves-requires-clause-own : goal.put_halves-requires-clause-own
-put_halves-requires-clause-own g c =
-    within_more _ c.in_ok-grow.ensures.done.1 (subst (λ (v : TreeView). c.args.region.now.page < page_count v.store)
-    (sym c.in_ok-change.ensures.effect.same) c.requires.there.there)
-
-pub put_halves-requires-clause-there : goal.put_halves-requires-clause-there
-put_halves-requires-clause-there g c =
-    let ready = c.in_ok-change.ensures.ready in
-    let grew = c.in_ok-grow.ensures.done.1 ∙ ap (λ (v : TreeView). page_count v.store +
-    (c.in_ok-change.change.next - c.in_ok-change.change.start)) c.in_ok-change.ensures.effect.same in
-    new_within c.page.ensures ready.start ready.some grew
-
-pub put_halves-requires-clause-left : goal.put_halves-requires-clause-left
-put_halves-requires-clause-left g c =
-    region_again c.args.left.now.region (ap (λ (v : TreeView). v.schema) c.in_ok-grow.ensures.frame
-    ∙ ap (λ (v : TreeView). v.schema) c.in_ok-change.ensures.effect.same) c.requires.first c.requires.left
-
-pub put_halves-requires-clause-right : goal.put_halves-requires-clause-right
-put_halves-requires-clause-right g c =
-    subst (λ (s : Schema). IsRegion s c.args.right.now.region)
-    (sym (ap (λ (v : TreeView). v.schema) c.in_ok-grow.ensures.frame
-    ∙ ap (λ (v : TreeView). v.schema) c.in_ok-change.ensures.effect.same)) c.requires.right
-
-pub overflow_add-self : goal.overflow_add-self
-overflow_add-self g c =
-    let same = ap (λ (v : TreeView). v.inner.count) c.self-2.view_is ∙ ap (λ (v : TreeView). v.inner.count) c.in_ok-put_index.ensures.now
-    ∙ ap (λ (v : TreeView). v.inner.count) c.in_ok-put_halves.ensures.same ∙ ap (λ (v : TreeView). v.inner.count) c.in_ok-grow.ensures.frame
-    ∙ ap (λ (v : TreeView). v.inner.count) c.in_ok-change.ensures.effect.same ∙ sym (ap (λ (v : TreeView). v.inner.count) c.self.view_is) in
-    Fits-of_lt (one_more same c.self-2.invariant.few c.if-self.false)
-
-pub invariant_of-self : goal.invariant_of-self
-invariant_of-self g c =
-    let same = ap (λ (v : TreeView). v.inner.count) c.self-2.view_is ∙ ap (λ (v : TreeView). v.inner.count) c.in_ok-put_index.ensures.now
-    ∙ ap (λ (v : TreeView). v.inner.count) c.in_ok-put_halves.ensures.same ∙ ap (λ (v : TreeView). v.inner.count) c.in_ok-grow.ensures.frame
-    ∙ ap (λ (v : TreeView). v.inner.count) c.in_ok-change.ensures.effect.same ∙ sym (ap (λ (v : TreeView). v.inner.count) c.self.view_is) in
-    tree_counted c.self-2.invariant (c.self-2.inside.count + 1) (omega arith) (one_more same c.self-2.invariant.few c.if-self.false)
-
-pub returns-then-self : goal.returns-then-self
-returns-then-self g c =
-    let many = sym (ap (λ (v : TreeView). v.inner.count) c.self.view_is) ∙ c.if-self.true in
-    uncounted_splits c.args.self.now c.args.region.now _ c.uncounted.result c.uncounted.ensures.fault many (c.uncounted.ensures.many many)

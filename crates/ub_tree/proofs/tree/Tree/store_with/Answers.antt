@@ -1,4 +1,4 @@
-use Rattle.std.proofs.Common.{◌≡◌, ◌<◌, ◌∙◌, [], ◌∷◌, List, OnOk, true, nat_le, ap, subst, sym, length, arith, false, refl, ◌+◌, ℕ}
+use Rattle.std.proofs.Common.{◌≡◌, ◌<◌, ◌∙◌, [], ◌∷◌, List, OnOk, true, nat_le, ap, subst, sym, length, arith, false, refl, ◌+◌, rules}
 use Rattle.std.proofs.lemmas.Bool.{le-leb, lt-leb}
 use Rattle.std.proofs.lemmas.List.Edits.{length-insert}
 use Rattle.ub_region.specs.Rows.{Halves, split}
@@ -13,13 +13,10 @@ use Rattle.ub_tree.proofs.FilledFacts.{writes_grown}
 use Rattle.ub_tree.proofs.GrowFacts.{one_stored, same_split, two_stored}
 use Rattle.ub_tree.proofs.RoomFacts.{one_stands, two_stand}
 use Rattle.ub_tree.specs.View.{TreeView}
-use Rattle.ub_tree.specs.inner.Change.{CanStand, IsStored, StoresRows, placed_with, StoresAt}
+use Rattle.ub_tree.specs.inner.Change.{CanStand, IsStored, StoresRows, placed_with}
 use Rattle.ub_store.specs.Facts.{IsHonest, page_count}
 use Rattle.ub_tree.proofs.StandFacts.{stand_alone, stand_halved}
 use Rattle.ub_tree.specs.Pages.{Spells, SpellsHalves}
-use Rattle.ub_tree.proofs.StepFacts.{answers_full, rewritten_answers, rewritten_at}
-use Rattle.ub_table.specs.declared.row.Key.{Key}
-use Rattle.ub_index_change.specs.Preparing.{IsWithinRegion}
 use Rattle.ub_tree.proofs.tree.Tree.store_with.Goals as goal
 
 pub returns : goal.returns
@@ -31,10 +28,7 @@ returns g c =
     let made : insert_row b.schema.dims row rows ≡ insert rows c.args.index row = c.requires.place.1 in
     let rows_are : c.insert_at.new.self.region.rows ≡ new = ap (λ (v : RegionView). v.region.rows) c.insert_at.ensures ∙ sym made in
     record {
-      same = rewritten_at c.args.region.now (length rows) b c.rewrite.new.self c.rewrite.result
-          (λ (full : length rows ≡ b.schema.page_rows). c.if-len-page_rows.false
-          (c.len.ensures.len ∙ full ∙ sym (c.page_rows.ensures.page_rows ∙ ap (λ (v : TreeView). v.schema.page_rows) c.self.view_is)))
-          c.rewrite.ensures.same c.rewrite.ensures.told c.rewrite.ensures.effect;
+      same = search rules;
       written = λ i stored at all.
           let same : c.page_rows.result ≡ b.schema.page_rows = c.page_rows.ensures.page_rows ∙ ap (λ (v : TreeView). v.schema.page_rows) c.self.view_is in
           let few = c.requires.read.on.0.few in
@@ -49,10 +43,7 @@ returns g c =
           let same = c.page_rows.ensures.page_rows ∙ ap (λ (v : TreeView). v.schema.page_rows) c.self.view_is in
           stand_alone c.rewrite.result span (length rows) new b c.rewrite.new.self (λ full. c.if-len-page_rows.false (c.len.ensures.len ∙ full ∙ sym same))
           (subst (λ (rs : List Row). OnOk c.rewrite.result (IsHonest b.store → Spells c.rewrite.new.self span.page span.first rs)) rows_are c.rewrite.ensures.put);
-      counted = rewritten_answers (length rows ≡ b.schema.page_rows) b c.args.region.now c.rewrite.result
-          (λ (full : length rows ≡ b.schema.page_rows). c.if-len-page_rows.false
-          (c.len.ensures.len ∙ full ∙ sym (c.page_rows.ensures.page_rows ∙ ap (λ (v : TreeView). v.schema.page_rows) c.self.view_is)))
-          c.rewrite.ensures.faults;
+      counted = search rules;
       effect = changed_by c.args.self.now c.rewrite.new.self c.args.region.now c.requires.there.0 c.rewrite.result c.rewrite.ensures.effect;
     }
 
@@ -63,8 +54,7 @@ split-requires-clause-right g c =
     let before = c.args.room.now.region.region.rows in
     let made : insert_row b.schema.dims row before ≡ insert before c.args.index row = c.requires.place.1 in
     let rows = insert before c.args.index row in
-    let full = sym c.len.ensures.len ∙ c.if-len-page_rows.true ∙ c.page_rows.ensures.page_rows
-    ∙ ap (λ (v : TreeView). v.schema.page_rows) c.self.view_is in
+    let full = sym c.len.ensures.len ∙ c.if-len-page_rows.true ∙ c.page_rows.ensures.page_rows ∙ ap (λ (v : TreeView). v.schema.page_rows) c.self.view_is in
     let stand : CanStand b c.args.region.now rows = subst (λ (rs : List Row). CanStand b c.args.region.now rs) made c.requires.rows in
     let within = c.requires.place.0 in
     let more : length rows ≡ length before + 1 = length-insert before c.args.index row within in
@@ -79,10 +69,9 @@ returns-then-len-page_rows g c =
     let before = c.args.room.now.region.region.rows in
     let made : insert_row b.schema.dims row before ≡ insert before c.args.index row = c.requires.place.1 in
     let rows = insert before c.args.index row in
-    let full = sym c.len.ensures.len ∙ c.if-len-page_rows.true ∙ c.page_rows.ensures.page_rows
-    ∙ ap (λ (v : TreeView). v.schema.page_rows) c.self.view_is in
+    let full = sym c.len.ensures.len ∙ c.if-len-page_rows.true ∙ c.page_rows.ensures.page_rows ∙ ap (λ (v : TreeView). v.schema.page_rows) c.self.view_is in
     record {
-      same = subst (λ (n : ℕ). OnOk c.split.result (StoresAt c.args.region.now n b c.split.new.self)) (sym full) c.split.ensures.same;
+      same = search rules;
       written = let stand : CanStand b c.args.region.now rows = subst (λ (rs : List Row). CanStand b c.args.region.now rs) made c.requires.rows in
           let within = c.requires.place.0 in
           let more : length rows ≡ length before + 1 = length-insert before c.args.index row within in
@@ -94,8 +83,8 @@ returns-then-len-page_rows g c =
           let halves = rw (c.split_with.ensures.left, c.split_with.ensures.right, c.requires.read.dims, full) at c.split.ensures.halves in
           stand_halved c.split.result span (length before) (insert_row b.schema.dims row before) b c.split.new.self full
           (subst (λ (rs : List Row). OnOk c.split.result (IsHonest b.store → SpellsHalves c.split.new.self span.page (page_count b.store) span.first (split b.schema.dims b.schema.page_rows rs))) (sym made) halves);
-      counted = answers_full (length before ≡ b.schema.page_rows) b c.args.region.now c.split.result full c.split.ensures.counted;
-      effect = c.split.ensures.effect;
+      counted = search rules;
+      effect = search rules;
     }
 
 pub rewrite-requires-clause-region : goal.rewrite-requires-clause-region
@@ -112,55 +101,3 @@ rewrite-requires-clause-region g c =
     let more = length-insert_row b.schema.dims row rows in
     let rows_are : c.insert_at.new.self.region.rows ≡ new = ap (λ (v : RegionView). v.region.rows) c.insert_at.ensures ∙ sym made in
     subst (λ (rs : List Row). IsRegion b.schema (record { first = c.args.region.now.first; rows = rs })) (sym rows_are) (one_stands b c.args.region.now new c.requires.rows (omega arith))
-
-pub split-requires-clause-there : goal.split-requires-clause-there
-split-requires-clause-there g c = record { told = c.requires.there.0; there = c.requires.there.1; region = c.args.room.now.region.region; on = c.requires.read.on }
-
-pub split-requires-clause-first : goal.split-requires-clause-first
-split-requires-clause-first g c = ap (λ (v : RegionView). v.region.first) c.split_with.ensures.left ∙ c.requires.read.on.1.0
-
-pub split-requires-clause-within : goal.split-requires-clause-within
-split-requires-clause-within g c =
-    let b = c.args.self.now in
-    let row = c.args.row.now in
-    let before = c.args.room.now.region.region.rows in
-    let made : insert_row b.schema.dims row before ≡ insert before c.args.index row = c.requires.place.1 in
-    let rows = insert before c.args.index row in
-    let full = sym c.len.ensures.len ∙ c.if-len-page_rows.true ∙ c.page_rows.ensures.page_rows
-    ∙ ap (λ (v : TreeView). v.schema.page_rows) c.self.view_is in
-    let stand : CanStand b c.args.region.now rows = subst (λ (rs : List Row). CanStand b c.args.region.now rs) made c.requires.rows in
-    let within = c.requires.place.0 in
-    let more : length rows ≡ length before + 1 = length-insert before c.args.index row within in
-    let right = ap (λ (v : RegionView). v.region.first) c.split_with.ensures.right
-    ∙ ap (λ (h : Halves). h.first) (same_split c.requires.read.dims full refl) in
-    subst (λ (k : Key). IsWithinRegion b.inner.index.last c.args.region.now.first c.args.region.now.next k) (sym right)
-    (stand.within (omega arith))
-
-pub split-requires-clause-left : goal.split-requires-clause-left
-split-requires-clause-left g c =
-    let b = c.args.self.now in
-    let row = c.args.row.now in
-    let before = c.args.room.now.region.region.rows in
-    let made : insert_row b.schema.dims row before ≡ insert before c.args.index row = c.requires.place.1 in
-    let rows = insert before c.args.index row in
-    let full = sym c.len.ensures.len ∙ c.if-len-page_rows.true ∙ c.page_rows.ensures.page_rows
-    ∙ ap (λ (v : TreeView). v.schema.page_rows) c.self.view_is in
-    let stand : CanStand b c.args.region.now rows = subst (λ (rs : List Row). CanStand b c.args.region.now rs) made c.requires.rows in
-    let within = c.requires.place.0 in
-    let more : length rows ≡ length before + 1 = length-insert before c.args.index row within in
-    let left = ap (λ (v : RegionView). v.region.rows) c.split_with.ensures.left
-    ∙ ap (λ (h : Halves). h.left) (same_split c.requires.read.dims full refl) in
-    subst (λ (rs : List Row). IsRegion b.schema (record { first = c.args.region.now.first; rows = rs })) (sym left)
-    (two_stand b c.args.region.now rows stand (omega arith)).0
-
-pub rewrite-requires-clause-there : goal.rewrite-requires-clause-there
-rewrite-requires-clause-there g c = record { told = c.requires.there.0; there = c.requires.there.1; region = c.args.room.now.region.region; on = c.requires.read.on }
-
-pub rewrite-requires-clause-first : goal.rewrite-requires-clause-first
-rewrite-requires-clause-first g c = ap (λ (v : RegionView). v.region.first) c.insert_at.ensures ∙ c.requires.read.on.1.0
-
-pub split_with-requires-clause-within : goal.split_with-requires-clause-within
-split_with-requires-clause-within g c = c.requires.place.0
-
-pub insert_at-requires-clause-within : goal.insert_at-requires-clause-within
-insert_at-requires-clause-within g c = c.requires.place.0
