@@ -1,15 +1,9 @@
 -- What carrying out a plan answers.
 use Rattle.std.specs.Prelude.{◌≡◌, List}
-use Rattle.ub_planning.specs.Plan.{PlanView, plan_of}
+use Rattle.ub_exec.specs.Common.{AreTableRows, Asked, Cell, IsMeaning, IsSound, plan_of, PlanView, regions, Row, Sweep, TreeView}
 use Rattle.ub_planning.specs.declared.planned.Kind.{Kind}
-use Rattle.ub_planning.specs.declared.planned.Kind.TheVariants.{Empty, Scan, Sweep}
-use Rattle.ub_query.specs.Meaning.{IsMeaning}
-use Rattle.ub_query.specs.Shape.{Asked}
-use Rattle.ub_query.specs.declared.cell.Cell.{Cell}
-use Rattle.ub_region.specs.Regions.{AreTableRows}
+use Rattle.ub_planning.specs.declared.planned.Kind.TheVariants.{Empty, Scan}
 use Rattle.ub_store.specs.View.{emptied}
-use Rattle.ub_table.specs.declared.row.Row.{Row}
-use Rattle.ub_tree.specs.View.{TreeView, IsSound, regions}
 
 -- the tree is sound, and the plan is that of its query over the tree's schema
 pub record IsReady (t : TreeView) (p : PlanView) : Type 0 where

@@ -1,19 +1,12 @@
 -- What the calls that carry out a plan promise, one record for each, and what those below them do.
 use Rattle.std.specs.Prelude.{◌≡◌, ℕ, false, IsTrue, List, Result, Ok, Err, IfOk, OnErr, OnOk, length, take}
-use Rattle.ub_answer.specs.Shaped.{IsShaped}
+use Rattle.ub_exec.specs.Common.{Cell, Failed, IsShaped, PlanView, ReadFault, ReadsTree, Tree, TreeView}
 use Rattle.ub_exec.specs.Answers.{IsAnswer, IsReady, begun}
 use Rattle.ub_exec.specs.Deleting.{Deletes, IsDeletionOf, ReadsFirst}
 use Rattle.ub_exec.specs.Reading.{CarriesOut, NotesPages, ReadsSwept}
 use Rattle.ub_exec.specs.Scanned.{IsOfRead, IsScanOf}
 use Rattle.ub_exec.specs.Stand.{Stand, IsStandOf, selected_of, without_rows, without_selected}
 use Rattle.ub_exec.specs.Visits.{HasFetched, HasFetchedFirst}
-use Rattle.ub_planning.specs.Plan.{PlanView}
-use Rattle.ub_query.specs.declared.cell.Cell.{Cell}
-use Rattle.ub_tree.specs.Reading.{ReadsTree}
-use Rattle.ub_tree.specs.View.{TreeView}
-use Rattle.ub_tree.specs.declared.fault.TreeFault.TheVariants.{Failed}
-use Rattle.ub_tree.specs.declared.read_fault.ReadFault.{ReadFault}
-use Rattle.ub_tree.specs.declared.read_fault.ReadFault.TheVariants.{Tree}
 
 -- the regions that the plan visits were fetched, since the tree was this one; where a fault ended that, the first of them
 pub record FetchesVisits {A : Type 0} (p : PlanView) (start new : TreeView) (result : Result A ReadFault) : Type 0 where

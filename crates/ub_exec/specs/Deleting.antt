@@ -1,26 +1,15 @@
 -- What a deletion does to a tree, also to one that isn't sound.
 use Rattle.std.specs.Prelude.{◌≡◌, ◌≢◌, ◌+◌, ◌++◌, ◌∷◌, ◌⊎◌, [], ℕ, suc, Bool, true, if◌then◌else◌, IsTrue, List, Some, None, Result, Ok, Err, IfErr, IfOk, OnOk}
-use Rattle.std.specs.List.{filter}
-use Rattle.std.specs.List.Sorted.{IsNonDecreasingBy, IsPermutation}
+use Rattle.ub_exec.specs.Common.{Asked, Failed, fault_of_tree, filter, is_selected, IsPermutation, IsSound, KeepsUnless, Key, keys_of, Memory}
+use Rattle.ub_exec.specs.Common.{plan_of, PlanView, raised, ReadFault, ReadsTree, Row, Tree, TreeView}
+use Rattle.std.specs.List.Sorted.{IsNonDecreasingBy}
 use Rattle.ub_exec.specs.Answers.{IsReady, begun}
 use Rattle.ub_exec.specs.Reading.{HasReadRows, NotesPages}
-use Rattle.ub_planning.specs.Plan.{PlanView, plan_of}
-use Rattle.ub_query.specs.Groups.{is_selected}
-use Rattle.ub_query.specs.Shape.{Asked}
-use Rattle.ub_store.specs.Facts.{raised}
-use Rattle.ub_store.specs.declared.fault.StoreFault.TheVariants as store
-use Rattle.ub_table.specs.Region.{keys_of}
-use Rattle.ub_table.specs.declared.row.Key.{Key}
-use Rattle.ub_table.specs.declared.row.Row.{Row}
 use Rattle.ub_tree.specs.Effects.{KeepsMark, Works}
-use Rattle.ub_tree.specs.Reading.{ReadsTree, fault_of_tree}
 use Rattle.ub_tree.specs.Removal.{Removes}
-use Rattle.ub_tree.specs.View.{TreeView, IsSound}
 use Rattle.ub_tree.specs.declared.fault.TreeFault.{TreeFault}
-use Rattle.ub_tree.specs.declared.fault.TreeFault.TheVariants.{Full, Page, Store, Failed, Memory as no_memory}
-use Rattle.ub_tree.specs.declared.read_fault.ReadFault.{ReadFault}
-use Rattle.ub_tree.specs.declared.read_fault.ReadFault.TheVariants.{Memory, Tree}
-use Rattle.ub_writing.specs.Marks.{KeepsUnless}
+use Rattle.ub_tree.specs.declared.fault.TreeFault.TheVariants.{Full, Page, Store, Memory as no_memory}
+use Rattle.ub_store.specs.declared.fault.StoreFault.TheVariants as store
 
 -- a deletion asks for no groups, no order and no limit: each selected row is taken out
 abbrev pub IsDeletion : Asked → Type 0

@@ -1,13 +1,8 @@
 -- The laws of stands. Each is what the function of its name in `law` ensures.
 use Rattle.std.specs.Prelude.{◌≡◌, not, List, Contains}
-use Rattle.std.specs.List.{filter}
+use Rattle.ub_exec.specs.Common.{Asked, filter, is_selected, IsInOrder, IsSound, Row, TreeView}
 use Rattle.ub_exec.specs.Stand.{Stand, IsStand, IsStandOf, with_row, without_row, without_rows, without_selected}
-use Rattle.ub_query.specs.Groups.{is_selected}
-use Rattle.ub_query.specs.Shape.{Asked}
 use Rattle.ub_table.specs.Region.{IsRow, measures_of}
-use Rattle.ub_table.specs.Table.{IsInOrder}
-use Rattle.ub_table.specs.declared.row.Row.{Row}
-use Rattle.ub_tree.specs.View.{TreeView, IsSound}
 
 -- the table of a sound tree stands somewhere
 abbrev pub SoundTreesStand : Type 0

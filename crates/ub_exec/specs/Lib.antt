@@ -1,3 +1,4 @@
+pub mod Common
 pub mod Answers
 pub mod Calls
 pub mod Deleting

@@ -1,22 +1,12 @@
 -- What carrying out a plan reads of any tree, also of one that isn't sound: which pages are noted, and that each was taken in.
 use Rattle.std.specs.Prelude.{◌≡◌, ◌≢◌, ◌≤◌, ◌++◌, ◌∷◌, ◌⊎◌, [], ℕ, Bool, List, Option, Some, None, Result, Ok, Err, OnOk, length, map}
-use Rattle.std.specs.List.{AllByRecursion}
-use Rattle.ub_bigmin.specs.Box.{Corners, HoldsAny}
+use Rattle.ub_exec.specs.Common.{AllByRecursion, AreInOrder, AreStretchesOf, AreValued, AwaitedRegion, AwaitedStretch, Corners, HasNoted, HoldsAny}
+use Rattle.ub_exec.specs.Common.{IsSweepOf, IsTakenIn, KeepsTrace, Key, lowest, PlanView, ReadFault, Region, RegionRows, Row, times_held, TreeView}
+use Rattle.ub_exec.specs.Common.{whole_of}
 use Rattle.ub_exec.specs.Answers.{IsSwept}
-use Rattle.ub_planning.specs.Plan.{PlanView}
-use Rattle.ub_table.specs.Region.{RegionRows}
-use Rattle.ub_table.specs.declared.row.Key.{Key}
-use Rattle.ub_table.specs.declared.row.Row.{Row}
-use Rattle.ub_tetris.specs.Awaited.{AreInOrder, AreStretchesOf, AreValued, AwaitedRegion, AwaitedStretch, lowest, times_held}
 use Rattle.ub_tetris.specs.Effects.{AreAsked, fetches_then}
-use Rattle.ub_tetris.specs.Sweep.{IsSweepOf}
-use Rattle.ub_tree.specs.Effects.{HasNoted, IsTakenIn}
 use Rattle.ub_tree.specs.Handing.{AreMetBy}
-use Rattle.ub_tree.specs.Spans.{Region}
-use Rattle.ub_tree.specs.Stretches.{whole_of}
 use Rattle.ub_tree.specs.Told.{AreFirst, GivesNext, IsRegionOf}
-use Rattle.ub_tree.specs.View.{TreeView, KeepsTrace}
-use Rattle.ub_tree.specs.declared.read_fault.ReadFault.{ReadFault}
 
 -- the page spells the region of this span
 abbrev pub IsIn : TreeView → Region → Type 0

@@ -1,15 +1,8 @@
 -- What a scan answers of any tree, also of one that isn't sound.
 use Rattle.std.specs.Prelude.{◌≡◌, ◌≢◌, List, Some}
-use Rattle.std.specs.List.Sorted.{IsPermutation}
+use Rattle.ub_exec.specs.Common.{Cell, IsInOrder, IsMeaning, IsPermutation, plan_of, PlanView, Row, Schema, TreeView}
 use Rattle.ub_exec.specs.Answers.{IsSwept}
 use Rattle.ub_exec.specs.Reading.{HasReadRows}
-use Rattle.ub_planning.specs.Plan.{PlanView, plan_of}
-use Rattle.ub_query.specs.Meaning.{IsMeaning}
-use Rattle.ub_query.specs.declared.cell.Cell.{Cell}
-use Rattle.ub_table.specs.Table.{IsInOrder}
-use Rattle.ub_table.specs.declared.row.Row.{Row}
-use Rattle.ub_table.specs.declared.schema.Schema.{Schema}
-use Rattle.ub_tree.specs.View.{TreeView}
 
 -- the plan is that of its query, which asks for some row, and sweeps no regions
 abbrev pub IsScanOf : Schema → PlanView → Type 0

@@ -1,12 +1,9 @@
 -- Where a table stands, and what a row that is put in, and rows that are taken out, make of it.
 use Rattle.std.specs.Prelude.{◌≡◌, ◌+◌, ◌++◌, ◌∷◌, [], ℕ, List}
-use Rattle.ub_query.specs.Groups.{selected}
-use Rattle.ub_query.specs.Shape.{Asked}
-use Rattle.ub_region.specs.Regions.{AreRegions, AreTableRows, insert, remove, without_number}
-use Rattle.ub_table.specs.Region.{RegionRows, key_of}
+use Rattle.ub_exec.specs.Common.{AreRegions, AreTableRows, Asked, IsSound, key_of, RegionRows, regions, remove, Row, selected, TreeView}
+use Rattle.ub_exec.specs.Common.{without_number}
+use Rattle.ub_region.specs.Regions.{insert}
 use Rattle.ub_table.specs.Table.{Table}
-use Rattle.ub_table.specs.declared.row.Row.{Row}
-use Rattle.ub_tree.specs.View.{TreeView, IsSound, regions}
 
 -- where a table stands: the table, the regions in which its rows are, and the number that the next row gets
 pub record Stand : Type 0 where

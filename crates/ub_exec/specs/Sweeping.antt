@@ -1,13 +1,8 @@
 -- What a sweep of rows is given, and what comes of it.
 use Rattle.std.specs.Prelude.{◌≡◌, [], ℕ, Bool, List}
-use Rattle.ub_answer.specs.Shaped.{IsShaped}
+use Rattle.ub_exec.specs.Common.{Cell, HasBegun, IsShaped, IsStarted, IsSweepOf, IsWholeAwaited, PlanView, SweepView, TreeView}
 use Rattle.ub_exec.specs.Answers.{IsAnswer, begun}
 use Rattle.ub_exec.specs.Visits.{HasFetched}
-use Rattle.ub_planning.specs.Plan.{PlanView}
-use Rattle.ub_query.specs.declared.cell.Cell.{Cell}
-use Rattle.ub_tetris.specs.Awaited.{IsWholeAwaited}
-use Rattle.ub_tetris.specs.Sweep.{HasBegun, IsStarted, IsSweepOf, SweepView}
-use Rattle.ub_tree.specs.View.{TreeView}
 
 -- it was begun by the plan, over any tree: no page stands in the trace, and along the plan's dimension it awaits the whole tree, or nothing
 -- where no address of the space is in the plan's boxes

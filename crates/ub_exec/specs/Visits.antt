@@ -1,18 +1,10 @@
 -- The regions that carrying out a plan fetches: those that its plan visits, each once, in their order.
 use Rattle.std.specs.Prelude.{◌≡◌, ◌≤◌, ◌⊎◌, ◌++◌, ℕ, Bool, List, [], Option, Some, None, length, map, take}
-use Rattle.std.specs.List.{AllByRecursion, Contains, filter}
-use Rattle.ub_bigmin.specs.Box.{Corners}
-use Rattle.ub_planning.specs.Plan.{PlanView}
-use Rattle.ub_planning.specs.Visits as plan
+use Rattle.ub_exec.specs.Common.{AllByRecursion, AreThose, Contains, Corners, filter, First, HasNoted, IsLater, KeepsTrace, Meets, Placed, PlanView}
+use Rattle.ub_exec.specs.Common.{Region, regions, regions_in, Row, rows_of, spans_of, TreeView}
 use Rattle.ub_planning.specs.Visits.{AreVisits}
-use Rattle.ub_region.specs.Those.{AreThose}
-use Rattle.ub_region.specs.Regions.{rows_of}
-use Rattle.ub_table.specs.declared.row.Row.{Row}
+use Rattle.ub_planning.specs.Visits as plan
 pub use Rattle.ub_tetris.specs.Effects.{fetches_then}
-use Rattle.ub_tree.specs.Effects.{HasNoted}
-use Rattle.ub_tree.specs.Placed.{Placed, regions_in}
-use Rattle.ub_tree.specs.Spans.{IsLater, Meets, First, Region}
-use Rattle.ub_tree.specs.View.{TreeView, KeepsTrace, regions, spans_of}
 
 -- the regions that a plan visits were fetched, each once, in the order of the visits, and no others: their pages stand in the
 -- trace, after those that stood there

@@ -1,24 +1,13 @@
 -- How a walk over the regions that meet some boxes goes along a leaf.
 use Rattle.std.specs.Prelude.{◌≡◌, ◌<◌, ◌^◌, ℕ, List, [], ◌∷◌, Option, Some, None, Result, IfErr, IfOk, IfSome}
-use Rattle.ub_bigmin.specs.Box.{Corners, HoldsAny}
-use Rattle.ub_bigmin.specs.Extremes.{LeastFrom}
+use Rattle.ub_index.specs.Common.{Corners, Entry, FallsTo, HoldsAny, IndexFault, IsBefore, Key, Leaf, LeastFrom, node_on, PagerView, Region}
+use Rattle.ub_index.specs.Common.{StoreFacts, TakesThese}
 use Rattle.ub_index.specs.Descending.{HoldsLeaf, IsForgotten}
-use Rattle.ub_index.specs.Fitting.{FallsTo}
 use Rattle.ub_index.specs.Held.{AreChecked}
 use Rattle.ub_index.specs.Searching.{Gives, GivesFrom, GoesDown, IsAim}
-use Rattle.ub_index.specs.Sinks.{TakesThese}
 use Rattle.ub_index.specs.Spans.{region_of}
 use Rattle.ub_index.specs.View.{IndexView, entry_at}
-use Rattle.ub_index.specs.declared.descent.Leaf.{Leaf}
-use Rattle.ub_index.specs.declared.fault.IndexFault.{IndexFault}
-use Rattle.ub_page.specs.Index.{node_on}
 use Rattle.ub_page.specs.Slots.{IsSlot, first_in}
-use Rattle.ub_region.specs.declared.entry.Entry.{Entry}
-use Rattle.ub_region.specs.declared.region.Region.{Region}
-use Rattle.ub_store.specs.Facts.{StoreFacts}
-use Rattle.ub_store.specs.View.{PagerView}
-use Rattle.ub_table.specs.Keys.{IsBefore}
-use Rattle.ub_table.specs.declared.row.Key.{Key}
 
 -- the address that a search for a region that meets the boxes is after, which goes on from a key: the least one in them, if there is one
 abbrev pub Meeting : List Corners → Key → Option ℕ → Type 0

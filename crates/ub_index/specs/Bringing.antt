@@ -1,20 +1,12 @@
 -- Bringing the page that an entry names, where it fits that entry.
 use Rattle.std.specs.Prelude.{◌≡◌, ◌≤◌, ℕ, IsTrue, List, Option, Result, IfOk, IfErr, OnOk}
+use Rattle.ub_index.specs.Common.{Entry, Fits, FitsAtEnds, Full, head_on, Holds, IndexFault, IsCached, IsHonest, IsPage, IsUnfit, Key, NamesFitting}
+use Rattle.ub_index.specs.Common.{NoneMoreBut, Page, page_count, PagerView, Store, StoreFacts}
 use Rattle.ub_index.specs.Descending.{IsForgotten, StepsDown}
-use Rattle.ub_index.specs.Fitting.{FitsAtEnds, IsUnfit}
 use Rattle.ub_index.specs.Held.{AreChecked, KeepsChecked, NoneMoreButIndex}
-use Rattle.ub_index.specs.Index.{Fits, NamesFitting}
 use Rattle.ub_index.specs.Searching.{store_after}
-use Rattle.ub_index.specs.declared.fault.IndexFault.{IndexFault}
-use Rattle.ub_index.specs.declared.fault.IndexFault.TheVariants.{Full, Page, Store}
-use Rattle.ub_page.specs.Index.{head_on}
 use Rattle.ub_page.specs.declared.index.Head.{Head}
-use Rattle.ub_region.specs.declared.entry.Entry.{Entry}
-use Rattle.ub_store.specs.Cache.{NoneMoreBut}
-use Rattle.ub_store.specs.Facts.{StoreFacts, IsHonest, IsPage, page_count}
-use Rattle.ub_store.specs.View.{Holds, IsCached, PagerView}
 use Rattle.ub_store.specs.declared.fault.StoreFault.TheVariants as store
-use Rattle.ub_table.specs.declared.row.Key.{Key}
 
 -- why the page that an entry of this level names isn't brought, or isn't taken: memory was refused; the store failed, which it
 -- then can; it has no page of that number; or the page that it has there is refused

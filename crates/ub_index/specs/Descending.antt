@@ -1,27 +1,15 @@
 -- The steps of the way down, and what a search for a later region promises.
 use Rattle.std.specs.Prelude.{◌≡◌, ◌≤◌, ◌<◌, ◌^◌, ℕ, IsTrue, List, Option, Some, None, Result, IfErr, IfOk, IfSome}
-use Rattle.ub_region.specs.declared.region.Region.{Region}
-use Rattle.ub_index.specs.Fitting.{FallsTo, FitsAtEnds, IsNotTaken}
+use Rattle.ub_index.specs.Common.{entries_of, Entry, FallsTo, FitsAtEnds, Full, IndexFault, IsBefore, IsHonest, IsNotTaken, Key, Leaf, NamesFitting}
+use Rattle.ub_index.specs.Common.{node_on, Page, page_at, page_count, page_in, PageFault, PagerView, Region, Store, StoreFacts, top}
 use Rattle.ub_index.specs.Held.{AreChecked, KeepsChecked, NoneMoreButIndex}
-use Rattle.ub_index.specs.Index.{entries_of, page_in, top, NamesFitting}
 use Rattle.ub_index.specs.Searching.{store_after, Gives, GivesAfter, GoesDown, IsAim, IsAimless, IsFrom, IsSought, ReadsIndex}
 use Rattle.ub_index.specs.Spans.{First, IsLater, regions_of}
 use Rattle.ub_index.specs.View.{IndexView, IsIndexOn, Stops, entries_in}
 use Rattle.ub_index.specs.Way.{HoldsKey, LeadsTo, StopsAt}
-use Rattle.ub_index.specs.declared.descent.Leaf.{Leaf}
 use Rattle.ub_index.specs.declared.descent.Found.{Found}
 use Rattle.ub_index.specs.declared.descent.Found.TheVariants.{Nothing, Here, Beyond}
-use Rattle.ub_index.specs.declared.fault.IndexFault.{IndexFault}
-use Rattle.ub_index.specs.declared.fault.IndexFault.TheVariants.{Full, Page, Store}
-use Rattle.ub_page.specs.Index.{node_on}
-use Rattle.ub_region.specs.declared.entry.Entry.{Entry}
-use Rattle.ub_store.specs.Cache.{page_at}
-use Rattle.ub_store.specs.Facts.{StoreFacts, IsHonest, page_count}
-use Rattle.ub_store.specs.View.{PagerView}
 use Rattle.ub_store.specs.declared.fault.StoreFault.TheVariants as fault
-use Rattle.ub_table.specs.Keys.{IsBefore}
-use Rattle.ub_table.specs.declared.fault.PageFault.{PageFault}
-use Rattle.ub_table.specs.declared.row.Key.{Key}
 
 -- why a step from this entry is refused
 abbrev pub IsStepFault : ℕ → StoreFacts → ℕ → Entry → Option Key → IndexFault → Type 0

@@ -1,10 +1,6 @@
 -- What is known of the pages that a pager holds.
 use Rattle.std.specs.Prelude.{◌≡◌, ◌⊎◌, ℕ, Bool, false, List, Some}
-use Rattle.ub_index.specs.Index.{IsIndexPage}
-use Rattle.ub_page.specs.Index.{IsIndexKind}
-use Rattle.ub_store.specs.Cache.{page_at}
-use Rattle.ub_store.specs.Facts.{IsHonest}
-use Rattle.ub_store.specs.View.{PagerView}
+use Rattle.ub_index.specs.Common.{IsHonest, IsIndexKind, IsIndexPage, page_at, PagerView}
 
 -- over an honest store each page that is held is one of an index, or doesn't begin as one does: so of a page of an index that is
 -- held its ends tell whether it fits

@@ -1,19 +1,13 @@
 -- What holds of every index. Each is what the function of its name in `law` ensures.
 use Rattle.std.specs.Prelude.{◌≡◌, ◌≤◌, ◌<◌, ◌^◌, ◌⊎◌, ◌↔◌, [], ◌∷◌, ℕ, List, Option, None, IfSome, length, slice_get}
-use Rattle.std.specs.List.{AllByRecursion}
+use Rattle.ub_index.specs.Common.{AllByRecursion, AscendTo, Entry, IsBefore, IsHonest, IsIndexPage, IsUnder, Key, PageFault, pages_under, Region}
+use Rattle.ub_index.specs.Common.{StoreFacts, under, zero_page}
 use Rattle.ub_index.specs.Spans.{ArePlaces, first_keys}
-use Rattle.ub_index.specs.Index.{AscendTo, IsIndexPage, IsUnder, under, pages_under}
 use Rattle.ub_index.specs.Standing.{PagesStay, IsOutside, AddsNoIndexPage, AreOwnPages, OldStayOutside, StandsAsOn, region_pages}
 use Rattle.ub_index.specs.View.{IsReachedOnce, pages_of_index, IndexView, IsIndexOn, IsRegionAt, Leads, Stops, entries_in, entry_at}
 use Rattle.ub_index.specs.Way.{HoldsKey, StopsAt}
-use Rattle.ub_region.specs.declared.region.Region.{Region}
 use Rattle.ub_page.specs.Entries.{IsEntry}
-use Rattle.ub_region.specs.declared.entry.Entry.{Entry}
 use Rattle.ub_region.specs.Regions.{index_holding}
-use Rattle.ub_store.specs.Facts.{StoreFacts, IsHonest, zero_page}
-use Rattle.ub_table.specs.Keys.{IsBefore}
-use Rattle.ub_table.specs.declared.fault.PageFault.{PageFault}
-use Rattle.ub_table.specs.declared.row.Key.{Key}
 
 -- the regions' entries under an entry are in order, up to the end
 abbrev pub WholeAscends : Type 0

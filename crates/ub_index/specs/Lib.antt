@@ -1,3 +1,4 @@
+pub mod Common
 pub mod Spans
 pub mod Index
 pub mod Laws

@@ -1,18 +1,12 @@
 -- Opening an index that stands on a store, and making one of a single region.
 use Rattle.std.specs.Prelude.{◌≡◌, ◌≤◌, ◌<◌, ℕ, IsTrue, List, [], ◌∷◌, None, Result, IfErr, IfOk, OnOk}
+use Rattle.ub_index.specs.Common.{Fits, Holds, index_page, IndexFault, IsHonest, NamesFitting, NoneMoreBut, page_count, PagerView, SameTrace, Store}
+use Rattle.ub_index.specs.Common.{StoreFacts, StoreFault, top, WritesAt}
 use Rattle.ub_index.specs.Bringing.{IsBringFault}
 use Rattle.ub_index.specs.Descending.{IsForgotten}
 use Rattle.ub_index.specs.Held.{KeepsChecked}
-use Rattle.ub_index.specs.Index.{Fits, NamesFitting, top}
 use Rattle.ub_index.specs.View.{IsReachedOnce, pages_of_index, IndexView, IsIndexOn, entries_in, index_view}
 use Rattle.ub_index.specs.Searching.{store_after}
-use Rattle.ub_index.specs.declared.fault.IndexFault.{IndexFault}
-use Rattle.ub_index.specs.declared.fault.IndexFault.TheVariants.{Store}
-use Rattle.ub_page.specs.Index.{index_page}
-use Rattle.ub_store.specs.Cache.{NoneMoreBut}
-use Rattle.ub_store.specs.Facts.{StoreFacts, IsHonest, WritesAt, page_count}
-use Rattle.ub_store.specs.View.{Holds, PagerView, SameTrace}
-use Rattle.ub_store.specs.declared.fault.StoreFault.{StoreFault}
 use Rattle.ub_store.specs.declared.fault.StoreFault.TheVariants as store
 
 -- the store has the page of the root, and it fits as the page of one

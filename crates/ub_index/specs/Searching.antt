@@ -1,22 +1,14 @@
 -- What a search in an index answers, and what it leaves, over any store and any pages.
 use Rattle.std.specs.Prelude.{◌≡◌, ◌≤◌, ◌<◌, ◌⊎◌, if◌then◌else◌, ℕ, zero, suc, IsTrue, Option, Some, None, Result, Err, IfErr}
-use Rattle.ub_bigmin.specs.Box.{HoldsAny}
-use Rattle.ub_bigmin.specs.Extremes.{LeastFrom}
-use Rattle.ub_region.specs.declared.region.Region.{Region}
+use Rattle.ub_index.specs.Common.{end_before, Full, HoldsAny, IndexFault, IsHonest, Key, LeastFrom, origin, Page, page_count, PagerView, precedes}
+use Rattle.ub_index.specs.Common.{raised, Region, Store, StoreFacts}
 use Rattle.ub_index.specs.Held.{AreChecked, KeepsChecked, NoneMoreButIndex}
 use Rattle.ub_index.specs.Spans.{Meets}
 use Rattle.ub_index.specs.View.{IndexView, Leads, Stops}
 use Rattle.ub_index.specs.Way.{HoldsKey}
-use Rattle.ub_index.specs.declared.fault.IndexFault.{IndexFault}
-use Rattle.ub_index.specs.declared.fault.IndexFault.TheVariants.{Full, Page, Store}
 use Rattle.ub_index.specs.declared.goal.Goal.{Goal}
 use Rattle.ub_index.specs.declared.goal.Goal.TheVariants.{Address, Boxes}
-use Rattle.ub_region.specs.Spans.{end_before}
-use Rattle.ub_store.specs.Facts.{StoreFacts, IsHonest, page_count, raised}
-use Rattle.ub_store.specs.View.{PagerView}
 use Rattle.ub_store.specs.declared.fault.StoreFault.TheVariants as fault
-use Rattle.ub_table.specs.Keys.{precedes, origin}
-use Rattle.ub_table.specs.declared.row.Key.{Key}
 
 -- the region that is given for a key: it holds the key, its span is that from its first key to the next one's, and over an
 -- honest store the way leads to it

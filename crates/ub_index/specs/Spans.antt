@@ -1,12 +1,6 @@
 -- Where the regions of a table stand: entries in the order of their first keys; and the span of each.
 use Rattle.std.specs.Prelude.{◌≡◌, ◌≤◌, ℕ, List, [], ◌∷◌, map, Option, Some, IfSome, All, IsTrue, slice_get}
-use Rattle.ub_bigmin.specs.Box.{Corners, HoldsAny}
-use Rattle.ub_region.specs.declared.region.Region.{Region}
-use Rattle.ub_region.specs.declared.entry.Entry.{Entry}
-use Rattle.ub_region.specs.Spans.{end_before}
-use Rattle.ub_region.specs.Those.{FirstBy}
-use Rattle.ub_table.specs.Keys.{IsBefore, origin, are_ascending}
-use Rattle.ub_table.specs.declared.row.Key.{Key}
+use Rattle.ub_index.specs.Common.{are_ascending, Corners, end_before, Entry, FirstBy, HoldsAny, IsBefore, Key, origin, Region}
 
 abbrev pub first_keys : List Entry → List Key
 first_keys entries = map (λ entry. entry.first) entries

@@ -1,12 +1,8 @@
 -- What an index is to those who keep regions on other pages of its store.
 use Rattle.std.specs.Prelude.{◌≡◌, ◌≤◌, ◌<◌, ◌++◌, ◌∷◌, ℕ, nat_eq, List, Some, map, length, slice_get, ◌≢◌, ◌+◌, IsTrue}
-use Rattle.std.specs.List.{AllByRecursion, IsDistinct}
-use Rattle.ub_index.specs.Index.{IsIndexPage}
+use Rattle.ub_index.specs.Common.{AllByRecursion, Entry, IsDistinct, IsIndexPage, page_count, StoreFacts, StoreFault}
 use Rattle.ub_index.specs.View.{IsReachedOnce, pages_of_index, IndexView, IsIndexOn, entries_in}
-use Rattle.ub_region.specs.declared.entry.Entry.{Entry}
-use Rattle.ub_store.specs.Facts.{StoreFacts, page_count}
 use Rattle.ub_store.specs.declared.fault.StoreFault.TheVariants as store
-use Rattle.ub_store.specs.declared.fault.StoreFault.{StoreFault}
 
 -- the pages of these numbers are as they were
 abbrev pub PagesStay : List (List ℕ) → List (List ℕ) → List ℕ → Type 0

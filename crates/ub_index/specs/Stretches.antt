@@ -1,25 +1,13 @@
 -- The stretches of an index: what an entry of any level names. Which of them a page tells, and to which a way comes; what is handed to a
 -- sink where one is opened.
 use Rattle.std.specs.Prelude.{◌≡◌, ◌≤◌, ◌<◌, ◌-◌, ◌⊎◌, ◌++◌, ◌&&◌, ◌∷◌, [], ℕ, zero, suc, Bool, true, not, List, Option, None, Some, Result, IfErr, OnOk, filter, slice_get}
-use Rattle.ub_bigmin.specs.Box.{Corners}
+use Rattle.ub_index.specs.Common.{AreThose, Corners, end_before, entries_of, Entry, first_or, Fits, IndexFault, IsHonest, Key, NamesFitting, node_on}
+use Rattle.ub_index.specs.Common.{NoneMoreBut, page_in, PagerView, precedes, Region, StoreFacts, TakesThese, top}
 use Rattle.ub_index.specs.Descending.{IsForgotten, Steps}
-use Rattle.ub_index.specs.Index.{Fits, NamesFitting, entries_of, first_or, page_in, top}
-use Rattle.ub_index.specs.Sinks.{TakesThese}
 use Rattle.ub_index.specs.Spans.{Meets, region_of}
 use Rattle.ub_index.specs.View.{IndexView, entry_at}
 use Rattle.ub_index.specs.Way.{HoldsKey}
-use Rattle.ub_index.specs.declared.fault.IndexFault.{IndexFault}
 use Rattle.ub_index.specs.declared.stretch.Stretch.{Stretch}
-use Rattle.ub_page.specs.Index.{node_on}
-use Rattle.ub_region.specs.Spans.{end_before}
-use Rattle.ub_region.specs.Those.{AreThose}
-use Rattle.ub_region.specs.declared.entry.Entry.{Entry}
-use Rattle.ub_region.specs.declared.region.Region.{Region}
-use Rattle.ub_store.specs.Cache.{NoneMoreBut}
-use Rattle.ub_store.specs.Facts.{StoreFacts, IsHonest}
-use Rattle.ub_store.specs.View.{PagerView}
-use Rattle.ub_table.specs.Keys.{precedes}
-use Rattle.ub_table.specs.declared.row.Key.{Key}
 
 -- the stretch of an entry of this level, up to where the next one begins, in a space that ends with this address
 abbrev pub stretch_of : ℕ → ℕ → Entry → Option Key → Stretch

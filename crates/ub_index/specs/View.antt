@@ -1,14 +1,8 @@
 -- What contracts see of an index.
 use Rattle.std.specs.Prelude.{◌≡◌, ◌≤◌, ◌<◌, ◌+◌, ℕ, suc, List, Option, Some, None, length, slice_get, nat_eq, ◌∷◌}
+use Rattle.ub_index.specs.Common.{Entry, IsDistinct, IsHonest, IsUnder, Key, PageFault, pages_under, Region, StoreFacts, top, under}
 use Rattle.ub_index.specs.Spans.{first_keys}
-use Rattle.ub_index.specs.Index.{IsUnder, top, under, pages_under}
 use Rattle.ub_index.specs.Way.{LeadsTo, StopsAt}
-use Rattle.ub_region.specs.declared.region.Region.{Region}
-use Rattle.ub_region.specs.declared.entry.Entry.{Entry}
-use Rattle.ub_store.specs.Facts.{StoreFacts, IsHonest}
-use Rattle.ub_table.specs.declared.fault.PageFault.{PageFault}
-use Rattle.ub_table.specs.declared.row.Key.{Key}
-use Rattle.std.specs.List.{IsDistinct}
 
 -- an index: the page of its root, of which level that is, and the last address of the space
 pub record IndexView : Type 0 where

@@ -1,19 +1,12 @@
 -- A walk over the regions of an index that meet some boxes, over any store and any pages.
 use Rattle.std.specs.Prelude.{◌≡◌, ◌<◌, ◌^◌, ℕ, List, [], ◌∷◌, Option, Some, None, Result, IfErr, IfSome, OnOk}
-use Rattle.ub_bigmin.specs.Box.{Corners}
+use Rattle.ub_index.specs.Common.{Corners, IndexFault, Key, origin, PagerView, Region, StoreFacts, TakesThese}
 use Rattle.ub_index.specs.Along.{Meeting}
 use Rattle.ub_index.specs.Descending.{IsForgotten}
 use Rattle.ub_index.specs.Held.{AreChecked}
 use Rattle.ub_index.specs.Searching.{Gives, GivesAfter, GoesDown, IsSought}
-use Rattle.ub_index.specs.Sinks.{TakesThese}
 use Rattle.ub_index.specs.Spans.{IsLater}
 use Rattle.ub_index.specs.View.{IndexView}
-use Rattle.ub_index.specs.declared.fault.IndexFault.{IndexFault}
-use Rattle.ub_region.specs.declared.region.Region.{Region}
-use Rattle.ub_store.specs.Facts.{StoreFacts}
-use Rattle.ub_store.specs.View.{PagerView}
-use Rattle.ub_table.specs.Keys.{origin}
-use Rattle.ub_table.specs.declared.row.Key.{Key}
 
 -- this region is given after another one, if one is given, and is later
 pub record IsGivenNext (index : IndexView) (store : StoreFacts) (To : Key → Option ℕ → Type 0) (after : Option Region) (found : Region) : Type 0 where

@@ -1,11 +1,6 @@
 -- The way down to a key, page by page, over any pages, as far as they fit.
 use Rattle.std.specs.Prelude.{◌≡◌, ◌⊎◌, ℕ, zero, suc, List, Option, IfSome}
-use Rattle.ub_index.specs.Fitting.{FallsTo, IsNotTaken}
-use Rattle.ub_index.specs.Index.{entries_of, NamesFitting}
-use Rattle.ub_region.specs.declared.entry.Entry.{Entry}
-use Rattle.ub_table.specs.Keys.{IsBefore}
-use Rattle.ub_table.specs.declared.fault.PageFault.{PageFault}
-use Rattle.ub_table.specs.declared.row.Key.{Key}
+use Rattle.ub_index.specs.Common.{entries_of, Entry, FallsTo, IsBefore, IsNotTaken, Key, NamesFitting, PageFault}
 
 -- what begins with `first`, and ends before `next`, holds the key
 pub record HoldsKey (key first : Key) (next : Option Key) : Type 0 where

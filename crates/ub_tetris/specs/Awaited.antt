@@ -1,15 +1,9 @@
 -- The stretches that a sweep awaits, over any tree, also over one that isn't sound: the order in which it comes to them, and which
 -- stretches and regions come in their place.
 use Rattle.std.specs.Prelude.{◌≡◌, ◌≤◌, ◌<◌, ◌^◌, ◌++◌, ◌⊎◌, if◌then◌else◌, ℕ, Bool, true, false, All, List, [], ◌∷◌, Option, Some, None, Contains, length, map}
-use Rattle.std.specs.List.{AllByRecursion, sum_by}
-use Rattle.ub_bigmin.specs.Box.{Corners, HoldsAny, IsValueInSpan}
+use Rattle.ub_tetris.specs.Common.{AllByRecursion, ArePartsOf, Corners, holds_key, HoldsAny, IsAlong, IsBefore, IsStretchOf, IsValueInSpan, Key}
+use Rattle.ub_tetris.specs.Common.{Region, Stretch, sum_by, TreeView, whole_of}
 use Rattle.ub_bigmin.specs.Extremes.{Least, Greatest}
-use Rattle.ub_planning.specs.Visits.{IsAlong}
-use Rattle.ub_table.specs.Keys.{IsBefore}
-use Rattle.ub_table.specs.declared.row.Key.{Key}
-use Rattle.ub_tree.specs.Spans.{Region}
-use Rattle.ub_tree.specs.Stretches.{ArePartsOf, IsStretchOf, Stretch, holds_key, whole_of}
-use Rattle.ub_tree.specs.View.{TreeView}
 
 -- a stretch that a sweep is to come to, and its event value
 pub record AwaitedStretch : Type 0 where

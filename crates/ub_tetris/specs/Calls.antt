@@ -1,17 +1,12 @@
 -- What the calls of a sweep promise, one record for each. Those of its state promise the same of the view of a sweep that hasn't
 -- failed.
 use Rattle.std.specs.Prelude.{◌≡◌, ◌≢◌, ◌∷◌, [], ℕ, Bool, false, IsTrue, List, Option, Result, Err, IfOk, OnErr, OnOk}
+use Rattle.ub_tetris.specs.Common.{Event, Failed, PlanView, Row, SweepFault, Tree, TreeView}
 use Rattle.std.specs.Option.{option_map}
-use Rattle.ub_planning.specs.Plan.{PlanView}
-use Rattle.ub_planning.specs.Visits.{Event}
-use Rattle.ub_table.specs.declared.row.Row.{Row}
 use Rattle.ub_tetris.specs.Awaited.{IsWholeAwaited}
 use Rattle.ub_tetris.specs.Effects.{Begins, HasAnswered, HasFound, Rests, Sweeps}
-use Rattle.ub_tetris.specs.Sweep.{HandsOver, HasBegun, HasBroken, HasBrokenOff, HasHandedOver, HasStepped, HasSteppedValue, IsNoSweep, IsStarted, IsSweepOf, IsSweeping, IsSwept, SweepView}
-use Rattle.ub_tetris.specs.declared.fault.SweepFault.{SweepFault}
-use Rattle.ub_tetris.specs.declared.fault.SweepFault.TheVariants.{Tree}
-use Rattle.ub_tree.specs.View.{TreeView}
-use Rattle.ub_tree.specs.declared.fault.TreeFault.TheVariants.{Failed}
+use Rattle.ub_tetris.specs.Sweep.{HandsOver, HasBegun, HasBroken, HasBrokenOff, HasHandedOver, HasStepped, HasSteppedValue, IsNoSweep, IsStarted}
+use Rattle.ub_tetris.specs.Sweep.{IsSweepOf, IsSweeping, IsSwept, SweepView}
 
 -- a sweep was to be begun by a plan, and this was answered: over a sound tree, by a plan that is a sweep, no row was given and no region
 -- fetched; over any tree that it awaits the whole, along the plan's dimension, that a tree which has failed is refused, and what is left

@@ -1,27 +1,15 @@
 -- What the calls of a sweep can answer, and what they leave of the tree.
 use Rattle.std.specs.Prelude.{◌≡◌, ◌≢◌, ◌<◌, ◌≤◌, ◌+◌, ◌++◌, [], ◌∷◌, ℕ, zero, suc, Bool, true, false, IsTrue, List, Option, Some, None, Result, Ok, Err, IfErr, OnOk, length, map, take}
-use Rattle.std.specs.List.{AllByRecursion, filter}
-use Rattle.std.specs.List.Sorted.{IsPermutation}
-use Rattle.ub_bigmin.specs.Box.{Corners}
-use Rattle.ub_filter.specs.Choice.{is_chosen}
-use Rattle.ub_filter.specs.declared.choice.Choice.{Choice}
-use Rattle.ub_planning.specs.Plan.{PlanView}
-use Rattle.ub_store.specs.Facts.{raised}
+use Rattle.ub_tetris.specs.Common.{AllByRecursion, Choice, Corners, Failed as has_failed, filter, is_chosen, IsOpeningFault, IsPermutation}
+use Rattle.ub_tetris.specs.Common.{IsSpanFault, IsTakenIn, Memory as no_memory, PlanView, raised, ReadFault, RegionRows, Row, Stretch, SweepFault}
+use Rattle.ub_tetris.specs.Common.{Tree, TreeView}
 use Rattle.ub_store.specs.View.{emptied}
-use Rattle.ub_table.specs.Region.{RegionRows}
-use Rattle.ub_table.specs.declared.row.Row.{Row}
 use Rattle.ub_tetris.specs.Held.{rows_held}
 use Rattle.ub_tetris.specs.Awaited.{AreInOrder, AreInPlaceOf, AreValued, AwaitedRegion, AwaitedStretch, IsBelow, lowest}
 use Rattle.ub_tetris.specs.Sweep.{SweepView, AreItsStretches, rows_left}
-use Rattle.ub_tetris.specs.declared.fault.SweepFault.{SweepFault}
-use Rattle.ub_tetris.specs.declared.fault.SweepFault.TheVariants.{Memory, Tree, Failed}
-use Rattle.ub_tree.specs.Effects.{IsSpanFault, IsTakenIn}
+use Rattle.ub_tetris.specs.declared.fault.SweepFault.TheVariants.{Memory, Failed}
 use Rattle.ub_tree.specs.Reading.{IsGiven, read_store}
-use Rattle.ub_tree.specs.Stretches.{IsOpeningFault, Stretch}
-use Rattle.ub_tree.specs.View.{TreeView}
 use Rattle.ub_tree.specs.declared.fault.TreeFault.{TreeFault}
-use Rattle.ub_tree.specs.declared.fault.TreeFault.TheVariants.{Failed as has_failed, Memory as no_memory}
-use Rattle.ub_tree.specs.declared.read_fault.ReadFault.{ReadFault}
 use Rattle.ub_tree.specs.declared.read_fault.ReadFault.TheVariants as read
 
 -- a fault of a call that reads a tree, as a sweep's

@@ -1,12 +1,8 @@
 -- What is held of a sweep: rows, and the values by which they are given one before the other.
 use Rattle.std.specs.Prelude.{◌≡◌, ℤ, pos, ◌-ℤ◌, Bool, true, false, List, map}
-use Rattle.std.specs.List.{AllByRecursion}
+use Rattle.ub_tetris.specs.Common.{AllByRecursion, column_value, Row, Schema, SortKey}
 use Rattle.ub_query.specs.declared.query.Item.{Item}
 use Rattle.ub_query.specs.declared.query.Item.TheVariants.{Column, Count, Aggregate}
-use Rattle.ub_query.specs.declared.query.SortKey.{SortKey}
-use Rattle.ub_table.specs.Table.{column_value}
-use Rattle.ub_table.specs.declared.row.Row.{Row}
-use Rattle.ub_table.specs.declared.schema.Schema.{Schema}
 
 -- a row, and its values, one for each key by which rows are given
 pub record HeldRow : Type 0 where

@@ -1,3 +1,4 @@
+pub mod Common
 pub mod Machine
 pub mod Held
 pub mod Sweep

@@ -1,13 +1,7 @@
 -- A sweep over the regions of a table (Tetris: Markl, Zirkel and Bayer 1999), as lists alone: which regions were fetched and
 -- which weren't yet, which rows are held, which were given and which are still to be given.
 use Rattle.std.specs.Prelude.{◌++◌, ℕ, Bool, List, map, slice_index}
-use Rattle.std.specs.List.{All}
-use Rattle.std.specs.List.Sorted.{IsPermutation}
-use Rattle.ub_planning.specs.Plan.{PlanView}
-use Rattle.ub_planning.specs.Visits.{Event, IsAlong, AreEvents, AreArranged, selected_rows}
-use Rattle.ub_table.specs.Region.{RegionRows}
-use Rattle.ub_table.specs.declared.row.Row.{Row}
-use Rattle.ub_table.specs.declared.schema.Schema.{Schema}
+use Rattle.ub_tetris.specs.Common.{All, AreArranged, AreEvents, Event, IsAlong, IsPermutation, PlanView, RegionRows, Row, Schema, selected_rows}
 
 -- the regions of some events
 abbrev pub regions_at : List Event → List RegionRows

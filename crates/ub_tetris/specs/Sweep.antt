@@ -1,25 +1,14 @@
 -- What contracts see of a sweep, and how it stands to its plan and to the tree over which it goes.
 use Rattle.std.specs.Prelude.{◌≡◌, ◌≢◌, ◌≤◌, ◌+◌, ◌*◌, ◌++◌, ◌∷◌, ◌⊎◌, [], ℕ, Bool, true, false, List, Option, Some, None, length, map, slice_index, Contains}
-use Rattle.std.specs.List.{All, AllByRecursion}
-use Rattle.ub_bigmin.specs.Box.{Corners}
-use Rattle.ub_planning.specs.Plan.{PlanView, plan_of}
-use Rattle.ub_planning.specs.Visits.{Event, IsAlong, selected_rows}
+use Rattle.ub_tetris.specs.Common.{All, AllByRecursion, ArePartsOf, Corners, Event, holds_key, IsAlong, IsInOrder, IsSound, IsStretchOf, Key, Meets}
+use Rattle.ub_tetris.specs.Common.{MeetsAny, Placed, plan_of, PlanView, Region, regions, regions_in, Row, Schema, selected_rows, spans_of, Stretch}
+use Rattle.ub_tetris.specs.Common.{Sweep, swept_order, TreeView, whole_of}
 use Rattle.ub_planning.specs.declared.planned.Kind.{Kind}
-use Rattle.ub_planning.specs.declared.planned.Kind.TheVariants.{Sweep}
-use Rattle.ub_query.specs.Lead.{swept_order}
-use Rattle.ub_table.specs.Table.{IsInOrder}
-use Rattle.ub_table.specs.declared.row.Key.{Key}
-use Rattle.ub_table.specs.declared.row.Row.{Row}
-use Rattle.ub_table.specs.declared.schema.Schema.{Schema}
 use Rattle.ub_table.specs.declared.schema.TheConstants.{MAX_ROWS}
 use Rattle.ub_tetris.specs.Held.{HeldRow, AreHeldBy, rows_held}
 use Rattle.ub_tetris.specs.Machine.{IsUnderWay, IsRowAlong, IsRowPast, regions_at}
-use Rattle.ub_tree.specs.Placed.{Placed, regions_in}
-use Rattle.ub_tree.specs.Spans.{Meets, Region}
-use Rattle.ub_tree.specs.Stretches.{ArePartsOf, IsStretchOf, MeetsAny, Stretch, holds_key, whole_of}
-use Rattle.ub_tree.specs.View.{TreeView, IsSound, regions, spans_of}
-pub use Rattle.ub_tetris.specs.Awaited.{AwaitedRegion, AwaitedStretch}
 use Rattle.ub_tetris.specs.Awaited.{AreStretchesOf, AreValued, most_regions, times_held}
+pub use Rattle.ub_tetris.specs.Awaited.{AwaitedRegion, AwaitedStretch}
 
 -- a sweep: its dimension and direction; the rows that it holds; the stretches to which it is to come, in whatever order; whether it has
 -- failed

@@ -1,21 +1,9 @@
 -- What reading a region tells, and what creation makes.
 use Rattle.std.specs.Prelude.{true, false, ◌≡◌, ℕ, [], ◌∷◌, IsTrue, List, Contains, Result, Err, IfErr, IfOk, OnOk}
-use Rattle.ub_region.specs.RegionPage.{RegionView}
-use Rattle.ub_store.specs.Facts.{StoreFacts, IsHonest, page_count}
-use Rattle.ub_store.specs.View.{untouched}
-use Rattle.ub_store.specs.declared.fault.Rejected.{Rejected}
-use Rattle.ub_table.specs.Keys.{origin}
-use Rattle.ub_table.specs.Region.{RegionRows}
-use Rattle.ub_table.specs.declared.schema.Schema.{Schema}
+use Rattle.ub_tree.specs.Common.{Failed, IsHonest, IsOnlyGrown, IsSound, IsUncreated, Memory, origin, page_count, Placed, Region, RegionRows, regions}
+use Rattle.ub_tree.specs.Common.{RegionView, Rejected, Schema, spans_of, Store, StoreFacts, TreeFault, TreeView, untouched}
 use Rattle.ub_tree.specs.Effects.{IsTakenIn, ReadsRegion, written_store}
-use Rattle.ub_tree.specs.Grown.{IsOnlyGrown}
-use Rattle.ub_tree.specs.Placed.{Placed}
-use Rattle.ub_tree.specs.Spans.{Region}
-use Rattle.ub_tree.specs.View.{TreeView, regions, spans_of, IsSound}
-use Rattle.ub_tree.specs.declared.fault.TreeFault.{TreeFault}
-use Rattle.ub_tree.specs.declared.fault.TreeFault.TheVariants.{Failed, Store, Memory}
 use Rattle.ub_store.specs.declared.fault.StoreFault.TheVariants as store
-use Rattle.ub_writing.specs.Creation.{IsUncreated}
 
 -- the region stands at this page
 abbrev pub StandsAt : List Placed → ℕ → RegionRows → Type 0

@@ -1,18 +1,13 @@
 -- What a check of a tree's pages comes to, and where it stops.
 use Rattle.std.specs.Prelude.{◌≡◌, ℕ, false, IsTrue, List, Option, Result, Err, IfErr, OnOk}
+use Rattle.ub_tree.specs.Common.{Failed, Full, IsHonest, IsSound, Memory, Page, PageFault, Placed, region_count, Store, TreeFault, TreeView}
 use Rattle.ub_check.specs.Checking.{Asked, AreWell, IsFirst, StopsTable, TakesTable, asked_for}
 use Rattle.ub_check.specs.declared.checking.Told.{Told}
-use Rattle.ub_index.specs.declared.fault.IndexFault.TheVariants as index
-use Rattle.ub_store.specs.Facts.{IsHonest}
-use Rattle.ub_store.specs.declared.fault.StoreFault.TheVariants as store
-use Rattle.ub_table.specs.declared.fault.PageFault.{PageFault}
 use Rattle.ub_tree.specs.Effects.{read_store}
 use Rattle.ub_tree.specs.Holding.{Answers}
 use Rattle.ub_tree.specs.Opened.{IsPassing}
-use Rattle.ub_tree.specs.Placed.{Placed}
-use Rattle.ub_tree.specs.View.{TreeView, IsSound, region_count}
-use Rattle.ub_tree.specs.declared.fault.TreeFault.{TreeFault}
-use Rattle.ub_tree.specs.declared.fault.TreeFault.TheVariants.{Full, Page, Store, Failed, Memory}
+use Rattle.ub_index.specs.declared.fault.IndexFault.TheVariants as index
+use Rattle.ub_store.specs.declared.fault.StoreFault.TheVariants as store
 
 -- what a check of a tree asks, and what is told of its table
 abbrev pub asked_of : TreeView → Asked

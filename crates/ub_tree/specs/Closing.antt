@@ -1,15 +1,10 @@
 -- What closing a tree writes, and what it can answer.
 use Rattle.std.specs.Prelude.{◌≡◌, false, IsTrue, Result, Err, IfErr, IfOk, IsErrAnd, IsOkAnd}
-use Rattle.ub_page.specs.declared.header.Header.{Header}
+use Rattle.ub_tree.specs.Common.{AreSoundPages, Failed as HasFailed, Header, IsHonest, IsSound, page_count, region_count, Rejected, Store, StoreFacts}
+use Rattle.ub_tree.specs.Common.{TreeFault, TreeView}
 use Rattle.ub_tree.specs.Effects.{written_store}
-use Rattle.ub_tree.specs.Stored.{AreSoundPages}
-use Rattle.ub_tree.specs.View.{TreeView, IsSound, region_count}
-use Rattle.ub_tree.specs.declared.fault.TreeFault.{TreeFault}
-use Rattle.ub_tree.specs.declared.fault.TreeFault.TheVariants.{Store, Failed as HasFailed}
-use Rattle.ub_store.specs.Facts.{StoreFacts, IsHonest, page_count}
-use Rattle.ub_store.specs.declared.fault.Rejected.{Rejected}
-use Rattle.ub_store.specs.declared.fault.StoreFault.TheVariants as store
 use Rattle.ub_writing.specs.Closing.{IsClosed, IsSaved, IsUnclosed}
+use Rattle.ub_store.specs.declared.fault.StoreFault.TheVariants as store
 
 -- the header of a tree that is closed
 abbrev pub header_of : TreeView → Header

@@ -1,31 +1,15 @@
 -- What the calls of a tree leave, in a few words: a call that searches, one that reads regions, one that changes the tree.
 use Rattle.std.specs.Prelude.{◌+◌, ◌≡◌, ◌<◌, ◌≤◌, ◌⊎◌, ℕ, true, IsTrue, Result, Ok, Err, IfErr, OnOk, List, Some, None}
+use Rattle.ub_tree.specs.Common.{BadCount, BadOrder, Failed, Full, Grows, HasFullWay, HasMark, IsDropFault, IsFree, IsHonest, IsPage, IsSound}
+use Rattle.ub_tree.specs.Common.{KeepsTrace, KeepsUnless, Key, MAX_LEVEL, MAX_ROW_NUMBER, Memory, NeedsPages, Notes, Page, page_count, PageFault}
+use Rattle.ub_tree.specs.Common.{raised, Region, region_count, RegionRows, regions, Row, Stops, Store, StoreFacts, TreeFault, TreeView}
 use Rattle.std.specs.List.{Contains}
-use Rattle.ub_check.specs.Standing as check
 use Rattle.ub_check.specs.Standing.{IsRegionRefused}
-use Rattle.ub_store.specs.Writing.{Grows}
-use Rattle.ub_index_change.specs.Lowering.{IsDropFault}
-use Rattle.ub_index_change.specs.Preparing.{HasFullWay, NeedsPages}
-use Rattle.ub_index.specs.View.{Stops}
-use Rattle.ub_index.specs.declared.fault.IndexFault.TheVariants as index
-use Rattle.ub_page.specs.declared.header.TheConstants.{MAX_LEVEL}
-use Rattle.ub_store.specs.Facts.{StoreFacts, IsHonest, IsPage, page_count, raised}
-use Rattle.ub_store.specs.View as trace
-use Rattle.ub_store.specs.View.{Notes}
-use Rattle.ub_table.specs.declared.row.TheConstants.{MAX_ROW_NUMBER}
-use Rattle.ub_region.specs.Regions.{IsFree}
-use Rattle.ub_table.specs.Region.{RegionRows}
-use Rattle.ub_table.specs.declared.fault.PageFault.{PageFault}
-use Rattle.ub_table.specs.declared.fault.PageFault.TheVariants.{BadCount, BadOrder}
-use Rattle.ub_table.specs.declared.row.Key.{Key}
-use Rattle.ub_table.specs.declared.row.Row.{Row}
 use Rattle.ub_tree.specs.Others.{WritesOneRegion}
-use Rattle.ub_writing.specs.Marks.{HasMark, KeepsUnless}
 use Rattle.ub_tree.specs.Told.{IsRegionOf, TellsStill}
-use Rattle.ub_tree.specs.View.{TreeView, IsSound, KeepsTrace, region_count, regions}
-use Rattle.ub_tree.specs.declared.fault.TreeFault.{TreeFault}
-use Rattle.ub_tree.specs.declared.fault.TreeFault.TheVariants.{Full, Page, Store, Failed, Memory}
-use Rattle.ub_tree.specs.Spans.{Region}
+use Rattle.ub_check.specs.Standing as check
+use Rattle.ub_index.specs.declared.fault.IndexFault.TheVariants as index
+use Rattle.ub_store.specs.View as trace
 use Rattle.ub_store.specs.declared.fault.StoreFault.TheVariants as store
 
 -- a count of failures after a call with this fault, and after one with this result: Device raises it by one

@@ -1,12 +1,10 @@
 -- The faults of a store, of an index and of an upgrade, as those of a tree.
 use Rattle.ub_index.specs.declared.fault.IndexFault.TheVariants as index
+use Rattle.ub_tree.specs.Common.{Full, Memory, Page, Store, StoreFault, TreeFault}
 use Rattle.ub_index.specs.declared.fault.IndexFault.{IndexFault}
-use Rattle.ub_store.specs.declared.fault.StoreFault.{StoreFault}
-use Rattle.ub_store.specs.declared.fault.StoreFault.TheVariants as store
-use Rattle.ub_tree.specs.declared.fault.TreeFault.{TreeFault}
-use Rattle.ub_upgrade.specs.declared.fault.UpgradeFault.TheVariants as upgrade
 use Rattle.ub_upgrade.specs.declared.fault.UpgradeFault.{UpgradeFault}
-use Rattle.ub_tree.specs.declared.fault.TreeFault.TheVariants.{Full, Memory, Page, Store}
+use Rattle.ub_store.specs.declared.fault.StoreFault.TheVariants as store
+use Rattle.ub_upgrade.specs.declared.fault.UpgradeFault.TheVariants as upgrade
 
 -- a store's fault, as one of a tree
 abbrev pub tree_fault : StoreFault → TreeFault

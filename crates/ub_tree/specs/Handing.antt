@@ -1,9 +1,7 @@
 -- What a walk over the regions of a tree that meet some boxes hands to a sink.
 use Rattle.std.specs.Prelude.{◌≡◌, [], List, Option, None}
-use Rattle.ub_bigmin.specs.Box.{Corners}
-use Rattle.ub_tree.specs.Spans.{Region}
+use Rattle.ub_tree.specs.Common.{Corners, Region, TreeView}
 use Rattle.ub_tree.specs.Told.{AreAnswers, AreFirst, GivesNext}
-use Rattle.ub_tree.specs.View.{TreeView}
 pub use Rattle.ub_index.specs.Sinks.{Began, TakesThese}
 
 -- these are the regions that the tree tells of, asked for the next one that meets the boxes after each, until there is none: of

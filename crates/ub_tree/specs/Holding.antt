@@ -1,25 +1,13 @@
 -- The region that a key falls into, on any tree, and what a change of it must answer.
 use Rattle.std.specs.Prelude.{◌≡◌, ◌≢◌, ◌+◌, ◌/◌, ◌<◌, ◌≤◌, ◌⊎◌, ℕ, Bool, true, false, Option, Some, Result, Err, IfErr, IfOk, IfSome, length}
+use Rattle.ub_tree.specs.Common.{BadCount, BadOrder, Full, has_key, HasFullWay, IsHonest, Key, key_before, MAX_LEVEL, MAX_ROW_NUMBER, NeedsPages}
+use Rattle.ub_tree.specs.Common.{Page, page_count, PageFault, Region, region_count, RegionRows, remove_row, Store, TreeFault, TreeView}
 use Rattle.std.specs.Result.{IsErrAnd}
-use Rattle.ub_index_change.specs.Preparing.{HasFullWay, NeedsPages}
-use Rattle.ub_index.specs.Searching.{key_before}
-use Rattle.ub_page.specs.declared.header.TheConstants.{MAX_LEVEL}
-use Rattle.ub_region.specs.Rows.{has_key, remove_row}
-use Rattle.ub_store.specs.Facts.{IsHonest, page_count}
-use Rattle.ub_store.specs.declared.fault.StoreFault.TheVariants as store
-use Rattle.ub_table.specs.Region.{RegionRows}
-use Rattle.ub_table.specs.declared.fault.PageFault.{PageFault}
-use Rattle.ub_table.specs.declared.fault.PageFault.TheVariants.{BadCount, BadOrder}
-use Rattle.ub_table.specs.declared.row.Key.{Key}
-use Rattle.ub_table.specs.declared.row.TheConstants.{MAX_ROW_NUMBER}
 use Rattle.ub_tree.specs.Effects.{IsTakenIn}
 use Rattle.ub_tree.specs.Opened.{IsPassing}
 use Rattle.ub_tree.specs.Others.{AddsEntry, DropsEntry, KeepsEntries, WritesIndex, WritesPage}
-use Rattle.ub_tree.specs.Spans.{Region}
 use Rattle.ub_tree.specs.Told.{FallsTo}
-use Rattle.ub_tree.specs.View.{TreeView, region_count}
-use Rattle.ub_tree.specs.declared.fault.TreeFault.{TreeFault}
-use Rattle.ub_tree.specs.declared.fault.TreeFault.TheVariants.{Full, Page, Store}
+use Rattle.ub_store.specs.declared.fault.StoreFault.TheVariants as store
 
 -- a key falls into the region that the page of this number spells, in its place
 pub record FallsInto (t : TreeView) (key : Key) (page : ℕ) (region : RegionRows) : Type 0 where

@@ -1,16 +1,10 @@
 -- What a call promises that puts in a row, with the number that is next, or with its own.
 use Rattle.std.specs.Prelude.{◌≡◌, ◌+◌, ℕ, false, IsTrue, Result, Err, IfOk, OnOk}
-use Rattle.ub_region.specs.Regions.{IsFree}
-use Rattle.ub_store.specs.Facts.{IsHonest}
-use Rattle.ub_table.specs.Region.{key_of}
-use Rattle.ub_table.specs.declared.row.Row.{Row}
+use Rattle.ub_tree.specs.Common.{Failed, IsFree, IsHonest, IsSound, key_of, regions, Row, TreeFault, TreeView}
 use Rattle.ub_tree.specs.Change.{IsInserted, IsPutIn, next_after}
 use Rattle.ub_tree.specs.Effects.{Changes, ChangesOf}
 use Rattle.ub_tree.specs.Holding.{AnswersKey, AnswersRow, GrowsAt}
 use Rattle.ub_tree.specs.Pages.{PutsRow}
-use Rattle.ub_tree.specs.View.{TreeView, IsSound, regions}
-use Rattle.ub_tree.specs.declared.fault.TreeFault.{TreeFault}
-use Rattle.ub_tree.specs.declared.fault.TreeFault.TheVariants.{Failed}
 
 -- a row was to be put into a tree, with its own number, and this was answered: a sound tree that had no row of that number has this one
 -- then; and of any tree which region it went to, what must be answered, and what is left

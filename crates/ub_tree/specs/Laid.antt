@@ -1,19 +1,11 @@
 -- The tree of a table that is loaded: what stands where it was begun once its regions are laid.
 use Rattle.std.specs.Prelude.{◌≡◌, ◌≤◌, ◌+◌, ◌*◌, ℕ, suc, true, false, List, [], ◌∷◌, Result, IfErr, IfOk, length}
+use Rattle.ub_tree.specs.Common.{HasMark, IsHonest, IsSound, page_count, Placed, region_count, RegionRows, regions, Rejected, rows_of, Store}
+use Rattle.ub_tree.specs.Common.{StoreFacts, TreeFault, TreeView, untouched}
 use Rattle.ub_laying.specs.Begun.{BegunView}
 use Rattle.ub_laying.specs.Effects.{HasFailedOnce, HasNotFailed, written}
-use Rattle.ub_region.specs.Regions.{rows_of}
-use Rattle.ub_store.specs.Facts.{StoreFacts, IsHonest, page_count}
-use Rattle.ub_store.specs.View.{untouched}
-use Rattle.ub_store.specs.declared.fault.Rejected.{Rejected}
-use Rattle.ub_store.specs.declared.fault.StoreFault.TheVariants as store
-use Rattle.ub_table.specs.Region.{RegionRows}
 use Rattle.ub_tree.specs.Calls.{IsCreateFault}
-use Rattle.ub_tree.specs.Placed.{Placed}
-use Rattle.ub_tree.specs.View.{TreeView, IsSound, region_count, regions}
-use Rattle.ub_tree.specs.declared.fault.TreeFault.{TreeFault}
-use Rattle.ub_tree.specs.declared.fault.TreeFault.TheVariants.{Store}
-use Rattle.ub_writing.specs.Marks.{HasMark}
+use Rattle.ub_store.specs.declared.fault.StoreFault.TheVariants as store
 
 -- these regions on pages that follow each other from this number on
 abbrev pub placed_from : ℕ → List RegionRows → List Placed

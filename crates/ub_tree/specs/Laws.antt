@@ -2,28 +2,16 @@
 -- `law` ensures, and is proved in proofs/Laws.antt. That an insertion and a removal keep what regions are is a law of
 -- `ub_region`.
 use Rattle.std.specs.Prelude.{◌≡◌, ◌+◌, ◌≤◌, ◌<◌, ◌↔◌, ◌∷◌, [], ℕ, List, Option, Some, None, Contains, flat_map, length, slice_get}
-use Rattle.std.specs.List.{AllByRecursion}
-use Rattle.ub_bigmin.specs.Box.{Corners, HoldsAny}
-use Rattle.ub_index.specs.Way.{HoldsKey}
+use Rattle.ub_tree.specs.Common.{AllByRecursion, AreSoundPages, AreThose, Corners, First, HoldsAny, HoldsKey, IsBefore, IsHonest, IsLater}
+use Rattle.ub_tree.specs.Common.{IsOnlyGrown, IsSound, Key, key_of, last_address, level_count, Meets, Region, RegionRows, Row, spans_of, StoreFacts}
+use Rattle.ub_tree.specs.Common.{TreeFault, TreeView}
 use Rattle.ub_page.specs.declared.entries.TheConstants.{MAX_ENTRIES}
-use Rattle.ub_region.specs.Those.{AreThose}
-use Rattle.ub_table.specs.Keys.{IsBefore}
-use Rattle.ub_table.specs.Region.{RegionRows, key_of}
-use Rattle.ub_table.specs.declared.row.Key.{Key}
-use Rattle.ub_table.specs.declared.row.Row.{Row}
-use Rattle.ub_store.specs.Facts.{StoreFacts, IsHonest}
 use Rattle.ub_tree.specs.Calls.{StandsAt}
 use Rattle.ub_tree.specs.Checking.{IsFirstFault, IsWell}
 use Rattle.ub_tree.specs.Effects.{IsIndexFull}
-use Rattle.ub_tree.specs.Grown.{IsOnlyGrown}
 use Rattle.ub_tree.specs.Opened.{IsOpened}
-use Rattle.ub_tree.specs.Spans.{First, IsLater, Meets, Region}
-use Rattle.ub_tree.specs.Stored.{AreSoundPages}
 use Rattle.ub_tree.specs.Stretches.{ArePartsOf, IsStretchOf, MeetsAny, Stretch, whole_of, within}
 use Rattle.ub_tree.specs.Told.{AreAnswers, GivesNext, IsRegionOf}
-use Rattle.ub_tree.specs.View.{TreeView, IsSound, level_count, spans_of}
-use Rattle.ub_tree.specs.declared.fault.TreeFault.{TreeFault}
-use Rattle.ub_zaddr.specs.Address.{last_address}
 
 -- of two regions the later one begins with the later key
 abbrev pub SpansAscend : Type 0

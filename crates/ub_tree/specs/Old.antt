@@ -1,17 +1,7 @@
 -- The pages of a table of an older format, 1 or 2.
 use Rattle.std.specs.Prelude.{◌≡◌, ◌⊎◌, ℕ, false, List, ◌∷◌, Some, length, map, slice_get}
-use Rattle.ub_index.specs.Index.{pages_under, top}
-use Rattle.ub_page.specs.Header.{IsOldHeader, header_page_of}
-use Rattle.ub_region.specs.declared.entry.Entry.{Entry}
-use Rattle.ub_page.specs.declared.header.Header.{Header}
-use Rattle.ub_page.specs.declared.header.OldHeader.{OldHeader}
-use Rattle.ub_region.specs.Regions.{AreRegions, rows_of}
-use Rattle.ub_table.specs.declared.schema.Schema.{Schema}
-use Rattle.ub_tree.specs.Indexed.{HasIndex}
-use Rattle.ub_tree.specs.Placed.{Placed, ArePlaced, entry_of, regions_in}
-use Rattle.ub_tree.specs.Stored.{index_of}
-use Rattle.ub_upgrade.specs.Bringing.{directory_of}
-use Rattle.ub_upgrade.specs.Reading.{IsDirectory}
+use Rattle.ub_tree.specs.Common.{ArePlaced, AreRegions, directory_of, Entry, entry_of, HasIndex, Header, header_page_of, index_of, IsDirectory}
+use Rattle.ub_tree.specs.Common.{IsOldHeader, OldHeader, pages_under, Placed, regions_in, rows_of, Schema, top}
 
 -- a header of this version
 abbrev pub head_of : ℕ → Header → OldHeader

@@ -1,23 +1,10 @@
 -- Opening a store: which pages tell of a table, what is made of them, and why others are refused.
 use Rattle.std.specs.Prelude.{◌≡◌, ◌≤◌, ◌⊎◌, ℕ, false, IsTrue, List, Result, Err, IfErr, IfOk, IsErrAnd, MatchResult, Some, None, slice_get}
-use Rattle.ub_index.specs.Fitting.{IsUnfit}
-use Rattle.ub_index.specs.Index.{NamesFitting, top}
-use Rattle.ub_page.specs.Header.{IsHeader, IsHeaderFault, header_page}
-use Rattle.ub_page.specs.declared.header.Header.{Header}
-use Rattle.ub_store.specs.Facts.{StoreFacts, IsHonest, IsPage, page_count}
-use Rattle.ub_store.specs.View.{untouched}
-use Rattle.ub_store.specs.declared.fault.Rejected.{Rejected}
-use Rattle.ub_table.specs.declared.fault.PageFault.TheVariants.{Unclean}
-use Rattle.ub_table.specs.declared.fault.PageFault.{PageFault}
-use Rattle.ub_table.specs.declared.schema.Schema.{Schema}
+use Rattle.ub_tree.specs.Common.{AreSoundPages, HasMark, Header, header_page, index_of, IsHeader, IsHeaderFault, IsHonest, IsPage, IsSound, IsUnfit}
+use Rattle.ub_tree.specs.Common.{Memory, NamesFitting, Page, page_count, PageFault, Placed, region_count, Rejected, Schema, Store, StoreFacts, top}
+use Rattle.ub_tree.specs.Common.{TreeFault, TreeView, Unclean, untouched}
 use Rattle.ub_tree.specs.Effects.{read_store}
-use Rattle.ub_tree.specs.Placed.{Placed}
-use Rattle.ub_tree.specs.Stored.{AreSoundPages, index_of}
-use Rattle.ub_tree.specs.View.{TreeView, IsSound, region_count}
-use Rattle.ub_tree.specs.declared.fault.TreeFault.{TreeFault}
-use Rattle.ub_tree.specs.declared.fault.TreeFault.TheVariants.{Page, Store, Memory}
 use Rattle.ub_store.specs.declared.fault.StoreFault.TheVariants as store
-use Rattle.ub_writing.specs.Marks.{HasMark}
 
 -- the first page of the store is this header, and it is clean
 pub record HasHeader (store : StoreFacts) (header : Header) : Type 0 where

@@ -1,17 +1,8 @@
 -- Which pages of its store a change of a tree leaves as they are, and what it does to the regions that the tree counts.
 use Rattle.std.specs.Prelude.{◌≡◌, ◌≢◌, ◌≤◌, ◌+◌, ◌<◌, ◌⊎◌, ◌++◌, ℕ, List, [], ◌∷◌, Some, length, slice_get}
-use Rattle.ub_index.specs.Standing.{IsOutside}
-use Rattle.ub_index.specs.Way.{HoldsKey}
-use Rattle.ub_index_change.specs.Preparing.{NeedsPages}
-use Rattle.ub_page.specs.declared.header.TheConstants.{MAX_LEVEL}
-use Rattle.ub_region.specs.RegionPage.{region_page}
-use Rattle.ub_store.specs.Facts.{StoreFacts, IsHonest, page_count}
-use Rattle.ub_table.specs.declared.row.Key.{Key}
-use Rattle.ub_table.specs.declared.row.Row.{Row}
-use Rattle.ub_tree.specs.Indexed.{reserved}
+use Rattle.ub_tree.specs.Common.{HoldsKey, IsHonest, IsOutside, Key, MAX_LEVEL, NeedsPages, page_count, Region, region_count, region_page, reserved}
+use Rattle.ub_tree.specs.Common.{Row, StoreFacts, TreeView}
 use Rattle.ub_tree.specs.Told.{FallsTo, IsRegionOf, KeepsTold}
-use Rattle.ub_tree.specs.Spans.{Region}
-use Rattle.ub_tree.specs.View.{TreeView, region_count}
 
 -- the pages that there were are as they were, but for those of these numbers
 abbrev pub AreOthersKept : List ℕ → List (List ℕ) → List (List ℕ) → Type 0

@@ -1,15 +1,8 @@
 -- What stands on the pages of regions once a row was put into any tree, or taken out of it, over an honest store.
 use Rattle.std.specs.Prelude.{◌≡◌, ◌<◌, ◌+◌, ◌++◌, ◌⊎◌, ℕ, List, Option, Some, length, slice_get}
-use Rattle.ub_index.specs.Searching.{key_before}
-use Rattle.ub_region.specs.RegionPage.{region_page}
-use Rattle.ub_region.specs.Rows.{Halves, insert_row, remove_row, split}
-use Rattle.ub_store.specs.Facts.{IsHonest, page_count}
-use Rattle.ub_table.specs.Region.{RegionRows, key_of}
-use Rattle.ub_table.specs.declared.row.Key.{Key}
-use Rattle.ub_table.specs.declared.row.Row.{Row}
+use Rattle.ub_tree.specs.Common.{Halves, insert_row, IsHonest, Key, key_before, key_of, page_count, Region, region_count, region_page, RegionRows}
+use Rattle.ub_tree.specs.Common.{remove_row, Row, split, TreeView}
 use Rattle.ub_tree.specs.Holding.{FallsInto}
-use Rattle.ub_tree.specs.Spans.{Region}
-use Rattle.ub_tree.specs.View.{TreeView, region_count}
 
 -- the page of this number spells the region of these rows that begins with this key
 abbrev pub Spells : TreeView → ℕ → Key → List Row → Type 0

@@ -1,15 +1,9 @@
 -- What a call can answer that reads a tree, as often as it likes, and what it leaves of the tree.
 use Rattle.std.specs.Prelude.{◌≡◌, ◌≢◌, ℕ, List, Option, None, Result, Err, IfErr}
-use Rattle.ub_bigmin.specs.Box.{Corners}
-use Rattle.ub_store.specs.Facts.{StoreFacts}
+use Rattle.ub_tree.specs.Common.{Corners, Memory as no_memory, ReadFault, Region, StoreFacts, Tree, TreeFault, TreeView}
 use Rattle.ub_tree.specs.Effects.{IsReadFault, IsSearchFault, raised_by}
-use Rattle.ub_tree.specs.Spans.{Region}
 use Rattle.ub_tree.specs.Told.{AreFirst, SeeksNext}
-use Rattle.ub_tree.specs.View.{TreeView}
-use Rattle.ub_tree.specs.declared.fault.TreeFault.{TreeFault}
-use Rattle.ub_tree.specs.declared.fault.TreeFault.TheVariants.{Memory as no_memory}
-use Rattle.ub_tree.specs.declared.read_fault.ReadFault.{ReadFault}
-use Rattle.ub_tree.specs.declared.read_fault.ReadFault.TheVariants.{Memory, Tree}
+use Rattle.ub_tree.specs.declared.read_fault.ReadFault.TheVariants.{Memory}
 
 -- want of memory is one fault wherever it comes
 abbrev pub fault_of_tree : TreeFault → ReadFault

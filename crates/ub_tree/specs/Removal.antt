@@ -1,18 +1,11 @@
 -- What a removal does to a tree.
 use Rattle.std.specs.Prelude.{◌≡◌, ◌+◌, ◌⊎◌, Bool, true, false, List, IsTrue, Result, Err, IfErr, IfOk, if◌then◌else◌}
-use Rattle.ub_region.specs.Regions.{AreTableRows, remove, without_number}
-use Rattle.ub_region.specs.Rows.{has_key}
-use Rattle.ub_store.specs.Facts.{IsHonest}
-use Rattle.ub_store.specs.declared.fault.StoreFault.TheVariants as store
-use Rattle.ub_table.specs.declared.row.Key.{Key}
-use Rattle.ub_table.specs.declared.row.Row.{Row}
-use Rattle.ub_table.specs.declared.fault.PageFault.TheVariants.{BadCount}
+use Rattle.ub_tree.specs.Common.{AreTableRows, BadCount, Failed, Full, has_key, IsHonest, IsSound, Key, Page, region_count, regions, remove, Row}
+use Rattle.ub_tree.specs.Common.{Store, tree_rows, TreeFault, TreeView, without_number}
 use Rattle.ub_tree.specs.Effects.{Changes, IsDropRefused, IsPageRefused}
 use Rattle.ub_tree.specs.Holding.{AnswersRemoval, ShrinksAt}
 use Rattle.ub_tree.specs.Pages.{TakesRow}
-use Rattle.ub_tree.specs.View.{TreeView, IsSound, region_count, regions, tree_rows}
-use Rattle.ub_tree.specs.declared.fault.TreeFault.{TreeFault}
-use Rattle.ub_tree.specs.declared.fault.TreeFault.TheVariants.{Failed, Full, Page, Store}
+use Rattle.ub_store.specs.declared.fault.StoreFault.TheVariants as store
 
 -- whether a row of a sound tree has the key, and that row alone is taken out of the table
 pub record IsRemoved (key : Key) (found : Bool) (old new : TreeView) : Type 0 where

@@ -1,17 +1,12 @@
 -- Stretches of a tree: the whole of it, what opening one gives, and the regions within it. A stretch is what an entry of any level of the
 -- index names; crates above know of the two records `IsStretchOf` and `ArePartsOf` what the laws say, and no more.
 use Rattle.std.specs.Prelude.{◌≡◌, ◌≤◌, IsTrue, List, Some, Result, Err, IfErr, OnOk}
-use Rattle.ub_bigmin.specs.Box.{Corners}
-use Rattle.ub_index.specs.Fitting.{IsNotTaken}
+use Rattle.ub_tree.specs.Common.{Corners, entry_at, IsHonest, IsNotTaken, page_count, ReadFault, Tree, TreeView}
 use Rattle.ub_index.specs.Stretches.{ArePartsOn, IsStretchOn, whole_stretch}
-use Rattle.ub_index.specs.View.{entry_at}
-use Rattle.ub_store.specs.Facts.{IsHonest, page_count}
-use Rattle.ub_store.specs.declared.fault.StoreFault.TheVariants as store
 use Rattle.ub_tree.specs.Reading.{IsGiven, read_store}
-use Rattle.ub_tree.specs.View.{TreeView}
+use Rattle.ub_tree.specs.declared.read_fault.ReadFault.TheVariants.{Memory}
+use Rattle.ub_store.specs.declared.fault.StoreFault.TheVariants as store
 use Rattle.ub_tree.specs.declared.fault.TreeFault.TheVariants as tree
-use Rattle.ub_tree.specs.declared.read_fault.ReadFault.{ReadFault}
-use Rattle.ub_tree.specs.declared.read_fault.ReadFault.TheVariants.{Memory, Tree}
 pub use Rattle.ub_index.specs.Sinks.{Began, TakesThese}
 pub use Rattle.ub_index.specs.Stretches.{MeetsAny, holds_key, within}
 pub use Rattle.ub_index.specs.declared.stretch.Stretch.{Stretch}

@@ -1,12 +1,7 @@
 -- What the searches of a tree tell of its regions, over any tree: also over one that isn't sound. Crates above know of these two
 -- relations what the laws say, and no more.
 use Rattle.std.specs.Prelude.{◌≤◌, ◌<◌, ◌^◌, ℕ, List, [], ◌∷◌, Option, Some, None, IfSome, ◌↔◌, ◌≡◌}
-use Rattle.ub_bigmin.specs.Box.{Corners, HoldsAny}
-use Rattle.ub_bigmin.specs.Extremes.{LeastFrom}
-use Rattle.ub_index.specs.Searching.{Gives, GivesAfter, IsSought}
-use Rattle.ub_table.specs.declared.row.Key.{Key}
-use Rattle.ub_tree.specs.Spans.{IsLater, Region}
-use Rattle.ub_tree.specs.View.{TreeView, region_count}
+use Rattle.ub_tree.specs.Common.{Corners, Gives, GivesAfter, HoldsAny, IsLater, IsSought, Key, LeastFrom, Region, region_count, TreeView}
 
 -- a region to which a key falls: it holds the key, and has its span, and over an honest store the way to the key leads there, on which
 -- each page fits

@@ -1,15 +1,7 @@
 -- A tree's parts, as contracts see them together.
 use Rattle.std.specs.Prelude.{◌+◌, ◌≡◌, ◌≤◌, ◌<◌, ◌^◌, ℕ, Bool, if◌then◌else◌, List, []}
-use Rattle.ub_table.specs.declared.row.TheConstants.{MAX_ROW_NUMBER}
-use Rattle.ub_zaddr.specs.Address.{last_address}
-use Rattle.ub_index.specs.Held.{AreChecked}
-use Rattle.ub_index.specs.View.{IndexView, entries_under}
-use Rattle.ub_store.specs.Facts.{StoreFacts}
-use Rattle.ub_store.specs.View.{PagerView}
-use Rattle.ub_table.specs.declared.schema.Schema.{Schema}
-use Rattle.ub_tree.specs.Placed.{Placed, placed_of}
-use Rattle.ub_tree.specs.View.{TreeView}
-use Rattle.ub_writing.specs.Marks.{IsMarkOf}
+use Rattle.ub_tree.specs.Common.{AreChecked, entries_under, IndexView, IsMarkOf, last_address, MAX_ROW_NUMBER, PagerView, Placed, placed_of, Schema}
+use Rattle.ub_tree.specs.Common.{StoreFacts, TreeView}
 use Rattle.ub_writing.specs.declared.mark.Mark.{Mark}
 
 -- the pages of an honest store; of another one nothing is known

@@ -1,27 +1,13 @@
 -- Upgrading a table of an older format into a new store: what is made, why it is refused, and what the two stores are then.
 use Rattle.std.specs.Prelude.{◌≡◌, ◌≤◌, ◌<◌, ◌+◌, ◌⊎◌, ℕ, false, true, IsTrue, List, Result, IfErr, IfOk, MatchResult, Some, None, slice_get}
-use Rattle.ub_index.specs.View.{IsIndexOn, entries_in}
-use Rattle.ub_page.specs.Header.{IsOldHeaderFault}
-use Rattle.ub_page.specs.declared.header.OldHeader.{OldHeader}
-use Rattle.ub_store.specs.Facts.{StoreFacts, IsHonest, page_count, raised}
-use Rattle.ub_store.specs.View.{untouched}
-use Rattle.ub_store.specs.declared.fault.Rejected.{Rejected}
+use Rattle.ub_tree.specs.Common.{AreBelow, directory_of, entries_in, HasMark, HasOldHeader, index_of, IsAskedFor, IsDirectory, IsHonest, IsIndexOn}
+use Rattle.ub_tree.specs.Common.{IsNamed, IsOldHeaderFault, IsRefused, IsSound, last_address, Memory, OldHeader, Page, page_count, PageFault, Placed}
+use Rattle.ub_tree.specs.Common.{raised, region_count, regions, regions_in, Rejected, Schema, Store, StoreFacts, TreeFault, TreeView, untouched}
 use Rattle.ub_store.specs.declared.store.TheConstants.{MAX_PAGES}
-use Rattle.ub_table.specs.declared.fault.PageFault.{PageFault}
-use Rattle.ub_table.specs.declared.schema.Schema.{Schema}
 use Rattle.ub_tree.specs.Checking.{IsFirstFault, StopsTree}
 use Rattle.ub_tree.specs.Old.{AreOldPages}
-use Rattle.ub_tree.specs.Placed.{Placed, regions_in}
-use Rattle.ub_tree.specs.Stored.{index_of}
-use Rattle.ub_tree.specs.View.{TreeView, IsSound, region_count, regions}
-use Rattle.ub_tree.specs.declared.fault.TreeFault.{TreeFault}
-use Rattle.ub_tree.specs.declared.fault.TreeFault.TheVariants.{Memory, Page, Store}
-use Rattle.ub_upgrade.specs.Bringing.{HasOldHeader, directory_of}
 use Rattle.ub_laying.specs.Levels.{index_pages}
-use Rattle.ub_upgrade.specs.Reading.{AreBelow, IsAskedFor, IsDirectory, IsNamed, IsRefused}
 use Rattle.ub_store.specs.declared.fault.StoreFault.TheVariants as store
-use Rattle.ub_writing.specs.Marks.{HasMark}
-use Rattle.ub_zaddr.specs.Address.{last_address}
 
 -- a tree stands over the pages of an old store with this header: it has its schema, its counts and its next number, its index is one of its
 -- schema's space, and each of its pages but the first stands under its own number; in version 2 that is all, and its index is where the header

@@ -1,19 +1,11 @@
 -- The stretches that a sweep awaits as a heap stores them, and the order of the sweep as a comparison.
 use Rattle.std.specs.Prelude.{◌≡◌, ◌++◌, [], ◌∷◌, ℕ, ℤ, pos, Bool, List, Option, Some, None, map, Contains}
+use Rattle.ub_tetris.specs.Common.{AllByRecursion, Awaited, back_total, Corners, int_cmp, int_cmp_total, IsPermutation, IsTotalOrder, IsValueInSpan}
+use Rattle.ub_tetris.specs.Common.{nat_cmp, nat_cmp_total, on_total, Ordering, ordering_then, PlanView, Stretch, Sweep, then_total}
 use Rattle.std.specs.BinaryHeap.{IsHeap}
-use Rattle.std.specs.Cmp.{IsTotalOrder, back_total, int_cmp_total, nat_cmp_total, on_total, then_total}
-use Rattle.std.specs.List.{AllByRecursion}
-use Rattle.std.specs.List.Sorted.{IsPermutation}
-use Rattle.std.specs.Ordering.{int_cmp, nat_cmp, ordering_then}
-use Rattle.std.specs.declared.cmp.Ordering.{Ordering}
-use Rattle.ub_bigmin.specs.Box.{Corners, IsValueInSpan}
-use Rattle.ub_planning.specs.Plan.{PlanView}
-use Rattle.ub_planning.specs.declared.planned.Kind.TheVariants.{Sweep}
 use Rattle.ub_tetris.specs.Awaited.{AreValued, AwaitedStretch, HaveDimension, IsAwaitedBefore, IsFirstOn, awaited_at, stretches_of}
 use Rattle.ub_tetris.specs.Held.{turned}
 use Rattle.ub_tetris.specs.declared.course.Course.{Course}
-use Rattle.ub_tetris.specs.declared.event.Awaited.{Awaited}
-use Rattle.ub_tree.specs.Stretches.{Stretch}
 
 -- what contracts see of those awaited
 abbrev pub seen : Awaited → AwaitedStretch

@@ -1,15 +1,9 @@
 -- The rows held as a heap stores them, and which of them is the first.
 use Rattle.std.specs.Prelude.{◌≡◌, ◌≢◌, ◌++◌, [], ◌∷◌, ℕ, ℤ, List, Option, Some, None, map, slice_index, Contains}
-use Rattle.std.specs.Cmp.{IsTotalOrder, back_total, int_cmp_total, nat_cmp_total, on_total, then_total}
+use Rattle.ub_tetris.specs.Common.{AllByRecursion, back_total, int_cmp, int_cmp_total, IsPermutation, IsTotalOrder, nat_cmp, nat_cmp_total, on_total}
+use Rattle.ub_tetris.specs.Common.{Ordering, ordering_then, Row, Schema, SortKey, then_total}
 use Rattle.std.specs.Cmp.Lexicographic.{lists_total, slice_cmp}
-use Rattle.std.specs.List.{AllByRecursion}
-use Rattle.std.specs.List.Sorted.{IsPermutation}
-use Rattle.std.specs.Ordering.{nat_cmp, int_cmp, ordering_then}
-use Rattle.std.specs.declared.cmp.Ordering.{Ordering}
 use Rattle.std.specs.declared.cmp.Ordering.TheVariants.{Less}
-use Rattle.ub_query.specs.declared.query.SortKey.{SortKey}
-use Rattle.ub_table.specs.declared.row.Row.{Row}
-use Rattle.ub_table.specs.declared.schema.Schema.{Schema}
 use Rattle.ub_tetris.specs.Held.{HeldRow, held_row}
 use Rattle.ub_tetris.specs.declared.place.Held.{Held}
 use Rattle.ub_tetris.specs.declared.ranked.Ranked.{Ranked}

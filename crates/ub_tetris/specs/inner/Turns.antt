@@ -1,26 +1,14 @@
 -- What the turns of a sweep do to it: the first of those awaited is opened or fetched, or the first row is taken.
 use Rattle.std.specs.Prelude.{◌≡◌, ◌≤◌, ◌<◌, ◌++◌, ◌∷◌, ◌⊎◌, ℕ, Bool, true, false, not, List, [], Option, Some, None, Result, OnOk, slice_index}
-use Rattle.std.specs.List.{filter, Contains}
-use Rattle.std.specs.List.Sorted.{IsPermutation}
-use Rattle.ub_filter.specs.Choice.{is_chosen}
-use Rattle.ub_filter.specs.declared.choice.Choice.{Choice}
-use Rattle.ub_planning.specs.Plan.{PlanView}
-use Rattle.ub_planning.specs.Visits.{is_past}
-use Rattle.ub_query.specs.Lead.{swept_order}
-use Rattle.ub_table.specs.Region.{RegionRows}
-use Rattle.ub_table.specs.declared.row.Row.{Row}
+use Rattle.ub_tetris.specs.Common.{ArePartsOf, Awaited, Choice, Contains, filter, HasNoted, is_chosen, is_past, IsPermutation, IsSound, IsTakenIn}
+use Rattle.ub_tetris.specs.Common.{KeepsTrace, PlanView, ReadFault, RegionRows, Row, spans_of, swept_order, TreeView}
 use Rattle.ub_tetris.specs.Awaited.{AreValued, AwaitedStretch, HaveDimension, most_regions, stretches_of}
 use Rattle.ub_tetris.specs.Effects.{Sweeps, of_reading}
 use Rattle.ub_tetris.specs.Sweep.{HandsOver, SweepView}
-use Rattle.ub_tetris.specs.declared.event.Awaited.{Awaited}
 use Rattle.ub_tetris.specs.declared.state.State.{State}
 use Rattle.ub_tetris.specs.inner.Events.{Ahead, IsFirstAwaited, seen}
 use Rattle.ub_tetris.specs.inner.Kept.{HoldsAlso, IsFirstOf}
 use Rattle.ub_tree.specs.Calls.{StandsAt}
-use Rattle.ub_tree.specs.Effects.{HasNoted, IsTakenIn}
-use Rattle.ub_tree.specs.Stretches.{ArePartsOf}
-use Rattle.ub_tree.specs.View.{TreeView, IsSound, KeepsTrace, spans_of}
-use Rattle.ub_tree.specs.declared.read_fault.ReadFault.{ReadFault}
 
 -- what contracts see of a sweep in this state
 abbrev pub view_by : State → Bool → SweepView

@@ -1,41 +1,23 @@
 -- What the steps of a change of one region do to a tree, and what they need.
 use Rattle.std.specs.Prelude.{IfSome, ◌≡◌, ◌≢◌, ◌+◌, ◌<◌, ◌≤◌, ◌^◌, ◌++◌, ◌⊎◌, ℕ, suc, true, false, List, [], ◌∷◌, Option, IsTrue, Result, Err, IfErr, MatchResult, OnOk, Some, length, map, take, drop, slice_get}
-use Rattle.std.specs.List.{AllByRecursion}
-use Rattle.ub_store.specs.Writing.{Grows}
+use Rattle.ub_tree.specs.Common.{added_at, AllByRecursion, ArePlaced, ChangeView, entries_in, entry_at, entry_of, first_keys, Full, Grows, Halves}
+use Rattle.ub_tree.specs.Common.{HasIndex, index_holding, IsBefore, IsDropped, IsHonest, IsIndexPage, IsOnlyGrown, IsOutside, IsPrepared, IsRegion}
+use Rattle.ub_tree.specs.Common.{IsRegionAt, IsSound, IsWithinRegion, KeepsUnless, Key, keys_of, MakesIndex, Memory, origin, Page, page_count, Placed}
+use Rattle.ub_tree.specs.Common.{Region, region_count, RegionRows, regions, RegionView, reserved, Row, Schema, split, split_region, Store, StoreFacts}
+use Rattle.ub_tree.specs.Common.{TakesNeeded, TreeFault, TreeView}
 use Rattle.ub_index_change.specs.Changed.{Replaces}
 use Rattle.ub_index_change.specs.Changing.{AreIndexPages, AreOnce, Stand, so_far}
-use Rattle.ub_index.specs.Index.{IsIndexPage}
-use Rattle.ub_index.specs.Standing.{IsOutside}
 use Rattle.ub_index_change.specs.Filling.{KeepsFilled}
-use Rattle.ub_index_change.specs.Lowering.{IsDropped}
 use Rattle.ub_index_change.specs.Making.{IsPutFault, PutsSheets, changed}
-use Rattle.ub_index_change.specs.Preparing.{ChangeView, IsPrepared, IsWithinRegion, MakesIndex, TakesNeeded, added_at}
-use Rattle.ub_index.specs.View.{IsRegionAt, entries_in, entry_at}
 use Rattle.ub_index_change.specs.declared.sheet.Sheet.{Sheet}
-use Rattle.ub_region.specs.RegionPage.{RegionView}
-use Rattle.ub_region.specs.Regions.{index_holding, split_region}
-use Rattle.ub_region.specs.Rows.{Halves, split}
-use Rattle.ub_store.specs.Facts.{StoreFacts, IsHonest, page_count}
-use Rattle.ub_store.specs.declared.fault.StoreFault.TheVariants as store
-use Rattle.ub_table.specs.Keys.{IsBefore, origin}
-use Rattle.ub_table.specs.Region.{RegionRows, IsRegion, keys_of}
-use Rattle.ub_table.specs.declared.row.Key.{Key}
-use Rattle.ub_table.specs.declared.row.Row.{Row}
-use Rattle.ub_table.specs.declared.schema.Schema.{Schema}
-use Rattle.ub_tree.specs.Effects.{Changes, HasEnded, IsChangeMissing, IsChangeRefused, IsFull, IsIndexFull, IsReadFault, IsTakenIn, KeepsMark, Leaves, Searches, read_store, written_store, IsMarkedFirst}
-use Rattle.ub_tree.specs.Grown.{IsOnlyGrown}
+use Rattle.ub_tree.specs.Effects.{Changes, HasEnded, IsChangeMissing, IsChangeRefused, IsFull, IsIndexFull, IsReadFault, IsTakenIn, KeepsMark, Leaves}
+use Rattle.ub_tree.specs.Effects.{Searches, read_store, written_store, IsMarkedFirst}
 use Rattle.ub_tree.specs.Holding.{AnswersAt}
-use Rattle.ub_tree.specs.Indexed.{HasIndex, reserved}
 use Rattle.ub_tree.specs.Opened.{IsPassing}
 use Rattle.ub_tree.specs.Others.{AddsEntry, KeepsEntries, KeepsOthers, WritesIndex, WritesPage}
 use Rattle.ub_tree.specs.Pages.{Spells, SpellsHalves}
-use Rattle.ub_tree.specs.Placed.{Placed, ArePlaced, entry_of}
-use Rattle.ub_tree.specs.Spans.{Region, first_keys}
 use Rattle.ub_tree.specs.Told.{FallsTo, IsRegionOf, KeepsTold}
-use Rattle.ub_tree.specs.View.{TreeView, IsSound, region_count, regions}
-use Rattle.ub_tree.specs.declared.fault.TreeFault.{TreeFault}
-use Rattle.ub_tree.specs.declared.fault.TreeFault.TheVariants.{Full, Memory, Page, Store}
-use Rattle.ub_writing.specs.Marks.{KeepsUnless}
+use Rattle.ub_store.specs.declared.fault.StoreFault.TheVariants as store
 
 -- the pages of a tree that works, over an honest store: its index stands on them, and each of its regions on a page of its own that
 -- spells it, as many as it counts

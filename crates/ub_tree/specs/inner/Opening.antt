@@ -1,20 +1,11 @@
 -- What the steps of opening a table, and of making one, do to a pager.
 use Rattle.std.specs.Prelude.{◌≡◌, Result, IfErr, IfOk, OnErr, OnOk}
-use Rattle.ub_index.specs.Held.{KeepsChecked}
+use Rattle.ub_tree.specs.Common.{Header, index_of, index_view, IndexView, IsHeader, IsHonest, IsLaidOut, IsUncreated, KeepsChecked, last_address}
+use Rattle.ub_tree.specs.Common.{page_count, PagerView, SameTrace, Schema, TreeFault}
 use Rattle.ub_index.specs.Opening.{IsAlone}
-use Rattle.ub_index.specs.View.{IndexView, index_view}
-use Rattle.ub_page.specs.Header.{IsHeader}
-use Rattle.ub_page.specs.declared.header.Header.{Header}
-use Rattle.ub_store.specs.Facts.{IsHonest, page_count}
-use Rattle.ub_store.specs.View.{PagerView, SameTrace}
-use Rattle.ub_table.specs.declared.schema.Schema.{Schema}
 use Rattle.ub_tree.specs.Calls.{IsCreateFault}
 use Rattle.ub_tree.specs.Effects.{read_store, written_store}
 use Rattle.ub_tree.specs.Opened.{IsOpenFault, IsPassing, IsRooted}
-use Rattle.ub_tree.specs.Stored.{index_of}
-use Rattle.ub_tree.specs.declared.fault.TreeFault.{TreeFault}
-use Rattle.ub_writing.specs.Creation.{IsLaidOut, IsUncreated}
-use Rattle.ub_zaddr.specs.Address.{last_address}
 
 -- a call that only reads a store behind a pager, of which no region is asked for
 pub record Opens {A : Type 0} (old new : PagerView) (result : Result A TreeFault) : Type 0 where

@@ -1,30 +1,17 @@
 -- What the steps of a removal do to a tree, and what they need.
 use Rattle.std.specs.Prelude.{◌≡◌, ◌+◌, ◌++◌, ◌/◌, ◌≤◌, ◌⊎◌, ℕ, true, false, List, Option, Some, None, Result, Err, IfErr, IfOk, IfSome, MatchOption, MatchResult, OnOk, is_some, length, map}
-use Rattle.std.specs.List.{AllByRecursion}
-use Rattle.ub_index.specs.Searching.{GivesAny, key_before}
-use Rattle.ub_index.specs.View.{IsNextRegion, IsPreviousRegion}
+use Rattle.ub_tree.specs.Common.{AllByRecursion, BadCount, entry_of, GivesAny, IsHonest, IsNextRegion, IsPreviousRegion, IsRegion, Key, key_before}
+use Rattle.ub_tree.specs.Common.{Page, Region, region_count, RegionRows, regions, RegionView, Row, settle, Store, TreeFault, TreeView}
 use Rattle.ub_region.specs.Joins.{JoinsBefore, JoinsNext, put_rows}
-use Rattle.ub_region.specs.RegionPage.{RegionView}
-use Rattle.ub_region.specs.Regions.{settle}
-use Rattle.ub_store.specs.Facts.{IsHonest}
-use Rattle.ub_store.specs.declared.fault.StoreFault.TheVariants as store
-use Rattle.ub_table.specs.Region.{RegionRows, IsRegion}
-use Rattle.ub_table.specs.declared.fault.PageFault.TheVariants.{BadCount}
-use Rattle.ub_table.specs.declared.row.Key.{Key}
-use Rattle.ub_table.specs.declared.row.Row.{Row}
 use Rattle.ub_tree.specs.Effects.{IsTakenIn, Searches}
 use Rattle.ub_tree.specs.Holding.{Answers, CanFallInto, HasRoomAt, IsJoined, IsThatOrBefore}
 use Rattle.ub_tree.specs.Opened.{IsPassing}
 use Rattle.ub_tree.specs.Others.{DropsEntry, KeepsEntries, WritesIndex, WritesPage}
 use Rattle.ub_tree.specs.Pages.{LeavesRows, Spells}
-use Rattle.ub_tree.specs.Placed.{entry_of}
 use Rattle.ub_tree.specs.Removal.{Lessens}
-use Rattle.ub_tree.specs.Spans.{Region}
 use Rattle.ub_tree.specs.Told.{FallsTo, IsRegionOf}
-use Rattle.ub_tree.specs.View.{TreeView, region_count, regions}
-use Rattle.ub_tree.specs.declared.fault.TreeFault.{TreeFault}
-use Rattle.ub_tree.specs.declared.fault.TreeFault.TheVariants.{Page, Store}
 use Rattle.ub_tree.specs.inner.Change.{IsElsewhereSame, IsRegionIn, IsRegionThere, IsStored}
+use Rattle.ub_store.specs.declared.fault.StoreFault.TheVariants as store
 
 -- two neighbours of which the tree tells, and a region in memory that can stand in the place of the first
 pub record IsPair (t : TreeView) (first second : Region) (page : RegionView) : Type 0 where

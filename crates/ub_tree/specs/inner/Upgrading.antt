@@ -1,18 +1,10 @@
 -- What stands on the new pages of a table that is upgraded, and the check of its tree.
 use Rattle.std.specs.Prelude.{◌≡◌, ℕ, List, Result, Err, IfErr, IfOk, OnOk, length, map}
-use Rattle.ub_index.specs.View.{IndexView}
-use Rattle.ub_page.specs.declared.header.OldHeader.{OldHeader}
-use Rattle.ub_region.specs.Regions.{AreRegions, rows_of}
-use Rattle.ub_store.specs.Facts.{StoreFacts, IsHonest}
-use Rattle.ub_store.specs.declared.fault.Rejected.{Rejected}
-use Rattle.ub_table.specs.declared.schema.Schema.{Schema}
+use Rattle.ub_tree.specs.Common.{ArePlaced, AreRegions, entry_of, HasIndex, IndexView, IsHonest, IsSound, OldHeader, Placed, regions_in, Rejected}
+use Rattle.ub_tree.specs.Common.{reserved, rows_of, Schema, StoreFacts, TreeFault, TreeView}
 use Rattle.ub_tree.specs.Checking.{IsCheckFault, IsWell}
 use Rattle.ub_tree.specs.Effects.{read_store}
-use Rattle.ub_tree.specs.Indexed.{HasIndex, reserved}
 use Rattle.ub_tree.specs.Opened.{IsPassing}
-use Rattle.ub_tree.specs.Placed.{Placed, ArePlaced, entry_of, regions_in}
-use Rattle.ub_tree.specs.View.{TreeView, IsSound}
-use Rattle.ub_tree.specs.declared.fault.TreeFault.{TreeFault}
 
 -- the new pages hold these regions of an old table: the header tells of them, an index of them stands there, and each stands on a page of
 -- its own that spells it
