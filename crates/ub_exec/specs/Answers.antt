@@ -12,8 +12,7 @@ pub record IsReady (t : TreeView) (p : PlanView) : Type 0 where
 
 -- what a query means on the rows of a tree's table
 abbrev pub IsAnswer : TreeView → Asked → List (List Cell) → Type 0
-IsAnswer t q cells = (rows : List Row) → AreTableRows (regions t) rows
-    → IsMeaning (record { schema = t.schema; rows = rows }) q cells
+IsAnswer t q cells = (rows : List Row) → AreTableRows (regions t) rows → IsMeaning (record { schema = t.schema; rows = rows }) q cells
 
 -- the tree with an empty trace
 abbrev pub begun : TreeView → TreeView

@@ -18,8 +18,7 @@ pub record Answers {A : Type 0} (p : PlanView) (old start new : TreeView) (resul
   pub rows : IfOk result (λ a. IsAnswer old p.asked (cells a))
   pub fetches : FetchesVisits p start new result
 
--- a plan was to be carried out over a tree, and this was answered, which has such cells: what that did over a sound tree; over any tree
--- the shape of the cells, what a scan answers, that a tree which has failed is refused, and what was read; and what is left
+-- a plan was to be carried out over a tree, and this was answered, which has such cells: what that did over a sound tree, and what over any tree
 pub record Executes {A : Type 0} (p : PlanView) (old new : TreeView) (result : Result A ReadFault) (cells : A → List (List Cell)) : Type 0 where
   pub done : IsReady old p → Answers p old (begun old) new result cells
   pub shaped : IfOk result (λ a. IsShaped p.asked (cells a))
@@ -36,8 +35,7 @@ pub record ExecutesSwept (Of : Type 0) (p : PlanView) (old new : TreeView) (resu
   pub notes : NotesPages (begun old) new result
   pub effect : ReadsTree old new result
 
--- the rows that a query selects were to be taken out of a tree by its plan, and this was answered: what that did to a sound tree, and which
--- pages were read; what was read and taken out of any tree; and what is left
+-- the rows that a query selects were to be taken out of a tree by its plan, and this was answered: what that did to a sound tree, and to any tree
 pub record DeletesBy (p : PlanView) (old new : TreeView) (result : Result ℕ ReadFault) : Type 0 where
   pub deleted : (s : Stand) → IsStandOf old s → IsDeletionOf old p
       → IfOk result (λ count. (count ≡ length (selected_of p.asked s)) × IsStandOf new (without_selected p.asked s))

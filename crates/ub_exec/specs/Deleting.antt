@@ -47,14 +47,12 @@ TakesOutBy keys old new (Err fault) = StopsAt keys old new fault
 
 -- ---- a deletion from any tree
 
--- what a deletion answers where taking out answers this
 abbrev pub answer_of : Result ℕ TreeFault → Result ℕ ReadFault
 answer_of (Ok count) = Ok count
 answer_of (Err fault) = Err (fault_of_tree fault)
 
--- no region that the tree tells of for the plan's boxes was passed over, and these are the keys of the rows in them that the
--- query selects, in ascending order of number; a row that stands in two regions is there twice. That the plan is that of its
--- query, and that some row is asked for, is a premise: by its boxes alone rows are told from others only then
+-- no region that the tree tells of for the plan's boxes was passed over, and these are the keys of the selected rows in them, in order of number; a
+-- row in two regions is there twice. By its boxes alone rows are told from others only where the plan is that of its query and some row is asked for
 pub record HasReadKeys (p : PlanView) (old new : TreeView) (keys : List Key) : Type 0 where
   pub rows : List Row
   pub read : HasReadRows p.covering.boxes old new rows
@@ -62,8 +60,7 @@ pub record HasReadKeys (p : PlanView) (old new : TreeView) (keys : List Key) : T
       → IsPermutation keys (keys_of old.schema.dims (filter (is_selected old.schema p.asked.filter) rows))
   pub ordered : IsNonDecreasingBy (λ key. key.number) keys
 
--- the keys of the selected rows were read; then, and not before, the rows of all these keys were taken out, in this order, or a
--- fault of that ended it, which is told
+-- the keys of the selected rows were read, and only then the rows of all these keys taken out, in this order, or a fault ended that, which is told
 pub record TakesOutAfter (p : PlanView) (old new : TreeView) (result : Result ℕ ReadFault) : Type 0 where
   pub mid : TreeView
   pub same : mid ≡ record old { trace = mid.trace }
@@ -83,15 +80,11 @@ abbrev pub HasMetDevice : TreeView → TreeView → Type 0
 HasMetDevice old new =
     ((new.is_failed ≡ old.is_failed)
     × (new.store ≡ record old.store {
-      pages = new.store.pages;
-      synced = new.store.synced;
-      failed_reads = raised old.store.failed_reads 1;
+      pages = new.store.pages; synced = new.store.synced; failed_reads = raised old.store.failed_reads 1;
     }))
     ⊎ ((new.is_failed ≡ true)
     × (new.store ≡ record old.store {
-      pages = new.store.pages;
-      synced = new.store.synced;
-      failed_writes = raised old.store.failed_writes 1;
+      pages = new.store.pages; synced = new.store.synced; failed_writes = raised old.store.failed_writes 1;
     }))
 
 -- what can end a deletion, and what it leaves then
@@ -105,17 +98,11 @@ IsDeletionFault old new (Tree (Store store.Device)) = IsTrue old.store.can_fail 
 IsDeletionFault old new (Tree (Store store.NoPage)) = (¬ (IsSound old)) × Works old new
 IsDeletionFault old new (Tree (Store _)) = ⊥
 
--- a deletion from a tree: what it never touches; that it counts the rows that are gone, and no others; that a table once marked as
--- changed stays so, as it is where a row is gone, that until then no page but the first is written, and that from then on the
--- first page of an honest store marks it, if it did where the table was changed before; and what it leaves
+-- a deletion from a tree: where a row is gone the table is marked as changed, and until it is so marked no page but the first is written; from then
+-- on the first page of an honest store marks it, if it did where the table was changed before
 pub record Deletes (old new : TreeView) (result : Result ℕ ReadFault) : Type 0 where
   pub frame : new ≡ record old {
-    placed = new.placed;
-    rows = new.rows;
-    is_changed = new.is_changed;
-    is_failed = new.is_failed;
-    store = new.store;
-    trace = new.trace;
+    placed = new.placed; rows = new.rows; is_changed = new.is_changed; is_failed = new.is_failed; store = new.store; trace = new.trace;
     inner = new.inner;
   }
   pub counted : IfOk result (λ count. new.rows + count ≡ old.rows)

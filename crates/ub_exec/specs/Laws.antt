@@ -23,8 +23,7 @@ InsertionKeepsStands = (s : Stand) (row : Row) → IsStand s
 
 -- where a row of the table is taken out, the regions are those of the table then
 abbrev pub RemovalKeepsStands : Type 0
-RemovalKeepsStands = (s : Stand) (row : Row) → IsStand s → Contains s.table.rows row
-    → IsStand (without_row row s)
+RemovalKeepsStands = (s : Stand) (row : Row) → IsStand s → Contains s.table.rows row → IsStand (without_row row s)
 
 -- a deletion leaves of the table the rows that aren't selected, and no others
 abbrev pub DeletionLeavesTheOthers : Type 0

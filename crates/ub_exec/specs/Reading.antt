@@ -16,16 +16,14 @@ IsIn t span = (region : RegionRows) × IsTakenIn t span region
 abbrev pub IsRead : TreeView → ℕ → Type 0
 IsRead t page = (span : Region) × IsRegionOf t span × (span.page ≡ page) × IsIn t span
 
--- pages were noted after those that stood in the trace, and the fetches rose by their number; where the call answers, each is
--- the page of a region that the tree tells of, which was taken in
+-- pages were noted after those in the trace, and so many fetches; where it answers, each is of a region that the tree tells of and that was taken in
 pub record NotesPages {A : Type 0} (old new : TreeView) (result : Result A ReadFault) : Type 0 where
   pub noted : List ℕ
   pub trace_is : new.trace.pages ≡ old.trace.pages ++ noted
   pub fetches_are : new.trace.fetches ≡ fetches_then old.trace.fetches (length noted)
   pub read : OnOk result (AllByRecursion (IsRead old) noted)
 
--- no region that meets the boxes was passed over: these are all that the tree tells of; each was taken in, and their pages were
--- noted, in this order, and no others
+-- no region that meets the boxes was passed over: all that the tree tells of were taken in, and their pages noted, in this order, and no others
 pub record HasReadAll (boxes : List Corners) (old new : TreeView) : Type 0 where
   pub spans : List Region
   pub all : AreMetBy boxes old spans
@@ -50,19 +48,17 @@ abbrev pub IsFilled : Option ℕ → ℕ → Type 0
 IsFilled None given = ⊥
 IsFilled (Some most) given = most ≤ given
 
--- the regions to which a sweep of any tree has come, in this order, and the stretches that it awaits still. The tree tells of each, and each
--- has its event value, so that it meets the boxes. No two of them hold one key, and each key of the space whose address is in the boxes is
--- held by one: so no region was passed over, and none was come to twice. To none was come while another was awaited that is earlier by event
--- value along the sweep, or, where these are equal, by first key
-pub record HasSweptTo (boxes : List Corners) (dim : ℕ) (is_descending : Bool) (t : TreeView) (come : List AwaitedRegion) (left : List AwaitedStretch) : Type 0 where
+-- the regions to which a sweep of any tree has come, in this order, and the stretches that it awaits still; each meets the boxes. Each key in the
+-- boxes is held by just one of them: so no region was passed over, and none was come to twice. To none was come while an earlier one was awaited
+pub record HasSweptTo (boxes : List Corners) (dim : ℕ) (is_descending : Bool) (t : TreeView)
+    (come : List AwaitedRegion) (left : List AwaitedStretch) : Type 0 where
   pub told : AreStretchesOf t (lowest come ++ left)
   pub valued : AreValued boxes dim is_descending (lowest come ++ left)
   pub apart : (key : Key) → times_held key (lowest come ++ left) ≤ 1
   pub all : (key : Key) → HoldsAny boxes key.z → key.z ≤ (whole_of t).span.to → 1 ≤ times_held key (lowest come ++ left)
   pub ordered : AreInOrder is_descending come left
 
--- a sweep from which so many rows came: the regions to which it has come were taken in, and their pages were noted, in this order, and no
--- others; it awaits nothing still, or the rows are as many as the limit says
+-- a sweep from which so many rows came: the regions to which it has come were taken in and noted, and nothing is awaited, or the limit is filled
 pub record HasSweptSome (boxes : List Corners) (dim : ℕ) (is_descending : Bool) (limit : Option ℕ) (old new : TreeView) (rows : ℕ) : Type 0 where
   pub come : List AwaitedRegion
   pub left : List AwaitedStretch
@@ -71,8 +67,7 @@ pub record HasSweptSome (boxes : List Corners) (dim : ℕ) (is_descending : Bool
   pub trace_is : new.trace.pages ≡ old.trace.pages ++ map (λ a. a.region.page) come
   pub ended : (left ≡ []) ⊎ IsFilled limit rows
 
--- where a fault ended it: the pages of the regions to which it has come were noted, each once and in this order, and no others; that of the
--- last one alone may be missing
+-- where a fault ended it: the pages of the regions to which it has come were noted, in this order; that of the last one alone may be missing
 pub record HasSweptFirst (boxes : List Corners) (dim : ℕ) (is_descending : Bool) (old new : TreeView) : Type 0 where
   pub come : List AwaitedRegion
   pub left : List AwaitedStretch
@@ -86,14 +81,12 @@ abbrev pub HasSweptBy : {A : Type 0} → List Corners → ℕ → Bool → Optio
 HasSweptBy boxes dim is_descending limit old new rows (Ok answer) = HasSweptSome boxes dim is_descending limit old new (rows answer)
 HasSweptBy boxes dim is_descending limit old new rows (Err fault) = KeepsTrace old new ⊎ HasSweptFirst boxes dim is_descending old new
 
--- a plan that is a sweep reads so
 abbrev pub ReadsSwept : {A : Type 0} → PlanView → TreeView → TreeView → (A → ℕ) → Result A ReadFault → Type 0
 ReadsSwept p old new rows result = (dim : ℕ) (is_descending : Bool) → IsSweepOf old.schema p dim is_descending
     → HasSweptBy p.covering.boxes dim is_descending p.asked.limit old new rows result
 
--- a plan was carried out over any tree, and so many rows came of it: pages were noted, and where it answers, a scan passed over no
--- region, unless the query asks for no row, and a sweep none before it had all rows that the limit asks for, without a limit none
--- at all; where a fault ends a sweep, the pages are those of the first regions that it came to
+-- a plan was carried out over any tree, and so many rows came of it: where it answers, a scan passed over no region, unless no row is asked for, and
+-- a sweep over none before the limit was filled; where a fault ends a sweep, the pages are those of the first regions to which it came
 pub record CarriesOut {A : Type 0} (p : PlanView) (old new : TreeView) (rows : A → ℕ) (result : Result A ReadFault) : Type 0 where
   pub notes : NotesPages old new result
   pub scans : ¬ IsSwept p.kind → p.asked.limit ≢ Some 0 → OnOk result (HasReadAll p.covering.boxes old new)

@@ -8,8 +8,7 @@ use Rattle.ub_exec.specs.Reading.{HasReadRows}
 abbrev pub IsScanOf : Schema → PlanView → Type 0
 IsScanOf schema p = (p ≡ plan_of schema p.asked) × (p.asked.limit ≢ Some 0) × (¬ IsSwept p.kind)
 
--- no region that meets the boxes was passed over, and the answer is made of the rows of those that were taken in: where no number stands
--- twice among them it is what the query means on the table of these rows, in order of number
+-- no region that meets the boxes was passed over; where no number stands twice among their rows, the answer is what the query means on these rows
 pub record IsOfRead (p : PlanView) (old new : TreeView) (cells : List (List Cell)) : Type 0 where
   pub rows : List Row
   pub read : HasReadRows p.covering.boxes old new rows

@@ -40,7 +40,6 @@ without_row row s = record {
   next = s.next;
 }
 
--- rows taken out, one after the other
 abbrev pub without_rows : List Row → Stand → Stand
 without_rows [] s = s
 without_rows (row ∷ rows) s = without_rows rows (without_row row s)

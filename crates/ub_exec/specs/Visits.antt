@@ -6,8 +6,7 @@ use Rattle.ub_planning.specs.Visits.{AreVisits}
 use Rattle.ub_planning.specs.Visits as plan
 pub use Rattle.ub_tetris.specs.Effects.{fetches_then}
 
--- the regions that a plan visits were fetched, each once, in the order of the visits, and no others: their pages stand in the
--- trace, after those that stood there
+-- the regions that a plan visits were fetched, each once, in the order of the visits, and no others: their pages stand at the end of the trace
 pub record HasFetched (p : PlanView) (old new : TreeView) : Type 0 where
   pub visits : List plan.Span
   pub visits_are : AreVisits old.schema p (regions old) visits
@@ -17,8 +16,7 @@ pub record HasFetched (p : PlanView) (old new : TreeView) : Type 0 where
   pub trace_is : new.trace.pages ≡ old.trace.pages ++ map (λ region. region.page) visited
   pub fetches_are : new.trace.fetches ≡ fetches_then old.trace.fetches (length visits)
 
--- carrying out was ended by a fault: of the regions that the plan visits so many were fetched, the first ones, each once, in
--- their order, and no others
+-- carrying out was ended by a fault: of the regions that the plan visits the first so many were fetched, each once, in their order, and no others
 pub record HasFetchedFirst (p : PlanView) (old new : TreeView) (count : ℕ) : Type 0 where
   pub visits : List plan.Span
   pub visits_are : AreVisits old.schema p (regions old) visits
@@ -70,12 +68,10 @@ pub record HasVisited (span : Region) (old new : TreeView) (rows : List Row) : T
 
 -- the first region later than one that meets the boxes was read, or there is none
 abbrev pub HasTurned : List Corners → Option Region → TreeView → TreeView → Option Region → List Row → Type 0
-HasTurned boxes after old new None rows =
-    First (λ s. IsLater after s × Meets boxes s) (spans_of old) None × KeepsTrace old new × (rows ≡ [])
+HasTurned boxes after old new None rows = First (λ s. IsLater after s × Meets boxes s) (spans_of old) None × KeepsTrace old new × (rows ≡ [])
 HasTurned boxes after old new (Some span) rows =
     First (λ s. IsLater after s × Meets boxes s) (spans_of old) (Some span) × HasVisited span old new rows
 
 -- a turn was ended by a fault: no region was read, or the first region later than one that meets the boxes
 abbrev pub HasTurnedSome : List Corners → Option Region → TreeView → TreeView → Type 0
-HasTurnedSome boxes after old new =
-    KeepsTrace old new ⊎ ((span : Region) × (rows : List Row) × HasTurned boxes after old new (Some span) rows)
+HasTurnedSome boxes after old new = KeepsTrace old new ⊎ ((span : Region) × (rows : List Row) × HasTurned boxes after old new (Some span) rows)

@@ -17,8 +17,7 @@ Meeting boxes from to = LeastFrom (HoldsAny boxes) from.z to
 abbrev pub ComesToLeaf : ℕ → (Key → Option ℕ → Type 0) → Key → Leaf → Type 0
 ComesToLeaf last To from leaf = (aim : Key) × IsAim last To from aim × HoldsLeaf aim leaf
 
--- from a key on the next region stands in this slot of the leaf's page, to which the search falls; none, where it goes down elsewhere, or falls to
--- what begins before the key
+-- in this slot of the leaf's page stands the next region from a key on; none where the search goes down elsewhere, or to what begins before the key
 abbrev pub IsSlotNext : ℕ → (Key → Option ℕ → Type 0) → Leaf → List ℕ → ℕ → Key → Option ℕ → Type 0
 IsSlotNext last To leaf page count from None =
     (aim : Key) → IsAim last To from aim → IfSome leaf.until (IsBefore aim)
@@ -43,8 +42,7 @@ FollowOn last To leaf entries from [] on = from ≡ on
 FollowOn last To leaf entries from (region ∷ more) on =
     (key : Key) × (from ≡ Some key) × StandsNext last To leaf entries key region × FollowOn last To leaf entries region.next more on
 
--- the regions of a leaf's page that follow one another from a key on were handed over, and the walk goes on from where the last of them ends. It
--- stays at the key only where none is the next one
+-- regions of a leaf's page that follow one another from a key on were handed over; the walk goes on where they end, at the key only if none is next
 pub record HandsAlong {S : Type 0} (Takes : S → List Region → S → Type 0) (last : ℕ) (To : Key → Option ℕ → Type 0) (leaf : Leaf)
     (page : List ℕ) (count : ℕ) (from : Key) (before after : S) (on : Option Key) : Type 0 where
   pub regions : List Region
@@ -69,8 +67,7 @@ abbrev pub Crosses : IndexView → StoreFacts → (Key → Option ℕ → Type 0
 Crosses index store To from =
     (aim : Key) × IsAim index.last To from aim × (region : Region) × Gives index store aim region × IsBefore region.first from
 
--- the regions of a leaf from a key on were to be handed over, and this was answered: from where the walk goes on, if it does, which is a
--- later key unless what is given begins before the key
+-- regions of a leaf from a key on were to be handed over, and the answer is where the walk goes on: later, unless what is given begins before the key
 pub record HandsLeaf {S : Type 0} (Takes : S → List Region → S → Type 0) (index : IndexView) (To : Key → Option ℕ → Type 0) (from : Key)
     (before after : S) (old new : PagerView) (result : Result (Option Key) IndexFault) : Type 0 where
   pub taken : IfOk result (λ on. (regions : List Region) × TakesThese Takes before after regions

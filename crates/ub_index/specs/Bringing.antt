@@ -8,8 +8,7 @@ use Rattle.ub_index.specs.Searching.{store_after}
 use Rattle.ub_page.specs.declared.index.Head.{Head}
 use Rattle.ub_store.specs.declared.fault.StoreFault.TheVariants as store
 
--- why the page that an entry of this level names isn't brought, or isn't taken: memory was refused; the store failed, which it
--- then can; it has no page of that number; or the page that it has there is refused
+-- why the page that an entry of this level names isn't brought, or isn't taken
 abbrev pub IsBringFault : ℕ → StoreFacts → ℕ → Entry → Option Key → IndexFault → Type 0
 IsBringFault last old level entry end (Store store.Memory) = Unit {0}
 IsBringFault last old level entry end (Store store.Device) = IsTrue old.can_fail
@@ -19,9 +18,7 @@ IsBringFault last old level entry end Full = ⊥
 IsBringFault last old level entry end (Page n fault) =
     (n ≡ entry.page) × (page : List ℕ) × IsPage old n page × IsUnfit last page level entry end fault
 
--- a page is brought with this result, and looked at: in full, if it was read, and else at its ends. The pager then holds one of
--- that number, the ends of which fit, and what its first bytes tell is the result; over an honest store it fits, where each page
--- that was held was checked
+-- the page that an entry names is brought with this result, and looked at: in full where it was read, and at its ends where it was held
 pub record BringsNext (last level : ℕ) (entry : Entry) (end : Option Key) (old new : PagerView) (result : Result Head IndexFault) : Type 0 where
   pub cached : OnOk result (IsCached new entry.page)
   pub ends : IfOk result (λ head. (page : List ℕ) → Holds new entry.page page → (head ≡ head_on page) × FitsAtEnds page level entry end)
@@ -29,9 +26,7 @@ pub record BringsNext (last level : ℕ) (entry : Entry) (end : Option Key) (old
   pub forgotten : IfErr result (IsForgotten new)
   pub steps : StepsDown last level entry end old new result
 
--- a page is brought with this result: the pager then holds one of that number, which fits, and what its first bytes tell is the
--- result; it holds no other page more, and none that was refused. With the device's fault the store has one failed read more,
--- and else nothing has changed
+-- the same, with the page looked at in full also where it was held: it fits over any store
 pub record BringsFitting (last level : ℕ) (entry : Entry) (end : Option Key) (old new : PagerView) (result : Result Head IndexFault) : Type 0 where
   pub same : new ≡ record old { store = store_after result old.store; cached = new.cached }
   pub cached : OnOk result (IsCached new entry.page)

@@ -18,15 +18,15 @@ IsStepFault last old level entry end (Store fault.Device) = IsTrue old.can_fail
 IsStepFault last old level entry end (Store fault.NoPage) = page_count old ≤ entry.page
 IsStepFault last old level entry end (Store fault.BadSize) = ⊥
 IsStepFault last old level entry end Full = ⊥
-IsStepFault last old level entry end (Page n why) =
-    (n ≡ entry.page) × (IsHonest old → IsNotTaken last old.pages level entry end (Some why))
+IsStepFault last old level entry end (Page n why) = (n ≡ entry.page) × (IsHonest old → IsNotTaken last old.pages level entry end (Some why))
 
 -- a step with this result
 abbrev pub Steps : {A : Type 0} → ℕ → ℕ → Entry → Option Key → PagerView → PagerView → Result A IndexFault → Type 0
 Steps last level entry end old new result = ReadsIndex last (IsStepFault last old.store level entry end) old new result
 
 -- the same of a search, which looks at the ends of a page that is held: it is refused so where each page that was held was checked
-pub record StepsDown {A : Type 0} (last level : ℕ) (entry : Entry) (end : Option Key) (old new : PagerView) (result : Result A IndexFault) : Type 0 where
+pub record StepsDown {A : Type 0} (last level : ℕ) (entry : Entry) (end : Option Key) (old new : PagerView)
+    (result : Result A IndexFault) : Type 0 where
   pub same : new ≡ record old { store = store_after result old.store; cached = new.cached }
   pub checked : KeepsChecked last old new
   pub more : NoneMoreButIndex last old.cached new.cached
@@ -50,8 +50,7 @@ pub record HoldsLeaf (key : Key) (leaf : Leaf) : Type 0 where
   pub until : IfSome leaf.until (IsBefore key)
   pub within : (k : Key) → IfSome leaf.until (IsBefore k) → IfSome leaf.place.next (IsBefore k)
 
--- the way from the root to a place of this level: to each key from this one on that is before `until` it leads as it does from
--- that place on, and to this key it stops as it does from there on
+-- the way from the root to this place: to each key from this one on that is before `until` it leads as from there, and to this key it stops as there
 pub record LeadsDown (index : IndexView) (store : StoreFacts) (key : Key) (level : ℕ) (leaf : Leaf) : Type 0 where
   pub leads : (k : Key) → ¬ (IsBefore k key) → IfSome leaf.until (IsBefore k) → (found : Entry) (next : Option Key)
       → LeadsTo index.last store.pages k level leaf.place.entry leaf.place.next found next
@@ -60,8 +59,7 @@ pub record LeadsDown (index : IndexView) (store : StoreFacts) (key : Key) (level
       → StopsAt index.last store.pages key level leaf.place.entry leaf.place.next n fault
       → Stops index store key n fault
 
--- what is found among the entries of a leaf, behind the one to which the key falls: where the next region begins, and the key
--- to which the search goes down from there; and where that is before `until`, the place to which it falls on the same leaf
+-- what is found on a leaf behind the entry of a key: where the next region begins, and the key sought from there, or its place if it is on this leaf
 abbrev pub Looks : ℕ → (Key → Option ℕ → Type 0) → List Entry → Key → Leaf → Found → Type 0
 Looks last To entries key leaf Nothing =
     (below : Entry) × (next : Option Key) × FallsTo key entries leaf.place.next below next × IsAimless last To next
@@ -80,8 +78,7 @@ pub record LooksAt (last : ℕ) (store : StoreFacts) (To : Key → Option ℕ �
   pub named : IsHonest store → NamesFitting last store.pages 1 leaf.place.entry leaf.place.next
   pub there : IsHonest store → page ≡ page_in store.pages leaf.place.entry.page
 
--- the region that is found where a search goes on from a key, with that key: it is given for the key to which the search goes
--- down; none where there is no address that it is after
+-- the key from which a search goes on, with the region given for the key to which it goes down from there; none where it is after no address
 abbrev pub FindsFrom : IndexView → StoreFacts → (Key → Option ℕ → Type 0) → Option Key → Option (Key × Region) → Type 0
 FindsFrom index store To from None = IsAimless index.last To from
 FindsFrom index store To from (Some found) = (from ≡ Some found.0) × (aim : Key) × IsAim index.last To found.0 aim × Gives index store aim found.1
@@ -98,8 +95,7 @@ pub record FindsBehind (To : Key → Option ℕ → Type 0) (index : IndexView) 
   pub forgotten : IfErr result (IsForgotten new)
   pub effect : GoesDown (IsSought index old.store To after) index old new result
 
--- a search after a region, if one is given, for the address that `To` tells, and this was answered. Done, on an index: the first of its later
--- regions that has the property. Over any store which one is given where each page that is held was checked; and what is left
+-- the whole search, and this was answered: where each page that is held was checked, which region is given; on an index the first later one with `P`
 pub record Seeks (To : Key → Option ℕ → Type 0) (P : Region → Type 0) (index : IndexView) (after : Option Region) (old new : PagerView)
     (result : Result (Option Region) IndexFault) : Type 0 where
   pub given : AreChecked index.last old → IfOk result (GivesAfter index old.store To after)

@@ -9,17 +9,13 @@ use Rattle.ub_table.specs.declared.fault.PageFault.TheVariants.{BadCount, OutOfR
 use Rattle.ub_table.specs.declared.fault.PageFault.{PageFault}
 use Rattle.ub_table.specs.declared.row.Key.{Key}
 
--- the first refusal that holds: one of its reader's; BadCount, where it is of another level; or OutOfRegion, where it doesn't
--- begin with the entry's key or doesn't end before the end
+-- why a page is refused, the first reason first: its reader's; another level; or it doesn't begin with the entry's key, or doesn't end before the end
 abbrev pub IsUnfit : ℕ → List ℕ → ℕ → Entry → Option Key → PageFault → Type 0
-IsUnfit last page level entry end BadCount =
-    IsIndexFault last page BadCount ⊎ (IsIndexPage last page × ((node_on page).level ≢ level))
-IsUnfit last page level entry end OutOfRegion =
-    IsIndexPage last page × ((node_on page).level ≡ level) × (¬ (Fits last page level entry end))
+IsUnfit last page level entry end BadCount = IsIndexFault last page BadCount ⊎ (IsIndexPage last page × ((node_on page).level ≢ level))
+IsUnfit last page level entry end OutOfRegion = IsIndexPage last page × ((node_on page).level ≡ level) × (¬ (Fits last page level entry end))
 IsUnfit last page level entry end fault = IsIndexFault last page fault
 
--- the page fits an entry as far as its ends tell: its head is one of an index's page, of this level, its first entry begins with
--- the entry's key, and its last one before the end
+-- the page fits an entry as far as its head, its first entry and its last one tell
 pub record FitsAtEnds (page : List ℕ) (level : ℕ) (entry : Entry) (end : Option Key) : Type 0 where
   pub kind : IsIndexKind page
   pub head : HasHead page
@@ -27,11 +23,9 @@ pub record FitsAtEnds (page : List ℕ) (level : ℕ) (entry : Entry) (end : Opt
   pub begins : first_in 0 page ≡ entry.first
   pub ends : IfSome end (IsBefore (first_in ((head_on page).count - 1) page))
 
--- the first refusal that holds of them: one of its head's; BadCount, where it is of another level; or OutOfRegion, where it
--- doesn't begin with the entry's key or doesn't end before the end
+-- why it is refused for these, the first reason first: as above, with its head's refusals in the place of its reader's
 abbrev pub IsUnfitAtEnds : List ℕ → ℕ → Entry → Option Key → PageFault → Type 0
-IsUnfitAtEnds page level entry end BadCount =
-    IsHeadFault page BadCount ⊎ (IsIndexKind page × HasHead page × ((node_on page).level ≢ level))
+IsUnfitAtEnds page level entry end BadCount = IsHeadFault page BadCount ⊎ (IsIndexKind page × HasHead page × ((node_on page).level ≢ level))
 IsUnfitAtEnds page level entry end OutOfRegion =
     IsIndexKind page × HasHead page × ((node_on page).level ≡ level) × (¬ (FitsAtEnds page level entry end))
 IsUnfitAtEnds page level entry end fault = IsHeadFault page fault
@@ -42,8 +36,7 @@ IsNotTaken last pages level entry end None = length pages ≤ entry.page
 IsNotTaken last pages level entry end (Some fault) =
     (slice_get pages entry.page ≡ Some (page_in pages entry.page)) × IsUnfit last (page_in pages entry.page) level entry end fault
 
--- of entries that end before `end`, a key falls to this one, after which the next one begins: the last that doesn't begin after
--- the key, or else the first of all
+-- of entries that end before `end`, a key falls to the last that doesn't begin after it, or else to the first; the next one begins at `next`
 pub record FallsTo (key : Key) (entries : List Entry) (end : Option Key) (below : Entry) (next : Option Key) : Type 0 where
   pub before : List Entry
   pub after : List Entry

@@ -2,13 +2,11 @@
 use Rattle.std.specs.Prelude.{◌≡◌, ◌⊎◌, ℕ, Bool, false, List, Some}
 use Rattle.ub_index.specs.Common.{IsHonest, IsIndexKind, IsIndexPage, page_at, PagerView}
 
--- over an honest store each page that is held is one of an index, or doesn't begin as one does: so of a page of an index that is
--- held its ends tell whether it fits
+-- over an honest store each page that is held is one of an index, or doesn't begin as one does: so the ends of one tell whether it fits
 abbrev pub AreChecked : ℕ → PagerView → Type 0
 AreChecked last pager =
     IsHonest pager.store → (n : ℕ) (page : List ℕ) → page_at pager.cached n ≡ Some page → IsIndexPage last page ⊎ (¬ (IsIndexKind page))
 
--- it is so after a call, if it was before
 abbrev pub KeepsChecked : ℕ → PagerView → PagerView → Type 0
 KeepsChecked last old new = AreChecked last old → AreChecked last new
 

@@ -1,5 +1,4 @@
--- An index of several levels over numbered pages: entries, each of which leads to an index page of its level, and at level 0 is
--- itself the entry of a region.
+-- An index of several levels over numbered pages: each entry leads to an index page of its level, and at level 0 is itself the entry of a region.
 use Rattle.std.specs.Prelude.{◌≡◌, ℕ, zero, suc, List, [], ◌∷◌, Option, Some, None, IfSome, slice_get, slice_index_or}
 use Rattle.std.specs.List.{flat_map}
 use Rattle.ub_page.specs.Index.{IsNode, index_page, node_on}

@@ -44,8 +44,7 @@ RegionsMayChange = (index : IndexView) (old new : StoreFacts) (numbers : List �
     → IsHonest new → OldStayOutside numbers old.pages new.pages
     → AllByRecursion (λ n. IsOutside n (pages_of_index index old)) numbers → StandsAsOn index old new
 
--- over any pages: where those that there were stay, and others may stand after them, a way that
--- led to a region leads there still; and one that leads to a region led there before, or stopped where no page was
+-- over any pages, where those that there were stay: a way leads where it led, and one that leads to a region led there, or stopped where no page was
 abbrev pub WaysStay : Type 0
 WaysStay = (index : IndexView) (old new : StoreFacts) (key : Key) (region : Region)
     → OldStayOutside [] old.pages new.pages
@@ -57,8 +56,7 @@ abbrev pub WaysAreTheSame : Type 0
 WaysAreTheSame = (index : IndexView) (old new : StoreFacts) (key : Key) (region : Region) → OldStayOutside [] old.pages new.pages
     → AddsNoIndexPage index.last old.pages new.pages → Leads index old key region ↔ Leads index new key region
 
--- over any pages: no way from a root that isn't page 0 goes over page 0; it neither leads to it nor
--- stops there, and where all other pages stay, ways lead where they led, and stop where they stopped
+-- over any pages: no way from a root that isn't page 0 leads to page 0 or stops there, and where all other pages stay, the ways are the same
 abbrev pub WaysMissFirst : Type 0
 WaysMissFirst = (index : IndexView) (old new : StoreFacts) (key : Key) → 1 ≤ index.root
     → ((region : Region) → Leads index old key region → 1 ≤ region.page)
@@ -71,8 +69,7 @@ WaysMissFirst = (index : IndexView) (old new : StoreFacts) (key : Key) → 1 ≤
 abbrev pub ZerosAreNoIndexPage : Type 0
 ZerosAreNoIndexPage = (last : ℕ) → ¬ (IsIndexPage last zero_page)
 
--- over any pages: the region to which the way to a key leads holds that key, and its own first key; and
--- the way to each key that it holds leads to it
+-- over any pages: the region to which the way to a key leads holds that key, and its own first key; and the way to each key that it holds leads to it
 abbrev pub WaysHold : Type 0
 WaysHold = (index : IndexView) (store : StoreFacts) (key : Key) (region : Region) → Leads index store key region
     → HoldsKey key region.first region.next × HoldsKey region.first region.first region.next

@@ -29,16 +29,14 @@ IsPassing (Store store.Memory) = Unit {0}
 IsPassing (Store store.Device) = Unit {0}
 IsPassing _ = ⊥
 
--- opening with this result: the pager holds no other page more than the root's, which was checked; with the device's fault the store has one
--- failed read more, and else nothing has changed
+-- opening with this result: the pager holds no page more but the root's, and the store has one failed read more where the device's fault is met
 pub record Opens {A : Type 0} (index : IndexView) (old new : PagerView) (result : Result A IndexFault) : Type 0 where
   pub same : new ≡ record old { store = store_after result old.store; cached = new.cached }
   pub checked : KeepsChecked index.last old new
   pub cached : NoneMoreBut index.root old.cached new.cached
   pub faults : IfErr result (IsOpenFault index old.store)
 
--- an index was to be opened, and this was answered. Done: it is this one, the pager holds the page of its root, and over an honest store
--- nothing else is refused for what a page tells. Over any store a page that is refused isn't held; and what is left
+-- an index was to be opened, and this was answered: over an honest store that has its root it is refused only for want of memory or a failed read
 pub record OpensIndex (view : IndexView) (old new : PagerView) (result : Result IndexView IndexFault) : Type 0 where
   pub index : IfOk result (λ index. index ≡ view)
   pub held : IfOk result (λ index. HoldsRoot index new)
@@ -64,8 +62,7 @@ pub record IsAlone (index : IndexView) (page : ℕ) (store : StoreFacts) : Type 
   pub entries_are : entries_in index store ≡ top page ∷ []
   pub pages_are : pages_of_index index store ≡ index.root ∷ []
 
--- an index of the region on this page was to be made, with its root on that one, and this was answered. Done: it is that one, and stands on an
--- honest store; over any store why it is refused, and what is left
+-- an index of the region on page `page`, with its root on page `root`, was to be made, and this was answered: done, it stands on an honest store
 pub record CreatesIndex (root page last : ℕ) (old new : PagerView) (result : Result IndexView StoreFault) : Type 0 where
   pub index : IfOk result (λ index. index ≡ index_view root 1 last)
   pub stands : IsHonest old.store → 1 ≤ root → 1 ≤ page → IfOk result (λ index. IsAlone index page new.store)

@@ -10,8 +10,7 @@ use Rattle.ub_index.specs.declared.goal.Goal.{Goal}
 use Rattle.ub_index.specs.declared.goal.Goal.TheVariants.{Address, Boxes}
 use Rattle.ub_store.specs.declared.fault.StoreFault.TheVariants as fault
 
--- the region that is given for a key: it holds the key, its span is that from its first key to the next one's, and over an
--- honest store the way leads to it
+-- the region given for a key: it holds the key, its span goes from its first key to the next one's, and over an honest store the way leads to it
 pub record Gives (index : IndexView) (store : StoreFacts) (key : Key) (region : Region) : Type 0 where
   pub holds : HoldsKey key region.first region.next
   pub from : region.from ≡ region.first.z
@@ -39,8 +38,7 @@ IsFrom index store (Some region) from = (found : Region) × Gives index store re
 abbrev pub at_least : Key → ℕ → Key
 at_least from z = if precedes (record { z = z; number = 0 }) from then from else record { z = z; number = 0 }
 
--- the address that a search is after which goes on from a key, if there is one: the one given, or the least one in the boxes
--- from the key's address on
+-- the address that a search is after which goes on from a key, if there is one: the one given, or the least in the boxes from the key's address on
 abbrev pub Aims : Goal → Key → Option ℕ → Type 0
 Aims (Address z) from to = to ≡ Some z
 Aims (Boxes boxes) from to = LeastFrom (HoldsAny boxes.now) from.z to
@@ -55,20 +53,16 @@ abbrev pub IsAimless : ℕ → (Key → Option ℕ → Type 0) → Option Key �
 IsAimless last To None = Unit {0}
 IsAimless last To (Some from) = To from None ⊎ ((z : ℕ) × To from (Some z) × (last < z))
 
--- the key to which a search goes down that goes on from a key: this one, or the least key of the address that `To` tells for
--- it, if this is later
+-- the key to which a search goes down that goes on from a key: this one, or the least key of the address that `To` tells for it, if this is later
 abbrev pub IsAim : ℕ → (Key → Option ℕ → Type 0) → Key → Key → Type 0
 IsAim last To from key = (z : ℕ) × To from (Some z) × (z ≤ last) × (key ≡ at_least from z)
 
--- the region that is given where the search goes on from a key: that which holds the key to which it goes down; none where
--- there is no address that it is after
+-- the region given where a search goes on from a key: the one given for the key to which it goes down; none where it is after no address
 abbrev pub GivesFrom : IndexView → StoreFacts → (Key → Option ℕ → Type 0) → Option Key → Option Region → Type 0
 GivesFrom index store To from None = IsAimless index.last To from
 GivesFrom index store To None (Some region) = ⊥
-GivesFrom index store To (Some from) (Some region) =
-    (key : Key) × IsAim index.last To from key × Gives index store key region
+GivesFrom index store To (Some from) (Some region) = (key : Key) × IsAim index.last To from key × Gives index store key region
 
--- the first key of a region, if one is given
 abbrev pub IsFirstKeyOf : Option Region → Key → Type 0
 IsFirstKeyOf after key = (region : Region) × (after ≡ Some region) × (key ≡ region.first)
 
@@ -80,9 +74,7 @@ GivesAfter index store To after found = (from : Option Key) × IsFrom index stor
 abbrev pub IsSought : IndexView → StoreFacts → (Key → Option ℕ → Type 0) → Option Region → Key → Type 0
 IsSought index store To after key = IsFirstKeyOf after key ⊎ ((from : Key) × IsFrom index store after (Some from) × IsAim index.last To from key)
 
--- why a search is refused that goes down to these keys alone: memory was refused; the store failed in this call, which it then
--- can; it has no page of a number that was asked for, or a page is refused, over an honest store since the way to one of these
--- keys stops there
+-- why a search that goes down to these keys alone is refused: over an honest store for a page only where the way to one of them stops there
 abbrev pub IsWayFault : IndexView → StoreFacts → (Key → Type 0) → IndexFault → Type 0
 IsWayFault index store Sought (Store fault.Memory) = Unit {0}
 IsWayFault index store Sought (Store fault.Device) = IsTrue store.can_fail
@@ -101,9 +93,7 @@ count_with _ n = n
 abbrev pub store_after : {A : Type 0} → Result A IndexFault → StoreFacts → StoreFacts
 store_after result old = record old { failed_reads = count_with result old.failed_reads }
 
--- a call with this result that reads pages of an index: with the device's fault the store has one failed read more, and else nothing
--- has changed but the pages that the pager holds, each of which was checked, if they were before; none that it holds more is that of a
--- region, but each one of an index; and then why it is refused
+-- a call with this result that reads pages of an index: nothing changes but failed reads and the pages held, of which only those of an index are new
 pub record ReadsIndex {A : Type 0} (last : ℕ) (IsFault : IndexFault → Type 0) (old new : PagerView) (result : Result A IndexFault) : Type 0 where
   pub same : new ≡ record old { store = store_after result old.store; cached = new.cached }
   pub checked : KeepsChecked last old new

@@ -13,14 +13,9 @@ ArePlaces last entries =
 -- the region of an entry, up to where the next one begins, in a space that ends with this address
 abbrev pub region_of : ℕ → Entry → Option Key → Region
 region_of last entry next = record {
-  first = entry.first;
-  next = next;
-  from = entry.first.z;
-  to = end_before last next;
-  page = entry.page;
+  first = entry.first; next = next; from = entry.first.z; to = end_before last next; page = entry.page;
 }
 
--- the regions of these entries
 abbrev pub regions_of : ℕ → List Entry → List Region
 regions_of last [] = []
 regions_of last (entry ∷ entries) = region_of last entry (slice_get (first_keys entries) 0) ∷ regions_of last entries

@@ -8,7 +8,6 @@ use Rattle.ub_store.specs.declared.fault.StoreFault.TheVariants as store
 abbrev pub PagesStay : List (List ℕ) → List (List ℕ) → List ℕ → Type 0
 PagesStay old new numbers = AllByRecursion (λ n. slice_get new n ≡ slice_get old n) numbers
 
--- this number is none of those
 abbrev pub IsOutside : ℕ → List ℕ → Type 0
 IsOutside n numbers = AllByRecursion (λ m. n ≢ m) numbers
 
@@ -18,11 +17,9 @@ OldStayOutside numbers old new = (m : ℕ) → m < length old → IsOutside m nu
 
 -- none of those that stand after them is a page of an index
 abbrev pub AddsNoIndexPage : ℕ → List (List ℕ) → List (List ℕ) → Type 0
-AddsNoIndexPage last old new =
-    (m : ℕ) (page : List ℕ) → length old ≤ m → slice_get new m ≡ Some page → ¬ (IsIndexPage last page)
+AddsNoIndexPage last old new = (m : ℕ) (page : List ℕ) → length old ≤ m → slice_get new m ≡ Some page → ¬ (IsIndexPage last page)
 
--- why a store doesn't get so many pages more: memory was refused; the store failed, which it then can; or it would have too
--- many
+-- why a store doesn't get so many pages more: memory was refused; the store failed, which it then can; or it would have too many
 abbrev pub IsGrowFault : ℕ → StoreFacts → StoreFault → Type 0
 IsGrowFault by old store.Memory = Unit {0}
 IsGrowFault by old store.Device = IsTrue old.can_fail
@@ -36,7 +33,6 @@ pub record StandsAsOn (index : IndexView) (old new : StoreFacts) : Type 0 where
   pub entries_are : entries_in index new ≡ entries_in index old
   pub pages_are : pages_of_index index new ≡ pages_of_index index old
 
--- the numbers of the regions' pages
 abbrev pub region_pages : List Entry → List ℕ
 region_pages entries = map (λ entry. entry.page) entries
 

@@ -1,5 +1,4 @@
--- The stretches of an index: what an entry of any level names. Which of them a page tells, and to which a way comes; what is handed to a
--- sink where one is opened.
+-- The stretches of an index, named by entries of any level: which a page tells, to which a way comes, and what a sink is handed where one is opened.
 use Rattle.std.specs.Prelude.{◌≡◌, ◌≤◌, ◌<◌, ◌-◌, ◌⊎◌, ◌++◌, ◌&&◌, ◌∷◌, [], ℕ, zero, suc, Bool, true, not, List, Option, None, Some, Result, IfErr, OnOk, filter, slice_get}
 use Rattle.ub_index.specs.Common.{AreThose, Corners, end_before, entries_of, Entry, first_or, Fits, IndexFault, IsHonest, Key, NamesFitting, node_on}
 use Rattle.ub_index.specs.Common.{NoneMoreBut, page_in, PagerView, precedes, Region, StoreFacts, TakesThese, top}
@@ -24,7 +23,6 @@ whole_stretch index = stretch_of index.last index.levels (top index.root) None
 
 -- ---- the page of a stretch of level 1 or more, and its parts
 
--- this page fits the stretch
 abbrev pub FitsStretch : ℕ → List ℕ → Stretch → Type 0
 FitsStretch last page stretch = Fits last page stretch.level (entry_at stretch.span) stretch.span.next
 
@@ -36,7 +34,6 @@ HasPage last pages stretch = NamesFitting last pages stretch.level (entry_at str
 abbrev pub parts_on : ℕ → Stretch → List ℕ → List Stretch
 parts_on last stretch page = stretches_to last (stretch.level - 1) (node_on page).entries stretch.span.next
 
--- some address of the stretch lies in one of the boxes
 abbrev pub MeetsAny : List Corners → Stretch → Type 0
 MeetsAny boxes stretch = Meets boxes stretch.span
 
@@ -66,8 +63,7 @@ ComesTo last pages (suc level) entry end stretch =
     × (below : Entry) × (next : Option Key) × IsOneOf (entries_of pages entry.page) end below next
     × ComesTo last pages level below next stretch)
 
--- a stretch of an index, over any store: it holds its first key, its span is that from this one to the next one's, and over an honest
--- store a way from the root comes to it
+-- a stretch of an index, over any store: it holds its first key, its span goes up to the next one's, and over an honest store a way comes to it
 pub record IsStretchOn (index : IndexView) (store : StoreFacts) (stretch : Stretch) : Type 0 where
   pub low : stretch.level ≤ index.levels
   pub holds : HoldsKey stretch.span.first stretch.span.first stretch.span.next
@@ -77,16 +73,13 @@ pub record IsStretchOn (index : IndexView) (store : StoreFacts) (stretch : Stret
 
 -- ---- the regions within a stretch
 
--- whether a key is before the end, if there is one
 abbrev pub is_before_end : Key → Option Key → Bool
 is_before_end key None = true
 is_before_end key (Some end) = precedes key end
 
--- whether a stretch holds a key
 abbrev pub holds_key : Stretch → Key → Bool
 holds_key stretch key = not (precedes key stretch.span.first) && is_before_end key stretch.span.next
 
--- those of the regions whose first keys it holds
 abbrev pub within : Stretch → List Region → List Region
 within stretch regions = filter (λ region. holds_key stretch region.first) regions
 
@@ -104,9 +97,7 @@ IsNextMeeting boxes parts from (Some slot) =
     (from ≤ slot) × (part : Stretch) × (slice_get parts slot ≡ Some part) × MeetsAny boxes part
     × ((m : ℕ) (other : Stretch) → from ≤ m → m < slot → slice_get parts m ≡ Some other → ¬ (MeetsAny boxes other))
 
--- a stretch was to be opened, and this was answered: the sink has taken its parts that meet the boxes; or else the page that it names isn't
--- taken. With the device's fault the store has one failed read more, and else nothing has changed but the pages that the pager holds: none
--- more than before but that one, which was checked
+-- a stretch was to be opened, and this was answered: the sink has taken its parts that meet the boxes, or else the page that it names isn't taken
 pub record OpensStretch {S A : Type 0} (Takes : S → List Stretch → S → Type 0) (index : IndexView) (boxes : List Corners) (stretch : Stretch)
     (before after : S) (old new : PagerView) (result : Result A IndexFault) : Type 0 where
   pub parts : OnOk result ((parts : List Stretch) × ArePartsOn index old.store boxes stretch parts × TakesThese Takes before after parts)

@@ -17,7 +17,6 @@ index_view root levels last = record { root = root; levels = levels; last = last
 abbrev pub entries_under : IndexView → List (List ℕ) → List Entry
 entries_under index pages = under pages index.levels (top index.root)
 
--- and as those of a store do
 abbrev pub entries_in : IndexView → StoreFacts → List Entry
 entries_in index store = entries_under index store.pages
 
@@ -35,7 +34,6 @@ pub record IsIndexOn (index : IndexView) (store : StoreFacts) : Type 0 where
 abbrev pub IsReachedOnce : IndexView → StoreFacts → Type 0
 IsReachedOnce index store = IsDistinct nat_eq (0 ∷ pages_of_index index store)
 
--- the entry of a region
 abbrev pub entry_at : Region → Entry
 entry_at region = record { first = region.first; page = region.page }
 
@@ -57,8 +55,7 @@ IsPreviousRegion entries i (Some before) = (j : ℕ) × (i ≡ j + 1) × IsRegio
 
 -- from the root the way to the key ends at this region, whatever its span is
 abbrev pub Leads : IndexView → StoreFacts → Key → Region → Type 0
-Leads index store key region =
-    LeadsTo index.last store.pages key index.levels (top index.root) None (entry_at region) region.next
+Leads index store key region = LeadsTo index.last store.pages key index.levels (top index.root) None (entry_at region) region.next
 
 -- from the root the way to the key stops at the page n
 abbrev pub Stops : IndexView → StoreFacts → Key → ℕ → Option PageFault → Type 0

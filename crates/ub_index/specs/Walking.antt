@@ -33,8 +33,7 @@ abbrev pub AreGivenNext : IndexView → StoreFacts → (Key → Option ℕ → T
 AreGivenNext index store To after met =
     ((last : Option Region) × AreGivenFirst index store To after met last) × (met ≡ [] → GivesAfter index store To after None)
 
--- some of the next regions after another one, if one is given, that meet the boxes were to be handed over, and this was
--- answered: the sink has taken those, and what is left is as a search for the next one leaves it, which is refused so
+-- some of the next regions after another, if one is given, that meet the boxes were to be handed over, and this was answered: the sink has taken them
 pub record HandsNext {S A : Type 0} (Takes : S → List Region → S → Type 0) (index : IndexView) (boxes : List Corners) (after : Option Region)
     (before now : S) (old new : PagerView) (result : Result A IndexFault) : Type 0 where
   pub met : OnOk result ((met : List Region) × TakesThese Takes before now met

@@ -7,8 +7,7 @@ pub record HoldsKey (key first : Key) (next : Option Key) : Type 0 where
   pub from : ¬ (IsBefore key first)
   pub to : IfSome next (IsBefore key)
 
--- from an entry of this level the way to the key ends at the region's entry `found`, after which the next one begins: each page
--- on the way fits
+-- from an entry of this level the way to the key ends at the region's entry `found`, after which the next one begins: each page on the way fits
 abbrev pub LeadsTo : ℕ → List (List ℕ) → Key → ℕ → Entry → Option Key → Entry → Option Key → Type 0
 LeadsTo last pages key zero entry end found next = (found ≡ entry) × (next ≡ end)
 LeadsTo last pages key (suc level) entry end found next =

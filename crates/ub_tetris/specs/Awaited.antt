@@ -1,5 +1,4 @@
--- The stretches that a sweep awaits, over any tree, also over one that isn't sound: the order in which it comes to them, and which
--- stretches and regions come in their place.
+-- The stretches that a sweep awaits, over any tree, also over one that isn't sound: in which order it comes to them, and what comes in their place.
 use Rattle.std.specs.Prelude.{◌≡◌, ◌≤◌, ◌<◌, ◌^◌, ◌++◌, ◌⊎◌, if◌then◌else◌, ℕ, Bool, true, false, All, List, [], ◌∷◌, Option, Some, None, Contains, length, map}
 use Rattle.ub_tetris.specs.Common.{AllByRecursion, ArePartsOf, Corners, holds_key, HoldsAny, IsAlong, IsBefore, IsStretchOf, IsValueInSpan, Key}
 use Rattle.ub_tetris.specs.Common.{Region, Stretch, sum_by, TreeView, whole_of}
@@ -26,10 +25,8 @@ IsFirstValue boxes dim is_descending region v = IsFirstOn is_descending (IsValue
 
 -- by event value along the sweep, and where these are equal, by first key
 abbrev pub IsAwaitedBefore : Bool → AwaitedStretch → AwaitedStretch → Type 0
-IsAwaitedBefore is_descending a b =
-    IsAlong is_descending a.value b.value ⊎ ((a.value ≡ b.value) × IsBefore a.stretch.span.first b.stretch.span.first)
+IsAwaitedBefore is_descending a b = IsAlong is_descending a.value b.value ⊎ ((a.value ≡ b.value) × IsBefore a.stretch.span.first b.stretch.span.first)
 
--- the stretches alone
 abbrev pub stretches_of : List AwaitedStretch → List Stretch
 stretches_of awaited = map (λ a. a.stretch) awaited
 
@@ -44,8 +41,7 @@ lowest come = map as_lowest come
 abbrev pub times_held : Key → List AwaitedStretch → ℕ
 times_held key awaited = sum_by (λ a. if holds_key a.stretch key then 1 else 0) awaited
 
--- a number that is more than how many regions some stretches can have: one of level 0 is a region, and each other one has at most 170
--- parts of the level below
+-- no fewer than the regions that some stretches can have: one of level 0 is a region, and each other one has at most 170 parts of the level below
 abbrev pub most_regions : List AwaitedStretch → ℕ
 most_regions awaited = sum_by (λ a. 171 ^ a.stretch.level) awaited
 
@@ -71,12 +67,10 @@ ComesDown t boxes stretch (part ∷ way) below =
 
 -- a stretch is one of those awaited, or a part of one, or a part of such a part, and so on
 abbrev pub IsBelow : TreeView → List Corners → List AwaitedStretch → Stretch → Type 0
-IsBelow t boxes awaited below =
-    (a : AwaitedStretch) × Contains awaited a × (way : List Stretch) × ComesDown t boxes a.stretch way below
+IsBelow t boxes awaited below = (a : AwaitedStretch) × Contains awaited a × (way : List Stretch) × ComesDown t boxes a.stretch way below
 
--- stretches came in the place of others. Each is one of those, or a part, and so on. Where the tree tells of those, no key is held by more
--- of these than of those; and where the boxes have the dimension, each key of the space whose address is in the boxes is held by as many.
--- Where those have their event values, these have theirs, and each is come to no earlier than one of those
+-- stretches came in the place of others: each is one of those, or a part, and so on. Where the tree tells of those, no key is held more often than
+-- before, and each one of the space in the boxes as often; and to none is come earlier than to all of those
 pub record AreInPlaceOf (t : TreeView) (boxes : List Corners) (dim : ℕ) (is_descending : Bool) (before after : List AwaitedStretch) : Type 0 where
   pub below : (a : AwaitedStretch) → Contains after a → IsBelow t boxes before a.stretch
   pub fewer : AreStretchesOf t before → (key : Key) → times_held key after ≤ times_held key before

@@ -1,5 +1,4 @@
--- What the calls of a sweep promise, one record for each. Those of its state promise the same of the view of a sweep that hasn't
--- failed.
+-- What the calls of a sweep promise, one record for each. Those of its state promise the same of the view of a sweep that hasn't failed.
 use Rattle.std.specs.Prelude.{◌≡◌, ◌≢◌, ◌∷◌, [], ℕ, Bool, false, IsTrue, List, Option, Result, Err, IfOk, OnErr, OnOk}
 use Rattle.ub_tetris.specs.Common.{Event, Failed, PlanView, Row, SweepFault, Tree, TreeView}
 use Rattle.std.specs.Option.{option_map}
@@ -8,8 +7,7 @@ use Rattle.ub_tetris.specs.Effects.{Begins, HasAnswered, HasFound, Rests, Sweeps
 use Rattle.ub_tetris.specs.Sweep.{HandsOver, HasBegun, HasBroken, HasBrokenOff, HasHandedOver, HasStepped, HasSteppedValue, IsNoSweep, IsStarted}
 use Rattle.ub_tetris.specs.Sweep.{IsSweepOf, IsSweeping, IsSwept, SweepView}
 
--- a sweep was to be begun by a plan, and this was answered: over a sound tree, by a plan that is a sweep, no row was given and no region
--- fetched; over any tree that it awaits the whole, along the plan's dimension, that a tree which has failed is refused, and what is left
+-- a sweep was to be begun by a plan, and this was answered: over a sound tree no row is given yet and no region fetched; over any it awaits the whole
 pub record BeginsBy (plan : PlanView) (old new : TreeView) (result : Result SweepView SweepFault) : Type 0 where
   pub begun : (dim : ℕ) (is_descending : Bool) → IsSwept old plan dim is_descending → IfOk result (HasBegun plan new)
   pub started : IfOk result (IsStarted new)
@@ -19,11 +17,10 @@ pub record BeginsBy (plan : PlanView) (old new : TreeView) (result : Result Swee
   pub failed : IsTrue old.is_failed → result ≡ Err (Tree Failed)
   pub effect : Begins old new result
 
--- a sweep was asked for more, and this was answered, which has such rows: over a sound tree what it gave next, and which regions were
--- fetched where a fault ended that; that after the end nothing changes; over any tree what it gave; and what is left
-pub record Gives {A : Type 0} (Next : List Row → List Row → List Event → List Event → Type 0) (rows : A → List Row) (plan : PlanView) (s new_s : SweepView) (old new : TreeView) (result : Result (Option A) SweepFault) : Type 0 where
-  pub next : (given rest : List Row) (fetched unread : List Event) → IsSweeping plan old s given rest fetched unread
-      → Next given rest fetched unread
+-- a sweep was asked for more, and this was answered, with such rows: what that did over a sound tree, and over any; after the end nothing changes
+pub record Gives {A : Type 0} (Next : List Row → List Row → List Event → List Event → Type 0) (rows : A → List Row)
+    (plan : PlanView) (s new_s : SweepView) (old new : TreeView) (result : Result (Option A) SweepFault) : Type 0 where
+  pub next : (given rest : List Row) (fetched unread : List Event) → IsSweeping plan old s given rest fetched unread → Next given rest fetched unread
   pub broken : (given rest : List Row) (fetched unread : List Event) → IsSweeping plan old s given rest fetched unread
       → OnErr result (HasBroken new s rest fetched unread)
   pub rests : s.is_failed ≡ false → s.awaited ≡ [] → s.held ≡ [] → Rests s new_s old new result
@@ -43,9 +40,9 @@ GivesValue plan s new_s old new result rows =
     (λ found. HasSteppedValue plan new new_s given rest fetched unread (option_map rows found)))
     rows plan s new_s old new result
 
--- a sink was to be handed the rows of all regions that are left, and this was answered: which rows it took over any tree, and over a sound
--- one; which regions were fetched where a fault ended that; that none is awaited then; and what is left
-pub record HandsAll {K : Type 0} (HasTaken : K → List Row → K → Type 0) (plan : PlanView) (s new_s : SweepView) (old new : TreeView) (sink new_sink : K) (result : Result (Unit {0}) SweepFault) : Type 0 where
+-- a sink was to be handed the rows of all regions that are left, and this was answered: which rows it took, over any tree and over a sound one
+pub record HandsAll {K : Type 0} (HasTaken : K → List Row → K → Type 0) (plan : PlanView) (s new_s : SweepView)
+    (old new : TreeView) (sink new_sink : K) (result : Result (Unit {0}) SweepFault) : Type 0 where
   pub rows : OnOk result (HandsOver HasTaken sink new_sink
       (λ rows. HasFound plan old s new_s rows
       × ((given rest : List Row) (fetched unread : List Event) → IsSweeping plan old s given rest fetched unread

@@ -17,7 +17,6 @@ abbrev pub of_read : ReadFault → SweepFault
 of_read (read.Tree fault) = Tree fault
 of_read read.Memory = Memory
 
--- the same of what such a call answers
 abbrev pub of_reading : {A : Type 0} → Result A ReadFault → Result A SweepFault
 of_reading (Ok x) = Ok x
 of_reading (Err fault) = Err (of_read fault)
@@ -28,7 +27,6 @@ as_read (Tree fault) = read.Tree fault
 as_read Memory = read.Memory
 as_read Failed = read.Tree has_failed
 
--- the same of what a call of a sweep answers
 abbrev pub as_reading : {A : Type 0} → Result A SweepFault → Result A ReadFault
 as_reading (Ok x) = Ok x
 as_reading (Err fault) = Err (as_read fault)
@@ -68,18 +66,15 @@ pub record Begins {A : Type 0} (old new : TreeView) (result : Result A SweepFaul
 
 -- these are the pages of these regions, each of which was taken in
 abbrev pub AreTakenIn : TreeView → List AwaitedRegion → List ℕ → Type 0
-AreTakenIn t come pages =
-    (pages ≡ map (λ a. a.region.page) come) × AllByRecursion (λ a. (region : RegionRows) × IsTakenIn t a.region region) come
+AreTakenIn t come pages = (pages ≡ map (λ a. a.region.page) come) × AllByRecursion (λ a. (region : RegionRows) × IsTakenIn t a.region region) come
 
 -- these are the pages of the first of these regions, each once and in their order; that of the last one alone may be missing
 pub record AreAsked (come : List AwaitedRegion) (pages : List ℕ) : Type 0 where
   pub first : pages ≡ map (λ a. a.region.page) (take (length pages) come)
   pub most : length come ≤ length pages + 1
 
--- a sweep read the tree and no more. Regions were come to, in the order of the sweep, and with the stretches that are ahead of it then they came in
--- the place of those that it awaited before; where it answers it awaits these, in its dimension and direction. The pages of the regions were noted
--- after those that stood in the trace, also where a fault ended it, and where it answers all of them are there, and each was taken in. Over a tree
--- that tells of the stretches awaited it is refused as each call is that reads the tree, and the tree tells of those awaited then
+-- a sweep read the tree and no more: it came to regions, in its order, whose pages were noted; with the stretches ahead of it, which it awaits where
+-- it answers, they came in the place of those awaited before. Over a tree that tells of those it is refused as each call is that reads the tree
 pub record Sweeps {A : Type 0} (plan : PlanView) (s new_s : SweepView) (old new : TreeView) (result : Result A SweepFault) : Type 0 where
   pub noted : List ℕ
   pub same : new ≡ record old { store = read_store (as_reading result) old.store; trace = new.trace }
@@ -88,8 +83,7 @@ pub record Sweeps {A : Type 0} (plan : PlanView) (s new_s : SweepView) (old new 
   pub come : List AwaitedRegion
   pub ahead : List AwaitedStretch
   pub left : AreInPlaceOf old plan.covering.boxes s.dim s.is_descending s.awaited (lowest come ++ ahead)
-  pub ordered : AreItsStretches old s → AreValued plan.covering.boxes s.dim s.is_descending s.awaited
-      → AreInOrder s.is_descending come ahead
+  pub ordered : AreItsStretches old s → AreValued plan.covering.boxes s.dim s.is_descending s.awaited → AreInOrder s.is_descending come ahead
   pub still : OnOk result ((new_s.dim ≡ s.dim) × (new_s.is_descending ≡ s.is_descending) × (new_s.awaited ≡ ahead))
   pub once : AreAsked come noted
   pub taken : OnOk result (AreTakenIn old come noted)
@@ -111,8 +105,7 @@ pub record Rests {A : Type 0} (s new_s : SweepView) (old new : TreeView) (result
 
 -- ---- the rows that come, over any tree
 
--- these are the rows that a plan takes of these regions, one region after the other: each is the region that its page spells, and of
--- its rows those that are chosen come, as they stand there
+-- the rows that a plan takes of these regions, one region after the other: of each, as its page spells it, those that are chosen, as they stand there
 abbrev pub AreRowsOf : PlanView → TreeView → List AwaitedRegion → List Row → Type 0
 AreRowsOf plan t [] rows = rows ≡ []
 AreRowsOf plan t (a ∷ come) rows =
@@ -125,15 +118,13 @@ pub record HasFound (plan : PlanView) (t : TreeView) (s new_s : SweepView) (rows
   pub left : AreInPlaceOf t plan.covering.boxes s.dim s.is_descending s.awaited (lowest come ++ new_s.awaited)
   pub are : AreRowsOf plan t come rows
 
--- these rows were given: the rows that were held and those that came are the rows given and the ones held now, each as often. So no
--- row is given that stands in no region taken in, none is lost, and none is given twice
+-- these rows were given: those held and those that came are the ones given and those held now, so that none is made up, lost or given twice
 pub record GivesRows (plan : PlanView) (t : TreeView) (s new_s : SweepView) (given : List Row) : Type 0 where
   pub came : List Row
   pub found : HasFound plan t s new_s came
   pub kept : IsPermutation (rows_held s.held ++ came) (given ++ rows_held new_s.held)
 
--- what asking for rows answers over any tree: none only where no stretch is left and no row is held, and else one at least, with which
--- there are fewer that can still be given
+-- what asking for rows answers over any tree: none only where nothing is awaited or held; and else some, after which fewer can still be given
 abbrev pub HasAnswered : PlanView → TreeView → SweepView → SweepView → Option (List Row) → Type 0
 HasAnswered plan t s new_s None = (new_s.awaited ≡ []) × (new_s.held ≡ []) × GivesRows plan t s new_s []
 HasAnswered plan t s new_s (Some rows) = (rows ≢ []) × (rows_left new_s < rows_left s) × GivesRows plan t s new_s rows

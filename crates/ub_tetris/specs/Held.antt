@@ -24,14 +24,11 @@ turned true value = pos 0 -ℤ value -ℤ pos 1
 abbrev pub values_by : Schema → List SortKey → Row → List ℤ
 values_by schema keys row = map (λ key. turned key.is_descending (item_value schema row key.item)) keys
 
--- a row as it is held by these keys
 abbrev pub held_row : Schema → List SortKey → Row → HeldRow
 held_row schema keys row = record { values = values_by schema keys row; row = row }
 
--- the rows that are held
 abbrev pub rows_held : List HeldRow → List Row
 rows_held held = map (λ h. h.row) held
 
--- each has its values by these keys
 abbrev pub AreHeldBy : Schema → List SortKey → List HeldRow → Type 0
 AreHeldBy schema keys held = AllByRecursion (λ h. h.values ≡ values_by schema keys h.row) held

@@ -10,8 +10,7 @@ use Rattle.ub_tetris.specs.Machine.{IsUnderWay, IsRowAlong, IsRowPast, regions_a
 use Rattle.ub_tetris.specs.Awaited.{AreStretchesOf, AreValued, most_regions, times_held}
 pub use Rattle.ub_tetris.specs.Awaited.{AwaitedRegion, AwaitedStretch}
 
--- a sweep: its dimension and direction; the rows that it holds; the stretches to which it is to come, in whatever order; whether it has
--- failed
+-- a sweep: its dimension and direction; the rows that it holds; the stretches to which it is to come, in whatever order; whether it has failed
 pub record SweepView : Type 0 where
   pub dim : ℕ
   pub is_descending : Bool
@@ -19,8 +18,7 @@ pub record SweepView : Type 0 where
   pub awaited : List AwaitedStretch
   pub is_failed : Bool
 
--- more rows than this a sweep can't give: those that it holds, and those for which there is room on the pages of the regions that the
--- stretches can have which it awaits
+-- a sweep can't give more rows than this: those that it holds, and those for which the regions of the stretches that it awaits can have room
 abbrev pub rows_left : SweepView → ℕ
 rows_left s = length s.held + most_regions s.awaited * MAX_ROWS
 
@@ -34,7 +32,6 @@ pub record IsSwept (t : TreeView) (plan : PlanView) (dim : ℕ) (is_descending :
   pub planned : plan ≡ plan_of t.schema plan.asked
   pub kind : plan.kind ≡ Sweep dim is_descending
 
--- a plan of this kind is no sweep
 abbrev pub IsNoSweep : Kind → Type 0
 IsNoSweep kind = (dim : ℕ) (is_descending : Bool) → kind ≢ Sweep dim is_descending
 
@@ -51,9 +48,9 @@ pub record IsAwaited (t : TreeView) (awaited : AwaitedRegion) (event : Event) : 
   pub first : awaited.region.first ≡ event.span.region.first
   pub value : awaited.value ≡ event.value
 
--- the stretches awaited over a sound tree: the tree tells of each; each has its event value, the first along the sweep among those of the
--- regions within it; no two hold one key; and the regions within them that meet the boxes are those of these events
-pub record AreAhead (t : TreeView) (boxes : List Corners) (dim : ℕ) (is_descending : Bool) (awaited : List AwaitedStretch) (events : List Event) : Type 0 where
+-- the stretches awaited over a sound tree: no two hold one key, and the regions within them that meet the boxes are those of these events
+pub record AreAhead (t : TreeView) (boxes : List Corners) (dim : ℕ) (is_descending : Bool)
+    (awaited : List AwaitedStretch) (events : List Event) : Type 0 where
   pub told : AreStretchesOf t awaited
   pub valued : AreValued boxes dim is_descending awaited
   pub apart : (key : Key) → times_held key awaited ≤ 1
@@ -70,23 +67,19 @@ abbrev pub IsPartOfOne : (Stretch → Type 0) → TreeView → List Corners → 
 IsPartOfOne Has t boxes stretch =
     (above : Stretch) × IsStretchOf t above × Has above × (parts : List Stretch) × ArePartsOf t boxes above parts × Contains parts stretch
 
--- one of the largest stretches that meet the boxes and within which no region was fetched: it is the whole tree, or a part of a stretch
--- within which one was
+-- one of the largest stretches that meet the boxes and within which no region was fetched: the whole tree, or a part of one within which one was
 pub record IsLargest (t : TreeView) (boxes : List Corners) (fetched : List Event) (stretch : Stretch) : Type 0 where
   pub meets : MeetsAny boxes stretch
   pub none : ¬ (HoldsOneOf fetched stretch)
   pub above : (stretch ≡ whole_of t) ⊎ IsPartOfOne (HoldsOneOf fetched) t boxes stretch
 
--- the stretches awaited over a sound tree are the largest that meet the boxes and within which no region was fetched: each of them is one,
--- and each region that meets the boxes and wasn't fetched lies within one of them
+-- the stretches awaited over a sound tree are such ones, and each region that meets the boxes and wasn't fetched lies within one of them
 pub record AreLargest (t : TreeView) (boxes : List Corners) (fetched : List Event) (awaited : List AwaitedStretch) : Type 0 where
   pub each : AllByRecursion (λ a. IsLargest t boxes fetched a.stretch) awaited
   pub all : (region : Region) → Contains (spans_of t) region → Meets boxes region
       → ((event : Event) → Contains fetched event → event.span.region.first ≢ region.first) → 1 ≤ times_held region.first awaited
 
--- how a sweep that hasn't failed stands to its plan and its tree: these rows were given, and these are still to be given; the
--- trace has the pages of the regions that were fetched, and these are not fetched yet; what it awaits are the largest stretches within
--- which none was
+-- how a sweep that hasn't failed stands to its plan and a sound tree: which rows were given and which are left, which regions were fetched or not yet
 pub record IsSweeping (plan : PlanView) (t : TreeView) (s : SweepView) (given rest : List Row) (fetched unread : List Event) : Type 0 where
   pub working : s.is_failed ≡ false
   pub swept : IsSwept t plan s.dim s.is_descending
@@ -96,8 +89,7 @@ pub record IsSweeping (plan : PlanView) (t : TreeView) (s : SweepView) (given re
   pub awaited : AreAhead t plan.covering.boxes s.dim s.is_descending s.awaited unread
   pub largest : AreLargest t plan.covering.boxes fetched s.awaited
 
--- the next row was given: these regions were fetched for it, and those fetched are now just the ones whose event values aren't
--- past it
+-- the next row was given: these regions were fetched for it, and those fetched are now just the ones whose event values aren't past it
 pub record HasGiven (plan : PlanView) (t : TreeView) (s : SweepView) (given rest : List Row) (fetched unread : List Event) (row : Row) : Type 0 where
   pub more : List Row
   pub read : List Event
@@ -112,14 +104,13 @@ pub record HasEnded (plan : PlanView) (t : TreeView) (s : SweepView) (given rest
   pub none : rest ≡ []
   pub sweeping : IsSweeping plan t s given [] (fetched ++ unread) []
 
--- what asking for the next row does
 abbrev pub HasStepped : PlanView → TreeView → SweepView → List Row → List Row → List Event → List Event → Option Row → Type 0
 HasStepped plan t s given rest fetched unread None = HasEnded plan t s given rest fetched unread
 HasStepped plan t s given rest fetched unread (Some row) = HasGiven plan t s given rest fetched unread row
 
--- the rows of the next value were given: all that are left with the coordinate that stands for it in the sweep's dimension, by
--- row number, and no others; the regions fetched are now just the ones whose event values aren't past that coordinate
-pub record HasGivenValue (plan : PlanView) (t : TreeView) (s : SweepView) (given rest : List Row) (fetched unread : List Event) (rows : List Row) : Type 0 where
+-- the rows of the next value were given, by row number: all that are left of its coordinate; the regions fetched are now just those not past it
+pub record HasGivenValue (plan : PlanView) (t : TreeView) (s : SweepView) (given rest : List Row) (fetched unread : List Event)
+    (rows : List Row) : Type 0 where
   pub value : ℕ
   pub more : List Row
   pub read : List Event
@@ -133,19 +124,16 @@ pub record HasGivenValue (plan : PlanView) (t : TreeView) (s : SweepView) (given
   pub reached : All (λ event. ¬ (IsAlong s.is_descending value event.value)) (fetched ++ read)
   pub sweeping : IsSweeping plan t s (given ++ rows) more (fetched ++ read) left
 
--- what asking for the rows of the next value does
 abbrev pub HasSteppedValue : PlanView → TreeView → SweepView → List Row → List Row → List Event → List Event → Option (List Row) → Type 0
 HasSteppedValue plan t s given rest fetched unread None = HasEnded plan t s given rest fetched unread
 HasSteppedValue plan t s given rest fetched unread (Some rows) = HasGivenValue plan t s given rest fetched unread rows
 
--- asking for the next row was ended by a fault: of the regions not yet fetched the first ones were fetched, each once and in
--- order, none of them past the next row where there is one; their pages stand in the trace
+-- asking for the next row was ended by a fault: the first regions not yet fetched were, in order, none past the next row, and their pages are noted
 pub record HasBroken (t : TreeView) (s : SweepView) (rest : List Row) (fetched unread : List Event) : Type 0 where
   pub read : List Event
   pub left : List Event
   pub parts : unread ≡ read ++ left
-  pub reached : (row : Row) (more : List Row) → rest ≡ row ∷ more
-      → All (λ event. ¬ IsRowAlong s.dim s.is_descending row event.value) read
+  pub reached : (row : Row) (more : List Row) → rest ≡ row ∷ more → All (λ event. ¬ IsRowAlong s.dim s.is_descending row event.value) read
   pub noted : AreNoted t (fetched ++ read)
 
 -- a sink took rows such as these, after those that it had taken before
@@ -158,8 +146,7 @@ pub record HasHandedOver (plan : PlanView) (t : TreeView) (fetched unread : List
   pub rows_are : rows ≡ selected_rows t.schema plan (regions_at unread)
   pub noted : AreNoted t (fetched ++ unread)
 
--- that was ended by a fault: of the regions not yet fetched the first ones were fetched, each once and in order, and no others;
--- their pages stand in the trace
+-- that was ended by a fault: the first of the regions not yet fetched were, each once and in order, and their pages stand in the trace
 pub record HasBrokenOff (t : TreeView) (fetched unread : List Event) : Type 0 where
   pub read : List Event
   pub left : List Event
@@ -172,7 +159,6 @@ pub record HasBegun (plan : PlanView) (t : TreeView) (s : SweepView) : Type 0 wh
   pub unread : List Event
   pub sweeping : IsSweeping plan t s [] rest [] unread
 
--- the stretches that a sweep awaits are such as the tree tells of
 abbrev pub AreItsStretches : TreeView → SweepView → Type 0
 AreItsStretches t s = AreStretchesOf t s.awaited
 

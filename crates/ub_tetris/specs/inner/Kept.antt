@@ -22,8 +22,7 @@ tie_cmp values number others other = ordering_then (slice_cmp int_cmp values oth
 
 -- the same with the first values compared alone before
 abbrev pub place_cmp : List ℤ → ℕ → List ℤ → ℕ → Ordering
-place_cmp values number others other =
-    ordering_then (int_cmp (first_of values) (first_of others)) (tie_cmp values number others other)
+place_cmp values number others other = ordering_then (int_cmp (first_of values) (first_of others)) (tie_cmp values number others other)
 
 -- the greatest is the first
 abbrev pub held_cmp : Ranked → Ranked → Ordering
@@ -31,15 +30,13 @@ held_cmp a b = place_cmp b.held.value.values.items b.held.value.row.number a.hel
 
 pub held_total : IsTotalOrder held_cmp
 held_total =
-    back_total
-    (then_total (on_total (λ (r : Ranked). first_of r.held.value.values.items) int_cmp_total)
-    (then_total (on_total (λ (r : Ranked). r.held.value.values.items) (lists_total int_cmp_total)) (on_total (λ (r : Ranked). r.held.value.row.number) nat_cmp_total)))
+    back_total (then_total (on_total (λ (r : Ranked). first_of r.held.value.values.items) int_cmp_total)
+    (then_total (on_total (λ (r : Ranked). r.held.value.values.items) (lists_total int_cmp_total))
+    (on_total (λ (r : Ranked). r.held.value.row.number) nat_cmp_total)))
 
--- one stands before another
 abbrev pub IsHeldBefore : HeldRow → HeldRow → Type 0
 IsHeldBefore a b = place_cmp a.values a.row.number b.values b.row.number ≡ Less
 
--- none stands before this one
 abbrev pub IsFirstAmong : HeldRow → List HeldRow → Type 0
 IsFirstAmong first held = AllByRecursion (λ other. ¬ (IsHeldBefore other first)) held
 
@@ -74,8 +71,7 @@ TakesFirstAt dim value held left (Some row) = IsFirstAt dim value held × TakesF
 -- these rows were taken, one after the other, while the first of those held had this coordinate
 abbrev pub AreTakenAt : ℕ → ℕ → List HeldRow → List HeldRow → List Row → Type 0
 AreTakenAt dim value held left [] = left ≡ held
-AreTakenAt dim value held left (row ∷ rows) =
-    (mid : List HeldRow) × TakesFirstAt dim value held mid (Some row) × AreTakenAt dim value mid left rows
+AreTakenAt dim value held left (row ∷ rows) = (mid : List HeldRow) × TakesFirstAt dim value held mid (Some row) × AreTakenAt dim value mid left rows
 
 -- these are this row and all rows of its coordinate, which were taken out of those held from the first on
 pub record TakesValue (dim : ℕ) (first : Row) (held left : List HeldRow) (rows : List Row) : Type 0 where

@@ -13,11 +13,7 @@ use Rattle.ub_tree.specs.Calls.{StandsAt}
 -- what contracts see of a sweep in this state
 abbrev pub view_by : State → Bool → SweepView
 view_by s is_failed = record {
-  dim = s.ahead.dim;
-  is_descending = s.ahead.is_descending;
-  held = s.held;
-  awaited = s.ahead.stretches;
-  is_failed = is_failed;
+  dim = s.ahead.dim; is_descending = s.ahead.is_descending; held = s.held; awaited = s.ahead.stretches; is_failed = is_failed;
 }
 
 abbrev pub view_of : State → SweepView
@@ -69,7 +65,8 @@ abbrev pub IsAskedFor : TreeView → TreeView → AwaitedStretch → Type 0
 IsAskedFor t new next = KeepsTrace t new ⊎ ((next.stretch.level ≡ 0) × HasNoted next.stretch.span.page t new)
 
 -- it was asked for, the first of those awaited, and the tree was read and no more
-pub record AsksNext {A : Type 0} (plan : PlanView) (t new : TreeView) (s new_s : SweepView) (next : AwaitedStretch) (result : Result A ReadFault) : Type 0 where
+pub record AsksNext {A : Type 0} (plan : PlanView) (t new : TreeView) (s new_s : SweepView) (next : AwaitedStretch)
+    (result : Result A ReadFault) : Type 0 where
   pub asked : IsAskedFor t new next
   pub effect : IsFirstAwaited s.is_descending next s.awaited → Sweeps plan (with_next s next) new_s t new (of_reading result)
 
@@ -97,8 +94,7 @@ pub record HasOpened (plan : PlanView) (t new : TreeView) (s new_s : SweepView) 
   pub queued : List AwaitedStretch
   pub now_are : IsPermutation (s.awaited ++ queued) new_s.awaited
   pub valued : AreValued plan.covering.boxes s.dim s.is_descending queued
-  pub parts : ArePartsOf t plan.covering.boxes next.stretch (stretches_of queued)
-      ⊎ ((queued ≡ []) × ¬ (HaveDimension s.dim plan.covering.boxes))
+  pub parts : ArePartsOf t plan.covering.boxes next.stretch (stretches_of queued) ⊎ ((queued ≡ []) × ¬ (HaveDimension s.dim plan.covering.boxes))
 
 -- it was come to, and these rows came
 pub record HasComeTo (plan : PlanView) (t new : TreeView) (s new_s : SweepView) (next : AwaitedStretch) (rows : List Row) : Type 0 where
@@ -109,7 +105,8 @@ pub record HasComeTo (plan : PlanView) (t new : TreeView) (s new_s : SweepView) 
 -- ---- what a turn promises
 
 -- the parts of a stretch came in its place
-pub record OpensNext (plan : PlanView) (t new : TreeView) (s new_s : SweepView) (opened : AwaitedStretch) (result : Result (Unit {0}) ReadFault) : Type 0 where
+pub record OpensNext (plan : PlanView) (t new : TreeView) (s new_s : SweepView) (opened : AwaitedStretch)
+    (result : Result (Unit {0}) ReadFault) : Type 0 where
   pub next : AsksNext plan t new s new_s opened result
   pub held : new_s.held ≡ s.held
   pub came : OnOk result (HasComeTo plan t new s new_s opened [])
@@ -122,13 +119,15 @@ pub record ReadsNext (t new : TreeView) (s new_s : State) (region : AwaitedStret
   pub read : OnOk result (HasRead t new region new_s.page.region)
 
 -- the rows that came are held beside those that were
-pub record HoldsNext (plan : PlanView) (t new : TreeView) (s new_s : SweepView) (come_to : AwaitedStretch) (result : Result (Unit {0}) ReadFault) : Type 0 where
+pub record HoldsNext (plan : PlanView) (t new : TreeView) (s new_s : SweepView) (come_to : AwaitedStretch)
+    (result : Result (Unit {0}) ReadFault) : Type 0 where
   pub next : AsksNext plan t new s new_s come_to result
   pub rows : OnOk result ((rows : List Row) × HasComeTo plan t new s new_s come_to rows
       × HoldsAlso t.schema (swept_order plan.asked.group plan.asked.order) rows s.held new_s.held)
 
 -- a sink took them, and those held are those that were
-pub record HandsTurn {K : Type 0} (HasTaken : K → List Row → K → Type 0) (plan : PlanView) (t new : TreeView) (s new_s : SweepView) (come_to : AwaitedStretch) (sink new_sink : K) (result : Result (Unit {0}) ReadFault) : Type 0 where
+pub record HandsTurn {K : Type 0} (HasTaken : K → List Row → K → Type 0) (plan : PlanView) (t new : TreeView) (s new_s : SweepView)
+    (come_to : AwaitedStretch) (sink new_sink : K) (result : Result (Unit {0}) ReadFault) : Type 0 where
   pub next : AsksNext plan t new s new_s come_to result
   pub held : new_s.held ≡ s.held
   pub rows : OnOk result (HandsOver HasTaken sink new_sink (HasComeTo plan t new s new_s come_to))
