@@ -9,8 +9,7 @@ use Rattle.ub_store.specs.declared.fault.StoreFault.TheVariants as store
 abbrev pub StandsAt : List Placed → ℕ → RegionRows → Type 0
 StandsAt placed page region = (p : Placed) × Contains placed p × (p.page ≡ page) × (p.region ≡ region)
 
--- a region of this span was to be taken in from its page, and this was answered: what the page spells was taken in, of a sound tree the
--- region that stands there
+-- a region of this span was to be taken in, and this was answered: what its page spells was taken in, of a sound tree the region that stands there
 pub record TakesIn {A : Type 0} (span : Region) (page : RegionView) (old new : TreeView) (result : Result A TreeFault) : Type 0 where
   pub dims : OnOk result (page.dims ≡ old.schema.dims)
   pub first : OnOk result (page.region.first ≡ span.first)
@@ -19,9 +18,7 @@ pub record TakesIn {A : Type 0} (span : Region) (page : RegionView) (old new : T
   pub failed : IsTrue old.is_failed → result ≡ Err Failed
   pub effect : ReadsRegion span old new result
 
--- what creation over a store with these facts makes: a tree of this schema with no rows, on three pages, in one region that
--- begins with the least key of all, and an index of one level, which has only grown; it counts as changed, so that closing it writes
--- and syncs it
+-- what creation makes: a tree of this schema with no rows, on three pages; it counts as changed, so that closing it writes and syncs it
 pub record IsCreated (store : StoreFacts) (schema : Schema) (t : TreeView) : Type 0 where
   pub schema_is : t.schema ≡ schema
   pub regions_are : IsHonest store → regions t ≡ record { first = origin; rows = [] } ∷ []
@@ -42,8 +39,7 @@ IsCreateFault old Memory = Unit {0}
 IsCreateFault old (Store store.Device) = IsTrue old.can_fail
 IsCreateFault old _ = ⊥
 
--- a table of this schema was to be made over a store with these facts, and this was answered: its tree; or why not, with the store, which isn't
--- opened as a table
+-- a table was to be made over a store with these facts, and this was answered: its tree; or why not, with the store, which isn't opened as a table
 pub record Creates {S : Type 0} (facts : S → StoreFacts) (old : StoreFacts) (schema : Schema) (result : Result TreeView (Rejected S TreeFault)) : Type 0 where
   pub made : IfOk result (IsCreated old schema)
   pub first : IsHonest old → IfErr result (λ refused. IsUncreated schema (facts refused.store))

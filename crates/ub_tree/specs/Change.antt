@@ -17,8 +17,7 @@ pub record Suits (dims measures : ℕ) (row : Row) : Type 0 where
   pub measures_rest : HasRest (pos 0) measures row.measures
   pub measures_words : All (λ x. FitsSigned w64 x) row.measures
 
--- a row was put into a sound tree, with the number that was next; the table gains that row as its last; and where rows were
--- only put in before, that is so still
+-- a row was put into a sound tree, with the number that was next, as the last of its table; where rows were only put in before, that is so still
 pub record IsInserted (row : Row) (old new : TreeView) : Type 0 where
   pub number : row.number ≡ old.next
   pub schema : new.schema ≡ old.schema

@@ -49,8 +49,7 @@ pub record ChecksPages {A : Type 0} (old new : TreeView) (result : Result A Tree
   pub same : new ≡ record old { store = read_store result old.store }
   pub faults : IfErr result (IsCheckFault old)
 
--- a tree was to be checked, and this was answered: over an honest store Ok just where its pages are well, device and memory aside, and else
--- the first fault
+-- a tree was checked with this answer: over an honest store Ok just where its pages are well, and else the first fault, device and memory aside
 pub record IsChecked {A : Type 0} (old new : TreeView) (result : Result A TreeFault) : Type 0 where
   pub well : IsHonest old.store → OnOk result (IsWell old)
   pub exact : IsHonest old.store → IsWell old → old.is_failed ≡ false → IfErr result IsPassing

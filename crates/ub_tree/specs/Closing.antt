@@ -25,8 +25,7 @@ IsCloseFault t (Store store.Device) = IsTrue t.store.can_fail
 IsCloseFault t (Store store.NoPage) = page_count t.store ≡ 0
 IsCloseFault t _ = ⊥
 
--- a tree was to be closed, and this was answered: the store of a closed table, which was saved where the tree had changed, and is as it was
--- where it hadn't; or why not, with the store, whose header is as it was unless all other pages last
+-- a tree was to be closed, and this was answered: its store; or why not, with the store, whose header is as it was unless all other pages last
 pub record Closes {S : Type 0} (facts : S → StoreFacts) (old : TreeView) (result : Result S (Rejected S TreeFault)) : Type 0 where
   pub closed : IsSound old → IfOk result (λ s. IsHonest (facts s) × AreSoundPages (facts s).pages old.schema old.placed old.next)
   pub table : IsTrue old.is_changed → IfOk result (λ s. IsSaved old.store (facts s) × (IsHonest old.store → IsClosed (header_of old) old.store (facts s)))

@@ -29,18 +29,14 @@ read_store result old = record old { failed_reads = counted result old.failed_re
 abbrev pub written_store : {A : Type 0} → Result A TreeFault → StoreFacts → StoreFacts → StoreFacts
 written_store result old new = record old { pages = new.pages; synced = new.synced; failed_writes = counted result old.failed_writes }
 
--- a way to one of these keys stops at the page of this number, which is refused; over a sound tree none does
+-- a way to one of these keys stops at the page of this number, which is refused, or at one that the store hasn't; over a sound tree none does
 abbrev pub IsWayRefused : (Key → Type 0) → TreeView → ℕ → PageFault → Type 0
 IsWayRefused Sought t number fault = IsHonest t.store → (key : Key) × Sought key × Stops t.inner.index t.store key number (Some fault)
 
--- a way to one of these keys stops at a page that the store doesn't have
 abbrev pub IsWayMissing : (Key → Type 0) → TreeView → Type 0
-IsWayMissing Sought t =
-    (n : ℕ) × (page_count t.store ≤ n)
-    × (IsHonest t.store → (key : Key) × Sought key × Stops t.inner.index t.store key n None)
+IsWayMissing Sought t = (n : ℕ) × (page_count t.store ≤ n) × (IsHonest t.store → (key : Key) × Sought key × Stops t.inner.index t.store key n None)
 
--- what a search can answer that goes down to these keys alone: `Failed` where the tree has, the device's fault where the store can
--- fail, and a fault of a page on the way to one of them, or that there is none, only where the tree isn't sound
+-- what a search can answer that goes down to these keys alone: that a page on its way is refused, or isn't there, only where the tree isn't sound
 abbrev pub IsSearchFault : (Key → Type 0) → TreeView → TreeFault → Type 0
 IsSearchFault Sought old Full = ⊥
 IsSearchFault Sought old Failed = IsTrue old.is_failed
@@ -68,18 +64,13 @@ IsPageRefused t number fault =
 
 -- a way to some key stops at a page that the store doesn't have
 abbrev pub IsStopped : TreeView → Type 0
-IsStopped t =
-    (n : ℕ) × (page_count t.store ≤ n)
-    × (IsHonest t.store → (key : Key) × Stops t.inner.index t.store key n None)
+IsStopped t = (n : ℕ) × (page_count t.store ≤ n) × (IsHonest t.store → (key : Key) × Stops t.inner.index t.store key n None)
 
 -- it does, or the tree tells of a region on such a page
 abbrev pub IsPageMissing : TreeView → Type 0
-IsPageMissing t =
-    IsStopped t
-    ⊎ ((span : Region) × IsRegionOf t span × (page_count t.store ≤ span.page))
+IsPageMissing t = IsStopped t ⊎ ((span : Region) × IsRegionOf t span × (page_count t.store ≤ span.page))
 
--- what a call can answer that only reads: `Failed` where the tree has, the device's fault where the store can fail, and a fault
--- of a page, or that there is none, only where the tree isn't sound
+-- what a call can answer that only reads: that a page is refused, or isn't there, only where the tree isn't sound
 abbrev pub IsReadFault : TreeView → TreeFault → Type 0
 IsReadFault old Full = ⊥
 IsReadFault old Failed = IsTrue old.is_failed
@@ -89,8 +80,7 @@ IsReadFault old (Store store.Device) = IsTrue old.store.can_fail
 IsReadFault old (Store store.NoPage) = (¬ (IsSound old)) × IsPageMissing old
 IsReadFault old (Store _) = ⊥
 
--- a call within that only searches, or reads a region: with the device's fault the store has one failed read more, and else nothing has
--- changed
+-- a call within that only searches, or reads a region: with the device's fault the store has one failed read more, and else nothing has changed
 pub record Searches {A : Type 0} (old new : TreeView) (result : Result A TreeFault) : Type 0 where
   pub same : new ≡ record old { store = read_store result old.store }
   pub faults : IfErr result (IsReadFault old)
@@ -114,8 +104,7 @@ IsSpanFault span old _ = ⊥
 abbrev pub IsTakenIn : TreeView → Region → RegionRows → Type 0
 IsTakenIn t span region = check.IsTakenIn t.schema t.store span region
 
--- a call that reads this region, whose page is noted first: want of memory comes before that only where the trace has no room;
--- which region of the tree it is the caller says
+-- a call that reads the region that its caller names, whose page is noted first: want of memory comes before that only where the trace has no room
 pub record ReadsRegion {A : Type 0} (span : Region) (old new : TreeView) (result : Result A TreeFault) : Type 0 where
   pub same : new ≡ record old { store = read_store result old.store; trace = new.trace }
   pub noted : (KeepsTrace old new × ((result ≡ Err Failed) ⊎ ((result ≡ Err Memory) × trace.IsFull old.trace))) ⊎ HasNoted span.page old new
@@ -124,8 +113,7 @@ pub record ReadsRegion {A : Type 0} (span : Region) (old new : TreeView) (result
   pub faults : IsRegionOf old span → IfErr result (IsReadFault old)
   pub refused : IfErr result (IsSpanFault span old)
 
--- over an honest store the first page marks the table where it is changed, if it did before where it was changed then, as it does
--- where the tree is sound
+-- over an honest store the first page marks the table where it is changed now, if it did where it was changed before, as it does in a sound tree
 abbrev pub KeepsMark : TreeView → TreeView → Type 0
 KeepsMark old new = IsHonest old.store → (old.is_changed ≡ true → HasMark old.schema old.store.pages) → new.is_changed ≡ true → HasMark old.schema new.store.pages
 
@@ -134,8 +122,7 @@ pub record IsMarkedFirst (old new : TreeView) : Type 0 where
   pub kept : KeepsUnless new.is_changed old.store new.store
   pub marked : KeepsMark old new
 
--- the store has no room for the pages that another region can take: one for itself, and those that the index needs where it comes
--- behind the one that some key falls to; it has no more levels than an index can have
+-- the store has no room for the pages of another region: one for itself, and those that the index needs where it comes behind that of some key
 abbrev pub IsFull : TreeView → Type 0
 IsFull t =
     (t.inner.index.levels ≤ MAX_LEVEL)
@@ -147,8 +134,7 @@ IsFull t =
 abbrev pub IsIndexFull : TreeView → Type 0
 IsIndexFull t = (t.inner.index.levels ≡ MAX_LEVEL) × (IsHonest t.store → (key : Key) × HasFullWay t.inner.index t.store key)
 
--- the store can have pages more after those that there were, which hold nothing of the tree; all else is as it was. What lasts
--- is what lasted before, or the pages that there were
+-- the store can have new pages, which hold nothing of the tree; all else is as it was. What lasts is what lasted before, or the pages that there were
 pub record Leaves (old new : TreeView) : Type 0 where
   pub same : new ≡ record old { placed = new.placed; store = record old.store { pages = new.store.pages; synced = new.store.synced } }
   pub told : TellsStill old new
@@ -164,13 +150,12 @@ pub record HasEnded (fault : TreeFault) (old new : TreeView) : Type 0 where
 abbrev pub HasMissed : TreeView → TreeView → Type 0
 HasMissed old new = new ≡ record old { store = record old.store { failed_reads = raised old.store.failed_reads 1 } }
 
--- the region that the tree tells of on this page has a row already of this number
+-- the region that the tree tells of on this page has a row already of this number, or of the one that the next row gets
 abbrev pub HasNumber : TreeView → ℕ → ℕ → Type 0
 HasNumber t page number =
     (span : Region) × IsRegionOf t span × (span.page ≡ page)
     × (region : RegionRows) × IsTakenIn t span region × (row : Row) × Contains region.rows row × (row.number ≡ number)
 
--- so it is of the number that the next row gets
 abbrev pub IsNumberTaken : TreeView → ℕ → Type 0
 IsNumberTaken t page = HasNumber t page t.next
 
@@ -186,8 +171,7 @@ IsDropMissing t = (key : Key) × IsDropFault t.inner.index t.store key (index.St
 abbrev pub IsChangeMissing : TreeView → Type 0
 IsChangeMissing t = IsPageMissing t ⊎ IsDropMissing t
 
--- which page a change refuses, and why: one that it reads; the first, where a row is there and none is counted, or a region
--- would be one more than can be counted, or none would be; or that of the region that has the new row's key already
+-- which page a change refuses: one that it reads; the first, as a count would leave its bounds; or that of the region that has the new row's key
 abbrev pub IsChangeRefused : TreeView → ℕ → PageFault → Type 0
 IsChangeRefused t number fault =
     IsPageRefused t number fault ⊎ IsDropRefused t number fault
@@ -216,14 +200,12 @@ pub record Changes {A : Type 0} (old new : TreeView) (result : Result A TreeFaul
   pub done : OnOk result (Works old new)
   pub left : IfErr result (IsLeft old new)
 
--- what a call leaves that puts in a row of this number: what each change leaves; but a page is refused, or has that number already, only
--- where the tree isn't sound, or one of its rows has it
+-- what a call leaves that puts in a row of this number: as each change, but a page is refused only if the tree isn't sound or one of its rows has it
 abbrev pub IsLeftOf : ℕ → TreeView → TreeView → TreeFault → Type 0
 IsLeftOf n old new (Page page fault) =
     (IsSound old → ¬ (IsFree n (regions old))) × (IsChangeRefused old page fault ⊎ ((fault ≡ BadOrder) × HasNumber old page n)) × (new ≡ old)
 IsLeftOf n old new fault = IsLeft old new fault
 
--- a call that puts in a row of this number
 pub record ChangesOf (n : ℕ) {A : Type 0} (old new : TreeView) (result : Result A TreeFault) : Type 0 where
   pub frame : new ≡ record old { placed = new.placed; rows = new.rows; next = new.next; is_changed = new.is_changed; is_failed = new.is_failed; store = new.store; inner = new.inner }
   pub marked : IsMarkedFirst old new

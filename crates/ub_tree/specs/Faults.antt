@@ -6,12 +6,11 @@ use Rattle.ub_upgrade.specs.declared.fault.UpgradeFault.{UpgradeFault}
 use Rattle.ub_store.specs.declared.fault.StoreFault.TheVariants as store
 use Rattle.ub_upgrade.specs.declared.fault.UpgradeFault.TheVariants as upgrade
 
--- a store's fault, as one of a tree
+-- a store's fault, and an index's, as one of a tree
 abbrev pub tree_fault : StoreFault → TreeFault
 tree_fault store.Memory = Memory
 tree_fault fault = Store fault
 
--- an index's fault, as one of a tree
 abbrev pub index_fault : IndexFault → TreeFault
 index_fault (index.Page page fault) = Page page fault
 index_fault (index.Store fault) = tree_fault fault

@@ -16,8 +16,7 @@ pub record FallsInto (t : TreeView) (key : Key) (page : ℕ) (region : RegionRow
   pub page_is : span.page ≡ page
   pub taken : IsTakenIn t span region
 
--- a row was put into the region that a key falls to, of any tree, which then counts as changed: its page alone was written; or a
--- region and its page are more, and those of the index were written; and that is so just where that region was full
+-- a row was put into the region that a key falls to, of any tree: its page was written; and just where it was full, the index too for a region more
 pub record GrowsAt (key : Key) (old new : TreeView) : Type 0 where
   pub span : Region
   pub falls : FallsTo old key span
@@ -28,11 +27,9 @@ pub record GrowsAt (key : Key) (old new : TreeView) : Type 0 where
 
 -- a region, or the one before it, which the greatest key before it falls to
 abbrev pub IsThatOrBefore : TreeView → Region → Region → Type 0
-IsThatOrBefore t span first =
-    (first ≡ span) ⊎ ((key : Key) × (key_before span.first.z span.first.number ≡ Some key) × FallsTo t key first)
+IsThatOrBefore t span first = (first ≡ span) ⊎ ((key : Key) × (key_before span.first.z span.first.number ≡ Some key) × FallsTo t key first)
 
--- a row was taken out of the region that a key falls to, of any tree, which then counts as changed: its page alone was written; or two
--- neighbours, one of which is that region, were joined into the first of them, whose page was written, and those of the index
+-- a row was taken out of the region that a key falls to, of any tree: its page was written; or it was joined with a neighbour, and the index written
 pub record ShrinksAt (key : Key) (old new : TreeView) : Type 0 where
   pub span : Region
   pub falls : FallsTo old key span
@@ -48,9 +45,7 @@ Answers result fault = IsErrAnd result (λ told. (told ≡ fault) ⊎ IsPassing 
 abbrev pub HasNoRoom : TreeFault → Type 0
 HasNoRoom fault = (fault ≡ Full) ⊎ ((fault ≡ Store store.BadSize) ⊎ IsPassing fault)
 
--- why a row with this key is refused for want of room, where another region is needed just if this is so: it is, and with Full the
--- index has 16 levels, each page of which on the way to the key is full; with BadSize the store can't have a page more for the region,
--- or not those too that the index needs
+-- why a row with this key is refused for want of room: the index's with Full, the store's with BadSize; `IsNeeded` says if another region is needed
 abbrev pub IsRoomFault : Type 0 → TreeView → Key → TreeFault → Type 0
 IsRoomFault IsNeeded t key Full = IsNeeded × (t.inner.index.levels ≡ MAX_LEVEL) × HasFullWay t.inner.index t.store key
 IsRoomFault IsNeeded t key (Store store.BadSize) =
@@ -58,9 +53,8 @@ IsRoomFault IsNeeded t key (Store store.BadSize) =
     ⊎ ((n : ℕ) × NeedsPages t.inner.index t.store key n × (4294967295 < page_count t.store + 1 + n)))
 IsRoomFault IsNeeded t key fault = Unit {0}
 
--- what an insertion into a region must answer, where that is full just if this is so: BadCount of the first page where another
--- region is needed and there are as many as can be counted, and no page is refused otherwise; and where the index has 16 levels, each
--- page of which on the way there is full, that there is no room; which is told only where there is none for a region behind that
+-- what an insertion into a region must answer, where that is full just if this is so: BadCount of the first page just where it is, and no region more
+-- can be counted; that there is no room, where each page on the way there is full, in 16 levels; and that only where there is none
 abbrev pub AnswersAt : {A : Type 0} → Type 0 → TreeView → Region → Result A TreeFault → Type 0
 AnswersAt IsFull t span result =
     (IsFull → region_count t ≡ 4294967295 → result ≡ Err (Page 0 BadCount))
@@ -69,11 +63,7 @@ AnswersAt IsFull t span result =
     → HasFullWay t.inner.index t.store span.first → IsErrAnd result HasNoRoom)
     × (IsHonest t.store → FallsTo t span.first span → IfErr result (IsRoomFault IsFull t span.first))
 
--- what an insertion of a row with this key must answer: BadOrder of the page of the region that it falls into, where that has
--- the key; and where it hasn't, no page is refused, unless another region would be needed and there are as many as can be
--- counted: that is BadCount of the first page; nor is it taken where another region would be needed, and the index has 16 levels,
--- each page of which on the way to the key is full; and it is refused for want of room only where that region is full, and there is
--- none for another one behind it
+-- what an insertion of a row with this key must answer: BadOrder of the page of its region where that has the key, and else as `AnswersAt` says
 abbrev pub AnswersKey : {A : Type 0} → TreeView → Key → Result A TreeFault → Type 0
 AnswersKey t key result =
     (number : ℕ) (region : RegionRows) → FallsInto t key number region
@@ -102,17 +92,14 @@ HasRoomAt t sought count =
     (key : Key) × (sought ≡ Some key) × (page : ℕ) × (region : RegionRows) × FallsInto t key page region
     × (count + length region.rows ≤ t.schema.page_rows)
 
--- so many rows are left of a region that they are joined with those of a neighbour: they are fewer than half of what a page holds, and
--- the next region has room for them, or else the one before
+-- so few rows are left of a region that it joins a neighbour: fewer than half a page's, and the next one has room for them, or else the one before
 abbrev pub IsJoined : TreeView → Region → ℕ → Type 0
 IsJoined t span left =
     (left < t.schema.page_rows / 2)
     × (HasRoomAt t span.next left ⊎ (CanFallInto t span.next × HasRoomAt t (key_before span.first.z span.first.number) left))
 
--- what a removal of the row with this key must answer: BadCount of the first page where the region that it falls into has it
--- and no row is counted; no refusal where it hasn't it, or where as many rows are left without it as half of what a page holds;
--- whether it has it; and BadCount of the first page where rows are counted, but one region alone, and what is left of that region would
--- be joined with a neighbour
+-- what a removal of the row with this key must answer: whether the region that it falls into has it; BadCount of the first page where the count of
+-- rows, or of regions, can't go down; and no refusal where it hasn't it, or where as many rows are left as half of what a page holds
 abbrev pub AnswersRemoval : TreeView → Key → Result Bool TreeFault → Type 0
 AnswersRemoval t key result =
     (number : ℕ) (region : RegionRows) → (into : FallsInto t key number region)

@@ -6,8 +6,7 @@ use Rattle.ub_tree.specs.Effects.{Changes, ChangesOf}
 use Rattle.ub_tree.specs.Holding.{AnswersKey, AnswersRow, GrowsAt}
 use Rattle.ub_tree.specs.Pages.{PutsRow}
 
--- a row was to be put into a tree, with its own number, and this was answered: a sound tree that had no row of that number has this one
--- then; and of any tree which region it went to, what must be answered, and what is left
+-- a row was to be put into a tree, with its own number, and this was answered: first of a sound tree that had no such number, then of any
 pub record InsertsAs (row : Row) (old new : TreeView) (result : Result ℕ TreeFault) : Type 0 where
   pub inserted : IsSound old → IsFree row.number (regions old) → OnOk result (IsPutIn row old new)
   pub number : IfOk result (λ n. n ≡ row.number)
@@ -18,8 +17,7 @@ pub record InsertsAs (row : Row) (old new : TreeView) (result : Result ℕ TreeF
   pub refused : old.is_failed ≡ false → IsHonest old.store → AnswersKey old (key_of old.schema.dims row) result
   pub effect : ChangesOf row.number old new result
 
--- a row was to be put into a tree, with the number that was next, and this was answered: a sound tree has it as its last then; and of any
--- tree which region it went to, what must be answered, and what is left
+-- a row was to be put into a tree, with the number that was next, and this was answered: first of a sound tree, then of any
 pub record Inserts (row : Row) (old new : TreeView) (result : Result ℕ TreeFault) : Type 0 where
   pub inserted : IsSound old → OnOk result (IsInserted row old new)
   pub number : IfOk result (λ n. n ≡ old.next)

@@ -12,9 +12,7 @@ abbrev pub placed_from : ℕ → List RegionRows → List Placed
 placed_from n [] = []
 placed_from n (region ∷ regions) = record { page = n; region = region } ∷ placed_from (suc n) regions
 
--- the tree of these regions, whose next row gets this number, over a store where its table was begun: over an honest one a sound tree, and
--- the regions stand on pages that follow each other from the second page on; behind them are no more pages than as many again. It counts as
--- changed, so that closing it writes and syncs it
+-- the tree of these regions, laid over a store where its table was begun; it counts as changed, so that closing it writes and syncs it
 pub record IsLaid (begun : BegunView) (next : ℕ) (grown : List RegionRows) (t : TreeView) : Type 0 where
   pub schema_is : t.schema ≡ begun.schema
   pub sound : IsHonest begun.store → IsSound t
@@ -34,8 +32,7 @@ abbrev pub CountsFault : TreeFault → StoreFacts → StoreFacts → Type 0
 CountsFault (Store store.Device) old new = HasFailedOnce old new
 CountsFault _ old new = HasNotFailed old new
 
--- these regions were to be laid where a table was begun, and this was answered: its tree; or why not, with the store, which isn't opened as
--- a table, and of which the pages, and those that last, may be others
+-- these regions were to be laid where a table was begun, and this was answered: its tree; or why not, with the store, which isn't opened as a table
 pub record LaysTable {S : Type 0} (facts : S → StoreFacts) (begun : BegunView) (next : ℕ) (grown : List RegionRows) (result : Result TreeView (Rejected S TreeFault)) : Type 0 where
   pub laid : IfOk result (IsLaid begun next grown)
   pub unopened : IsHonest begun.store → IfErr result (λ refused. HasMark begun.schema (facts refused.store).pages)

@@ -1,6 +1,4 @@
--- The laws of a tree. Each law is what the function of its name in
--- `law` ensures, and is proved in proofs/Laws.antt. That an insertion and a removal keep what regions are is a law of
--- `ub_region`.
+-- The laws of a tree: each is what the function of its name in `law` ensures. That changes keep what regions are is a law of `ub_region`.
 use Rattle.std.specs.Prelude.{◌≡◌, ◌+◌, ◌≤◌, ◌<◌, ◌↔◌, ◌∷◌, [], ℕ, List, Option, Some, None, Contains, flat_map, length, slice_get}
 use Rattle.ub_tree.specs.Common.{AllByRecursion, AreSoundPages, AreThose, Corners, First, HoldsAny, HoldsKey, IsBefore, IsHonest, IsLater}
 use Rattle.ub_tree.specs.Common.{IsOnlyGrown, IsSound, Key, key_of, last_address, level_count, Meets, Region, RegionRows, Row, spans_of, StoreFacts}
@@ -51,8 +49,7 @@ abbrev pub NextIsLater : Type 0
 NextIsLater = (t : TreeView) (boxes : List Corners) (after : Option Region) (span : Region)
     → GivesNext boxes t after (Some span) → IsRegionOf t span × IsLater after span × Meets boxes span
 
--- so `next_meeting` of a sound tree, from the beginning on, answers the regions that meet the boxes, each once and in order,
--- and no others
+-- so `next_meeting` of a sound tree, from the beginning on, answers the regions that meet the boxes, each once and in order, and no others
 abbrev pub AnswersAreThoseThatMeet : Type 0
 AnswersAreThoseThatMeet = (t : TreeView) (boxes : List Corners) (answers : List Region) → IsSound t
     → AreAnswers boxes t None answers → AreThose (Meets boxes) (spans_of t) answers
@@ -62,15 +59,13 @@ abbrev pub AnswersAreRegionsThatMeet : Type 0
 AnswersAreRegionsThatMeet = (t : TreeView) (boxes : List Corners) (answers : List Region) → AreAnswers boxes t None answers
     → AllByRecursion (λ r. IsRegionOf t r × Meets boxes r) answers
 
--- over any tree, of two answers of `next_meeting`, from the beginning on, the later one begins with the later key, so that none
--- comes twice
+-- over any tree, of two answers of `next_meeting`, from the beginning on, the later one begins with the later key, so that none comes twice
 abbrev pub AnswersAscend : Type 0
 AnswersAscend = (t : TreeView) (boxes : List Corners) (answers : List Region) (i j : ℕ) (a b : Region)
     → AreAnswers boxes t None answers → i < j
     → slice_get answers i ≡ Some a → slice_get answers j ≡ Some b → IsBefore a.first b.first
 
--- over an honest store, of the answers from the beginning on, until there is none, each key of the space whose address is in
--- the boxes is held by one of them, so that no page that is refused is passed over
+-- over an honest store, each key of the space with its address in the boxes is held by one of all answers, so that no refused page is passed over
 abbrev pub AnswersCover : Type 0
 AnswersCover = (t : TreeView) (boxes : List Corners) (answers : List Region) (key : Key) → IsHonest t.store
     → AreAnswers boxes t None answers → HoldsAny boxes key.z → key.z ≤ t.inner.index.last
@@ -94,8 +89,6 @@ abbrev pub FirstFaultIsOne : Type 0
 FirstFaultIsOne = (t : TreeView) (one other : TreeFault) → t.inner.index.last ≡ last_address t.schema.dims
     → IsFirstFault t one → IsFirstFault t other → one ≡ other
 
--- ---- stretches
-
 -- the whole of any tree is a stretch that it tells of
 abbrev pub WholeIsTold : Type 0
 WholeIsTold = (t : TreeView) → IsStretchOf t (whole_of t)
@@ -109,8 +102,7 @@ StretchesBegin = (t : TreeView) (stretch : Stretch) → IsStretchOf t stretch
 abbrev pub LowestAreRegions : Type 0
 LowestAreRegions = (t : TreeView) (stretch : Stretch) → IsStretchOf t stretch → stretch.level ≡ 0 → IsRegionOf t stretch.span
 
--- over any tree, the parts that it gives of a stretch that it tells of are stretches that it tells of, of the level below, and meet the boxes;
--- there are at most as many as entries on a page
+-- over any tree, parts of a stretch that it tells of are such too, of the level below, meet the boxes, and are at most as many as entries on a page
 abbrev pub PartsAreTold : Type 0
 PartsAreTold = (t : TreeView) (boxes : List Corners) (stretch : Stretch) (parts : List Stretch) → IsStretchOf t stretch
     → ArePartsOf t boxes stretch parts
@@ -137,8 +129,7 @@ abbrev pub PartsLieIn : Type 0
 PartsLieIn = (t : TreeView) (boxes : List Corners) (stretch : Stretch) (parts : List Stretch) → IsStretchOf t stretch → ArePartsOf t boxes stretch parts
     → AllByRecursion (λ part. (z : ℕ) → LiesIn part.span z → LiesIn stretch.span z) parts
 
--- over any tree, each key of the space that the stretch holds, and whose address is in the boxes, is held by one of the parts: none is passed
--- over
+-- over any tree, each key of the space that the stretch holds, with its address in the boxes, is held by one of the parts: none is passed over
 abbrev pub PartsHold : Type 0
 PartsHold = (t : TreeView) (boxes : List Corners) (stretch : Stretch) (parts : List Stretch) (key : Key) → IsStretchOf t stretch
     → ArePartsOf t boxes stretch parts → HoldsAny boxes key.z → key.z ≤ (whole_of t).span.to → HoldsKey key stretch.span.first stretch.span.next

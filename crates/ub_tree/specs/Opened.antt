@@ -44,8 +44,7 @@ IsRefused store n page fault =
     ⊎ ((header : Header) × HasHeader store header × (n ≡ header.root)
     × IsUnfit (index_of header).last page header.levels (top header.root) None fault)
 
--- why opening is refused: for want of memory; the store failed in this call, which it then can; it has no page of a number that
--- was asked for; or a page is refused
+-- why opening is refused: for want of memory; as the store failed, which it then can, or hasn't a page that is asked for; or as a page is refused
 abbrev pub IsOpenFault : StoreFacts → TreeFault → Type 0
 IsOpenFault old Memory = Unit {0}
 IsOpenFault old (Store store.Device) = IsTrue old.can_fail
@@ -64,9 +63,7 @@ IsMarkFault _ = ⊥
 abbrev pub IsPassing : TreeFault → Type 0
 IsPassing fault = (fault ≡ Memory) ⊎ (fault ≡ Store store.Device)
 
--- a store with these facts was to be opened, and this was answered: the tree of a closed table, over the store as it was; or why not, with the
--- store, of which one read may have failed. Over an honest store the pages of a closed table are opened, and those that are marked as changed
--- are not
+-- a store was to be opened, with this answer: its tree, or why not, with the store; where it is honest, a closed table is opened, and no marked one
 pub record OpensTree {S : Type 0} (facts : S → StoreFacts) (old : StoreFacts) (result : Result TreeView (Rejected S TreeFault)) : Type 0 where
   pub opened : IfOk result (IsOpened old)
   pub exact : (header : Header) → IsHonest old → IsRooted old.pages header → IfErr result (λ refused. IsPassing refused.fault)

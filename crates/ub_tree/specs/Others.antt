@@ -23,8 +23,7 @@ WritesIndex page old new = KeepsOthers (reserved old.inner.index old.store.pages
 
 -- of the pages that there were only the first, that of one region that the tree tells of, and those of the index are written
 abbrev pub WritesOneRegion : TreeView → TreeView → Type 0
-WritesOneRegion old new =
-    (page : ℕ) × ((page ≡ 0) ⊎ ((span : Region) × IsRegionOf old span × (span.page ≡ page))) × WritesIndex page old new
+WritesOneRegion old new = (page : ℕ) × ((page ≡ 0) ⊎ ((span : Region) × IsRegionOf old span × (span.page ≡ page))) × WritesIndex page old new
 
 -- the tree tells of the same regions, and the store has as many pages
 abbrev pub KeepsEntries : TreeView → TreeView → Type 0
@@ -40,8 +39,7 @@ IsHalfOf span middle page half =
     ((half.first ≡ span.first) × (half.page ≡ span.page) × (half.next ≡ Some middle))
     ⊎ ((half.first ≡ middle) × (half.page ≡ page) × (half.next ≡ span.next))
 
--- the region that begins with this key was split at another key, with which the region begins that stands on the first page that the
--- store hadn't: each key that fell to it falls to one of its halves
+-- the region that begins with this key was split at another, its second half on a new page: each key that fell to it falls to one of its halves
 abbrev pub SplitsKeys : Key → TreeView → TreeView → Type 0
 SplitsKeys first old new =
     IsHonest old.store → (middle : Key) × (rows : List Row)
@@ -49,8 +47,7 @@ SplitsKeys first old new =
     × ((key : Key) (span : Region) → FallsTo old key span → span.first ≡ first
     → (half : Region) × IsHalfOf span middle (page_count old.store) half × FallsTo new key half)
 
--- a region more is counted; the store has a page more for it, and those that the index needs where it comes behind the one that
--- begins with this key, which was split; each other region is told of as before
+-- the region that begins with this key was split: one more is counted, with a page, and those that the index needs; each other is told of as before
 abbrev pub AddsEntry : Key → TreeView → TreeView → Type 0
 AddsEntry first old new =
     (region_count new ≡ region_count old + 1)

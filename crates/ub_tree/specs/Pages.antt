@@ -12,8 +12,7 @@ Spells t page first rows = slice_get t.store.pages page ≡ Some (region_page t.
 abbrev pub SpellsHalves : TreeView → ℕ → ℕ → Key → Halves → Type 0
 SpellsHalves t page other first halves = Spells t page first halves.left × Spells t other halves.first halves.right
 
--- a row was put in among those of the region that its key falls into: the key falls into the region with that row then, on the same
--- page; or where that was full, its halves stand on its page, and on the first one that the store hadn't
+-- a row was put into the region that its key falls into, on the same page; or where that was full, its halves stand there and on a new page
 pub record PutsRow (row : Row) (old new : TreeView) : Type 0 where
   pub alone : (page : ℕ) (region : RegionRows) → IsHonest old.store → FallsInto old (key_of old.schema.dims row) page region → length region.rows < old.schema.page_rows
       → FallsInto new (key_of old.schema.dims row) page (record { first = region.first; rows = insert_row old.schema.dims row region.rows })
@@ -24,8 +23,7 @@ pub record PutsRow (row : Row) (old new : TreeView) : Type 0 where
 abbrev pub FallsAt : TreeView → Option Key → ℕ → RegionRows → Type 0
 FallsAt t sought page region = (key : Key) × (sought ≡ Some key) × FallsInto t key page region
 
--- these rows are left of a region: they stand on its page then, and as many regions are counted; or one fewer, and they stand there with
--- those of the next region behind them, or with those of the one before in front of them, on that one's page
+-- these rows are left of a region: on its page, alone or before those of the next region; or behind those of the one before, on that one's page
 abbrev pub LeavesRows : Region → List Row → TreeView → TreeView → Type 0
 LeavesRows span rows old new =
     ((region_count new ≡ region_count old) × Spells new span.page span.first rows)

@@ -36,8 +36,7 @@ pub record ReadsTree {A : Type 0} (old new : TreeView) (result : Result A ReadFa
   pub same : new ≡ record old { store = read_store result old.store; trace = new.trace }
   pub faults : IfErr result (IsGiven old)
 
--- the tree is searched for the regions that meet some boxes, one after the other, and no more: no region is fetched, and the trace is as it
--- was
+-- the tree is searched for the regions that meet some boxes, one after the other, and no more: no region is fetched
 pub record SearchesTree {A : Type 0} (boxes : List Corners) (old new : TreeView) (result : Result A ReadFault) : Type 0 where
   pub same : new ≡ record old { store = read_store result old.store }
   pub faults : IfErr result (IsWalkFault boxes old)

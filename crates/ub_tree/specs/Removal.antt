@@ -17,8 +17,7 @@ pub record IsRemoved (key : Key) (found : Bool) (old new : TreeView) : Type 0 wh
   pub rows : new.rows + (if found then 1 else 0) ≡ old.rows
   pub sound : IsSound new
 
--- what a removal doesn't answer: that there is no row number left, or no room for another page; and BadCount of the first page,
--- but where no row is counted, or one region alone, or that page is refused as one that it reads
+-- what a removal can answer: not Full, not BadSize; of a page that it is refused, or BadCount of the first, where no row or one region is counted
 abbrev pub IsRemovalFault : TreeView → TreeFault → Type 0
 IsRemovalFault t Full = ⊥
 IsRemovalFault t (Store store.BadSize) = ⊥
@@ -27,8 +26,7 @@ IsRemovalFault t (Page page fault) =
     ⊎ ((page ≡ 0) × (fault ≡ BadCount) × ((t.rows ≡ 0) ⊎ (region_count t ≡ 1)))
 IsRemovalFault t _ = Unit {0}
 
--- a row with this key was taken out of any tree: the next row gets the same number, one row fewer is counted, and the other rows of
--- the region that the key falls to stand on its page, or with those of a region beside it
+-- a row with this key was taken out of any tree: the other rows of its region stand on that one's page then, or with those of a region beside it
 pub record LosesRow (key : Key) (old new : TreeView) : Type 0 where
   pub next : new.next ≡ old.next
   pub rows : new.rows + 1 ≡ old.rows
@@ -41,8 +39,7 @@ pub record Lessens {A : Type 0} (old new : TreeView) (result : Result A TreeFaul
   pub faults : IfErr result (IsRemovalFault old)
   pub stays : old.is_changed ≡ true → new.is_changed ≡ true
 
--- the row with a key was asked to be taken out of a tree, with this answer: what that did to a sound one, and to any; which answers
--- must come; and what it leaves
+-- the row with a key was asked to be taken out of a tree, with this answer: what that did to a sound one, and to any, and which answers must come
 pub record Removes (key : Key) (old new : TreeView) (result : Result Bool TreeFault) : Type 0 where
   pub removed : IsSound old → IfOk result (λ found. IsRemoved key found old new)
   pub done : IfOk result (λ found. (found ≡ true → LosesRow key old new) × (found ≡ false → new ≡ old))

@@ -1,5 +1,4 @@
--- Stretches of a tree: the whole of it, what opening one gives, and the regions within it. A stretch is what an entry of any level of the
--- index names; crates above know of the two records `IsStretchOf` and `ArePartsOf` what the laws say, and no more.
+-- Stretches of a tree: each is what an entry of some level of its index names. Crates above know of `IsStretchOf` and `ArePartsOf` what the laws say.
 use Rattle.std.specs.Prelude.{◌≡◌, ◌≤◌, IsTrue, List, Some, Result, Err, IfErr, OnOk}
 use Rattle.ub_tree.specs.Common.{Corners, entry_at, IsHonest, IsNotTaken, page_count, ReadFault, Tree, TreeView}
 use Rattle.ub_index.specs.Stretches.{ArePartsOn, IsStretchOn, whole_stretch}
@@ -15,8 +14,7 @@ pub use Rattle.ub_index.specs.declared.stretch.Stretch.{Stretch}
 abbrev pub whole_of : TreeView → Stretch
 whole_of t = whole_stretch t.inner.index
 
--- a stretch that the tree tells of: it holds its first key, and over an honest store a way from the root comes to it, on which each page
--- fits
+-- a stretch that the tree tells of: it holds its first key, and over an honest store a way from the root comes to it, on which each page fits
 pub record IsStretchOf (t : TreeView) (stretch : Stretch) : Type 0 where
   pub is : IsStretchOn t.inner.index t.store stretch
 
@@ -35,8 +33,7 @@ IsOpeningFault stretch old (Tree (tree.Store store.Device)) = IsTrue old.store.c
 IsOpeningFault stretch old (Tree (tree.Store store.NoPage)) = page_count old.store ≤ stretch.span.page
 IsOpeningFault stretch old (Tree _) = ⊥
 
--- a stretch was to be opened, and this was answered: the sink has taken its parts that meet the boxes; or why not. No region is fetched, and
--- the trace is as it was. Of a stretch that the tree tells of it is refused as a call that reads the tree
+-- a stretch was to be opened, and this was answered: the sink has taken its parts that meet the boxes, or why not; no region is fetched
 pub record OpensStretch {S A : Type 0} (Takes : S → List Stretch → S → Type 0) (boxes : List Corners) (stretch : Stretch)
     (old new : TreeView) (before after : S) (result : Result A ReadFault) : Type 0 where
   pub parts : OnOk result ((parts : List Stretch) × ArePartsOf old boxes stretch parts × TakesThese Takes before after parts)

@@ -1,10 +1,8 @@
--- What the searches of a tree tell of its regions, over any tree: also over one that isn't sound. Crates above know of these two
--- relations what the laws say, and no more.
+-- What searches tell of the regions of any tree, also of one that isn't sound; crates above know of that what the laws say, and no more.
 use Rattle.std.specs.Prelude.{◌≤◌, ◌<◌, ◌^◌, ℕ, List, [], ◌∷◌, Option, Some, None, IfSome, ◌↔◌, ◌≡◌}
 use Rattle.ub_tree.specs.Common.{Corners, Gives, GivesAfter, HoldsAny, IsLater, IsSought, Key, LeastFrom, Region, region_count, TreeView}
 
--- a region to which a key falls: it holds the key, and has its span, and over an honest store the way to the key leads there, on which
--- each page fits
+-- a region to which a key falls: it holds the key, has its span, and over an honest store the way to the key leads there, on which each page fits
 abbrev pub FallsTo : TreeView → Key → Region → Type 0
 FallsTo t key region = Gives t.inner.index t.store key region
 
@@ -19,23 +17,19 @@ pub record IsFoundAfter (last : ℕ) (after : Option Region) (region : Region) :
   pub z : region.first.z ≤ last
   pub number : region.first.number < 2 ^ 32
 
--- what the tree gives, asked for the next region that ends at this address or later, after one or from the beginning on: of a sound
--- tree the first one later than that which does, or none
+-- what the tree gives as the next region that ends at this address or later, after one or from the beginning on: of a sound one the first, or none
 abbrev pub GivesAt : ℕ → TreeView → Option Region → Option Region → Type 0
 GivesAt z t after found = GivesAfter t.inner.index t.store (λ _ to. to ≡ Some z) after found
 
--- what the tree gives, asked for the next region that meets the boxes, after one or from the beginning on: of a sound tree the
--- first one later than that which meets them, or none
+-- what the tree gives as the next region that meets the boxes, after one or from the beginning on: of a sound tree the first that does, or none
 pub record GivesNext (boxes : List Corners) (t : TreeView) (after found : Option Region) : Type 0 where
   pub given : GivesAfter t.inner.index t.store (λ from. LeastFrom (HoldsAny boxes) from.z) after found
   pub found_after : IfSome found (IsFoundAfter t.inner.index.last after)
 
--- the keys to which a search goes down for the next region that ends at this address or later, after one or from the beginning on: the
--- first key of that one, and then the key from which the search goes on
+-- the keys to which a search goes down for what `GivesAt`, or `GivesNext`, says: the first key of the region given, then that from which it goes on
 abbrev pub SeeksAt : ℕ → TreeView → Option Region → Key → Type 0
 SeeksAt z t after = IsSought t.inner.index t.store (λ _ to. to ≡ Some z) after
 
--- and those to which it goes down for the next region that meets the boxes
 abbrev pub SeeksNext : List Corners → TreeView → Option Region → Key → Type 0
 SeeksNext boxes t after = IsSought t.inner.index t.store (λ from. LeastFrom (HoldsAny boxes) from.z) after
 

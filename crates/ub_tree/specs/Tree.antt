@@ -25,9 +25,7 @@ tree_view schema index count next rows is_changed is_failed pager = record {
   inner = record { index = index; count = count };
 }
 
--- what is true of a tree's parts: its index is one of its schema's space; it counts a region at least, and no more than a header
--- can; there are fewer rows than the next number, which is at most one above the last; its mark is one of its schema; and over an
--- honest store each page that its pager holds was checked, as far as it is one of an index
+-- what is true of any tree's parts: its counts are such as a header can tell, and over an honest store the pages that its pager holds are checked
 pub record IsTree (schema : Schema) (index : IndexView) (count next rows : ℕ) (mark : Mark) (pager : PagerView) : Type 0 where
   pub last_is : index.last ≡ last_address schema.dims
   pub some : 1 ≤ count

@@ -9,9 +9,7 @@ use Rattle.ub_tree.specs.Old.{AreOldPages}
 use Rattle.ub_laying.specs.Levels.{index_pages}
 use Rattle.ub_store.specs.declared.fault.StoreFault.TheVariants as store
 
--- a tree stands over the pages of an old store with this header: it has its schema, its counts and its next number, its index is one of its
--- schema's space, and each of its pages but the first stands under its own number; in version 2 that is all, and its index is where the header
--- tells it; in version 1 it has besides the pages of an index, which tells the entries of the directory, each of which names a page that there is
+-- a tree stands over the pages but the first of an old store with this header; in version 1 an index comes behind, with the directory's entries
 pub record StandsOver (old : StoreFacts) (head : OldHeader) (t : TreeView) : Type 0 where
   pub honest : IsHonest t.store
   pub schema_is : t.schema ≡ head.header.schema
@@ -25,9 +23,7 @@ pub record StandsOver (old : StoreFacts) (head : OldHeader) (t : TreeView) : Typ
       × (chain : List ℕ) × IsDirectory old.pages (directory_of head.header) chain (entries_in t.inner.index t.store)
       × AreBelow (page_count old) (entries_in t.inner.index t.store)
 
--- the tree that an upgrade of a store with these facts makes: it has the schema, the counts and the next number that the header of the old table
--- tells, and none of its dimensions is signed; over an honest store it is sound, and over two honest ones the old pages are a closed table of its
--- regions, over which it stands; its first page marks it as changed, and it counts as changed, so that closing it writes and syncs it
+-- the tree that an upgrade makes, of the regions of the old table; it counts as changed, so that closing it writes and syncs it
 pub record IsUpgraded (old new : StoreFacts) (t : TreeView) : Type 0 where
   pub head : OldHeader
   pub header_is : HasOldHeader old head
@@ -51,8 +47,7 @@ pub record HasTable (schema : Schema) (placed : List Placed) (next : ℕ) (t : T
   pub regions_are : regions t ≡ regions_in placed
   pub next_is : t.next ≡ next
 
--- why a closed table of an older format isn't upgraded: for want of memory, as one of the stores failed, or as the new one would have
--- too many pages
+-- why a closed table of an older format isn't upgraded: for want of memory, as a store failed, or as the new one would have too many pages
 abbrev pub IsUpgradePassing : TreeFault → Type 0
 IsUpgradePassing Memory = Unit {0}
 IsUpgradePassing (Store store.Device) = Unit {0}
@@ -63,8 +58,7 @@ IsUpgradePassing _ = ⊥
 abbrev pub IsUnopened : StoreFacts → Type 0
 IsUnopened new = (page_count new ≤ 1) ⊎ ((schema : Schema) × HasMark schema new.pages)
 
--- this page of the old store is refused: as the header; or as a page of the directory; or it is the first fault of a check of a tree
--- that stands over the old pages
+-- this page of the old store is refused: as the header, as a page of the directory, or first in a check of a tree that stands over the old pages
 abbrev pub IsOldRefused : StoreFacts → ℕ → List ℕ → PageFault → Type 0
 IsOldRefused old n page fault =
     ((n ≡ 0) × IsOldHeaderFault page fault)
@@ -72,8 +66,7 @@ IsOldRefused old n page fault =
     × (((head.version ≡ 1) × IsRefused (directory_of head.header) old n page fault)
     ⊎ ((t : TreeView) × StandsOver old head t × IsFirstFault t (Page n fault))))
 
--- the page of this number, which the old store doesn't have, is asked for: as the first; as one of the directory, or as that of a region
--- which the directory names; or where a check of a tree that stands over the old pages stops first
+-- this page is asked for, which the old store hasn't: the first, one of the directory or that it names, or where a check of such a tree stops first
 abbrev pub IsOldAskedFor : StoreFacts → ℕ → Type 0
 IsOldAskedFor old n =
     (n ≡ 0)
@@ -81,9 +74,7 @@ IsOldAskedFor old n =
     × (((head.version ≡ 1) × (IsAskedFor (directory_of head.header) old n ⊎ IsNamed (directory_of head.header) old n))
     ⊎ ((t : TreeView) × StandsOver old head t × StopsTree t n None)))
 
--- why an upgrade is refused: for want of memory; one of the stores failed in this call, which it then can; the old one has no page of a
--- number that was asked for; the new one would have too many pages, with those of an index in the place of a directory; or a page of
--- the old one is refused. Which page that is, and why, is told of honest stores
+-- why an upgrade is refused: BadSize is the new store's, and NoPage and a page's fault the old one's; which page that is, is told of honest stores
 abbrev pub IsUpgradeFault : StoreFacts → StoreFacts → TreeFault → Type 0
 IsUpgradeFault old new Memory = Unit {0}
 IsUpgradeFault old new (Store store.Device) = IsTrue old.can_fail ⊎ IsTrue new.can_fail
@@ -94,8 +85,7 @@ IsUpgradeFault old new (Page n fault) =
     IsHonest old → IsHonest new → (page : List ℕ) × (slice_get old.pages n ≡ Some page) × IsOldRefused old n page fault
 IsUpgradeFault old new _ = ⊥
 
--- the old store is as it was, but for this count of failed reads; of the new one the pages, and those that last, may be others, and
--- these are its counts of failures
+-- the two stores, with these counts of failures: the old one is as it was otherwise; of the new one the pages, and those that last, may be others
 pub record AreBothLeft (reads new_reads new_writes : ℕ) (old old_now new new_now : StoreFacts) : Type 0 where
   pub old_is : old_now ≡ record old { failed_reads = reads }
   pub new_is : new_now ≡ record new { pages = new_now.pages; synced = new_now.synced; failed_reads = new_reads; failed_writes = new_writes }
@@ -112,9 +102,7 @@ IsLeftBy (Store store.Device) old old_now new new_now =
     ⊎ AreBothLeft old.failed_reads new.failed_reads (raised new.failed_writes 1) old old_now new new_now
 IsLeftBy fault old old_now new new_now = HasWorked old old_now new new_now
 
--- a table of an older format in a store with these facts was to be brought into a new one, and this was answered: the tree that was made, of a
--- closed table with its regions; or why not, with the new store, which isn't opened as a table. The old store is as it was then, but for its
--- count of failed reads
+-- a table of an older format was to be brought into a new store, and this was answered: its tree; or why not, with that store, which isn't opened
 pub record Upgrades {S : Type 0} (facts : S → StoreFacts) (old old_now new : StoreFacts) (result : Result TreeView (Rejected S TreeFault)) : Type 0 where
   pub made : (version next : ℕ) (schema : Schema) (placed : List Placed) → IsHonest old → IsHonest new → AreOldPages version old.pages schema placed next
       → MatchResult result (HasTable schema placed next) (λ refused. IsUpgradePassing refused.fault)

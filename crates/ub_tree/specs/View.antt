@@ -15,8 +15,7 @@ use Rattle.ub_writing.specs.Marks.{HasMark}
 use Rattle.ub_tree.specs.Spans.{Region}
 use Rattle.ub_tree.specs.Indexed.{Inner, HasIndex, reserved}
 
--- a tree: its schema; its regions in order; how many rows it counts; the next row number; whether it has changed since it was
--- opened, and whether it has failed; the facts of its store; which region pages were asked for; and what it keeps of its index
+-- a tree: its regions in order, how many rows it counts, the next row number, whether it changed since it was opened, the region pages asked for
 pub record TreeView : Type 0 where
   pub schema : Schema
   pub placed : List Placed
@@ -50,9 +49,8 @@ spans_in schema placed = spans.regions_of (last_address schema.dims) (map entry_
 abbrev pub spans_of : TreeView → List Region
 spans_of t = spans_in t.schema t.placed
 
--- a tree is sound where it hasn't failed, its store is honest, an index of its regions stands there, each of them stands on a page
--- of its own that spells it, and its counts are those of its regions; until it is changed its pages are those of a closed table,
--- and from then on the first page marks it as changed
+-- a tree is sound where it hasn't failed, its store is honest, its regions and an index of them stand there, and its counts are theirs; until it is
+-- changed its pages are those of a closed table, and from then on the first page marks it as changed
 pub record IsSound (t : TreeView) : Type 0 where
   pub working : t.is_failed ≡ false
   pub honest : IsHonest t.store

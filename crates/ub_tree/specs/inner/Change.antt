@@ -19,8 +19,7 @@ use Rattle.ub_tree.specs.Pages.{Spells, SpellsHalves}
 use Rattle.ub_tree.specs.Told.{FallsTo, IsRegionOf, KeepsTold}
 use Rattle.ub_store.specs.declared.fault.StoreFault.TheVariants as store
 
--- the pages of a tree that works, over an honest store: its index stands on them, and each of its regions on a page of its own that
--- spells it, as many as it counts
+-- a tree works, over an honest store on whose pages its index stands, and each of its regions on a page of its own that spells it
 pub record IsStored (t : TreeView) : Type 0 where
   pub working : t.is_failed ≡ false
   pub honest : IsHonest t.store
@@ -43,8 +42,7 @@ pub record StoresAt (span : Region) (count : ℕ) (old new : TreeView) : Type 0 
   pub full : count ≡ old.schema.page_rows → AddsEntry span.first old new
   pub spare : count < old.schema.page_rows → KeepsEntries old new
 
--- these rows stand on the page of a region, which had so many, or their halves do, where that was full, the second on the first page
--- that the store hadn't
+-- these rows stand on the page of a region, which had so many; or where that was full their halves do, the second on the first one the store hadn't
 pub record StandAt (span : Region) (count : ℕ) (rows : List Row) (old new : TreeView) : Type 0 where
   pub alone : count < old.schema.page_rows → Spells new span.page span.first rows
   pub halved : count ≡ old.schema.page_rows → SpellsHalves new span.page (page_count old.store) span.first (split old.schema.dims old.schema.page_rows rows)
@@ -106,8 +104,7 @@ pub record ReadsAt {A : Type 0} (span : Region) (page : RegionView) (old new : T
   pub taken : IsHonest old.store → (r : RegionRows) → IsTakenIn old span r → MatchResult result (λ _. page.region ≡ r) IsPassing
   pub effect : Searches old new result
 
--- the region that holds a key was read: of stored pages it is the one that the key falls to, and over an honest store it is the
--- one that the page spells
+-- the region that holds a key was read: of stored pages it is the one that the key falls to, and over an honest store the one that the page spells
 pub record HasReadAt (t : TreeView) (key : Key) (span : Region) (page : RegionView) : Type 0 where
   pub falls : FallsTo t key span
   pub there : span.page < page_count t.store
@@ -128,8 +125,7 @@ pub record IsMadeOf (schema : Schema) (span : Region) (page : RegionView) : Type
   pub first : page.region.first ≡ span.first
   pub rows : AreRowsFrom schema span.first span.next page.region.rows
 
--- each page that is spelled is one of the index, which the store has, or one that the change brings, and not the first; what stood
--- there was a page of an index
+-- each page that is spelled is one of the index or one that the change brings, and not the first; what stood there was a page of an index
 pub record IsSpelledAt (t : TreeView) (from : ℕ) (change : ChangeView) (sheet : Sheet) : Type 0 where
   pub own : (n : ℕ) → n < page_count t.store → IsOutside n (reserved t.inner.index t.store.pages) → ¬ (n ≡ sheet.number)
   pub some : 1 ≤ sheet.number
@@ -176,22 +172,20 @@ pub record MakesReady {A : Type 0} (old new : TreeView) (result : Result A TreeF
   pub same : new ≡ record old { store = read_store result old.store }
   pub faults : IfErr result (IsReadyFault old)
 
--- what a call that gives the store pages, up to this count, leaves where it is refused
+-- what a call within that gives the store pages, up to this count, leaves where it is refused; and that call
 abbrev pub IsGrowthLeft : ℕ → TreeView → TreeView → TreeFault → Type 0
 IsGrowthLeft count old new Memory = Leaves old new
 IsGrowthLeft count old new (Store store.Device) = IsTrue old.store.can_fail × HasEnded (Store store.Device) old new
 IsGrowthLeft count old new (Store store.BadSize) = (4294967295 < count) × Leaves old new
 IsGrowthLeft count old new _ = ⊥
 
--- a call within that gives the store pages, up to this count
 pub record GrowsTo {A : Type 0} (count : ℕ) (old new : TreeView) (result : Result A TreeFault) : Type 0 where
   pub frame : new ≡ record old { placed = new.placed; is_failed = new.is_failed; store = written_store result old.store new.store }
   pub grows : Grows old.store new.store
   pub done : OnOk result ((new.is_failed ≡ old.is_failed) × (page_count new.store ≡ count))
   pub left : IfErr result (IsGrowthLeft count old new)
 
--- a call within that only writes, and of the pages but the first only that of this number and that of a region; a table that was
--- marked as changed, or is now, has the mark on its first page
+-- a call within that only writes, of the pages but the first only that of this number and a region's; the first has the mark of a changed table
 pub record WritesBoth {A : Type 0} (number : ℕ) (span : Region) (old new : TreeView) (result : Result A TreeFault) : Type 0 where
   pub frame : new ≡ record old { placed = new.placed; is_changed = new.is_changed; is_failed = new.is_failed; store = written_store result old.store new.store }
   pub kept : KeepsUnless new.is_changed old.store new.store
@@ -200,8 +194,7 @@ pub record WritesBoth {A : Type 0} (number : ℕ) (span : Region) (old new : Tre
   pub faults : IfErr result (IsWriteFault old new)
   pub others : KeepsOthers (0 ∷ number ∷ span.page ∷ []) old.store new.store
 
--- why the pages that a change spells aren't put: the store failed, which it then can; or it has fewer pages than the change needs, and
--- none of that number
+-- why the pages that a change spells aren't put: the store failed, which it then can, or it has fewer pages than the change needs
 abbrev pub IsIndexFault : ChangeView → StoreFacts → TreeFault → Type 0
 IsIndexFault change old (Store fault) = IsPutFault change.next change.sheets old fault
 IsIndexFault change old _ = ⊥
@@ -237,8 +230,7 @@ pub record CanStand (t : TreeView) (span : Region) (rows : List Row) : Type 0 wh
 abbrev pub regions_with : ℕ → List RegionRows → List RegionRows → List RegionRows
 regions_with index news regions = take index regions ++ news ++ drop (suc index) regions
 
--- a region has these rows now, or it and a new one have them, where they are more than a page holds; and where rows were
--- only put in before, that is so still
+-- a region has these rows now, or it and a new one where they are more than a page holds; where rows were only put in before, that is so still
 abbrev pub StoresRows : {A : Type 0} → Region → List Row → TreeView → TreeView → Result A TreeFault → Type 0
 StoresRows span rows old new result =
     (i : ℕ) → IsStored old → IsRegionIn old i span → AllByRecursion (IsRegion old.schema) (split_of old.schema span.first rows)

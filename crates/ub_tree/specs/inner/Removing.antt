@@ -53,14 +53,12 @@ pub record FindsPrevious (span : Region) (old new : TreeView) (result : Result (
   pub before : (i : ℕ) → IsStored old → IsRegionIn old i span → IfOk result (IsPreviousRegion (map entry_of old.placed) i)
   pub effect : Searches old new result
 
--- what must be answered where so many rows are left of a region: no page is refused where no neighbour is needed; and BadCount of the
--- first page, where one region is counted, and it would be joined
+-- what must be answered where so many rows are left of a region: no page is refused if no neighbour is needed; BadCount if one is but isn't counted
 pub record AnswersLeft {A : Type 0} (t : TreeView) (span : Region) (left : ℕ) (result : Result A TreeFault) : Type 0 where
   pub spare : t.schema.page_rows / 2 ≤ left → IfErr result (λ fault. fault ≡ Store store.Device)
   pub alone : IsHonest t.store → region_count t ≡ 1 → IsJoined t span left → Answers result (Page 0 BadCount)
 
--- what must be answered where a neighbour is read, to which this key falls, if there is one, to be joined with so many rows: no page is
--- refused where it falls into a region, and a region is given where that has room for them
+-- what must be answered where the neighbour to which this key falls is read, to be joined with so many rows: it is given where it has room for them
 pub record AnswersBeside (t : TreeView) (sought : Option Key) (count : ℕ) (result : Result (Option Region) TreeFault) : Type 0 where
   pub led : IsHonest t.store → CanFallInto t sought → IfErr result IsPassing
   pub fits : IsHonest t.store → HasRoomAt t sought count → IfOk result (λ found. is_some found ≡ true)
@@ -86,7 +84,7 @@ pub record Joins {A : Type 0} (first second : Region) (rows : List Row) (old new
   pub alone : region_count old ≡ 1 → result ≡ Err (Page 0 BadCount)
   pub leaves : Lessens old new result
 
--- a call within that takes over the rows of the next region into the one in memory, and tells which it is; or takes none
+-- a call within that takes over the rows of the next region, or of the one before, into the one in memory, and tells which it is; or takes none
 pub record JoinsNextTo (span : Region) (page taken : RegionView) (old new : TreeView) (result : Result (Option Region) TreeFault) : Type 0 where
   pub found : IfOk result (λ found. MatchOption found (taken ≡ page) (HasTakenNext old span page.region.rows taken))
   pub joined : (i : ℕ) → IsStored old → IsRegionIn old i span
@@ -94,7 +92,6 @@ pub record JoinsNextTo (span : Region) (page taken : RegionView) (old new : Tree
   pub refused : AnswersBeside old span.next (length page.region.rows) result
   pub effect : Searches old new result
 
--- the same with the rows of the region before
 pub record JoinsToBefore (span : Region) (page taken : RegionView) (old new : TreeView) (result : Result (Option Region) TreeFault) : Type 0 where
   pub found : IfOk result (λ found. MatchOption found (taken ≡ page) (HasTakenBefore old span page.region.rows taken))
   pub joined : (i : ℕ) → IsStored old → IsRegionIn old i span

@@ -6,8 +6,7 @@ use Rattle.ub_tree.specs.Checking.{IsCheckFault, IsWell}
 use Rattle.ub_tree.specs.Effects.{read_store}
 use Rattle.ub_tree.specs.Opened.{IsPassing}
 
--- the new pages hold these regions of an old table: the header tells of them, an index of them stands there, and each stands on a page of
--- its own that spells it
+-- the new pages hold these regions of an old table, of which the header tells, and an index of them
 pub record IsCarried (schema : Schema) (placed : List Placed) (next : ℕ) (head : OldHeader) (index : IndexView) (pages : List (List ℕ)) : Type 0 where
   pub schema_is : head.header.schema ≡ schema
   pub next_is : head.header.next ≡ next
