@@ -1,24 +1,9 @@
 -- The check of a table: what its walk from the root comes to.
 use Rattle.std.proofs.Common.{rules, ◌≡◌, ◌<◌, ◌+◌, ◌⊎◌, ◌↔◌, inl, ℕ, Bool, IsTrue, List, [], Some, None, Result, Ok, Err, min, subst}
-use Rattle.std.specs.Result.{IsErrAnd}
+use Rattle.ub_check.proofs.Common.{Asked, asked_by, BadCount, Entry, Full, HasTaken, IndexFault, IsErrAnd, IsHonest, IsWalkFault, KeepsChecked, last_address}
+use Rattle.ub_check.proofs.Common.{Page, PagerView, Placed, same_store, Schema, StopsIn, Store, TakesAll, TakesOn, TakesTable, Told, top, Walk, Walks}
 use Rattle.ub_check.specs.Calls.{Checks, IsCheckFault, asked_in}
-use Rattle.ub_check.specs.Checking.{Asked, StopsIn, TakesAll, TakesTable}
-use Rattle.ub_check.specs.Placed.{Placed}
-use Rattle.ub_check.specs.declared.checking.Told.{Told}
-use Rattle.ub_check.specs.declared.walk.Walk.{Walk}
-use Rattle.ub_check.specs.inner.Checking.{HasTaken, IsWalkFault, TakesOn, Walks, asked_by}
-use Rattle.ub_index.proofs.SearchFacts.{same_store}
-use Rattle.ub_index.specs.Held.{KeepsChecked}
-use Rattle.ub_index.specs.Index.{top}
-use Rattle.ub_index.specs.declared.fault.IndexFault.{IndexFault}
-use Rattle.ub_index.specs.declared.fault.IndexFault.TheVariants.{Full, Page, Store}
-use Rattle.ub_region.specs.declared.entry.Entry.{Entry}
-use Rattle.ub_store.specs.Facts.{IsHonest}
-use Rattle.ub_store.specs.View.{PagerView}
 use Rattle.ub_store.specs.declared.fault.StoreFault.TheVariants as store
-use Rattle.ub_table.specs.declared.fault.PageFault.TheVariants.{BadCount}
-use Rattle.ub_table.specs.declared.schema.Schema.{Schema}
-use Rattle.ub_zaddr.specs.Address.{last_address}
 
 module _ (schema : Schema) (told : Told) (old : PagerView) (last : ℕ) (walk : Walk) (last_is : last ≡ last_address schema.dims)
     (bound : walk.numbers.bound ≡ told.next) (has : HasTaken told.regions walk []) (entry : Entry) (entry_is : entry ≡ top told.root) where

@@ -1,37 +1,16 @@
 -- The steps of a check: numbers that are put into a set, and entries of a page that are walked through.
-use Rattle.std.proofs.lemmas.Grind.{common_steps}
 use Rattle.std.proofs.Common.{rules, ◌≡◌, ◌≤◌, ◌<◌, ◌+◌, ◌-◌, ◌++◌, inl, inr, ℕ, suc, IsTrue, List, [], ◌∷◌, Option, Some, None, Result, Ok, Err, OnOk, length, take, drop, map, min, slice_get, slice_index_or, ◌^◌, ap, refl, sym, ◌∙◌, arith, subst}
-use Rattle.std.proofs.lemmas.List.{append-nil, append_assoc, drop_all, length-append, map-append, take_all}
+use Rattle.ub_check.proofs.Common.{append-nil, append_assoc, AreNew, Asked, asked_by, drop_all, entries_of, Entry, first_or, Full, get_or_from_slice_get}
+use Rattle.ub_check.proofs.Common.{HasJust, HasTaken, IndexFault, IsErrAnd, IsHonest, IsNone, IsPutTo, IsSpanFault, IsStepFault, IsWalkedTo, IsWalkFault}
+use Rattle.ub_check.proofs.Common.{keeps_on, KeepsChecked, Key, length-append, map-append, NamesFitting, numbers_in, numbers_of, NumbersView, Page, PageFault}
+use Rattle.ub_check.proofs.Common.{PagerView, Placed, ReadsAt, region_of, RegionRows, regions_in, RegionView, Row, same_store as same_read, SameTrace, Schema}
+use Rattle.ub_check.proofs.Common.{slice_get-get_or, slice_get_within, StandsHere, Steps, StopsEach, StopsIn, Store, store_after, StoreFacts, take_all}
+use Rattle.ub_check.proofs.Common.{TakesAll, TakesEach, TakesOn, Walk, Walks}
+use Rattle.std.proofs.lemmas.Grind.{common_steps}
 use Rattle.std.proofs.Math.Seq.{drop-cons, take-suc}
-use Rattle.std.proofs.lemmas.Option.{get_or_from_slice_get, slice_get-get_or, slice_get_within}
-use Rattle.std.specs.Result.{IsErrAnd}
-use Rattle.ub_index.specs.Descending.{IsStepFault, Steps}
-use Rattle.ub_index.specs.Index.{NamesFitting, entries_of, first_or}
-use Rattle.ub_index.specs.Spans.{region_of}
-use Rattle.ub_index.specs.declared.fault.IndexFault.{IndexFault}
-use Rattle.ub_index.specs.declared.fault.IndexFault.TheVariants.{Full, Page, Store}
-use Rattle.ub_region.specs.declared.entry.Entry.{Entry}
-use Rattle.ub_region.specs.RegionPage.{RegionView}
-use Rattle.ub_index.proofs.HeldFacts.{keeps_on}
-use Rattle.ub_index.proofs.SearchFacts.{same_store as same_read}
-use Rattle.ub_index.specs.Held.{KeepsChecked}
 use Rattle.ub_region.specs.Regions.{rows_of}
-use Rattle.ub_store.specs.Facts.{StoreFacts, IsHonest}
-use Rattle.ub_store.specs.View.{PagerView, SameTrace}
-use Rattle.ub_store.specs.declared.fault.StoreFault.TheVariants as store
-use Rattle.ub_table.specs.Region.{RegionRows}
 use Rattle.ub_table.specs.declared.fault.PageFault.TheVariants.{BadRow}
-use Rattle.ub_table.specs.declared.fault.PageFault.{PageFault}
-use Rattle.ub_table.specs.declared.row.Key.{Key}
-use Rattle.ub_table.specs.declared.row.Row.{Row}
-use Rattle.ub_table.specs.declared.schema.Schema.{Schema}
-use Rattle.ub_check.specs.Checking.{Asked, StandsHere, StopsEach, StopsIn, TakesAll, TakesEach, numbers_in, numbers_of}
-use Rattle.ub_index.specs.Searching.{store_after}
-use Rattle.ub_check.specs.Numbers.{AreNew, HasJust, IsNone, NumbersView}
-use Rattle.ub_check.specs.Placed.{Placed, regions_in}
-use Rattle.ub_check.specs.Standing.{IsSpanFault, ReadsAt}
-use Rattle.ub_check.specs.declared.walk.Walk.{Walk}
-use Rattle.ub_check.specs.inner.Checking.{HasTaken, IsPutTo, IsWalkFault, IsWalkedTo, TakesOn, Walks, asked_by}
+use Rattle.ub_store.specs.declared.fault.StoreFault.TheVariants as store
 
 module _ {X : Type 0} where
   pub drop_at : (xs : List X) (i : ℕ) (x : X) → slice_get xs i ≡ Some x → drop i xs ≡ x ∷ drop (suc i) xs
@@ -180,13 +159,7 @@ module _ (schema : Schema) (last : ℕ) (entry : Entry) (end : Option Key) (from
         let was = has.left in
         let long = length-append before (record { page = entry.page; region = region } ∷ []) in (
           before ++ record { page = entry.page; region = region } ∷ [],
-          record {
-            counted = few count before has;
-            region = region;
-            stands = stands count honest;
-            new = new.0;
-            after_is = refl;
-          },
+          record { counted = few count before has; region = region; stands = stands count honest; new = new.0; after_is = refl; },
           record {
             left = omega arith;
             rows = saturated (length (rows_of (regions_in before))) (length region.rows) from.rows to.rows has.rows rows
@@ -263,8 +236,7 @@ module _ (schema : Schema) (last level : ℕ) (entry : Entry) (end : Option Key)
           → Walks {A = U} schema last level e next to now new (Err f) → Walks schema last (suc level) entry end from old new r
       below_stops (Ok x) f new is k = absurd is
       below_stops {T = T} {U = U} (Err g) f new is k = record {
-        same = k.same
-            ∙ (ap (λ (p : PagerView). record p { store = store_after {A = U} (Err f) p.store; cached = new.cached }) h.same
+        same = k.same ∙ (ap (λ (p : PagerView). record p { store = store_after {A = U} (Err f) p.store; cached = new.cached }) h.same
             ∙ (ap (λ (p : PagerView). record p { store = store_after {A = U} (Err f) p.store; cached = new.cached }) read
             ∙ ap (λ (s : StoreFacts). record old { store = s; cached = new.cached })
             (same_read T U f old.store ∙ ap (λ (x : IndexFault). store_after {A = T} (Err x) old.store) (sym is))));

@@ -1,3 +1,4 @@
+pub mod Common
 pub mod NumberFacts
 pub mod StandingFacts
 pub mod PlacedFacts

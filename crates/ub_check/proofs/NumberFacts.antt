@@ -1,11 +1,8 @@
 -- A bit for each number: what one number more changes.
 use Rattle.std.proofs.Common.{rules, ◌≡◌, ◌≢◌, ◌<◌, ◌/◌, ◌%◌, ◌*◌, ◌^◌, ◌++◌, inl, inr, ℕ, List, [], ◌∷◌, length, slice_index_or, slice_set, bit_or, ap, sym, ◌∙◌, arith}
-use Rattle.std.proofs.lemmas.Bool.{cases_eq}
-use Rattle.std.proofs.lemmas.List.{get_or-set_same, get_or-set_other}
+use Rattle.ub_check.proofs.Common.{all_append, all_left, all_right, bit_of, cases_eq, get_or-set_other, get_or-set_same, HasJust, IsNone, numbers_view}
 use Rattle.std.proofs.lemmas.Nat.Bits.{bit_at_set_same, bit_at_set_other}
 use Rattle.std.specs.Int.{bit_at, w64}
-use Rattle.ub_region.proofs.Laws.{all_append, all_left, all_right}
-use Rattle.ub_check.specs.Numbers.{HasJust, IsNone, bit_of, numbers_view}
 
 module _ (words : List ℕ) (number word : ℕ) (within : number / 64 < length words) (here : word ≡ slice_index_or words (number / 64) 0) where
   small : number % 64 < 64

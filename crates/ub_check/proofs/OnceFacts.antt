@@ -1,27 +1,11 @@
 -- A check stops at one page alone, for one fault.
 use Rattle.std.proofs.Common.{◌≡◌, ◌≢◌, ◌≤◌, ◌<◌, ◌^◌, ◌⊎◌, inl, inr, ℕ, zero, suc, List, [], ◌∷◌, Option, Some, None, length, slice_get, ap, refl, sym, ◌∙◌, arith, rules, subst}
-use Rattle.std.proofs.lemmas.List.{length-append}
-use Rattle.std.proofs.lemmas.Option.{slice_get_within}
-use Rattle.ub_index.proofs.WayFacts.{named_not_refused}
-use Rattle.ub_index.specs.Fitting.{IsNotTaken, IsUnfit}
-use Rattle.ub_index.specs.Index.{entries_of, first_or, top, IsIndexPage}
-use Rattle.ub_page.proofs.IndexLaws.{node_not_refused}
-use Rattle.ub_page.specs.Index.{IsIndexFault, node_on}
-use Rattle.ub_region.proofs.RegionFacts.{not_refused}
-use Rattle.ub_region.specs.RegionPage.{IsRegionFault, region_page}
-use Rattle.ub_region.specs.declared.entry.Entry.{Entry}
-use Rattle.ub_table.specs.Keys.{origin}
-use Rattle.ub_table.specs.declared.fault.PageFault.{PageFault}
-use Rattle.ub_table.specs.declared.fault.PageFault.TheVariants.{BadCount, OutOfRegion}
-use Rattle.ub_table.specs.declared.row.Key.{Key}
-use Rattle.ub_table.specs.declared.schema.Schema.{Schema}
+use Rattle.ub_check.proofs.Common.{AreWell, Asked, BadCount, EndsMiscounted, entries_of, Entry, first_or, IndexFault, IsFirst, IsIndexFault, IsIndexPage}
+use Rattle.ub_check.proofs.Common.{IsNotTaken, IsRegionFault, IsRegionRefused, IsUnfit, Key, length-append, named_not_refused, node_not_refused, node_on}
+use Rattle.ub_check.proofs.Common.{not_refused, origin, OutOfRegion, PageFault, Placed, region_page, Schema, slice_get_within, StopsAtRegion, StopsEach}
+use Rattle.ub_check.proofs.Common.{StopsIn, StopsTable, TakesAll, TakesEach, Told, top}
 use Rattle.ub_check.proofs.PlacedFacts.{some_one}
 use Rattle.ub_check.proofs.TakenFacts.{region_good, walk_never, walk_taken}
-use Rattle.ub_check.specs.Checking.{Asked, AreWell, EndsMiscounted, IsFirst, StopsAtRegion, StopsEach, StopsIn, StopsTable, TakesAll, TakesEach}
-use Rattle.ub_check.specs.Placed.{Placed}
-use Rattle.ub_check.specs.Standing.{IsRegionRefused}
-use Rattle.ub_check.specs.declared.checking.Told.{Told}
-use Rattle.ub_index.specs.declared.fault.IndexFault.{IndexFault}
 
 -- a page is refused for one fault alone, as one of a region
 region_once : (schema : Schema) (page : List ℕ) (f g : PageFault) → IsRegionFault schema page f → IsRegionFault schema page g → f ≡ g

@@ -1,12 +1,6 @@
 -- The regions that pages tell of.
 use Rattle.std.proofs.Common.{◌≡◌, ◌++◌, ℕ, List, [], Option, Some, refl, slice_get, slice_index_or, sym, ◌∙◌}
-use Rattle.std.proofs.lemmas.List.{map-append}
-use Rattle.ub_check.specs.Placed.{Placed, placed_of}
-use Rattle.ub_page.proofs.PageLaws.{region_parts}
-use Rattle.ub_region.specs.RegionPage.{region_on, region_page}
-use Rattle.ub_region.specs.declared.entry.Entry.{Entry}
-use Rattle.ub_table.specs.Region.{RegionRows, IsRegion}
-use Rattle.ub_table.specs.declared.schema.Schema.{Schema}
+use Rattle.ub_check.proofs.Common.{Entry, IsRegion, map-append, Placed, placed_of, region_on, region_page, region_parts, RegionRows, Schema}
 
 -- the region of an entry, with the rows of its page
 abbrev pub placed_at : Schema → List (List ℕ) → Entry → Placed

@@ -1,26 +1,14 @@
 -- What is read of a region's page: it was brought, and taken in, or it is refused and forgotten.
 use Rattle.std.proofs.Common.{rules, ◌≡◌, ◌≤◌, ◌<◌, ◌∙◌, inr, ℕ, IsTrue, List, Some, Result, Ok, Err, IsOk, ap, arith, refl, sym, subst}
-use Rattle.std.proofs.lemmas.Option.{slice_get_within}
-use Rattle.std.specs.Result.{IsErrAnd, IsErrOf}
-use Rattle.ub_index.proofs.HeldFacts.{keeps_but, keeps_gone, keeps_less}
+use Rattle.ub_check.proofs.Common.{counted as counted_there, IndexFault, IsErrAnd, IsHonest, IsIndexKind, IsPage, IsRegion, IsSpanFault, IsTakenIn, keeps_but}
+use Rattle.ub_check.proofs.Common.{keeps_gone, keeps_less, NoneMore, NoneMoreBut, page_at, page_count, PagerView, Reads, ReadsAt, Region, region_page}
+use Rattle.ub_check.proofs.Common.{region_parts, RegionRows, RegionView, Schema, slice_get_within, Store, store_after, StoreFacts, StoreFault}
+use Rattle.std.specs.Result.{IsErrOf}
 use Rattle.ub_index.proofs.StepFacts.{held_once, honest_back}
 use Rattle.ub_index.specs.Opening.{IsPassing}
-use Rattle.ub_index.specs.Searching.{count_with, store_after}
-use Rattle.ub_index.specs.declared.fault.IndexFault.{IndexFault}
-use Rattle.ub_index.specs.declared.fault.IndexFault.TheVariants.{Store}
-use Rattle.ub_page.proofs.PageLaws.{region_parts}
-use Rattle.ub_page.specs.Index.{IsIndexKind}
-use Rattle.ub_region.specs.RegionPage.{RegionView, region_page}
-use Rattle.ub_region.specs.declared.region.Region.{Region}
-use Rattle.ub_store.specs.Cache.{NoneMore, NoneMoreBut, page_at}
-use Rattle.ub_store.specs.Facts.{StoreFacts, IsHonest, IsPage, Reads, page_count, counted as counted_there}
-use Rattle.ub_store.specs.View.{PagerView}
-use Rattle.ub_store.specs.declared.fault.StoreFault.{StoreFault}
-use Rattle.ub_store.specs.declared.fault.StoreFault.TheVariants as store
-use Rattle.ub_table.specs.Region.{RegionRows, IsRegion}
-use Rattle.ub_table.specs.declared.schema.Schema.{Schema}
-use Rattle.ub_check.specs.Standing.{IsSpanFault, IsTakenIn, ReadsAt}
+use Rattle.ub_index.specs.Searching.{count_with}
 use Rattle.ub_check.specs.inner.Taking.{TakesIn}
+use Rattle.ub_store.specs.declared.fault.StoreFault.TheVariants as store
 
 -- the page of a region doesn't begin as one of an index does
 pub region_no_kind : (schema : Schema) (region : RegionRows) → IsRegion schema region → ¬ (IsIndexKind (region_page schema region))

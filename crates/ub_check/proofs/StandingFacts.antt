@@ -1,14 +1,8 @@
 -- Whether a region stands where one is due.
 use Rattle.std.proofs.Common.{rules, ◌≡◌, ◌≢◌, ◌-◌, ◌↔◌, ℕ, zero, suc, Bool, true, List, [], ◌∷◌, Some, Result, length, subst, arith, slice_get}
-use Rattle.std.proofs.lemmas.List.{length-map}
-use Rattle.std.specs.List.{AllByRecursion}
-use Rattle.ub_store.specs.Facts.{StoreFacts, IsPage, Reads}
-use Rattle.ub_store.specs.declared.fault.StoreFault.{StoreFault}
-use Rattle.ub_table.proofs.Laws.{before_of, precedes_of, before_trans}
-use Rattle.ub_table.specs.Keys.{IsBefore, AreKeysAscending, precedes}
-use Rattle.ub_table.specs.Region.{keys_of}
-use Rattle.ub_table.specs.declared.row.Key.{Key}
-use Rattle.ub_table.specs.declared.row.Row.{Row}
+use Rattle.ub_check.proofs.Common.{AllByRecursion, before_of, before_trans, IsBefore, IsPage, Key, keys_of, length-map, precedes, precedes_of, Reads, Row}
+use Rattle.ub_check.proofs.Common.{StoreFacts, StoreFault}
+use Rattle.ub_table.specs.Keys.{AreKeysAscending}
 
 -- a page of a store that was read is one of the store before
 pub page_still : {A : Type 0} (result : Result A StoreFault) (old new : StoreFacts) (n : ℕ) (page : List ℕ) → Reads old new result → IsPage new n page → IsPage old n page

@@ -1,18 +1,7 @@
 -- The page at which a check stops: it is there, or isn't, and isn't the first, but where there is one region more than is counted.
 use Rattle.std.proofs.Common.{rules, ◌≡◌, ◌≤◌, ◌<◌, ◌^◌, ◌⊎◌, inl, inr, ℕ, zero, suc, List, [], ◌∷◌, Option, Some, None, length, slice_get, sym, subst, arith}
-use Rattle.std.specs.List.{AllByRecursion, flat_map}
-use Rattle.ub_index.proofs.WayFacts.{named_not_refused}
-use Rattle.ub_index.specs.Fitting.{IsNotTaken}
-use Rattle.ub_index.specs.Index.{entries_of, first_or, EachTo, IsUnder, under}
-use Rattle.ub_page.specs.Entries.{IsEntry}
-use Rattle.ub_region.specs.declared.entry.Entry.{Entry}
-use Rattle.ub_region.proofs.Laws.{all_left, all_right}
-use Rattle.ub_table.specs.Keys.{origin}
-use Rattle.ub_table.specs.declared.fault.PageFault.{PageFault}
-use Rattle.ub_table.specs.declared.fault.PageFault.TheVariants.{BadCount}
-use Rattle.ub_table.specs.declared.row.Key.{Key}
-use Rattle.ub_check.specs.Checking.{Asked, StopsAtRegion, StopsEach, StopsIn, TakesAll}
-use Rattle.ub_check.specs.Placed.{Placed}
+use Rattle.ub_check.proofs.Common.{all_left, all_right, AllByRecursion, Asked, BadCount, EachTo, entries_of, Entry, first_or, flat_map, IsEntry, IsNotTaken}
+use Rattle.ub_check.proofs.Common.{IsUnder, Key, named_not_refused, origin, PageFault, Placed, StopsAtRegion, StopsEach, StopsIn, TakesAll, under}
 
 -- a page that is refused is there, and else it isn't
 abbrev pub IsThere : List (List ℕ) → ℕ → Option PageFault → Type 0

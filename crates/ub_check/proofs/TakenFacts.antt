@@ -1,29 +1,16 @@
 -- What a check takes is what stands under an entry: an index, and on its regions' pages the regions, with new numbers. And where
 -- that stands a check stops nowhere.
 use Rattle.std.proofs.Common.{rules, ◌≡◌, ◌≢◌, ◌≤◌, ◌<◌, ◌+◌, ◌^◌, ◌++◌, inl, inr, ℕ, zero, suc, List, [], ◌∷◌, Option, Some, nat_eq, false, length, slice_get, slice_index_or, ap, refl, sym, ◌∙◌, arith, subst}
-use Rattle.std.proofs.lemmas.Grind.{flat_map-append}
-use Rattle.std.proofs.lemmas.List.{append-nil, append_assoc, length-append, map-append}
-use Rattle.std.proofs.lemmas.Option.{get_or_from_slice_get, slice_get_within}
-use Rattle.std.specs.List.{AllByRecursion, IsDistinct, flat_map}
-use Rattle.ub_index.proofs.Lists.{each_join, each_left, each_right}
+use Rattle.ub_check.proofs.Common.{all_append, all_left, all_more, all_right, AllByRecursion, append-nil, append_assoc, AreNew, Asked, each_right, EachTo}
+use Rattle.ub_check.proofs.Common.{entries_of, Entry, first_or, flat_map, flat_map-append, get_or_from_slice_get, IsDistinct, IsNone, IsRegionRefused, IsUnder}
+use Rattle.ub_check.proofs.Common.{Key, length-append, map-append, named_not_refused, not_refused, numbers_in, origin, PageFault, Placed, placed_of, region_on}
+use Rattle.ub_check.proofs.Common.{region_page, region_parts, RegionRows, regions_in, slice_get_within, StandsHere, StopsAtRegion, StopsEach, StopsIn, TakesAll}
+use Rattle.ub_check.proofs.Common.{TakesEach, TakesRegion, under}
+use Rattle.ub_index.proofs.Lists.{each_join, each_left}
 use Rattle.ub_index.proofs.Numbers.{differs, distinct_cons}
 use Rattle.ub_index.proofs.OrderFacts.{first_more, under_first}
-use Rattle.ub_index.proofs.WayFacts.{named_not_refused}
-use Rattle.ub_index.specs.Index.{entries_of, first_or, EachTo, IsUnder, under}
-use Rattle.ub_page.proofs.PageLaws.{region_parts}
-use Rattle.ub_region.proofs.RegionFacts.{not_refused}
-use Rattle.ub_region.specs.RegionPage.{region_on, region_page}
-use Rattle.ub_region.specs.declared.entry.Entry.{Entry}
-use Rattle.ub_region.proofs.Laws.{all_append, all_both, all_left, all_more, all_right}
-use Rattle.ub_table.specs.Keys.{origin}
-use Rattle.ub_table.specs.Region.{RegionRows}
-use Rattle.ub_table.specs.declared.fault.PageFault.{PageFault}
-use Rattle.ub_table.specs.declared.row.Key.{Key}
-use Rattle.ub_check.specs.Checking.{Asked, StandsHere, StopsAtRegion, StopsEach, StopsIn, TakesAll, TakesEach, TakesRegion, numbers_in}
-use Rattle.ub_check.specs.Numbers.{AreNew, IsNone}
+use Rattle.ub_region.proofs.Laws.{all_both}
 use Rattle.ub_check.proofs.PlacedFacts.{one_region, placed_append, placed_at}
-use Rattle.ub_check.specs.Standing.{IsRegionRefused}
-use Rattle.ub_check.specs.Placed.{Placed, placed_of, regions_in}
 
 -- numbers that are new, in two parts
 pub new_join : (bound : ℕ) (met xs ys : List ℕ) → AreNew bound met xs → AreNew bound (met ++ xs) ys → AreNew bound met (xs ++ ys)
@@ -66,8 +53,7 @@ regions_join ps qs = map-append (λ p. p.region) ps qs
 pub numbers_join : (ps qs : List Placed) → numbers_in (ps ++ qs) ≡ numbers_in ps ++ numbers_in qs
 numbers_join ps qs = search (rules, flat_map-append, map-append, regions_join)
 
--- these regions' entries, up to an end, are taken after others: each region stands where its entry tells, and its rows have new
--- numbers
+-- these regions' entries, up to an end, are taken after others: each region stands where its entry tells, and its rows have new numbers
 pub record IsTaken (asked : Asked) (entries : List Entry) (end : Option Key) (before after : List Placed) : Type 0 where
   pub stands : EachTo (λ e o. StandsHere asked e o (placed_at asked.schema asked.pages e).region) entries end
   pub new : AreNew asked.next (numbers_in before) (numbers_in (placed_of asked.schema asked.pages entries))

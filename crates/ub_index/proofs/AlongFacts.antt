@@ -1,43 +1,17 @@
 -- A walk along a leaf: the region that stands next on it, those that follow one another, and what a search gives there.
 use Rattle.std.proofs.Common.{rules, ◌≡◌, ◌≤◌, ◌<◌, ◌+◌, ◌^◌, ◌++◌, ◌⊎◌, inl, inr, ℕ, List, [], ◌∷◌, Option, Some, None, IfSome, Result, Ok, Err, drop, ◌∙◌, sym, ap, subst, refl, arith, append-nil}
-use Rattle.std.specs.Result.{IsErrAnd}
-use Rattle.ub_bigmin.specs.Box.{Corners}
-use Rattle.ub_bytes.specs.Bytes.{number_at}
+use Rattle.ub_index.proofs.Common.{AreChecked, at_least, BringsNext, Corners, Crosses, end_before, Entry, entry_at, entry_in, FallsTo, first_in, first_or}
+use Rattle.ub_index.proofs.Common.{FitsAtEnds, FollowOn, Gives, GivesAlong, GivesFrom, GoesDown, HandsAlong, HandsLeaf, Head, Holds, HoldsKey, HoldsLeaf}
+use Rattle.ub_index.proofs.Common.{IndexFault, IndexView, IsAim, IsAimless, IsBefore, IsErrAnd, IsForgotten, IsHonest, IsPage, IsSlot, IsSlotNext, Key}
+use Rattle.ub_index.proofs.Common.{le_before, le_trans, LeadsDown, Leaf, Meeting, Meets, Memory, NamesFitting, node_on, not_before_self, not_both_before}
+use Rattle.ub_index.proofs.Common.{number_at, page_in, PagerView, Place, Region, region_of, StandsNext, StepsDown, Store, StoreFacts, TakesThese}
 use Rattle.ub_index.proofs.BehindFacts.{below_holds, gives}
 use Rattle.ub_index.proofs.FitFacts.{falls, page_is}
 use Rattle.ub_index.proofs.HeldFacts.{Keeps, both_on}
-use Rattle.ub_index.proofs.KeyFacts.{le_before, le_trans}
 use Rattle.ub_index.proofs.SearchFacts.{step_keeps}
 use Rattle.ub_index.proofs.StepFacts.{pager_so}
 use Rattle.ub_index.proofs.StretchSteps.{begins_up_to, ends_from}
 use Rattle.ub_index.proofs.WaysFacts.{not_before_from}
-use Rattle.ub_index.specs.Along.{Crosses, FollowOn, GivesAlong, HandsAlong, HandsLeaf, IsSlotNext, Meeting, StandsNext}
-use Rattle.ub_index.specs.Bringing.{BringsNext}
-use Rattle.ub_index.specs.Descending.{HoldsLeaf, IsForgotten, LeadsDown, StepsDown}
-use Rattle.ub_index.specs.Fitting.{FallsTo, FitsAtEnds}
-use Rattle.ub_index.specs.Held.{AreChecked}
-use Rattle.ub_index.specs.Index.{NamesFitting, first_or, page_in}
-use Rattle.ub_index.specs.Searching.{Gives, GivesFrom, GoesDown, IsAim, IsAimless, at_least}
-use Rattle.ub_index.specs.Sinks.{TakesThese}
-use Rattle.ub_index.specs.Spans.{Meets, region_of}
-use Rattle.ub_index.specs.View.{IndexView, entry_at}
-use Rattle.ub_index.specs.Way.{HoldsKey}
-use Rattle.ub_index.specs.declared.descent.Leaf.{Leaf}
-use Rattle.ub_index.specs.declared.descent.Place.{Place}
-use Rattle.ub_index.specs.declared.fault.IndexFault.{IndexFault}
-use Rattle.ub_index.specs.declared.fault.IndexFault.TheVariants.{Store}
-use Rattle.ub_page.specs.Index.{node_on}
-use Rattle.ub_page.specs.Slots.{IsSlot, entry_in, first_in}
-use Rattle.ub_page.specs.declared.index.Head.{Head}
-use Rattle.ub_region.specs.Spans.{end_before}
-use Rattle.ub_region.specs.declared.entry.Entry.{Entry}
-use Rattle.ub_region.specs.declared.region.Region.{Region}
-use Rattle.ub_store.specs.Facts.{IsHonest, IsPage, StoreFacts}
-use Rattle.ub_store.specs.View.{Holds, PagerView}
-use Rattle.ub_store.specs.declared.fault.StoreFault.TheVariants.{Memory}
-use Rattle.ub_table.proofs.Laws.{not_before_self, not_both_before}
-use Rattle.ub_table.specs.Keys.{IsBefore}
-use Rattle.ub_table.specs.declared.row.Key.{Key}
 
 -- ---- the key to which a search goes down
 

@@ -1,25 +1,11 @@
 -- How a search goes down to a leaf, and what it finds there behind a region.
 use Rattle.std.proofs.Common.{rules, false, ◌≡◌, ◌<◌, ◌-◌, ◌↔◌, inr, ℕ, List, Option, Some, None, IfSome, ◌∙◌, sym, ap, subst, refl, arith}
-use Rattle.ub_region.specs.declared.region.Region.{Region}
-use Rattle.ub_page.specs.Index.{node_on}
-use Rattle.ub_region.specs.declared.entry.Entry.{Entry}
-use Rattle.ub_store.specs.Facts.{StoreFacts, IsHonest}
-use Rattle.std.proofs.lemmas.Bool.{true≢false}
-use Rattle.ub_table.proofs.Laws.{not_before_origin, not_before_self, not_both_before, precedes_of}
-use Rattle.ub_table.specs.Keys.{IsBefore, origin, precedes}
-use Rattle.ub_table.specs.declared.row.Key.{Key}
-use Rattle.ub_index.specs.Descending.{FindsAfter, HoldsLeaf, LeadsDown, LooksAt, StepsTo}
-use Rattle.ub_index.specs.Fitting.{FallsTo, FitsAtEnds}
-use Rattle.ub_index.specs.Index.{entries_of, first_or, page_in, NamesFitting}
-use Rattle.ub_index.specs.Searching.{Gives, IsAim, IsFrom, IsSought}
-use Rattle.ub_index.specs.Spans.{IsLater, region_of}
-use Rattle.ub_index.specs.View.{IndexView, Leads}
-use Rattle.ub_index.specs.Way.{HoldsKey}
+use Rattle.ub_index.proofs.Common.{before_le, entries_of, Entry, FallsTo, FindsAfter, first_or, FitsAtEnds, Gives, HoldsKey, HoldsLeaf, IndexView, IsAim}
+use Rattle.ub_index.proofs.Common.{IsBefore, IsFrom, IsHonest, IsLater, IsSought, Key, le_trans, Leads, LeadsDown, Leaf, LooksAt, NamesFitting, node_on}
+use Rattle.ub_index.proofs.Common.{not_before_origin, not_before_self, not_both_before, origin, page_in, Place, precedes, precedes_of, Region, region_of}
+use Rattle.ub_index.proofs.Common.{StepsTo, StoreFacts, true≢false}
 use Rattle.ub_index.specs.declared.descent.Found.TheVariants.{Nothing, Here, Beyond}
-use Rattle.ub_index.specs.declared.descent.Leaf.{Leaf}
-use Rattle.ub_index.specs.declared.descent.Place.{Place}
 use Rattle.ub_index.proofs.FitFacts.{after_first}
-use Rattle.ub_index.proofs.KeyFacts.{before_le, le_trans}
 use Rattle.ub_index.proofs.WayFacts.{falls_from, holds_below, leads_on, stops_on}
 use Rattle.ub_index.proofs.WaysFacts.{never_cross, not_before_from}
 
@@ -69,8 +55,7 @@ step_before last old mid stores key level entry end below next =
 -- from a leaf the way leads to what a later key falls to on it
 pub way_to : (index : IndexView) (store : StoreFacts) (key k : Key) (leaf : Leaf) (below : Entry) (next : Option Key) → LeadsDown index store key 1 leaf → ¬ (IsBefore k key)
     → IfSome leaf.until (IsBefore k) → NamesFitting index.last store.pages 1 leaf.place.entry leaf.place.next
-    → FallsTo k (entries_of store.pages leaf.place.entry.page) leaf.place.next below next
-    → Leads index store k (region_of index.last below next)
+    → FallsTo k (entries_of store.pages leaf.place.entry.page) leaf.place.next below next → Leads index store k (region_of index.last below next)
 way_to index store key k leaf below next down later to named falls = down.leads k later to below next (named, below, next, falls, (refl, refl))
 
 -- the region to which a step from the leaf comes is the one that is given

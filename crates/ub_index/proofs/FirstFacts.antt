@@ -1,24 +1,14 @@
 -- No way goes over page 0.
 use Rattle.std.proofs.Common.{rules, ◌≡◌, ◌≤◌, ◌↔◌, inl, inr, ℕ, zero, suc, List, Option, sym, subst, slice_get}
-use Rattle.std.proofs.lemmas.Option.{slice_get_cases, slice_get_within}
-use Rattle.ub_region.specs.declared.entry.Entry.{Entry}
-use Rattle.ub_store.specs.Facts.{StoreFacts}
-use Rattle.ub_table.specs.declared.fault.PageFault.{PageFault}
-use Rattle.ub_table.specs.declared.row.Key.{Key}
-use Rattle.ub_index.specs.Fitting.{FallsTo, IsNotTaken}
-use Rattle.ub_index.specs.Index.{NamesFitting, entries_of}
-use Rattle.ub_index.specs.View.{IndexView, Leads, Stops}
-use Rattle.ub_index.specs.Way.{LeadsTo, StopsAt}
-use Rattle.ub_region.specs.declared.region.Region.{Region}
-use Rattle.ub_index.proofs.KeptFacts.{kept_named, same_page}
+use Rattle.ub_index.proofs.Common.{entries_of, Entry, FallsTo, IndexView, IsNotTaken, kept_named, Key, Leads, LeadsTo, NamesFitting, PageFault, Region}
+use Rattle.ub_index.proofs.Common.{same_page, slice_get_cases, slice_get_within, Stops, StopsAt, StoreFacts}
 use Rattle.ub_index.proofs.LeadFacts.{moved}
 use Rattle.ub_index.proofs.WaysFacts.{whole_below}
 
 -- an entry of a page that fits doesn't name it
 pub below_some : (last : ℕ) (pages : List (List ℕ)) (key : Key) (level : ℕ) (entry : Entry) (end : Option Key) (below : Entry) (next : Option Key) → NamesFitting last pages level entry end
     → FallsTo key (entries_of pages entry.page) end below next → 1 ≤ below.page
-below_some last pages key level entry end below next named falls =
-    (whole_below last pages key level entry end below next named falls).some_page
+below_some last pages key level entry end below next named falls = (whole_below last pages key level entry end below next named falls).some_page
 
 -- what a way leads to doesn't name it
 found_some : (last : ℕ) (pages : List (List ℕ)) (key : Key) (level : ℕ) (entry : Entry) (end : Option Key) (found : Entry) (next : Option Key) → 1 ≤ entry.page
@@ -66,8 +56,7 @@ module _ (last : ℕ) (old new : List (List ℕ)) (keeps : (n : ℕ) → 1 ≤ n
       inr (kept_named last old new (suc level) entry end same named, below, beyond, moved key old new entry below end beyond same falls, stops_past level below beyond n fault (below_some last old key (suc level) entry end below beyond named falls) stops)
 
 pub ways_miss : (index : IndexView) (old new : StoreFacts) (key : Key) → 1 ≤ index.root
-    → ((region : Region) → Leads index old key region → 1 ≤ region.page)
-    × ((n : ℕ) (fault : Option PageFault) → Stops index old key n fault → 1 ≤ n)
+    → ((region : Region) → Leads index old key region → 1 ≤ region.page) × ((n : ℕ) (fault : Option PageFault) → Stops index old key n fault → 1 ≤ n)
     × (((n : ℕ) → 1 ≤ n → slice_get new.pages n ≡ slice_get old.pages n)
     → ((region : Region) → Leads index old key region ↔ Leads index new key region)
     × ((n : ℕ) (fault : Option PageFault) → Stops index old key n fault ↔ Stops index new key n fault))

@@ -1,19 +1,7 @@
 -- What the bytes of a page tell of its entries: which of them a key falls to, and whether the page fits.
 use Rattle.std.proofs.Common.{rules, ◌≡◌, ◌≤◌, ◌<◌, ◌+◌, ◌-◌, ◌++◌, ◌⊎◌, inl, inr, ℕ, zero, suc, List, [], ◌∷◌, Option, Some, None, IfSome, length, take, drop, slice_get, ◌∙◌, sym, ap, subst, refl, arith}
-use Rattle.std.proofs.lemmas.Bool.{cases_lt}
-use Rattle.std.proofs.lemmas.List.{drop_all}
-use Rattle.ub_page.proofs.IndexLaws.{length-node_on, node_get}
-use Rattle.ub_page.specs.Index.{IsNode, index_page, node_on}
-use Rattle.ub_page.specs.Slots.{IsSlot, entry_in, first_in}
-use Rattle.ub_bytes.specs.Bytes.{number_at}
-use Rattle.ub_page.specs.Entries.{AreAscending}
-use Rattle.ub_region.specs.declared.entry.Entry.{Entry}
-use Rattle.ub_table.specs.Keys.{IsBefore}
-use Rattle.ub_table.specs.declared.row.Key.{Key}
-use Rattle.ub_index.specs.Fitting.{FallsTo, IsNotTaken, IsUnfit}
-use Rattle.ub_index.specs.Index.{first_or, page_in, AscendTo, Fits}
-use Rattle.ub_store.specs.Facts.{StoreFacts, IsPage}
-use Rattle.ub_table.specs.declared.fault.PageFault.{PageFault}
+use Rattle.ub_index.proofs.Common.{AreAscending, AscendTo, cases_lt, drop_all, Entry, entry_in, FallsTo, first_in, first_or, Fits, index_page, IsBefore, IsNode}
+use Rattle.ub_index.proofs.Common.{IsNotTaken, IsPage, IsSlot, IsUnfit, Key, length-node_on, node_get, node_on, number_at, page_in, PageFault, StoreFacts}
 
 cut : (xs : List Entry) (i : ℕ) (e : Entry) → slice_get xs i ≡ Some e → xs ≡ take i xs ++ (e ∷ drop (suc i) xs)
 cut [] i e at = cc

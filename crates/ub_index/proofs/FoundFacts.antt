@@ -1,22 +1,10 @@
 -- What a search after a region finds on an index: the first of its regions that has a property.
 use Rattle.std.proofs.Common.{rules, ◌≡◌, ◌≤◌, ◌<◌, ◌↔◌, Bor, inl, inr, ℕ, zero, suc, max, true, List, [], ◌∷◌, Option, Some, None, IfOk, Result, Ok, Err, slice_get, drop, ◌∙◌, sym, ap, subst, refl, arith, nat_le, if◌then◌else◌}
-use Rattle.std.proofs.lemmas.Bool.{cases_Bool, le-leb, lt-leb}
-use Rattle.std.proofs.lemmas.Option.{slice_get_within, slice_get_cases}
-use Rattle.ub_bigmin.specs.Box.{Corners, HoldsAny}
-use Rattle.ub_bigmin.specs.Extremes.{LeastFrom}
+use Rattle.ub_index.proofs.Common.{Aims, are_ascending, ascending_get, at_least, before_of, cases_Bool, Corners, end_before, entries_in, Entry, entry_at, First}
+use Rattle.ub_index.proofs.Common.{first_keys, Gives, GivesAfter, HoldsAny, index_holding, IndexFault, IndexView, IsBefore, IsFrom, IsIndexOn, IsLater, IsMet}
+use Rattle.ub_index.proofs.Common.{IsRegionAt, Key, le-leb, LeastFrom, lt-leb, Meets, not_before_origin, origin, precedes, precedes_of, precedes_trans, Region}
+use Rattle.ub_index.proofs.Common.{regions_of, slice_get_cases, slice_get_within, span_end, StoreFacts}
 use Rattle.ub_index.proofs.Laws.{next_meets, no_address, none_of, region_first, region_is, region_with, seek_first, with_span}
-use Rattle.ub_index.specs.Spans.{first_keys, regions_of, First, IsLater, Meets}
-use Rattle.ub_region.specs.declared.region.Region.{Region}
-use Rattle.ub_region.specs.declared.entry.Entry.{Entry}
-use Rattle.ub_region.specs.Regions.{index_holding}
-use Rattle.ub_region.specs.Spans.{span_end, end_before}
-use Rattle.ub_store.specs.Facts.{StoreFacts}
-use Rattle.ub_table.proofs.Laws.{ascending_get, before_of, not_before_origin, precedes_of, precedes_trans}
-use Rattle.ub_table.specs.Keys.{IsBefore, precedes, origin, are_ascending}
-use Rattle.ub_table.specs.declared.row.Key.{Key}
-use Rattle.ub_index.specs.Searching.{Aims, Gives, GivesAfter, IsFrom, IsMet, at_least}
-use Rattle.ub_index.specs.View.{IndexView, IsIndexOn, IsRegionAt, entries_in, entry_at}
-use Rattle.ub_index.specs.declared.fault.IndexFault.{IndexFault}
 use Rattle.ub_index.specs.declared.goal.Goal.{Goal}
 use Rattle.ub_index.specs.declared.goal.Goal.TheVariants.{Address, Boxes}
 use Rattle.ub_index.proofs.PlaceFacts.{begins, index_below, index_ge, index_of_first, up, within}
@@ -83,8 +71,7 @@ entry_of (e ∷ entries) (suc i) key at = entry_of entries i key at
 -- the region that is given for an address and a key: that which holds the greater of both; none where the space ends before the address
 abbrev Reaches : IndexView → StoreFacts → ℕ → Key → Option Region → Type 0
 Reaches index store z from None = index.last < z
-Reaches index store z from (Some region) =
-    (z ≤ index.last) × Gives index store (at_least from z) region
+Reaches index store z from (Some region) = (z ≤ index.last) × Gives index store (at_least from z) region
 
 module _ (index : IndexView) (store : StoreFacts) (is : IsIndexOn index store) (after : Option Region) where
   starts : (from : Option Key) → IsFrom index store after from → IsStarted index.last (entries_in index store) after from

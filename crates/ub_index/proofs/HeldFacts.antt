@@ -1,19 +1,8 @@
 -- What the ends of a page tell of it, and which pages are held that were checked.
 use Rattle.std.proofs.Common.{rules, ◌≡◌, ◌<◌, ◌^◌, ◌⊎◌, inl, inr, ℕ, List, Option, Some, None, Result, Ok, Err, IfOk, IfErr, subst, refl, arith}
-use Rattle.std.proofs.lemmas.Bool.{cases_eq}
-use Rattle.ub_page.proofs.IndexLaws.{length-node_on, node_parts}
-use Rattle.ub_page.specs.Index.{node_on, HasHead, IsIndexKind}
-use Rattle.ub_bytes.specs.Bytes.{number_at}
-use Rattle.ub_region.specs.declared.entry.Entry.{Entry}
-use Rattle.ub_store.specs.Cache.{NoneMore, NoneMoreBut, page_at}
-use Rattle.ub_store.specs.Facts.{IsHonest}
-use Rattle.ub_store.specs.View.{PagerView}
-use Rattle.ub_table.specs.declared.fault.PageFault.{PageFault}
-use Rattle.ub_table.specs.declared.fault.PageFault.TheVariants.{WrongKind, BadCount, OutOfRegion}
-use Rattle.ub_table.specs.declared.row.Key.{Key}
-use Rattle.ub_index.specs.Fitting.{FitsAtEnds, IsUnfit, IsUnfitAtEnds}
-use Rattle.ub_index.specs.Held.{KeepsChecked, NoneMoreButIndex}
-use Rattle.ub_index.specs.Index.{Fits, IsIndexPage}
+use Rattle.ub_index.proofs.Common.{BadCount, cases_eq, Entry, Fits, FitsAtEnds, HasHead, IsHonest, IsIndexKind, IsIndexPage, IsUnfit, IsUnfitAtEnds}
+use Rattle.ub_index.proofs.Common.{KeepsChecked, Key, length-node_on, node_on, node_parts, NoneMore, NoneMoreBut, NoneMoreButIndex, number_at, OutOfRegion}
+use Rattle.ub_index.proofs.Common.{page_at, PageFault, PagerView, WrongKind}
 use Rattle.ub_index.proofs.FitFacts.{first_here, fits_so, last_ends}
 
 -- a page of an index fits where its ends do, and then alone; and what is refused of its ends is refused of it

@@ -1,12 +1,7 @@
 -- Where regions begin, and when two keys are one.
 use Rattle.std.proofs.Common.{◌≡◌, ℕ, List, true, Some, ◌∙◌, ap, slice_get}
-use Rattle.std.proofs.lemmas.Bool.{and_parts, eqb-true}
-use Rattle.std.proofs.lemmas.Option.{slice_get-map}
-use Rattle.std.specs.Option.{option_map}
-use Rattle.ub_region.specs.declared.entry.Entry.{Entry}
+use Rattle.ub_index.proofs.Common.{and_parts, Entry, eqb-true, first_keys, Key, option_map, slice_get-map}
 use Rattle.ub_table.specs.Keys.{is_same}
-use Rattle.ub_table.specs.declared.row.Key.{Key}
-use Rattle.ub_index.specs.Spans.{first_keys}
 
 pub first_at : (entries : List Entry) (i : ℕ) (entry : Entry) → slice_get entries i ≡ Some entry → slice_get (first_keys entries) i ≡ Some entry.first
 first_at entries i entry at = slice_get-map (λ (e : Entry). e.first) entries i ∙ ap (option_map (λ (e : Entry). e.first)) at

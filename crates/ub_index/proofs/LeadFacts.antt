@@ -1,26 +1,10 @@
 -- Which keys a region holds to which a way leads, and what becomes of ways where a store grows.
 use Rattle.std.proofs.Common.{rules, ◌≡◌, ◌≤◌, ◌∙◌, ◌⊎◌, ◌↔◌, inl, inr, ℕ, zero, suc, List, [], ◌∷◌, ◌++◌, Option, Some, None, IfSome, length, ap, sym, subst, refl, arith, slice_get}
-use Rattle.std.proofs.lemmas.Bool.{cases_Bool, cases_lt}
-use Rattle.std.proofs.lemmas.List.{length-append}
-use Rattle.std.proofs.lemmas.Option.{slice_get_within}
-use Rattle.ub_index.specs.Spans.{first_keys}
-use Rattle.ub_bytes.specs.Bytes.{number_at}
-use Rattle.ub_region.specs.declared.entry.Entry.{Entry}
-use Rattle.ub_region.specs.Regions.{index_holding}
-use Rattle.ub_store.specs.Facts.{StoreFacts, IsHonest, zero_page}
-use Rattle.ub_table.proofs.Laws.{before_of, not_before_origin, not_before_self, precedes_of}
-use Rattle.ub_table.specs.Keys.{IsBefore, precedes}
-use Rattle.ub_table.specs.declared.row.Key.{Key}
-use Rattle.ub_index.specs.Fitting.{FallsTo}
-use Rattle.ub_index.specs.Index.{AscendTo, IsIndexPage, IsUnder, entries_of, first_or, page_in, top}
-use Rattle.ub_index.specs.Searching.{Gives}
-use Rattle.ub_index.specs.Standing.{AddsNoIndexPage, OldStayOutside}
-use Rattle.ub_index.specs.View.{IndexView, IsIndexOn, IsRegionAt, Leads, Stops, entries_in, entry_at}
-use Rattle.ub_index.specs.Way.{HoldsKey, LeadsTo, StopsAt}
-use Rattle.ub_region.specs.declared.region.Region.{Region}
-use Rattle.ub_index.proofs.KeptFacts.{kept_named, same_entries}
-use Rattle.ub_index.proofs.KeyFacts.{before_le, le_trans}
-use Rattle.ub_index.proofs.Lists.{ascend_right}
+use Rattle.ub_index.proofs.Common.{AddsNoIndexPage, ascend_right, AscendTo, before_le, before_of, cases_Bool, cases_lt, entries_in, entries_of, Entry, entry_at}
+use Rattle.ub_index.proofs.Common.{FallsTo, first_keys, first_or, Gives, HoldsKey, index_holding, IndexView, IsBefore, IsHonest, IsIndexOn, IsIndexPage}
+use Rattle.ub_index.proofs.Common.{IsRegionAt, IsUnder, kept_named, Key, le_trans, Leads, LeadsTo, length-append, not_before_origin, not_before_self, number_at}
+use Rattle.ub_index.proofs.Common.{OldStayOutside, page_in, precedes, precedes_of, Region, same_entries, slice_get_within, Stops, StopsAt, StoreFacts, top}
+use Rattle.ub_index.proofs.Common.{zero_page}
 use Rattle.ub_index.proofs.PlaceFacts.{region_found}
 use Rattle.ub_index.proofs.SpanFacts.{with_span}
 use Rattle.ub_index.proofs.WayFacts.{falls_from, holds_below, under_below, way_ends_at}

@@ -1,3 +1,4 @@
+pub mod Common
 pub mod KeyFacts
 pub mod IndexFacts
 pub mod SpanFacts

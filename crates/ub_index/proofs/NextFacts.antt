@@ -1,28 +1,12 @@
 -- The next regions, of one leaf: what was given, and why it is refused.
 use Rattle.std.proofs.Common.{◌≡◌, [], ◌∷◌, inl, inr, ℕ, List, Option, Some, None, IfSome, Result, Ok, Err, sym, subst, refl}
-use Rattle.std.specs.Result.{IsErrAnd}
-use Rattle.ub_bigmin.specs.Box.{Corners}
+use Rattle.ub_index.proofs.Common.{AreChecked, AreGivenNext, begins_at, Corners, Crosses, GivesAfter, GivesAlong, HandsLeaf, HandsNext, IndexFault, IndexView}
+use Rattle.ub_index.proofs.Common.{IsAim, IsBefore, IsErrAnd, IsForgotten, IsFrom, IsGivenAny, IsHonest, IsSought, Key, Meeting, NoneMoreBut, not_before_self}
+use Rattle.ub_index.proofs.Common.{OutOfRegion, Page, page_at, PagerView, Region, StoreFacts, TakesThese}
 use Rattle.ub_index.proofs.BehindFacts.{not_crossed}
 use Rattle.ub_index.proofs.SearchFacts.{search_refused}
 use Rattle.ub_index.proofs.StepFacts.{refused_after}
 use Rattle.ub_index.proofs.WalkingFacts.{given_along, gives_own}
-use Rattle.ub_index.specs.Along.{Crosses, GivesAlong, HandsLeaf, Meeting}
-use Rattle.ub_index.specs.Descending.{IsForgotten}
-use Rattle.ub_index.specs.Held.{AreChecked}
-use Rattle.ub_index.specs.Searching.{GivesAfter, IsAim, IsFrom, IsSought}
-use Rattle.ub_index.specs.Sinks.{TakesThese}
-use Rattle.ub_index.specs.View.{IndexView}
-use Rattle.ub_index.specs.Walking.{AreGivenNext, HandsNext, IsGivenAny, begins_at}
-use Rattle.ub_index.specs.declared.fault.IndexFault.{IndexFault}
-use Rattle.ub_index.specs.declared.fault.IndexFault.TheVariants.{Page}
-use Rattle.ub_region.specs.declared.region.Region.{Region}
-use Rattle.ub_store.specs.Cache.{NoneMoreBut, page_at}
-use Rattle.ub_store.specs.Facts.{IsHonest, StoreFacts}
-use Rattle.ub_store.specs.View.{PagerView}
-use Rattle.ub_table.proofs.Laws.{not_before_self}
-use Rattle.ub_table.specs.Keys.{IsBefore}
-use Rattle.ub_table.specs.declared.fault.PageFault.TheVariants.{OutOfRegion}
-use Rattle.ub_table.specs.declared.row.Key.{Key}
 
 module _ (index : IndexView) (store : StoreFacts) where
   -- the search goes on from where the region ends that was given

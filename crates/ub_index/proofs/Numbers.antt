@@ -1,15 +1,7 @@
 -- Numbers that stand apart, and which pages the numbers under an entry are.
 use Rattle.std.proofs.Common.{arith, ◌≡◌, ◌≢◌, ◌<◌, ◌++◌, ◌∙◌, ap, refl, slice_get, ℕ, zero, suc, List, [], ◌∷◌, Option, false, nat_eq, length, sym}
-use Rattle.std.proofs.lemmas.Bool.{eq-eqb, ne_eqb}
-use Rattle.std.proofs.lemmas.Option.{slice_get_within}
-use Rattle.std.specs.List.{AllByRecursion, IsDistinct, flat_map}
-use Rattle.ub_region.specs.declared.entry.Entry.{Entry}
-use Rattle.ub_region.proofs.Laws.{all_append, all_left, all_more, all_right}
-use Rattle.ub_table.specs.declared.row.Key.{Key}
-use Rattle.ub_index.specs.Standing.{PagesStay, IsOutside}
-use Rattle.ub_index.proofs.KeptFacts.{same_entries}
-use Rattle.ub_index.proofs.Lists.{each_all, same_each}
-use Rattle.ub_index.specs.Index.{entries_of, page_in, IsUnder, pages_under}
+use Rattle.ub_index.proofs.Common.{all_append, all_left, all_more, all_right, AllByRecursion, each_all, entries_of, Entry, eq-eqb, flat_map, IsDistinct}
+use Rattle.ub_index.proofs.Common.{IsOutside, IsUnder, Key, ne_eqb, page_in, pages_under, PagesStay, same_each, same_entries, slice_get_within}
 
 pub differs : (a b : ℕ) → nat_eq a b ≡ false → a ≢ b
 differs a b f e = let t = eq-eqb a b e in cc

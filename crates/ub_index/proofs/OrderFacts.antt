@@ -1,12 +1,6 @@
 -- What an entry leads to, in order.
 use Rattle.std.proofs.Common.{◌≡◌, ◌++◌, ℕ, zero, suc, List, [], ◌∷◌, Option, Some, None, IfSome, ◌∙◌, sym, subst, refl}
-use Rattle.std.proofs.lemmas.List.{append-nil}
-use Rattle.std.specs.List.{flat_map}
-use Rattle.ub_region.specs.declared.entry.Entry.{Entry}
-use Rattle.ub_table.specs.Keys.{IsBefore}
-use Rattle.ub_table.specs.declared.row.Key.{Key}
-use Rattle.ub_index.specs.Index.{entries_of, first_or, AscendTo, EachTo, IsUnder, under}
-use Rattle.ub_index.proofs.Lists.{ascend_join}
+use Rattle.ub_index.proofs.Common.{append-nil, ascend_join, AscendTo, EachTo, entries_of, Entry, first_or, flat_map, IsBefore, IsUnder, Key, under}
 
 pub first_more : (xs ys : List Entry) (end : Option Key) (key : Key) → first_or xs None ≡ Some key → first_or (xs ++ ys) end ≡ Some key
 first_more [] ys end key h = cc

@@ -1,27 +1,13 @@
 -- The entries of an index as those of a table's regions, and the index of the region that holds a key.
 use Rattle.std.proofs.Common.{rules, ◌≡◌, ◌≤◌, ◌+◌, ◌⊎◌, inl, inr, ℕ, zero, suc, true, false, List, [], ◌∷◌, Option, Some, None, length, slice_get, ◌∙◌, sym, ap, subst, refl, arith}
-use Rattle.std.proofs.lemmas.Bool.{and_from, and_parts, cases_Bool}
-use Rattle.std.proofs.lemmas.Option.{slice_get_within, slice_get_cases}
-use Rattle.std.proofs.lemmas.List.Elements.{All-from_recursion}
-use Rattle.ub_region.proofs.Laws.{all_more}
-use Rattle.std.specs.List.{All, AllByRecursion, flat_map}
-use Rattle.ub_index.specs.Spans.{first_keys, region_of}
+use Rattle.ub_index.proofs.Common.{All, All-from_recursion, all_more, AllByRecursion, and_from, and_parts, are_ascending, ascending_get, AscendTo, before_from}
+use Rattle.ub_index.proofs.Common.{before_of, before_parts, cases_Bool, each_all, entries_in, entries_of, Entry, entry_at, first_keys, flat_map, Gives}
+use Rattle.ub_index.proofs.Common.{index_holding, IndexView, IsBefore, IsEntry, IsIndexOn, IsPreviousRegion, IsRegionAt, IsUnder, Key, key_before, LeadsTo}
+use Rattle.ub_index.proofs.Common.{not_before_self, origin, precedes, precedes_of, precedes_trans, Region, region_of, slice_get_cases, slice_get_within}
+use Rattle.ub_index.proofs.Common.{StoreFacts, top, under}
 use Rattle.ub_index.proofs.Laws.{first_at}
-use Rattle.ub_page.specs.Entries.{IsEntry}
-use Rattle.ub_region.specs.declared.entry.Entry.{Entry}
-use Rattle.ub_region.specs.Regions.{index_holding}
-use Rattle.ub_store.specs.Facts.{StoreFacts}
-use Rattle.ub_table.proofs.Laws.{ascending_get, before_from, before_of, before_parts, not_before_self, precedes_of, precedes_trans}
-use Rattle.ub_table.specs.Keys.{IsBefore, precedes, origin, are_ascending}
-use Rattle.ub_table.specs.declared.row.Key.{Key}
-use Rattle.ub_index.specs.Index.{entries_of, AscendTo, IsUnder, under, top}
-use Rattle.ub_index.specs.Searching.{Gives, key_before}
-use Rattle.ub_index.specs.View.{IndexView, IsIndexOn, IsRegionAt, IsPreviousRegion, entries_in, entry_at}
-use Rattle.ub_region.specs.declared.region.Region.{Region}
-use Rattle.ub_index.proofs.Lists.{each_all}
 use Rattle.ub_index.proofs.OrderFacts.{under_first}
 use Rattle.ub_index.proofs.WayFacts.{first_is, in_order, not_true, way_ends_at}
-use Rattle.ub_index.specs.Way.{LeadsTo}
 
 length-first_keys : (entries : List Entry) → length (first_keys entries) ≡ length entries
 length-first_keys [] = refl

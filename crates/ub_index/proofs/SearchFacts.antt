@@ -1,21 +1,10 @@
 -- What searches leave, one after the other.
 use Rattle.std.proofs.Common.{rules, ◌≡◌, ◌≤◌, ◌<◌, IsTrue, ℕ, List, Option, Some, None, Result, Ok, Err, ◌∙◌, sym, ap, subst, refl}
-use Rattle.std.specs.Result.{IsErrAnd}
-use Rattle.ub_region.specs.declared.entry.Entry.{Entry}
-use Rattle.ub_store.specs.Facts.{StoreFacts, IsHonest, page_count}
-use Rattle.ub_store.specs.View.{PagerView, Trace}
-use Rattle.ub_store.specs.declared.fault.StoreFault.TheVariants as store
-use Rattle.ub_table.specs.declared.fault.PageFault.{PageFault}
-use Rattle.ub_table.specs.declared.row.Key.{Key}
-use Rattle.ub_index.specs.Descending.{IsStepFault, StepsDown}
-use Rattle.ub_index.specs.Held.{AreChecked}
-use Rattle.ub_index.specs.Searching.{GoesDown, IsWayFault, store_after}
-use Rattle.ub_index.specs.View.{IndexView, Stops}
-use Rattle.ub_index.specs.Way.{StopsAt}
-use Rattle.ub_index.specs.declared.fault.IndexFault.{IndexFault}
-use Rattle.ub_index.specs.declared.fault.IndexFault.TheVariants.{Page, Store}
+use Rattle.ub_index.proofs.Common.{AreChecked, Entry, GoesDown, IndexFault, IndexView, IsErrAnd, IsHonest, IsStepFault, IsWayFault, Key, Page, page_count}
+use Rattle.ub_index.proofs.Common.{PageFault, PagerView, StepsDown, Stops, StopsAt, Store, store_after, StoreFacts, Trace}
 use Rattle.ub_index.proofs.HeldFacts.{both_on, Keeps}
 use Rattle.ub_index.proofs.WayFacts.{stops_here}
+use Rattle.ub_store.specs.declared.fault.StoreFault.TheVariants as store
 
 pub err_is : {T : Type 0} (r : Result T IndexFault) (e : IndexFault) → IsErrAnd r (λ x. x ≡ e) → r ≡ Err e
 err_is (Ok x) e h = absurd h
@@ -34,8 +23,7 @@ same_store T U fault s = refl
 pub frame : {T : Type 0} (r : Result T IndexFault) (old mid new : PagerView) → mid.store ≡ old.store → mid.trace ≡ old.trace
     → new ≡ record mid { store = store_after r mid.store; cached = new.cached } → new ≡ record old { store = store_after r old.store; cached = new.cached }
 frame r old mid new stores traces h =
-    h
-    ∙ (ap (λ (s : StoreFacts). pager_with (store_after r s) mid.trace new.cached) stores
+    h ∙ (ap (λ (s : StoreFacts). pager_with (store_after r s) mid.trace new.cached) stores
     ∙ ap (λ (t : Trace). pager_with (store_after r old.store) t new.cached) traces)
 
 -- what a step and a search leave of the pages that are held

@@ -1,18 +1,9 @@
 -- Searches among the regions in order.
 use Rattle.std.proofs.Common.{rules, ◌≡◌, ◌<◌, ◌≤◌, drop, inl, inr, ℕ, zero, suc, max, true, false, List, [], ◌∷◌, Option, Some, None, length, ◌↔◌, ◌∙◌, sym, ap, refl, arith, slice_get, subst, nat_le, if◌then◌else◌}
-use Rattle.std.proofs.lemmas.Bool.{cases_lt, cases_eq, cases_Bool, le-leb, lt-leb, and_parts}
-use Rattle.std.proofs.lemmas.Option.{slice_get_read, slice_get_within, get_or_from_slice_get, slice_get_cases}
-use Rattle.std.specs.List.{All, Contains}
-use Rattle.ub_bigmin.specs.Box.{Corners, HoldsAny}
-use Rattle.ub_bigmin.specs.Extremes.{LeastFrom}
-use Rattle.ub_region.specs.declared.entry.Entry.{Entry}
-use Rattle.ub_region.specs.Regions.{index_holding}
-use Rattle.ub_region.specs.Spans.{address_before, span_end}
-use Rattle.ub_table.proofs.Laws.{before_from, before_parts, before_of, precedes_trans, not_before_self, not_both_before, ascending_get}
-use Rattle.ub_table.specs.Keys.{IsBefore, origin, precedes, are_ascending}
-use Rattle.ub_table.specs.declared.row.Key.{Key}
-use Rattle.ub_index.specs.Spans.{first_keys, regions_of, Meets, IsLater, First}
-use Rattle.ub_region.specs.declared.region.Region.{Region}
+use Rattle.ub_index.proofs.Common.{address_before, All, and_parts, are_ascending, ascending_get, before_from, before_of, before_parts, cases_Bool, cases_eq}
+use Rattle.ub_index.proofs.Common.{cases_lt, Contains, Corners, Entry, First, first_keys, get_or_from_slice_get, HoldsAny, index_holding, IsBefore, IsLater}
+use Rattle.ub_index.proofs.Common.{Key, le-leb, LeastFrom, lt-leb, Meets, not_before_self, not_both_before, origin, precedes, precedes_trans, Region}
+use Rattle.ub_index.proofs.Common.{regions_of, slice_get_cases, slice_get_read, slice_get_within, span_end}
 use Rattle.ub_index.proofs.IndexFacts.{first_at}
 use Rattle.ub_index.proofs.SpanFacts.{region_with}
 
@@ -96,8 +87,7 @@ ends_by_last last (e ∷ next ∷ entries) within zero r at =
     at_most : (y n : ℕ) → address_before y n ≤ y
     at_most y zero = omega arith
     at_most y (suc n) = omega arith
-ends_by_last last (e ∷ next ∷ entries) within (suc i) r at =
-    ends_by_last last (next ∷ entries) (λ k d lt. within (suc k) d (omega arith)) i r at
+ends_by_last last (e ∷ next ∷ entries) within (suc i) r at = ends_by_last last (next ∷ entries) (λ k d lt. within (suc k) d (omega arith)) i r at
 ends_by_last last entries within i r at = cc
 
 module _ (last : ℕ) (entries : List Entry) (up : are_ascending (first_keys entries) ≡ true) where

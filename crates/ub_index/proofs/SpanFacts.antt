@@ -1,11 +1,6 @@
 -- The regions of a list of entries, by their places.
 use Rattle.std.proofs.Common.{◌≡◌, ℕ, zero, suc, List, [], ◌∷◌, Option, Some, drop, refl, slice_get, ◌∙◌, ap}
-use Rattle.ub_region.specs.declared.entry.Entry.{Entry}
-use Rattle.ub_region.specs.Spans.{span_end, end_before}
-use Rattle.ub_table.specs.declared.row.Key.{Key}
-use Rattle.ub_index.specs.Spans.{region_of, first_keys, regions_of}
-use Rattle.ub_index.specs.View.{entry_at}
-use Rattle.ub_region.specs.declared.region.Region.{Region}
+use Rattle.ub_index.proofs.Common.{end_before, Entry, entry_at, first_keys, Key, Region, region_of, regions_of, span_end}
 
 -- the region of an entry, with where the next one begins
 abbrev pub region_with : ℕ → Option Key → Entry → Region

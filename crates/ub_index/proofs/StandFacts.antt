@@ -1,26 +1,13 @@
 -- What an index is to those who keep regions on other pages of its store.
 use Rattle.std.proofs.Common.{rules, Ok, ◌≡◌, ◌≤◌, ◌<◌, ◌∙◌, ◌^◌, ℕ, zero, List, [], ◌∷◌, Some, None, length, nat_eq, ap, sym, subst, refl, arith, slice_get, suc, option_map, ◌⊎◌, slice_set}
-use Rattle.std.specs.List.{AllByRecursion, IsDistinct, flat_map}
-use Rattle.ub_index.specs.Spans.{ArePlaces}
-use Rattle.ub_page.specs.Entries.{IsEntry}
-use Rattle.ub_region.specs.declared.entry.Entry.{Entry}
-use Rattle.ub_store.specs.Facts.{StoreFacts, IsHonest, WritesAt, page_count}
-use Rattle.ub_table.specs.declared.row.Key.{Key}
-use Rattle.ub_page.specs.Index.{IsNode, Node, index_page}
-use Rattle.ub_index.specs.Standing.{PagesStay, IsOutside, OldStayOutside, StandsAsOn, AreOwnPages, region_pages}
-use Rattle.ub_index.specs.Index.{first_or, pages_under, page_in, top, under, IsIndexPage, IsTold}
-use Rattle.ub_index.specs.Opening.{IsAlone, root_page}
-use Rattle.ub_index.specs.View.{IsReachedOnce, pages_of_index, IndexView, IsIndexOn, entries_in, index_view}
+use Rattle.ub_index.proofs.Common.{all_more, AllByRecursion, AreOwnPages, ArePlaces, entries_in, Entry, first_or, flat_map, index_page, index_view, IndexView}
+use Rattle.ub_index.proofs.Common.{IsAlone, IsDistinct, IsEntry, IsHonest, IsIndexOn, IsIndexPage, IsNode, IsOutside, IsReachedOnce, IsTold, KeepsChecked}
+use Rattle.ub_index.proofs.Common.{kept_index, kept_under, Key, Node, node_parts, OldStayOutside, page_at, page_count, page_in, PagerView, pages_of_index}
+use Rattle.ub_index.proofs.Common.{pages_under, PagesStay, region_pages, root_page, SameBut, StandsAsOn, StoreFacts, told_index, top, under, WritesAt}
 use Rattle.ub_index.proofs.FitFacts.{page_is}
-use Rattle.ub_index.proofs.KeptFacts.{kept_index, kept_under, told_index}
 use Rattle.ub_index.proofs.Numbers.{StandApart, apart_swap, distinct_cons, kept_pages, within_store, distinct_apart, distinct_first, distinct_left}
 use Rattle.ub_index.proofs.OrderFacts.{under_first}
 use Rattle.ub_index.proofs.PlaceFacts.{begins, each_entry, up, within}
-use Rattle.ub_region.proofs.Laws.{all_more}
-use Rattle.ub_store.specs.Cache.{SameBut, page_at}
-use Rattle.ub_store.specs.View.{PagerView}
-use Rattle.ub_index.specs.Held.{KeepsChecked}
-use Rattle.ub_page.proofs.IndexLaws.{node_parts}
 
 abbrev pub node : ℕ → List Entry → Node
 node level entries = record { level = level; entries = entries }

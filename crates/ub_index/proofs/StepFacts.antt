@@ -1,21 +1,8 @@
 -- What a call leaves that brings a page, looks at it, and forgets it where it is refused.
 use Rattle.std.proofs.Common.{rules, ◌≡◌, ℕ, List, Option, Some, None, Result, slice_get, Ok, Err, IfErr, ◌∙◌, sym, ap, subst}
-use Rattle.std.specs.Result.{IsErrAnd}
-use Rattle.ub_region.specs.declared.entry.Entry.{Entry}
-use Rattle.ub_store.specs.Cache.{NoneMoreBut, page_at}
-use Rattle.ub_store.specs.Facts.{StoreFacts, IsHonest, IsPage}
-use Rattle.ub_store.specs.View.{PagerView, Trace}
-use Rattle.ub_table.specs.declared.fault.PageFault.{PageFault}
-use Rattle.ub_table.specs.declared.row.Key.{Key}
-use Rattle.ub_index.specs.Bringing.{BringsFitting, IsBringFault}
-use Rattle.ub_index.specs.Descending.{IsStepFault, Steps, StepsDown}
-use Rattle.ub_index.specs.Held.{AreChecked}
-use Rattle.ub_index.specs.Index.{Fits, NamesFitting}
-use Rattle.ub_index.specs.Searching.{GoesDown, IsWayFault, ReadsIndex}
-use Rattle.ub_index.specs.View.{IndexView}
-use Rattle.ub_index.specs.declared.fault.IndexFault.{IndexFault}
-use Rattle.ub_index.specs.declared.fault.IndexFault.TheVariants.{Page}
-use Rattle.ub_page.specs.declared.index.Head.{Head}
+use Rattle.ub_index.proofs.Common.{AreChecked, BringsFitting, Entry, Fits, GoesDown, Head, IndexFault, IndexView, IsBringFault, IsErrAnd, IsHonest, IsPage}
+use Rattle.ub_index.proofs.Common.{IsStepFault, IsWayFault, Key, NamesFitting, NoneMoreBut, Page, page_at, PageFault, PagerView, ReadsIndex, Steps, StepsDown}
+use Rattle.ub_index.proofs.Common.{StoreFacts, Trace}
 use Rattle.ub_index.proofs.FitFacts.{is_refused, page_is}
 use Rattle.ub_index.proofs.HeldFacts.{both_on, keeps_gone, more_gone, Keeps}
 use Rattle.ub_index.proofs.SearchFacts.{err_is, pager_with, same_store}

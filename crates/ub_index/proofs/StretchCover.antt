@@ -1,35 +1,18 @@
 -- The regions within a stretch of an index: which they are, that they cover it, and that its parts have them between them.
 use Rattle.std.proofs.Common.{◌≡◌, ◌≤◌, ◌<◌, ◌-◌, ◌++◌, ◌↔◌, inl, inr, ℕ, zero, suc, Bool, true, false, not, List, [], ◌∷◌, Option, Some, None, IfSome, Contains, filter, length, slice_get, ◌∙◌, sym, ap, subst, refl, arith, append_assoc, append-nil}
-use Rattle.std.proofs.lemmas.Bool.{and_from, and_left, and_parts, and_right, cases_lt, not_from_false, not_from_true, true≢false}
-use Rattle.std.proofs.lemmas.Grind.{flat_map-append}
-use Rattle.std.proofs.lemmas.List.Elements.{filter-append}
-use Rattle.std.proofs.lemmas.Option.{slice_get_read, slice_get_within, get_or_from_slice_get}
-use Rattle.std.specs.List.{AllByRecursion, flat_map}
-use Rattle.ub_bigmin.specs.Box.{Corners}
-use Rattle.ub_index.proofs.Lists.{ascend_first, ascend_left, ascend_right, each_right, first_append}
+use Rattle.ub_index.proofs.Common.{address_before, all_left, all_more, all_right, AllByRecursion, and_from, and_left, and_parts, and_right, ArePartsOn}
+use Rattle.ub_index.proofs.Common.{AreThose, ascend_first, ascend_left, ascend_right, AscendTo, before_of, before_trans, cases_lt, ComesTo, Corners, each_right}
+use Rattle.ub_index.proofs.Common.{EachTo, end_before, entries_in, entries_of, Entry, entry_at, filter-append, first_append, first_or, flat_map}
+use Rattle.ub_index.proofs.Common.{flat_map-append, get_or_from_slice_get, holds_key, HoldsKey, IndexView, is_before_end, IsBefore, IsEntry, IsIndexOn, IsOneOf}
+use Rattle.ub_index.proofs.Common.{IsStretchOn, IsUnder, Key, Meets, MeetsAny, node_on, not_before_self, not_both_before, not_from_false, not_from_true}
+use Rattle.ub_index.proofs.Common.{parts_on, precedes, precedes_of, Region, region_of, regions_of, slice_get_read, slice_get_within, StoreFacts, Stretch}
+use Rattle.ub_index.proofs.Common.{stretch_of, stretches_to, top, true≢false, under, whole_stretch, within}
 use Rattle.ub_index.proofs.OrderFacts.{under_first}
 use Rattle.ub_index.proofs.PlaceFacts.{each_entry}
 use Rattle.ub_index.proofs.SpanFacts.{with_span}
 use Rattle.ub_index.proofs.StretchFacts.{part_told, parts_all_told, some_level, whole_told}
 use Rattle.ub_index.proofs.StretchSteps.{begins_up_to, ends_up}
 use Rattle.ub_index.proofs.WayFacts.{first_is, in_order, not_true, rest_begins}
-use Rattle.ub_index.specs.Index.{AscendTo, EachTo, IsUnder, entries_of, first_or, top, under}
-use Rattle.ub_index.specs.Spans.{Meets, region_of, regions_of}
-use Rattle.ub_index.specs.Stretches.{ArePartsOn, ComesTo, IsOneOf, IsStretchOn, MeetsAny, holds_key, is_before_end, parts_on, stretch_of, stretches_to, whole_stretch, within}
-use Rattle.ub_index.specs.View.{IndexView, IsIndexOn, entries_in, entry_at}
-use Rattle.ub_index.specs.Way.{HoldsKey}
-use Rattle.ub_index.specs.declared.stretch.Stretch.{Stretch}
-use Rattle.ub_page.specs.Entries.{IsEntry}
-use Rattle.ub_page.specs.Index.{node_on}
-use Rattle.ub_region.proofs.Laws.{all_left, all_more, all_right}
-use Rattle.ub_region.specs.Spans.{address_before, end_before}
-use Rattle.ub_region.specs.Those.{AreThose}
-use Rattle.ub_region.specs.declared.entry.Entry.{Entry}
-use Rattle.ub_region.specs.declared.region.Region.{Region}
-use Rattle.ub_store.specs.Facts.{StoreFacts}
-use Rattle.ub_table.proofs.Laws.{before_of, before_trans, not_before_self, not_both_before, precedes_of}
-use Rattle.ub_table.specs.Keys.{IsBefore, precedes}
-use Rattle.ub_table.specs.declared.row.Key.{Key}
 
 -- ---- the regions of entries, the last of which ends before the end
 
@@ -168,8 +151,7 @@ module _ (last : ℕ) (s : Stretch) where
       ∙ filter-append (λ (r : Region). holds_key s r.first) (regions_to last middle (first_or after None)) (regions_to last after None)
       ∙ ap (λ (rs : List Region). within s (regions_to last middle (first_or after None)) ++ rs) late
       ∙ append-nil (within s (regions_to last middle (first_or after None)))
-      ∙ ap (λ (o : Option Key). within s (regions_to last middle o)) (sym next_is)
-      ∙ inside
+      ∙ ap (λ (o : Option Key). within s (regions_to last middle o)) (sym next_is) ∙ inside
 
 -- ---- the entries under a stretch, among all
 
@@ -182,8 +164,7 @@ record IsSlice (last : ℕ) (pages : List (List ℕ)) (whole : List Entry) (end 
 
 regroup : (u p m q v : List Entry) → u ++ ((p ++ (m ++ q)) ++ v) ≡ (u ++ p) ++ (m ++ (q ++ v))
 regroup u p m q v =
-    ap (λ (xs : List Entry). u ++ xs) (append_assoc p (m ++ q) v)
-    ∙ (ap (λ (xs : List Entry). u ++ (p ++ xs)) (append_assoc m q v)
+    ap (λ (xs : List Entry). u ++ xs) (append_assoc p (m ++ q) v) ∙ (ap (λ (xs : List Entry). u ++ (p ++ xs)) (append_assoc m q v)
     ∙ sym (append_assoc u p (m ++ (q ++ v))))
 
 module _ (last : ℕ) (pages : List (List ℕ)) where
@@ -376,8 +357,7 @@ module _ (index : IndexView) (store : StoreFacts) (is : IsIndexOn index store) w
 
     pub lowest_one : s.level ≡ 0 → within s (regions_of index.last (entries_in index store)) ≡ s.span ∷ []
     lowest_one low =
-        within_under
-        ∙ (ap (λ (n : ℕ). regions_to index.last (under store.pages n (entry_at s.span)) s.span.next) low
+        within_under ∙ (ap (λ (n : ℕ). regions_to index.last (under store.pages n (entry_at s.span)) s.span.next) low
         ∙ ap (λ (r : Region). r ∷ []) (sym (with_span index.last s.span told.from told.to)))
 
     -- none of them meets the boxes where it doesn't
@@ -437,8 +417,7 @@ module _ (index : IndexView) (store : StoreFacts) (is : IsIndexOn index store) w
     all_within : within s (regions_of index.last (entries_in index store))
         ≡ flat_map (λ p. within p (regions_of index.last (entries_in index store))) (parts_on index.last s are.page)
     all_within =
-        within_under s told
-        ∙ (ap (λ (n : ℕ). regions_to index.last (under store.pages n (entry_at s.span)) s.span.next) higher
+        within_under s told ∙ (ap (λ (n : ℕ). regions_to index.last (under store.pages n (entry_at s.span)) s.span.next) higher
         ∙ (ap (λ (xs : List Entry). regions_to index.last (flat_map (under store.pages (s.level - 1)) xs) s.span.next) (sym page_here)
         ∙ regions_through (s.level - 1) page_entries s.span.next each_part (λ below next one. part_told index store boxes s parts are told below next one)))
 

@@ -1,26 +1,12 @@
 -- The way down to a stretch, and its parts, over any pages.
 use Rattle.std.proofs.Common.{◌≡◌, ◌≤◌, ◌<◌, ◌+◌, ◌-◌, ◌++◌, inl, inr, ℕ, zero, suc, List, [], ◌∷◌, Option, Some, None, IfSome, length, slice_get, ◌∙◌, sym, ap, subst, refl, arith}
-use Rattle.std.specs.List.{AllByRecursion}
-use Rattle.ub_bigmin.specs.Box.{Corners}
-use Rattle.ub_index.proofs.KeyFacts.{before_le, le_trans}
-use Rattle.ub_index.proofs.Lists.{ascend_first, ascend_right}
+use Rattle.ub_index.proofs.Common.{AllByRecursion, ArePartsOn, AreThose, ascend_first, ascend_right, AscendTo, before_le, before_trans, ComesTo, Corners}
+use Rattle.ub_index.proofs.Common.{entries_of, Entry, entry_at, FallsTo, first_or, HasPage, HoldsKey, IndexView, IsBefore, IsNotTaken, IsOneOf, IsStretchOn}
+use Rattle.ub_index.proofs.Common.{Key, le_trans, LeadsTo, MeetsAny, node_on, not_before_self, origin, PageFault, parts_on, StopsAt, StoreFacts, Stretch}
+use Rattle.ub_index.proofs.Common.{stretch_of, stretches_to, top, whole_stretch}
 use Rattle.ub_index.proofs.StretchSteps.{stretches_long}
 use Rattle.ub_index.proofs.WaysFacts.{first_up_to, with_none}
-use Rattle.ub_index.specs.Fitting.{FallsTo, IsNotTaken}
-use Rattle.ub_index.specs.Index.{AscendTo, entries_of, first_or, top}
-use Rattle.ub_index.specs.Stretches.{ArePartsOn, ComesTo, HasPage, IsOneOf, IsStretchOn, MeetsAny, parts_on, stretch_of, stretches_to, whole_stretch}
-use Rattle.ub_index.specs.View.{IndexView, entry_at}
-use Rattle.ub_index.specs.Way.{HoldsKey, LeadsTo, StopsAt}
-use Rattle.ub_index.specs.declared.stretch.Stretch.{Stretch}
-use Rattle.ub_page.specs.Index.{node_on}
 use Rattle.ub_page.specs.declared.entries.TheConstants.{MAX_ENTRIES}
-use Rattle.ub_region.specs.Those.{AreThose}
-use Rattle.ub_region.specs.declared.entry.Entry.{Entry}
-use Rattle.ub_store.specs.Facts.{StoreFacts}
-use Rattle.ub_table.proofs.Laws.{before_trans, not_before_self}
-use Rattle.ub_table.specs.Keys.{IsBefore, origin}
-use Rattle.ub_table.specs.declared.fault.PageFault.{PageFault}
-use Rattle.ub_table.specs.declared.row.Key.{Key}
 
 -- ---- one of the entries of a page in order
 

@@ -1,37 +1,13 @@
 -- The parts of a stretch along its page: the one in a slot, the next one that meets some boxes, and those that were handed over.
 use Rattle.std.proofs.Common.{rules, ◌≡◌, ◌≤◌, ◌<◌, ◌+◌, ◌-◌, ◌++◌, ◌⊎◌, inl, inr, ℕ, zero, suc, List, [], ◌∷◌, Option, Some, None, IfSome, Result, Err, length, drop, slice_get, ◌∙◌, sym, ap, subst, refl, arith, append_assoc, append-nil}
-use Rattle.std.proofs.lemmas.Bool.{cases_eq, cases_lt}
-use Rattle.std.proofs.lemmas.Option.{slice_get_within}
-use Rattle.std.specs.List.{AllByRecursion}
-use Rattle.std.specs.Result.{IsErrAnd}
-use Rattle.ub_bigmin.specs.Box.{Corners, HoldsAny}
-use Rattle.ub_bigmin.specs.Extremes.{LeastFrom}
-use Rattle.ub_bytes.specs.Bytes.{number_at}
+use Rattle.ub_index.proofs.Common.{address_before, AllByRecursion, AreThose, ascend_first, AscendTo, before_parts, before_trans, BringsFitting, cases_eq}
+use Rattle.ub_index.proofs.Common.{cases_lt, Corners, end_before, Entry, entry_at, entry_in, first_in, first_or, HoldsAny, IndexFault, IndexView, IsBefore}
+use Rattle.ub_index.proofs.Common.{IsEntry, IsErrAnd, IsNextMeeting, IsSlot, Key, le_trans, LeastFrom, length-node_on, MeetsAny, node_get, node_on}
+use Rattle.ub_index.proofs.Common.{not_before_self, not_both_before, number_at, OpensStretch, PagerView, parts_on, Region, region_of, slice_get_within, Stretch}
+use Rattle.ub_index.proofs.Common.{stretch_of, stretches_to, TakesThese}
 use Rattle.ub_index.proofs.FitFacts.{after_first, after_none}
-use Rattle.ub_index.proofs.KeyFacts.{le_trans}
-use Rattle.ub_index.proofs.Lists.{ascend_first}
 use Rattle.ub_index.proofs.SearchFacts.{err_is}
 use Rattle.ub_index.proofs.StepFacts.{step_misfits}
-use Rattle.ub_index.specs.Bringing.{BringsFitting}
-use Rattle.ub_index.specs.Index.{AscendTo, first_or}
-use Rattle.ub_index.specs.Spans.{region_of}
-use Rattle.ub_index.specs.Sinks.{TakesThese}
-use Rattle.ub_index.specs.Stretches.{IsNextMeeting, MeetsAny, OpensStretch, parts_on, stretch_of, stretches_to}
-use Rattle.ub_index.specs.View.{IndexView, entry_at}
-use Rattle.ub_index.specs.declared.fault.IndexFault.{IndexFault}
-use Rattle.ub_index.specs.declared.stretch.Stretch.{Stretch}
-use Rattle.ub_page.proofs.IndexLaws.{length-node_on, node_get}
-use Rattle.ub_page.specs.Entries.{IsEntry}
-use Rattle.ub_page.specs.Index.{node_on}
-use Rattle.ub_page.specs.Slots.{IsSlot, entry_in, first_in}
-use Rattle.ub_region.specs.Spans.{address_before, end_before}
-use Rattle.ub_region.specs.Those.{AreThose}
-use Rattle.ub_region.specs.declared.entry.Entry.{Entry}
-use Rattle.ub_region.specs.declared.region.Region.{Region}
-use Rattle.ub_store.specs.View.{PagerView}
-use Rattle.ub_table.proofs.Laws.{before_parts, before_trans, not_before_self, not_both_before}
-use Rattle.ub_table.specs.Keys.{IsBefore}
-use Rattle.ub_table.specs.declared.row.Key.{Key}
 
 -- the key of an address that none is before
 abbrev pub lowest : ℕ → Key

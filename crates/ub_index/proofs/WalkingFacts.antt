@@ -1,19 +1,10 @@
 -- What is given along a leaf of an index is given one after the other.
 use Rattle.std.proofs.Common.{◌≡◌, ◌∷◌, [], ℕ, List, Option, Some, None, IfSome, ◌∙◌, ap, subst, refl}
+use Rattle.ub_index.proofs.Common.{AreGivenFirst, entry_at, Gives, GivesAfter, GivesAlong, index_view, IndexView, IsBefore, IsFrom, Key, le_before}
+use Rattle.ub_index.proofs.Common.{not_before_self, Region, StoreFacts, top}
 use Rattle.ub_index.proofs.BehindFacts.{is_later}
-use Rattle.ub_index.proofs.KeyFacts.{le_before}
 use Rattle.ub_index.proofs.LeadFacts.{held_way}
 use Rattle.ub_index.proofs.WayFacts.{not_true}
-use Rattle.ub_index.specs.Along.{GivesAlong}
-use Rattle.ub_index.specs.Index.{top}
-use Rattle.ub_index.specs.Searching.{Gives, GivesAfter, IsFrom}
-use Rattle.ub_index.specs.View.{IndexView, entry_at, index_view}
-use Rattle.ub_index.specs.Walking.{AreGivenFirst}
-use Rattle.ub_region.specs.declared.region.Region.{Region}
-use Rattle.ub_store.specs.Facts.{StoreFacts}
-use Rattle.ub_table.proofs.Laws.{not_before_self}
-use Rattle.ub_table.specs.Keys.{IsBefore}
-use Rattle.ub_table.specs.declared.row.Key.{Key}
 
 -- an index, by what its calls tell of it
 pub view_so : (v : IndexView) (root : ℕ × ℕ) (last : ℕ) → root ≡ (v.root, v.levels) → last ≡ v.last → index_view root.0 root.1 last ≡ v

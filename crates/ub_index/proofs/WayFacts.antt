@@ -1,27 +1,10 @@
 -- The way down to a key: its steps, and where it ends on pages on which an index stands.
 use Rattle.std.proofs.Common.{rules, ◌≡◌, ◌<◌, ◌-◌, ◌^◌, ◌++◌, inl, inr, ℕ, zero, suc, false, List, [], ◌∷◌, Option, Some, None, IfSome, length, slice_get, ◌∙◌, sym, ap, subst, refl, arith, append_assoc}
-use Rattle.std.proofs.lemmas.Bool.{cases_Bool}
-use Rattle.std.proofs.lemmas.Grind.{flat_map-append}
-use Rattle.std.proofs.lemmas.Option.{slice_get_within}
-use Rattle.ub_page.proofs.IndexLaws.{node_not_refused}
-use Rattle.ub_page.specs.Index.{IsIndexFault, node_on}
-use Rattle.std.specs.List.{flat_map}
-use Rattle.ub_index.specs.Spans.{first_keys}
-use Rattle.ub_region.specs.declared.entry.Entry.{Entry}
-use Rattle.ub_region.specs.Regions.{index_holding}
-use Rattle.ub_store.specs.Facts.{StoreFacts}
-use Rattle.ub_table.proofs.Laws.{before_of, before_trans, not_before_origin, precedes_of}
-use Rattle.ub_table.specs.Keys.{IsBefore, precedes}
-use Rattle.ub_table.specs.declared.fault.PageFault.{PageFault}
-use Rattle.ub_table.specs.declared.fault.PageFault.TheVariants.{BadCount, OutOfRegion}
-use Rattle.ub_table.specs.declared.row.Key.{Key}
-use Rattle.ub_index.specs.Descending.{StepsTo}
-use Rattle.ub_index.specs.Fitting.{FallsTo, IsUnfit, IsNotTaken}
-use Rattle.ub_index.specs.Index.{entries_of, page_in, first_or, AscendTo, EachTo, Fits, NamesFitting, IsUnder, under, top}
-use Rattle.ub_index.specs.View.{IndexView, IsIndexOn, IsRegionAt, Leads, entries_in, entry_at}
-use Rattle.ub_index.specs.Way.{LeadsTo, StopsAt}
-use Rattle.ub_region.specs.declared.region.Region.{Region}
-use Rattle.ub_index.proofs.Lists.{each_right, first_append}
+use Rattle.ub_index.proofs.Common.{AscendTo, BadCount, before_of, before_trans, cases_Bool, each_right, EachTo, entries_in, entries_of, Entry, entry_at}
+use Rattle.ub_index.proofs.Common.{FallsTo, first_append, first_keys, first_or, Fits, flat_map, flat_map-append, index_holding, IndexView, IsBefore}
+use Rattle.ub_index.proofs.Common.{IsIndexFault, IsIndexOn, IsNotTaken, IsRegionAt, IsUnder, IsUnfit, Key, Leads, LeadsTo, NamesFitting, node_not_refused}
+use Rattle.ub_index.proofs.Common.{node_on, not_before_origin, OutOfRegion, page_in, PageFault, precedes, precedes_of, Region, slice_get_within, StepsTo}
+use Rattle.ub_index.proofs.Common.{StopsAt, StoreFacts, top, under}
 use Rattle.ub_index.proofs.OrderFacts.{first_more, under_ascends, under_first}
 
 module _ (store now : StoreFacts) (same : now ≡ store) (last : ℕ) (key : Key) where
@@ -132,8 +115,7 @@ holding : (key : Key) (before : List Entry) (found : Entry) (after : List Entry)
     → IfSome (first_or after None) (IsBefore key) → index_holding key (first_keys (before ++ (found ∷ after))) ≡ length before
 holding key [] found [] up from to = refl
 holding key [] found (x ∷ after) up from to = rw (precedes_of key x.first to) refl
-holding key (b ∷ []) found after up from to =
-    rw (not_true key found.first from) (ap (λ (n : ℕ). suc n) (holding key [] found after up.1 from to))
+holding key (b ∷ []) found after up from to = rw (not_true key found.first from) (ap (λ (n : ℕ). suc n) (holding key [] found after up.1 from to))
 holding key (b ∷ x ∷ before) found after up from to =
     let later : ¬ (IsBefore key x.first) = λ yes. from (before_trans key x.first found.first yes (before_found x before found after up.1)) in
     rw (not_true key x.first later) (ap (λ (n : ℕ). suc n) (holding key (x ∷ before) found after up.1 from to))

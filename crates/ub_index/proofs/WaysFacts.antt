@@ -1,22 +1,8 @@
 -- Two ways down over the same pages: a way to a key that isn't before where the first one ended ends there or later.
 use Rattle.std.proofs.Common.{rules, ◌≡◌, ◌++◌, ◌⊎◌, inl, inr, ℕ, zero, suc, List, [], ◌∷◌, Option, Some, None, IfSome, ◌∙◌, sym, ap, subst, refl}
-use Rattle.std.proofs.lemmas.Bool.{cases_Bool}
-use Rattle.std.specs.List.{AllByRecursion}
-use Rattle.ub_page.specs.Entries.{IsEntry}
-use Rattle.ub_region.specs.declared.entry.Entry.{Entry}
-use Rattle.ub_region.proofs.Laws.{all_right}
-use Rattle.ub_table.proofs.Laws.{before_trans, not_before_self, not_both_before, precedes_of}
-use Rattle.ub_table.specs.Keys.{IsBefore, precedes}
-use Rattle.ub_table.specs.declared.row.Key.{Key}
-use Rattle.ub_store.specs.Facts.{StoreFacts}
-use Rattle.ub_index.specs.Fitting.{FallsTo}
-use Rattle.ub_index.specs.Index.{entries_of, first_or, top, AscendTo, NamesFitting}
-use Rattle.ub_index.specs.Searching.{at_least}
-use Rattle.ub_index.specs.View.{IndexView, Leads}
-use Rattle.ub_index.specs.Way.{HoldsKey, LeadsTo}
-use Rattle.ub_region.specs.declared.region.Region.{Region}
-use Rattle.ub_index.proofs.KeyFacts.{before_le, le_before, le_trans}
-use Rattle.ub_index.proofs.Lists.{ascend_first, ascend_right}
+use Rattle.ub_index.proofs.Common.{all_right, AllByRecursion, ascend_first, ascend_right, AscendTo, at_least, before_le, before_trans, cases_Bool, entries_of}
+use Rattle.ub_index.proofs.Common.{Entry, FallsTo, first_or, HoldsKey, IndexView, IsBefore, IsEntry, Key, le_before, le_trans, Leads, LeadsTo, NamesFitting}
+use Rattle.ub_index.proofs.Common.{not_before_self, not_both_before, precedes, precedes_of, Region, StoreFacts, top}
 use Rattle.ub_index.proofs.WayFacts.{falls_to}
 
 -- two elements of a list: the same place, or one behind the other

@@ -1,11 +1,6 @@
 -- The numbers under which a change spells its pages: each is below that of the next page that the store gets.
 use Rattle.std.proofs.Common.{◌≡◌, ◌∙◌, ℕ, zero, suc, List, [], ◌∷◌, Some, Result, Ok, Err, IfOk, slice_get, subst}
-use Rattle.std.specs.List.{AllByRecursion}
-use Rattle.ub_region.specs.declared.entry.Entry.{Entry}
-use Rattle.ub_index.specs.declared.fault.IndexFault.{IndexFault}
-use Rattle.ub_index_change.specs.Changing.{IsAtMostOne, Mends, Spelled}
-use Rattle.ub_index_change.specs.declared.sheet.Sheet.{Sheet}
-use Rattle.ub_index_change.specs.declared.told.Told.{Told}
+use Rattle.ub_index_change.proofs.Common.{AllByRecursion, Entry, IndexFault, IsAtMostOne, Mends, Sheet, Spelled, Told}
 use Rattle.ub_index_change.proofs.FullFacts.{mends_takes}
 
 -- what holds of each of the sheets holds of one at an index

@@ -1,41 +1,23 @@
 -- The ways beside that to a region's entry that goes, or gets another one behind it, over any pages: each leads where it led.
 use Rattle.std.proofs.Common.{◌≡◌, ◌≢◌, ◌≤◌, ◌<◌, ◌+◌, ◌^◌, ◌++◌, ◌⊎◌, inl, inr, ℕ, zero, suc, List, [], ◌∷◌, Option, Some, None, IfSome, length, take, drop, slice_get, ◌∙◌, sym, ap, subst, refl, arith, append_assoc, take-append-drop}
-use Rattle.std.proofs.lemmas.List.{append-nil, append_cancel_right}
-use Rattle.std.proofs.lemmas.Option.{slice_get_within}
-use Rattle.std.specs.List.{AllByRecursion}
-use Rattle.ub_page.specs.Index.{node_on}
-use Rattle.ub_page.specs.Entries.{IsEntry}
-use Rattle.ub_region.specs.declared.entry.Entry.{Entry}
-use Rattle.ub_region.specs.declared.region.Region.{Region}
-use Rattle.ub_store.specs.Facts.{StoreFacts, page_count}
-use Rattle.ub_region.proofs.Laws.{all_append, all_left, all_more, all_right}
-use Rattle.ub_table.proofs.Laws.{not_before_self, not_both_before}
-use Rattle.ub_table.specs.Keys.{IsBefore, origin}
-use Rattle.ub_table.specs.declared.row.Key.{Key}
-use Rattle.ub_index.specs.Index.{AscendTo, IsIndexPage, IsTold, NamesFitting, entries_of, first_or, page_in, top}
-use Rattle.ub_index.specs.View.{IndexView, Leads, entry_at}
-use Rattle.ub_index.specs.Way.{LeadsTo}
-use Rattle.ub_index_change.specs.Changing.{AreIndexPages, AreOnce, IsAtMostOne, IsFine, IsUnspelled, Spelled, Spreads, Stand, Turns, named_as, sheet_of, so_far, with_added}
-use Rattle.ub_index_change.specs.Lowering.{IsDropped, Lowers, page_then, sole_page, spelled_or}
-use Rattle.ub_index_change.specs.Making.{changed}
-use Rattle.ub_index_change.specs.Preparing.{ChangeView, IsPrepared, IsWithinRegion, Settles, added_at}
-use Rattle.ub_index_change.specs.declared.sheet.Sheet.{Sheet}
-use Rattle.ub_index_change.specs.declared.told.Told.{Told}
-use Rattle.ub_index_change.specs.declared.told.Told.TheVariants.{Same, Gone, One, Two}
-use Rattle.ub_index.proofs.KeptFacts.{kept_named, same_entries, same_page, told_named}
-use Rattle.ub_index.proofs.FitFacts.{page_is}
-use Rattle.ub_index.proofs.KeyFacts.{before_le, le_before, le_trans}
-use Rattle.ub_index.proofs.LeadFacts.{before_next, ways_hold}
-use Rattle.ub_index.proofs.Lists.{IsNotBefore, ascend_first, ascend_later, ascend_left, ascend_right, first_append, if_later}
-use Rattle.ub_index.proofs.WayFacts.{before_found}
-use Rattle.ub_index.proofs.WaysFacts.{compare, end_below, ends_from, first_up_to, from_above, up_below, whole_below, with_none}
+use Rattle.ub_index_change.proofs.Common.{added_at, all_append, all_left, all_more, all_right, AllByRecursion, append-nil, append_cancel_right, AreIndexPages}
+use Rattle.ub_index_change.proofs.Common.{AreOnce, ascend_first, ascend_later, ascend_left, ascend_right, AscendTo, before_found, before_le, before_next}
+use Rattle.ub_index_change.proofs.Common.{changed, ChangeView, compare, end_below, ends_from, entries_of, Entry, entry_at, first_append, first_or, first_up_to}
+use Rattle.ub_index_change.proofs.Common.{from_above, Gone, if_later, IndexView, IsAtMostOne, IsBefore, IsDropped, IsEntry, IsFine, IsIndexPage, IsNotBefore}
+use Rattle.ub_index_change.proofs.Common.{IsPrepared, IsTold, IsUnspelled, IsWithinRegion, kept_named, Key, le_before, le_trans, Leads, LeadsTo, Lowers}
+use Rattle.ub_index_change.proofs.Common.{named_as, NamesFitting, node_on, not_before_self, not_both_before, One, origin, page_count, page_in, page_is}
+use Rattle.ub_index_change.proofs.Common.{page_then, Region, Same, same_entries, same_page, Settles, Sheet, sheet_of, slice_get_within, so_far, sole_page}
+use Rattle.ub_index_change.proofs.Common.{Spelled, spelled_or, Spreads, Stand, StoreFacts, Told, told_named, top, Turns, Two, up_below, ways_hold, whole_below}
+use Rattle.ub_index_change.proofs.Common.{with_added, with_none}
 use Rattle.ub_index_change.proofs.Changes.{no_end, not_before}
 use Rattle.ub_index_change.proofs.DropFacts.{narrow, sole_is, spelled_then}
 use Rattle.ub_index_change.proofs.FullFacts.{mends_or}
 use Rattle.ub_index_change.proofs.ReadyFacts.{entry_is}
 use Rattle.ub_index_change.proofs.SheetFacts.{IsOrderly, added_fine_at, fine_found, mended_all, mended_up, turned}
 use Rattle.ub_index_change.proofs.SheetNumbers.{once_join}
-use Rattle.ub_index_change.proofs.SpelledFacts.{BeginsStill, end_up, first_end, first_none, first_there, IsHigher, IsOff, IsSpelledIn, IsWithin, mends_new, next_unspelled, no_parts, off_spelled, own_unspelled, parted, rest_later, same_end, spelled_within, still_first, turned_end, turned_first, turned_once, way_below}
+use Rattle.ub_index_change.proofs.SpelledFacts.{BeginsStill, end_up, first_end, first_none, first_there, IsHigher, IsOff, IsSpelledIn, IsWithin, mends_new}
+use Rattle.ub_index_change.proofs.SpelledFacts.{next_unspelled, no_parts, off_spelled, own_unspelled, parted, rest_later, same_end, spelled_within, still_first}
+use Rattle.ub_index_change.proofs.SpelledFacts.{turned_end, turned_first, turned_once, way_below}
 use Rattle.ub_index_change.proofs.SpreadFacts.{new_sheets, root_told, spread_sheets, told_spread}
 use Rattle.ub_index_change.proofs.TurnFacts.{unspelled_left}
 
@@ -184,9 +166,8 @@ module _ (last : ℕ) (small : last < 2 ^ 128) (old later : List (List ℕ)) (k 
         leads = down level right end half.0 x a (told_named last later (suc level) (drop 86 entries) right end t.4 (ascend_right (take 86 entries) (drop 86 entries) end up_parts)) (t.4.entries_are ∙ half.1) to_it leads;
       }
 
-  -- where a way to the region's entry e0 is to lead, once f has gone, or got another one behind it: there still, unless e0 is f,
-  -- or stood before f, which goes; from f to f itself, up to the other one's key, or to the other one; or to what stood before f,
-  -- which goes, up to where f ended
+  -- where a way to the region's entry e0 is to lead, once f has gone, or got another one behind it: there still, unless e0 is f, or stood before f,
+  -- which goes; from f to f itself, up to the other one's key, or to the other one; or to what stood before f, which goes, up to where f ended
   abbrev IsAim : Key → Option Entry → Entry → Option Key → Entry → Option Key → Type 0
   IsAim key added f nf e0 n0 =
       ((e0 ≡ e) × (n0 ≡ n) × (e.first ≢ f.first) × (added ≡ None → n ≢ Some f.first))

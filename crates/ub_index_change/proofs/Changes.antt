@@ -1,16 +1,9 @@
 -- What a change of one entry does to the whole.
 use Rattle.std.proofs.Common.{◌≡◌, ◌++◌, inl, inr, ℕ, zero, suc, List, [], ◌∷◌, Option, Some, None, IfSome, take, drop, slice_get, ◌∙◌, sym, ap, subst, refl, append_assoc, take-append-drop}
-use Rattle.std.proofs.lemmas.List.{append-nil}
-use Rattle.std.proofs.lemmas.Grind.{flat_map-append}
-use Rattle.std.specs.List.{flat_map}
-use Rattle.ub_region.specs.declared.entry.Entry.{Entry}
-use Rattle.ub_table.proofs.Laws.{not_before_self, not_both_before}
-use Rattle.ub_table.specs.Keys.{IsBefore}
-use Rattle.ub_table.specs.declared.row.Key.{Key}
-use Rattle.ub_index_change.specs.Changed.{Becomes, BeginFrom, Replaces, StandOn, Stays}
-use Rattle.ub_index.specs.Index.{entries_of, first_or, AscendTo, EachTo, IsUnder, under, pages_under}
-use Rattle.ub_index.proofs.Lists.{IsNotBefore, ascend_first, ascend_join, ascend_later, ascend_left, ascend_right, each_join, each_later, each_left, each_right, each_same}
-use Rattle.ub_index.proofs.KeptFacts.{kept_list, kept_index, under_later, told_index}
+use Rattle.ub_index_change.proofs.Common.{append-nil, ascend_first, ascend_join, ascend_later, ascend_left, ascend_right, AscendTo, Becomes, BeginFrom}
+use Rattle.ub_index_change.proofs.Common.{each_join, each_later, each_left, each_right, each_same, EachTo, entries_of, Entry, first_or, flat_map}
+use Rattle.ub_index_change.proofs.Common.{flat_map-append, IsBefore, IsNotBefore, IsUnder, kept_index, kept_list, Key, not_before_self, not_both_before}
+use Rattle.ub_index_change.proofs.Common.{pages_under, Replaces, StandOn, Stays, told_index, under, under_later}
 
 -- what stands on pages leads where its entries do
 told_under : (last : ℕ) (pages : List (List ℕ)) (level n : ℕ) (entries told : List Entry) → StandOn last pages (suc level) n entries told
@@ -54,12 +47,10 @@ replaced last old new f fs next (suc level) entry end told (before, after, below
     record {
       before = flat_map (under old level) before ++ in_it.before;
       after = in_it.after ++ flat_map (under old level) after;
-      was = ap (λ (xs : List Entry). flat_map (under old level) xs) parts
-          ∙ (flat_map-append (under old level) before (below ∷ after)
+      was = ap (λ (xs : List Entry). flat_map (under old level) xs) parts ∙ (flat_map-append (under old level) before (below ∷ after)
           ∙ (ap (λ (xs : List Entry). flat_map (under old level) before ++ (xs ++ flat_map (under old level) after)) in_it.was
           ∙ wider (flat_map (under old level) before) in_it.before (f ∷ []) in_it.after fs (flat_map (under old level) after)));
-      is = told_under last new level entry.page (before ++ (news ++ after)) told stand
-          ∙ (flat_map-append (under new level) before (news ++ after)
+      is = told_under last new level entry.page (before ++ (news ++ after)) told stand ∙ (flat_map-append (under new level) before (news ++ after)
           ∙ (ap (λ (xs : List Entry). flat_map (under new level) before ++ xs) (flat_map-append (under new level) news after)
           ∙ (ap (λ (xs : List Entry). xs ++ (flat_map (under new level) news ++ flat_map (under new level) after)) (kept_list old new level before kept_before)
           ∙ (ap (λ (xs : List Entry). flat_map (under old level) before ++ (flat_map (under new level) news ++ xs)) (kept_list old new level after kept_after)
@@ -91,8 +82,7 @@ first_of g (b ∷ before) news after first e h k =
 first_of g [] [] [] first e h k = tt
 first_of g [] [] (a ∷ after) first e h k =
     let same : g.first ≡ first = cc in subst (λ (key : Key). ¬ (IsBefore a.first key)) same (λ yes. not_both_before g.first a.first k.0 yes)
-first_of g [] (n ∷ news) after first e h k =
-    let same : g.first ≡ first = cc in subst (λ (key : Key). ¬ (IsBefore n.first key)) same h
+first_of g [] (n ∷ news) after first e h k = let same : g.first ≡ first = cc in subst (λ (key : Key). ¬ (IsBefore n.first key)) same h
 
 pub no_end : (end : Option Key) → IsNotBefore end None
 no_end None = tt

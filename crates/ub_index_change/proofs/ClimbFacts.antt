@@ -1,28 +1,11 @@
 -- How a change goes a level down and back up.
 use Rattle.std.proofs.Common.{inl, inr, ◌∷◌, ◌++◌, ◌+◌, ◌≤◌, length, IfErr, ◌≡◌, ◌<◌, ◌-◌, ℕ, zero, suc, List, Option, Some, None, Result, Ok, Err, ◌∙◌, sym, ap, subst, refl, arith, slice_get}
-use Rattle.std.proofs.lemmas.Bool.{cases_lt}
-use Rattle.std.proofs.lemmas.List.{length-append}
-use Rattle.std.specs.Result.{IsErrAnd}
-use Rattle.ub_region.specs.declared.entry.Entry.{Entry}
-use Rattle.ub_store.specs.Facts.{StoreFacts, IsHonest}
-use Rattle.ub_store.specs.View.{PagerView}
-use Rattle.ub_store.specs.declared.fault.StoreFault.TheVariants as store
-use Rattle.ub_table.specs.declared.row.Key.{Key}
-use Rattle.ub_index_change.specs.Changing.{IsAtMostOne, IsSpreadFault, Mends, NeedsNoGrowth, OpensTo, Prepares, Spelled, Turns, IsTurnFault}
-use Rattle.ub_index.specs.Descending.{IsStepFault, Steps, StepsTo}
-use Rattle.ub_index.specs.Fitting.{FallsTo}
-use Rattle.ub_index.specs.Index.{entries_of, NamesFitting, Fits}
-use Rattle.ub_index_change.specs.FullWay.{EndsFull}
-use Rattle.ub_index.specs.declared.fault.IndexFault.{IndexFault}
-use Rattle.ub_index.specs.declared.fault.IndexFault.TheVariants.{Page, Store}
-use Rattle.ub_index_change.specs.declared.told.Told.{Told}
-use Rattle.ub_index_change.specs.declared.told.Told.TheVariants.{Same, Gone, One, Two}
+use Rattle.ub_index_change.proofs.Common.{both_on, cases_lt, EndsFull, entries_of, Entry, err_is, failed, FallsTo, Fits, frame, Gone, IndexFault, IsAtMostOne}
+use Rattle.ub_index_change.proofs.Common.{IsErrAnd, IsHonest, IsSpreadFault, IsStepFault, IsTurnFault, Keeps, Key, length-append, Mends, NamesFitting}
+use Rattle.ub_index_change.proofs.Common.{NeedsNoGrowth, node_on, One, OpensTo, Page, page_is, pager_with, PagerView, Prepares, Same, same_store, Spelled}
+use Rattle.ub_index_change.proofs.Common.{Steps, StepsTo, stops_here, stops_on, Store, StoreFacts, Told, Turns, Two}
 use Rattle.ub_index_change.proofs.FullFacts.{ends_all, ends_few, full_taken}
-use Rattle.ub_index.proofs.HeldFacts.{both_on, Keeps}
-use Rattle.ub_index.proofs.SearchFacts.{err_is, failed, frame, pager_with, same_store}
-use Rattle.ub_index.proofs.WayFacts.{stops_here, stops_on}
-use Rattle.ub_page.specs.Index.{node_on}
-use Rattle.ub_index.proofs.FitFacts.{page_is}
+use Rattle.ub_store.specs.declared.fault.StoreFault.TheVariants as store
 
 pub turns_on : (last : ℕ) (pages : List (List ℕ)) (key : Key) (added : Option Entry) (level : ℕ) (entry : Entry) (end : Option Key) (before after : List Entry)
     (below : Entry) (next : Option Key) (from middle to : Spelled) (news told : Told) → 0 < level → OpensTo last pages key level entry end before below next after
@@ -163,10 +146,7 @@ opens_page pages last key level entry end before below next after page at fits t
     let is = page_is pages entry.page page at in
     let parts = subst (λ (p : List ℕ). (x : FallsTo key (node_on p).entries end below next) × (x.before ≡ before) × (x.after ≡ after)) (sym is) to in
     record {
-      named = record {
-        there = at ∙ ap (λ (p : List ℕ). Some p) (sym is);
-        fits = subst (λ (p : List ℕ). Fits last p level entry end) (sym is) fits;
-      };
+      named = record { there = at ∙ ap (λ (p : List ℕ). Some p) (sym is); fits = subst (λ (p : List ℕ). Fits last p level entry end) (sym is) fits; };
       falls = parts.0;
       before_is = parts.1;
       after_is = parts.2;

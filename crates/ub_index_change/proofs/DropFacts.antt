@@ -1,43 +1,19 @@
 -- A region's entry that goes: what is left is an index, the root of which doesn't name one page alone.
 use Rattle.std.proofs.Common.{◌≡◌, ◌≤◌, ◌<◌, ◌^◌, ◌++◌, ◌⊎◌, ◌==◌, inl, inr, ℕ, zero, suc, nat_eq, List, [], ◌∷◌, Option, Some, None, IfErr, Result, Ok, Err, length, slice_get, ◌∙◌, sym, ap, subst, refl, arith}
-use Rattle.std.proofs.lemmas.Bool.{cases_Bool, cases_lt, eqb-true}
-use Rattle.std.proofs.lemmas.List.{append-nil}
-use Rattle.std.specs.List.{AllByRecursion, IsDistinct, flat_map}
-use Rattle.ub_page.specs.Index.{node_on}
-use Rattle.ub_page.specs.Entries.{IsEntry}
-use Rattle.ub_region.specs.declared.entry.Entry.{Entry}
-use Rattle.ub_region.proofs.Laws.{all_more}
-use Rattle.ub_store.specs.Facts.{StoreFacts, IsHonest, page_count}
-use Rattle.ub_store.specs.View.{PagerView}
-use Rattle.ub_table.proofs.Laws.{not_before_self}
-use Rattle.ub_table.specs.Keys.{IsBefore, origin}
-use Rattle.ub_table.specs.declared.fault.PageFault.{PageFault}
-use Rattle.ub_table.specs.declared.row.Key.{Key}
-use Rattle.ub_index_change.specs.Changed.{Replaces}
-use Rattle.ub_index_change.specs.Changing.{AreOnce, IsAtMostOne, IsNoGrowth, IsNoNew, IsUnspelled, Spelled, Spreads, Stand, StayBut, Turns, named_as, so_far}
-use Rattle.ub_index.specs.Standing.{IsOutside}
-use Rattle.ub_index.specs.Index.{entries_of, first_or, page_in, pages_under, EachTo, IsUnder, under, top}
-use Rattle.ub_index_change.specs.Lowering.{IsDropFault, IsLowerFault, IsLowest, IsRootRefused, Lowers, LowersTo, MakesLow, PreparesDrop, ReadsRoots, entries_then, page_then, sole_page, spelled_page, spelled_or, unless_first}
-use Rattle.ub_index_change.specs.Preparing.{ChangeView, IsIndexThen, IsPrepared, MakesIndex, Settles, change_view}
-use Rattle.ub_index.specs.View.{IsReachedOnce, pages_of_index, IndexView, IsIndexOn, IsRegionAt, entries_in, entry_at}
-use Rattle.ub_index.specs.declared.fault.IndexFault.{IndexFault}
-use Rattle.ub_index.specs.declared.fault.IndexFault.TheVariants.{Full, Store}
-use Rattle.ub_store.specs.declared.fault.StoreFault.TheVariants as store
-use Rattle.ub_region.specs.declared.region.Region.{Region}
-use Rattle.ub_index_change.specs.declared.sheet.Sheet.{Sheet}
-use Rattle.ub_index_change.specs.declared.told.Told.{Told}
-use Rattle.ub_index_change.specs.declared.told.Told.TheVariants.{Same, Gone, One, Two}
-use Rattle.ub_index.proofs.KeptFacts.{same_page}
-use Rattle.ub_index.proofs.FitFacts.{page_is}
+use Rattle.ub_index_change.proofs.Common.{all_more, AllByRecursion, append-nil, AreOnce, both_on, cases_Bool, cases_lt, change_view, ChangeView, differs}
+use Rattle.ub_index_change.proofs.Common.{distinct_cons, distinct_first, distinct_rest, EachTo, entries_in, entries_of, entries_then, Entry, entry_at, eqb-true}
+use Rattle.ub_index_change.proofs.Common.{first_or, flat_map, frame, Full, Gone, IndexFault, IndexView, IsAtMostOne, IsBefore, IsDistinct, IsDropFault, IsEntry}
+use Rattle.ub_index_change.proofs.Common.{IsHonest, IsIndexOn, IsIndexThen, IsLowerFault, IsLowest, IsNoGrowth, IsNoNew, IsOutside, IsPrepared, IsReachedOnce}
+use Rattle.ub_index_change.proofs.Common.{IsRegionAt, IsRootRefused, IsUnder, IsUnspelled, Keeps, Key, Lowers, LowersTo, MakesIndex, MakesLow, named_as}
+use Rattle.ub_index_change.proofs.Common.{node_on, not_before_self, One, origin, outside_less, page_count, page_in, page_is, page_then, PageFault, PagerView}
+use Rattle.ub_index_change.proofs.Common.{pages_of_index, pages_under, PreparesDrop, ReadsRoots, Region, region_found, Replaces, Same, same_page, Settles}
+use Rattle.ub_index_change.proofs.Common.{Sheet, so_far, sole_page, Spelled, spelled_or, spelled_page, Spreads, Stand, StayBut, Store, StoreFacts, Told, top}
+use Rattle.ub_index_change.proofs.Common.{Turns, Two, under, under_first, unless_first, within_store}
 use Rattle.ub_index_change.proofs.FullFacts.{mended_few, mends_or, settles_or}
-use Rattle.ub_index.proofs.Numbers.{differs, distinct_cons, distinct_first, distinct_rest, outside_less, within_store}
-use Rattle.ub_index.proofs.OrderFacts.{under_first}
 use Rattle.ub_index_change.proofs.ReadyFacts.{IsMade, entry_is, made_one, root_entry}
-use Rattle.ub_index.proofs.PlaceFacts.{region_found}
 use Rattle.ub_index_change.proofs.RefusedFacts.{root_not_refused, unspelled_of, with_other, with_sheets, with_stand, with_stay}
-use Rattle.ub_index.proofs.HeldFacts.{both_on, Keeps}
-use Rattle.ub_index.proofs.SearchFacts.{frame}
 use Rattle.ub_index_change.proofs.TurnFacts.{Risen, rises}
+use Rattle.ub_store.specs.declared.fault.StoreFault.TheVariants as store
 
 spread_narrow : (level : ℕ) (entry : Entry) (entries : List Entry) (from to : Spelled) (told : Told) → length entries ≤ 170 → Spreads level entry entries from to told
     → IsAtMostOne told × (to.next ≡ from.next)

@@ -1,21 +1,10 @@
 -- How full the pages are of an index that has only grown.
 use Rattle.std.proofs.Common.{◌≡◌, ◌≤◌, ◌<◌, ◌+◌, ◌*◌, ◌^◌, ◌++◌, ◌⊎◌, inl, inr, ℕ, zero, suc, List, [], ◌∷◌, Option, length, take, drop, slice_get, sym, ap, subst, refl, arith, take-append-drop, None}
+use Rattle.ub_index_change.proofs.Common.{all_append, all_left, all_right, AllByRecursion, apart_swap, Becomes, cases_lt, entries_in, entries_of, Entry}
+use Rattle.ub_index_change.proofs.Common.{first_or, flat_map, IndexView, IsFilled, IsFilledRoot, IsHalfFull, IsHonest, IsIndexOn, IsOutside, IsReachedOnce}
+use Rattle.ub_index_change.proofs.Common.{IsTold, Key, length-append, length-drop, length-take-le, OldStayOutside, pages_of_index, pages_under, PagesStay}
+use Rattle.ub_index_change.proofs.Common.{same_entries, StandOn, stay_apart, StoreFacts, top, under, within_store}
 use Rattle.std.proofs.Math.Nat.{pow-le-pow_right, pow-suc, suc-mul}
-use Rattle.std.proofs.lemmas.Bool.{cases_lt}
-use Rattle.std.proofs.lemmas.List.{length-append, length-drop, length-take-le}
-use Rattle.std.specs.List.{AllByRecursion, flat_map}
-use Rattle.ub_region.specs.declared.entry.Entry.{Entry}
-use Rattle.ub_region.proofs.Laws.{all_append, all_left, all_right}
-use Rattle.ub_store.specs.Facts.{StoreFacts, IsHonest}
-use Rattle.ub_table.specs.declared.row.Key.{Key}
-use Rattle.ub_index_change.specs.Changed.{Becomes, StandOn}
-use Rattle.ub_index.specs.Index.{IsTold, entries_of, first_or, pages_under, top, under}
-use Rattle.ub_index.specs.Standing.{PagesStay, IsOutside, OldStayOutside}
-use Rattle.ub_index_change.specs.Filling.{IsFilled, IsFilledRoot, IsHalfFull}
-use Rattle.ub_index.specs.View.{IndexView, IsIndexOn, entries_in, IsReachedOnce, pages_of_index}
-use Rattle.ub_index.proofs.KeptFacts.{same_entries}
-use Rattle.ub_index.proofs.Numbers.{apart_swap, within_store}
-use Rattle.ub_index.proofs.StandFacts.{stay_apart}
 
 -- a property that each entry has of which the numbers have another one
 each_kept : (P : ℕ → Type 0) (numbers : Entry → List ℕ) (A B : Entry → Type 0) → ((x : Entry) → AllByRecursion P (numbers x) → A x → B x)
@@ -111,8 +100,7 @@ half_below pages level entries before after below parts all =
 -- what a half full entry becomes where something comes in the place of a region's entry is half full
 pub half_becomes : (last : ℕ) (old new : List (List ℕ)) (f : Entry) (fs : List Entry) (next : Option Key) (level : ℕ) (entry : Entry) (end : Option Key) (told : List Entry)
     → 1 ≤ length fs → Becomes last old new f fs next level entry end told → IsHalfFull old level entry → AllByRecursion (IsHalfFull new level) told × (1 ≤ length told)
-half_becomes last old new f fs next zero entry end told some h half =
-    (halves_low new told, subst (λ (xs : List Entry). 1 ≤ length xs) (sym h.2) some)
+half_becomes last old new f fs next zero entry end told some h half = (halves_low new told, subst (λ (xs : List Entry). 1 ≤ length xs) (sym h.2) some)
 half_becomes last old new f fs next (suc level) entry end told some (before, after, below, news, parts, becomes, kept_before, kept_after, stand) half =
     let in_it = half_becomes last old new f fs next level below (first_or after end) news some becomes (half_below old level (entries_of old entry.page) before after below parts half.1) in
     let mended = halves_mended old new level (entries_of old entry.page) before after news below parts kept_before kept_after half.1 in_it in

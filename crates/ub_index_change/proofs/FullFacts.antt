@@ -1,19 +1,8 @@
 -- Full pages on the way to a key: which pages a change takes.
 use Rattle.std.proofs.Common.{◌≡◌, ◌≤◌, ◌<◌, ◌+◌, ◌++◌, ◌⊎◌, inl, inr, ℕ, zero, suc, List, [], ◌∷◌, Option, Some, None, length, ◌∙◌, sym, ap, subst, refl, arith}
-use Rattle.std.proofs.lemmas.Bool.{cases_lt}
-use Rattle.std.proofs.lemmas.List.{length-append}
-use Rattle.ub_region.specs.declared.entry.Entry.{Entry}
-use Rattle.ub_store.specs.Facts.{StoreFacts, page_count}
-use Rattle.ub_table.specs.declared.row.Key.{Key}
-use Rattle.ub_index_change.specs.Changing.{IsAtMostOne, Mends, Spelled, Spreads, Turns, named_as, sheet_of, so_far}
-use Rattle.ub_index.specs.Fitting.{FallsTo}
-use Rattle.ub_index.specs.Index.{entries_of, top, NamesFitting}
-use Rattle.ub_index_change.specs.Preparing.{ChangeView, HasFullWay, NeedsPages, Settles, TakesNeeded, change_view}
-use Rattle.ub_index.specs.View.{IndexView}
-use Rattle.ub_index_change.specs.FullWay.{EndsFull, IsFullWay}
-use Rattle.ub_index_change.specs.declared.told.Told.{Told}
-use Rattle.ub_index_change.specs.declared.told.Told.TheVariants.{Same, Gone, One, Two}
-use Rattle.ub_index.proofs.LeadFacts.{falls_once}
+use Rattle.ub_index_change.proofs.Common.{cases_lt, change_view, ChangeView, EndsFull, entries_of, Entry, falls_once, FallsTo, Gone, HasFullWay, IndexView}
+use Rattle.ub_index_change.proofs.Common.{IsAtMostOne, IsFullWay, Key, length-append, Mends, named_as, NamesFitting, NeedsPages, One, page_count, Same, Settles}
+use Rattle.ub_index_change.proofs.Common.{sheet_of, so_far, Spelled, Spreads, StoreFacts, TakesNeeded, Told, top, Turns, Two}
 use Rattle.ub_index_change.proofs.SpreadFacts.{spread_next}
 
 -- where one entry became one or none, there are no more than there were

@@ -1,3 +1,4 @@
+pub mod Common
 pub mod Changes
 pub mod SheetNumbers
 pub mod BelowFacts

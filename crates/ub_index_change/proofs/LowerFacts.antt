@@ -1,8 +1,6 @@
 -- A root that gives way, on the pages as they are and once the sheets stand.
 use Rattle.std.proofs.Common.{ap, sym, subst, ◌∙◌, ◌≡◌, ◌≢◌, ◌<◌, ◌-◌, inl, inr, ℕ, zero, suc, List, Some, None, refl, arith}
-use Rattle.ub_page.specs.Entries.{entries_on}
-use Rattle.ub_index_change.specs.Lowering.{Lowers, entries_then, sole_page}
-use Rattle.ub_index_change.specs.declared.sheet.Sheet.{Sheet}
+use Rattle.ub_index_change.proofs.Common.{entries_on, entries_then, Lowers, Sheet, sole_page}
 
 pub sole_none : (n : ℕ) (page : List ℕ) → n ≢ 1 → None ≡ sole_page (entries_on 16 n page)
 sole_none zero page h = refl

@@ -1,20 +1,8 @@
 -- A change that is made: the store grows, the regions' pages are put, and then those that are spelled.
 use Rattle.std.proofs.Common.{◌≡◌, ◌<◌, ◌∙◌, ℕ, List, None, slice_get}
-use Rattle.std.specs.List.{AllByRecursion}
-use Rattle.ub_store.specs.Writing.{Grows}
-use Rattle.ub_region.specs.declared.entry.Entry.{Entry}
-use Rattle.ub_region.proofs.Laws.{all_both, all_more}
-use Rattle.ub_store.specs.Facts.{StoreFacts, IsHonest, page_count}
-use Rattle.ub_index_change.specs.Changed.{Replaces}
-use Rattle.ub_index.specs.Standing.{IsOutside}
-use Rattle.ub_index_change.specs.Changing.{IsUnspelled, Stand, StayBut}
-use Rattle.ub_index_change.specs.Filling.{IsFilled, KeepsFilled}
-use Rattle.ub_index.specs.Index.{top}
-use Rattle.ub_index_change.specs.Making.{IsCommitted, PutsSheets, StayOutside, changed}
-use Rattle.ub_index_change.specs.Preparing.{ChangeView, IsForeign, IsIndexThen, MakesIndex}
-use Rattle.ub_index.specs.View.{pages_of_index, IndexView, IsIndexOn, entries_in}
-use Rattle.ub_index_change.specs.declared.sheet.Sheet.{Sheet}
-use Rattle.ub_index.proofs.Numbers.{StandApart, apart_swap, within_store}
+use Rattle.ub_index_change.proofs.Common.{all_both, all_more, AllByRecursion, apart_swap, changed, ChangeView, entries_in, Entry, Grows, IndexView, IsCommitted}
+use Rattle.ub_index_change.proofs.Common.{IsFilled, IsForeign, IsHonest, IsIndexOn, IsIndexThen, IsOutside, IsUnspelled, KeepsFilled, MakesIndex, page_count}
+use Rattle.ub_index_change.proofs.Common.{pages_of_index, PutsSheets, Replaces, Sheet, Stand, StandApart, StayBut, StayOutside, StoreFacts, top, within_store}
 
 -- pages that there were stay, but for those that are spelled, where none of them is put in between
 stays : (old grown filled new : StoreFacts) (sheets : List Sheet) (numbers ns : List ℕ) → IsHonest old → IsHonest filled → Grows old grown

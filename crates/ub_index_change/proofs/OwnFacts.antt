@@ -1,23 +1,11 @@
 -- The pages of a table: none serves twice, and none does after a change. Where a change stands in the list of regions.
 use Rattle.std.proofs.Common.{false, None, ◌≡◌, ◌≢◌, ◌≤◌, ◌<◌, ◌+◌, ◌∙◌, inl, ℕ, suc, List, [], ◌∷◌, ◌++◌, Some, length, take, drop, nat_eq, ap, sym, subst, refl, arith, slice_get}
-use Rattle.std.proofs.lemmas.Bool.{ne_eqb}
-use Rattle.std.proofs.lemmas.List.{length-append}
-use Rattle.std.specs.List.{AllByRecursion, IsDistinct}
-use Rattle.ub_index.specs.Spans.{ArePlaces, first_keys}
-use Rattle.ub_region.specs.declared.entry.Entry.{Entry}
-use Rattle.ub_region.proofs.Laws.{all_both, all_more}
-use Rattle.ub_store.specs.Facts.{StoreFacts, page_count}
-use Rattle.ub_table.specs.declared.row.Key.{Key}
-use Rattle.ub_index_change.specs.Changed.{Replaces}
-use Rattle.ub_index.specs.Standing.{IsOutside, AreOwnPages, AreRegionsThere, region_pages}
-use Rattle.ub_index.specs.Index.{top}
-use Rattle.ub_index_change.specs.Making.{IsCommitted, changed}
-use Rattle.ub_index_change.specs.Preparing.{ChangeView, IsForeign, added_at}
-use Rattle.ub_index.specs.View.{IsReachedOnce, pages_of_index, IndexView, IsIndexOn, IsRegionAt, entries_in, entry_at}
-use Rattle.ub_region.specs.declared.region.Region.{Region}
-use Rattle.ub_index.proofs.Numbers.{apart_swap, distinct_apart, distinct_first, distinct_join, distinct_left, distinct_right, outside_less, within_store}
+use Rattle.ub_index_change.proofs.Common.{added_at, all_both, all_more, AllByRecursion, apart_swap, AreOwnPages, ArePlaces, changed, ChangeView, distinct_apart}
+use Rattle.ub_index_change.proofs.Common.{distinct_first, distinct_join, distinct_left, distinct_right, entries_in, Entry, entry_at, first_keys, index_of_first}
+use Rattle.ub_index_change.proofs.Common.{IndexView, IsCommitted, IsDistinct, IsForeign, IsIndexOn, IsOutside, IsReachedOnce, IsRegionAt, Key, length-append}
+use Rattle.ub_index_change.proofs.Common.{ne_eqb, outside_less, page_count, pages_of_index, Region, region_pages, Replaces, StoreFacts, top, within_store}
+use Rattle.ub_index.specs.Standing.{AreRegionsThere}
 use Rattle.ub_index.proofs.IndexFacts.{first_at}
-use Rattle.ub_index.proofs.PlaceFacts.{index_of_first}
 use Rattle.ub_index_change.proofs.ReadyFacts.{some_page}
 
 -- a property of all pages, where one comes behind one of them, and where one goes

@@ -1,20 +1,13 @@
 -- What becomes of a store's pages where it grows, and where sheets are put.
-use Rattle.std.proofs.Common.{Result, Ok, Err, None, option_map, ◌⊎◌, ◌≡◌, ◌≢◌, ◌≤◌, ◌<◌, ◌+◌, inl, inr, ℕ, zero, suc, List, [], ◌∷◌, Some, take, ◌∙◌, sym, ap, subst, refl, arith, slice_get}
 use Rattle.std.specs.Prelude.{IsTrue}
+use Rattle.std.proofs.Common.{Result, Ok, Err, None, option_map, ◌⊎◌, ◌≡◌, ◌≢◌, ◌≤◌, ◌<◌, ◌+◌, inl, inr, ℕ, zero, suc, List, [], ◌∷◌, Some, take, ◌∙◌, sym, ap, subst, refl, arith, slice_get}
+use Rattle.ub_index_change.proofs.Common.{AreBelow, AreIndexPages, AreOnce, IsHonest, IsIndexPage, IsPutFault, IsUnspelled, keeps_on, KeepsChecked, page_at}
+use Rattle.ub_index_change.proofs.Common.{page_count, PagerView, put_checked, put_get, PutsSheets, SameBut, SameButSheets, Sheet, Stand, StoreFacts, WritesAt}
 use Rattle.std.specs.Result.{IsErrOf}
-use Rattle.ub_store.specs.Cache.{SameBut, page_at}
-use Rattle.ub_store.specs.View.{PagerView}
-use Rattle.ub_store.specs.Facts.{StoreFacts, IsHonest, MayFlush, WritesAt, page_count}
+use Rattle.ub_store.specs.Facts.{MayFlush}
 use Rattle.ub_store.specs.declared.fault.StoreFault.{StoreFault}
-use Rattle.ub_store.specs.declared.fault.StoreFault.TheVariants as store
-use Rattle.ub_index_change.specs.Changing.{AreBelow, AreIndexPages, AreOnce, IsUnspelled, Stand}
-use Rattle.ub_index.specs.Held.{KeepsChecked}
-use Rattle.ub_index.specs.Index.{IsIndexPage}
-use Rattle.ub_index_change.specs.Making.{IsPutFault, PutsSheets, SameButSheets}
-use Rattle.ub_index_change.specs.declared.sheet.Sheet.{Sheet}
-use Rattle.ub_index.proofs.HeldFacts.{keeps_on}
 use Rattle.ub_index_change.proofs.BelowFacts.{sheet_at}
-use Rattle.ub_index.proofs.StandFacts.{put_get, put_checked}
+use Rattle.ub_store.specs.declared.fault.StoreFault.TheVariants as store
 
 pub then_done : (a b d : StoreFacts) → b ≡ record a { pages = b.pages; synced = b.synced } → d ≡ record b { pages = d.pages; synced = d.synced } → d ≡ record a { pages = d.pages; synced = d.synced }
 then_done a b d same more = more ∙ ap (λ (s : StoreFacts). record s { pages = d.pages; synced = d.synced }) same

@@ -1,47 +1,21 @@
 -- A change that is prepared makes an index on all later pages on which what it spells stands.
 use Rattle.std.proofs.Common.{◌≡◌, ◌≢◌, ◌≤◌, ◌<◌, ◌+◌, ◌^◌, ◌++◌, inl, inr, ℕ, zero, suc, nat_eq, List, [], ◌∷◌, Option, Some, None, Result, Ok, Err, IfErr, length, slice_get, ◌∙◌, sym, ap, subst, refl, arith}
-use Rattle.std.proofs.lemmas.Bool.{cases_lt}
-use Rattle.std.proofs.lemmas.List.{append-nil}
-use Rattle.std.proofs.lemmas.Option.{slice_get_within}
-use Rattle.std.specs.Result.{IsErrAnd}
-use Rattle.std.specs.List.{AllByRecursion, IsDistinct, flat_map}
-use Rattle.ub_page.specs.Entries.{IsEntry}
-use Rattle.ub_region.specs.declared.entry.Entry.{Entry}
-use Rattle.ub_region.proofs.Laws.{all_append, all_left, all_more, all_right}
-use Rattle.ub_store.specs.Facts.{StoreFacts, IsHonest, page_count}
-use Rattle.ub_store.specs.View.{PagerView}
-use Rattle.ub_store.specs.declared.fault.StoreFault.TheVariants as store
-use Rattle.ub_table.proofs.Laws.{not_before_self}
-use Rattle.ub_table.specs.Keys.{origin}
-use Rattle.ub_table.specs.declared.row.Key.{Key}
-use Rattle.ub_index_change.specs.Changed.{Becomes, Replaces, Stays}
-use Rattle.ub_index.specs.Index.{IsTold, entries_of, first_or, page_in, pages_under, EachTo, IsUnder, under, top}
-use Rattle.ub_index_change.specs.Changing.{IsFine, IsNoNew, IsTurnFault, Spelled, Stand, StayBut, named_as, sheet_of, so_far, with_added, Prepares}
-use Rattle.ub_index.specs.Standing.{IsOutside}
-use Rattle.ub_index_change.specs.FullWay.{EndsFull}
-use Rattle.ub_index_change.specs.Filling.{IsFilled, IsFilledRoot, KeepsFilled}
-use Rattle.ub_index_change.specs.Preparing.{ChangeView, IsChangeFault, IsIndexThen, IsPrepared, MakesIndex, IsSettleFault, IsWithinRegion, PreparesAll, Settles, TurnsRoot, added_at, change_view, HasFullWay, NeedsPages}
-use Rattle.ub_index.specs.View.{IsReachedOnce, pages_of_index, IndexView, IsIndexOn, IsRegionAt, entries_in, index_view, entry_at}
-use Rattle.ub_index.specs.Way.{LeadsTo}
-use Rattle.ub_index.specs.declared.fault.IndexFault.{IndexFault}
-use Rattle.ub_index.specs.declared.fault.IndexFault.TheVariants.{Full, Page, Store}
-use Rattle.ub_region.specs.declared.region.Region.{Region}
-use Rattle.ub_index_change.specs.declared.sheet.Sheet.{Sheet}
-use Rattle.ub_index_change.specs.declared.told.Told.{Told}
-use Rattle.ub_index_change.specs.declared.told.Told.TheVariants.{Two}
-use Rattle.ub_index.proofs.HeldFacts.{Keeps}
+use Rattle.ub_index_change.proofs.Common.{added_at, all_append, all_left, all_more, all_right, AllByRecursion, append-nil, Becomes, cases_lt, change_view}
+use Rattle.ub_index_change.proofs.Common.{ChangeView, distinct_cons, distinct_first, distinct_rest, EachTo, EndsFull, entries_in, entries_of, Entry, entry_at}
+use Rattle.ub_index_change.proofs.Common.{err_is, first_or, first_through, flat_map, Full, HasFullWay, index_view, IndexFault, IndexView, IsChangeFault}
+use Rattle.ub_index_change.proofs.Common.{IsDistinct, IsEntry, IsErrAnd, IsFilled, IsFilledRoot, IsFine, IsHonest, IsIndexOn, IsIndexThen, IsNoNew, IsOutside}
+use Rattle.ub_index_change.proofs.Common.{IsPrepared, IsReachedOnce, IsRegionAt, IsSettleFault, IsTold, IsTurnFault, IsUnder, IsWithinRegion, Keeps}
+use Rattle.ub_index_change.proofs.Common.{KeepsFilled, Key, LeadsTo, MakesIndex, named_as, NeedsPages, not_before_self, origin, outside_less, Page, page_count}
+use Rattle.ub_index_change.proofs.Common.{page_in, pager_with, PagerView, pages_of_index, pages_under, Prepares, PreparesAll, Region, region_found, Replaces}
+use Rattle.ub_index_change.proofs.Common.{same_store, Settles, Sheet, sheet_of, slice_get_within, so_far, Spelled, Stand, StayBut, Stays, Store, StoreFacts}
+use Rattle.ub_index_change.proofs.Common.{Told, told_index, top, TurnsRoot, Two, under, under_first, whole_below, with_added, within_store}
 use Rattle.ub_index_change.proofs.Changes.{replaced, stays}
-use Rattle.ub_index.proofs.KeptFacts.{told_index}
 use Rattle.ub_index_change.proofs.FillFacts.{AreFilled, filled_becomes, filled_over}
 use Rattle.ub_index_change.proofs.FullFacts.{all_end, ends_few, full_taken, settles_or}
-use Rattle.ub_index.proofs.Numbers.{distinct_cons, distinct_first, distinct_rest, outside_less, within_store}
 use Rattle.ub_index_change.proofs.SheetNumbers.{no_new_left, once_join}
-use Rattle.ub_index.proofs.OrderFacts.{first_through, under_first}
-use Rattle.ub_index.proofs.PlaceFacts.{region_found}
-use Rattle.ub_index.proofs.SearchFacts.{err_is, pager_with, same_store}
-use Rattle.ub_index.proofs.WaysFacts.{whole_below}
 use Rattle.ub_index_change.proofs.SpreadFacts.{root_told}
 use Rattle.ub_index_change.proofs.TurnFacts.{Risen, rises, unspelled_left}
+use Rattle.ub_store.specs.declared.fault.StoreFault.TheVariants as store
 
 -- where the root becomes two, each page on the way is full, and one is taken for each
 settled_two : (index : IndexView) (old : StoreFacts) (key : Key) (added : Option Entry) (from to : Spelled) (told : Told) (left right : Entry) → told ≡ Two left right
@@ -122,8 +96,7 @@ turn_refused T U root levels last index key added from old new r e view is h =
     }))
 
 pub entry_is : (entry : Entry) (first : Key) (page : ℕ) → entry.first ≡ first → entry.page ≡ page → entry ≡ record { first = first; page = page }
-entry_is entry first page h k =
-    ap (λ (key : Key). record { first = key; page = entry.page }) h ∙ ap (λ (n : ℕ). record { first = first; page = n }) k
+entry_is entry first page h k = ap (λ (key : Key). record { first = key; page = entry.page }) h ∙ ap (λ (n : ℕ). record { first = first; page = n }) k
 
 -- where the one entry of a page above is told, it names the same page
 one_page : (last : ℕ) (old later : List (List ℕ)) (f : Entry) (fs : List Entry) (next : Option Key) (level : ℕ) (entry : Entry) (end : Option Key) (other : Entry) → 1 ≤ level

@@ -1,18 +1,7 @@
 -- Sheets that are put on pages, and a page that isn't among them and fits there.
 use Rattle.std.proofs.Common.{◌≡◌, ◌≢◌, ◌≤◌, ◌<◌, ◌^◌, ◌∙◌, ◌==◌, inl, inr, Bool, ℕ, zero, suc, List, [], ◌∷◌, Option, Some, None, length, slice_get, slice_set, sym, ap, subst, refl, arith, if◌then◌else◌}
-use Rattle.std.proofs.lemmas.Bool.{cases_Bool, cases_lt}
-use Rattle.std.proofs.lemmas.List.{length-set}
-use Rattle.ub_table.specs.Keys.{origin}
-use Rattle.ub_table.specs.declared.fault.PageFault.{PageFault}
-use Rattle.ub_index_change.specs.Changing.{AreOnce, IsUnspelled, Stand, StayBut}
-use Rattle.ub_index.specs.Fitting.{IsNotTaken}
-use Rattle.ub_index.specs.Index.{Fits, IsUnder, NamesFitting, page_in, top}
-use Rattle.ub_index_change.specs.Lowering.{spelled_page}
-use Rattle.ub_index_change.specs.declared.sheet.Sheet.{Sheet}
-use Rattle.ub_index.proofs.KeptFacts.{same_page}
-use Rattle.ub_index.proofs.Numbers.{differs}
-use Rattle.ub_index.proofs.StandFacts.{put_get}
-use Rattle.ub_index.proofs.WayFacts.{named_not_refused}
+use Rattle.ub_index_change.proofs.Common.{AreOnce, cases_Bool, cases_lt, differs, Fits, IsNotTaken, IsUnder, IsUnspelled, length-set, named_not_refused}
+use Rattle.ub_index_change.proofs.Common.{NamesFitting, origin, page_in, PageFault, put_get, same_page, Sheet, spelled_page, Stand, StayBut, top}
 
 put_other : (pages : List (List ℕ)) (n m : ℕ) (page : List ℕ) → m ≢ n → slice_get (slice_set pages n page) m ≡ slice_get pages m
 put_other [] (suc n) m page h = refl

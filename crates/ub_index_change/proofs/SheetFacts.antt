@@ -1,35 +1,14 @@
 -- What a change spells over any pages is pages of an index.
 use Rattle.std.proofs.Common.{◌≡◌, ◌≤◌, ◌<◌, ◌^◌, ◌++◌, ◌+◌, inl, inr, ℕ, zero, suc, List, [], ◌∷◌, Option, Some, None, IfSome, take, drop, ◌∙◌, sym, ap, subst, refl, arith, take-append-drop}
-use Rattle.std.proofs.lemmas.List.{append-nil}
-use Rattle.std.proofs.lemmas.Option.{slice_get_within}
-use Rattle.std.specs.List.{AllByRecursion}
-use Rattle.ub_page.specs.Index.{node_on}
-use Rattle.ub_page.specs.Entries.{IsEntry}
-use Rattle.ub_region.specs.declared.entry.Entry.{Entry}
-use Rattle.ub_region.proofs.Laws.{all_append, all_left, all_right}
-use Rattle.ub_store.specs.Facts.{StoreFacts, page_count}
-use Rattle.ub_table.proofs.Laws.{not_before_self}
-use Rattle.ub_table.specs.Keys.{IsBefore}
-use Rattle.ub_table.specs.declared.row.Key.{Key}
-use Rattle.ub_index_change.specs.Changed.{BeginFrom}
-use Rattle.ub_index_change.specs.Changing.{AreIndexPages, IsFine, Mends, NamesPage, Spelled, Spreads, Turns, named_as, sheet_of, so_far}
-use Rattle.ub_index.specs.Fitting.{FallsTo}
-use Rattle.ub_index.specs.Index.{AscendTo, IsIndexPage, NamesFitting, entries_of, first_or, page_in, top}
-use Rattle.ub_index_change.specs.Preparing.{ChangeView, IsPrepared, IsWithinRegion, added_at}
-use Rattle.ub_index.specs.View.{IndexView, Leads, entry_at}
-use Rattle.ub_index.specs.Way.{LeadsTo}
-use Rattle.ub_region.specs.declared.region.Region.{Region}
-use Rattle.ub_index_change.specs.declared.sheet.Sheet.{Sheet}
-use Rattle.ub_index_change.specs.declared.told.Told.{Told}
-use Rattle.ub_index_change.specs.declared.told.Told.TheVariants.{Same, Gone, One, Two}
+use Rattle.ub_index_change.proofs.Common.{added_at, all_append, all_left, all_right, AllByRecursion, append-nil, AreIndexPages, ascend_later, ascend_left}
+use Rattle.ub_index_change.proofs.Common.{ascend_right, AscendTo, BeginFrom, ChangeView, end_below, entries_of, Entry, entry_at, FallsTo, first_or, Gone}
+use Rattle.ub_index_change.proofs.Common.{IndexView, IsBefore, IsEntry, IsFine, IsIndexPage, IsPrepared, IsWithinRegion, Key, Leads, LeadsTo, Mends, named_as}
+use Rattle.ub_index_change.proofs.Common.{NamesFitting, NamesPage, node, node_is, node_on, not_before_self, One, one_way, page_count, page_in, Region, Same}
+use Rattle.ub_index_change.proofs.Common.{Sheet, sheet_of, slice_get_within, so_far, Spelled, Spreads, StoreFacts, Told, top, Turns, Two, up_below, whole_below}
 use Rattle.ub_index_change.proofs.Changes.{ascend_mended, begun_before, begun_joined, first_of, no_end}
-use Rattle.ub_index.proofs.LeadFacts.{one_way}
 use Rattle.ub_index_change.proofs.FullFacts.{mends_or, settles_or}
 use Rattle.ub_index_change.proofs.ReadyFacts.{added_fine, leads_entry}
-use Rattle.ub_index.proofs.WaysFacts.{end_below, up_below, whole_below}
-use Rattle.ub_index.proofs.Lists.{ascend_later, ascend_left, ascend_right}
 use Rattle.ub_index_change.proofs.SpreadFacts.{new_sheets, node_so, nodes_so, spread_named, spread_next, spread_sheets}
-use Rattle.ub_index.proofs.StandFacts.{node, node_is}
 
 -- what is spelled of entries in order
 spread_pages : (last : ℕ) → last < 2 ^ 128 → (level : ℕ) (entry : Entry) (entries : List Entry) (end : Option Key) (from to : Spelled) (told : Told) → suc level ≤ 16

@@ -1,11 +1,6 @@
 -- Numbers of pages that are spelled, and of those that are new.
 use Rattle.std.proofs.Common.{inl, inr, arith, ◌≡◌, ◌≢◌, ◌≤◌, ◌++◌, ℕ, List, [], ◌∷◌, false, nat_eq, sym}
-use Rattle.std.proofs.lemmas.Bool.{ne_eqb}
-use Rattle.std.specs.List.{AllByRecursion, IsDistinct}
-use Rattle.ub_region.proofs.Laws.{all_append, all_more}
-use Rattle.ub_index.specs.Standing.{IsOutside}
-use Rattle.ub_index_change.specs.Changing.{AreOnce, IsNoNew, IsUnspelled}
-use Rattle.ub_index_change.specs.declared.sheet.Sheet.{Sheet}
+use Rattle.ub_index_change.proofs.Common.{all_append, all_more, AllByRecursion, AreOnce, IsDistinct, IsNoNew, IsOutside, IsUnspelled, ne_eqb, Sheet}
 
 pub distinct_put : (m : ℕ) (xs ys : List ℕ) → IsDistinct nat_eq (xs ++ ys) → IsOutside m (xs ++ ys) → IsDistinct nat_eq (xs ++ (m ∷ ys))
 unfolding IsDistinct

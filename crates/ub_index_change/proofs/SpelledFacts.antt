@@ -1,27 +1,10 @@
 -- What a change of one region's entry spells, over any pages: where each of those pages stood, or that it is new; and where what an
 -- entry becomes begins.
 use Rattle.std.proofs.Common.{◌≡◌, ◌≢◌, ◌≤◌, ◌<◌, ◌++◌, ◌⊎◌, inl, inr, ℕ, zero, suc, List, [], ◌∷◌, Option, Some, None, IfSome, length, take, drop, ◌∙◌, sym, ap, subst, refl, arith, take-append-drop}
-use Rattle.std.proofs.lemmas.List.{append-nil}
-use Rattle.std.proofs.lemmas.Option.{slice_get_within}
-use Rattle.std.specs.List.{AllByRecursion}
-use Rattle.ub_page.specs.Index.{node_on}
-use Rattle.ub_region.specs.declared.entry.Entry.{Entry}
-use Rattle.ub_region.proofs.Laws.{all_append, all_more}
-use Rattle.ub_table.proofs.Laws.{before_trans, not_before_self}
-use Rattle.ub_table.specs.Keys.{IsBefore}
-use Rattle.ub_table.specs.declared.row.Key.{Key}
-use Rattle.ub_index.specs.Fitting.{FallsTo}
-use Rattle.ub_index.specs.Index.{AscendTo, NamesFitting, entries_of, first_or, page_in}
-use Rattle.ub_index.specs.Way.{LeadsTo}
-use Rattle.ub_index_change.specs.Changing.{AreOnce, IsUnspelled, Mends, Spelled, Spreads, Turns, named_as, with_added}
-use Rattle.ub_index_change.specs.declared.sheet.Sheet.{Sheet}
-use Rattle.ub_index_change.specs.declared.told.Told.{Told}
-use Rattle.ub_index_change.specs.declared.told.Told.TheVariants.{Same, Gone, One, Two}
-use Rattle.ub_index.proofs.KeyFacts.{le_trans}
-use Rattle.ub_index.proofs.LeadFacts.{falls_once}
-use Rattle.ub_index.proofs.Lists.{IsNotBefore, ascend_first, ascend_later, first_append}
-use Rattle.ub_index.proofs.WayFacts.{before_found}
-use Rattle.ub_index.proofs.WaysFacts.{end_below, ends_from, from_above, up_below}
+use Rattle.ub_index_change.proofs.Common.{all_append, all_more, AllByRecursion, append-nil, AreOnce, ascend_first, ascend_later, AscendTo, before_found}
+use Rattle.ub_index_change.proofs.Common.{before_trans, end_below, ends_from, entries_of, Entry, falls_once, FallsTo, first_append, first_or, from_above, Gone}
+use Rattle.ub_index_change.proofs.Common.{IsBefore, IsNotBefore, IsUnspelled, Key, le_trans, LeadsTo, Mends, named_as, NamesFitting, node_on, not_before_self}
+use Rattle.ub_index_change.proofs.Common.{One, page_in, Same, Sheet, slice_get_within, Spelled, Spreads, Told, Turns, Two, up_below, with_added}
 use Rattle.ub_index_change.proofs.Changes.{no_end}
 use Rattle.ub_index_change.proofs.FullFacts.{mends_next, mends_or}
 use Rattle.ub_index_change.proofs.SheetFacts.{first_named}

@@ -1,25 +1,10 @@
 -- What is spelled of a page's entries stands on the later pages as it is named.
 use Rattle.std.proofs.Common.{nat_eq, ◌≡◌, ◌≢◌, ◌≤◌, ◌<◌, ◌^◌, ◌++◌, ◌+◌, inl, inr, ℕ, suc, List, [], ◌∷◌, Option, Some, None, length, take, drop, slice_get, ◌∙◌, sym, ap, subst, refl, arith, take-append-drop}
-use Rattle.std.proofs.lemmas.List.{append-nil, length-drop, length-take-le}
-use Rattle.std.proofs.lemmas.Grind.{flat_map-append}
-use Rattle.std.specs.List.{AllByRecursion, IsDistinct, flat_map}
-use Rattle.ub_page.specs.Index.{IsNode, index_page}
-use Rattle.ub_page.specs.Entries.{IsEntry}
-use Rattle.ub_region.specs.declared.entry.Entry.{Entry}
-use Rattle.ub_region.proofs.Laws.{all_left, all_right}
-use Rattle.ub_table.specs.Keys.{origin}
-use Rattle.ub_table.specs.declared.row.Key.{Key}
-use Rattle.ub_index.specs.Index.{IsTold, pages_under, first_or, AscendTo, top}
-use Rattle.ub_index_change.specs.Changed.{StandOn}
-use Rattle.ub_index_change.specs.Changing.{AreOnce, IsNoNew, IsUnspelled, NamesPage, Spelled, Spreads, Stand, named_as, sheet_of}
-use Rattle.ub_index.specs.Standing.{IsOutside}
-use Rattle.ub_index_change.specs.declared.sheet.Sheet.{Sheet}
-use Rattle.ub_index_change.specs.declared.told.Told.{Told}
-use Rattle.ub_index_change.specs.declared.told.Told.TheVariants.{Same, Gone, One, Two}
-use Rattle.ub_index.proofs.Numbers.{distinct_cons}
+use Rattle.ub_index_change.proofs.Common.{all_left, all_right, AllByRecursion, append-nil, AreOnce, ascend_left, ascend_right, ascending_of, AscendTo}
+use Rattle.ub_index_change.proofs.Common.{distinct_cons, Entry, first_or, flat_map, flat_map-append, Gone, index_page, IsDistinct, IsEntry, IsNode, IsNoNew}
+use Rattle.ub_index_change.proofs.Common.{IsOutside, IsTold, IsUnspelled, Key, length-drop, length-take-le, named_as, NamesPage, node, One, origin, pages_under}
+use Rattle.ub_index_change.proofs.Common.{Same, Sheet, sheet_of, some_entries, Spelled, Spreads, Stand, StandOn, Told, told_there, top, Two}
 use Rattle.ub_index_change.proofs.SheetNumbers.{distinct_put, outside_put}
-use Rattle.ub_index.proofs.Lists.{ascend_left, ascend_right, ascending_of}
-use Rattle.ub_index.proofs.StandFacts.{node, some_entries, told_there}
 
 -- what is spelled of entries that are named so
 abbrev pub new_sheets : ℕ → Entry → List Entry → ℕ → Told → List Sheet
@@ -177,8 +162,7 @@ module _ (last : ℕ) (small : last < 2 ^ 128) where
       append-nil (pages_under later (suc level) entry) ∙ ap (λ (xs : List Entry). entry.page ∷ flat_map (pages_under later level) xs) h.entries_are
 
   two_pages : (later : List (List ℕ)) (level : ℕ) (entries : List Entry) (left right : Entry) → IsTold last later (suc level) (take 86 entries) left
-      → IsTold last later (suc level) (drop 86 entries) right
-      → flat_map (pages_under later (suc level)) (left ∷ right ∷ [])
+      → IsTold last later (suc level) (drop 86 entries) right → flat_map (pages_under later (suc level)) (left ∷ right ∷ [])
       ≡ left.page ∷ (flat_map (pages_under later level) (take 86 entries) ++ (right.page ∷ flat_map (pages_under later level) (drop 86 entries)))
   two_pages later level entries left right h k =
       ap (λ (ns : List ℕ). pages_under later (suc level) left ++ ns) (one_pages later level (drop 86 entries) right k)

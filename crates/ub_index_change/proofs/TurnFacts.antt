@@ -1,31 +1,17 @@
 -- What an entry of an index becomes where a change turns: on the later pages it is what `Becomes` says.
 use Rattle.std.proofs.Common.{◌≡◌, ◌≢◌, ◌≤◌, ◌<◌, ◌^◌, ◌++◌, inl, inr, ℕ, zero, suc, nat_eq, List, [], ◌∷◌, Option, Some, None, length, slice_get, ◌∙◌, sym, ap, subst, refl, arith, append_assoc}
-use Rattle.std.proofs.lemmas.Grind.{flat_map-append}
-use Rattle.std.proofs.lemmas.List.{append-nil}
-use Rattle.std.proofs.lemmas.Option.{slice_get_within}
-use Rattle.std.specs.List.{AllByRecursion, IsDistinct, flat_map}
-use Rattle.ub_page.specs.Index.{node_on}
-use Rattle.ub_page.specs.Entries.{IsEntry}
-use Rattle.ub_region.specs.declared.entry.Entry.{Entry}
-use Rattle.ub_region.proofs.Laws.{all_append, all_both, all_left, all_more, all_right}
-use Rattle.ub_table.specs.declared.row.Key.{Key}
-use Rattle.ub_index.specs.Standing.{PagesStay, IsOutside}
-use Rattle.ub_index_change.specs.Changed.{Becomes, StandOn, Stays}
-use Rattle.ub_index.specs.Index.{IsTold, entries_of, first_or, page_in, AscendTo, EachTo, IsUnder, pages_under}
-use Rattle.ub_index_change.specs.Changing.{AreOnce, IsFine, IsNoNew, IsUnspelled, Mends, Spelled, Spreads, Stand, StayBut, Turns, named_as, with_added}
-use Rattle.ub_index.specs.Fitting.{FallsTo}
-use Rattle.ub_index.specs.Way.{LeadsTo}
-use Rattle.ub_index_change.specs.declared.sheet.Sheet.{Sheet}
-use Rattle.ub_index_change.specs.declared.told.Told.{Told}
-use Rattle.ub_index_change.specs.declared.told.Told.TheVariants.{Same}
-use Rattle.ub_index.proofs.KeptFacts.{kept_named, same_entries}
+use Rattle.ub_index_change.proofs.Common.{all_append, all_both, all_left, all_more, all_right, AllByRecursion, apart_swap, append-nil, AreOnce, AscendTo}
+use Rattle.ub_index_change.proofs.Common.{Becomes, distinct_apart, distinct_cons, distinct_first, distinct_join, distinct_left, distinct_rest, distinct_right}
+use Rattle.ub_index_change.proofs.Common.{each_right, EachTo, entries_of, Entry, FallsTo, first_or, flat_map, flat_map-append, IsDistinct, IsEntry, IsFine}
+use Rattle.ub_index_change.proofs.Common.{IsNoNew, IsOutside, IsTold, IsUnder, IsUnspelled, kept_named, kept_pages_list, Key, LeadsTo, Mends, named_as}
+use Rattle.ub_index_change.proofs.Common.{no_pages, node_on, outside_less, page_in, pages_under, PagesStay, Same, same_entries, Sheet, slice_get_within}
+use Rattle.ub_index_change.proofs.Common.{Spelled, Spreads, Stand, StandApart, StandOn, StayBut, Stays, Told, Turns, up_below, whole_below, with_added}
+use Rattle.ub_index_change.proofs.Common.{within_store}
 use Rattle.ub_index_change.proofs.Changes.{ascend_mended, stays}
-use Rattle.ub_index.proofs.Lists.{each_right}
-use Rattle.ub_index.proofs.WaysFacts.{up_below, whole_below}
-use Rattle.ub_index.proofs.Numbers.{StandApart, apart_swap, distinct_apart, distinct_cons, distinct_first, distinct_join, distinct_left, distinct_rest, distinct_right, kept_pages_list, no_pages, outside_less, within_store}
 use Rattle.ub_index_change.proofs.FullFacts.{mends_or}
 use Rattle.ub_index_change.proofs.SheetNumbers.{no_new_left, no_new_right, once_join}
-use Rattle.ub_index_change.proofs.SpreadFacts.{ToldOn, new_sheets, one_pages, pages_among, pages_own, spread_apart, spread_named, spread_next, spread_once, spread_outside, spread_sheets, stand_told, told_spread}
+use Rattle.ub_index_change.proofs.SpreadFacts.{ToldOn, new_sheets, one_pages, pages_among, pages_own, spread_apart, spread_named, spread_next, spread_once}
+use Rattle.ub_index_change.proofs.SpreadFacts.{spread_outside, spread_sheets, stand_told, told_spread}
 
 -- what a change makes of an entry: which region's entry it turns at, the pages that it spells, and what holds on all later pages on
 -- which those stand, and the other ones as they were

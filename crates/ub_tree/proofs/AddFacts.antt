@@ -1,36 +1,14 @@
 -- What a tree is once a region of it was parted: the store grew, both halves were put, and then what the change of the index spells.
-use Rattle.std.proofs.lemmas.Grind.{common_steps}
 use Rattle.std.proofs.Common.{◌≡◌, ◌<◌, ◌+◌, ◌∙◌, ℕ, suc, List, [], ◌∷◌, Some, length, map, take, drop, ap, sym, subst, refl, arith, slice_get}
-use Rattle.std.specs.List.{AllByRecursion}
-use Rattle.ub_store.specs.Writing.{Grows}
-use Rattle.ub_index_change.proofs.MadeFacts.{made_filled}
-use Rattle.ub_index_change.proofs.OwnFacts.{count_replaced, foreign_regions, own_added}
-use Rattle.ub_index_change.specs.Changed.{Replaces}
-use Rattle.ub_index.specs.Standing.{IsOutside, AreOwnPages, region_pages}
-use Rattle.ub_index_change.specs.Changing.{Stand}
-use Rattle.ub_index_change.specs.Filling.{IsFilled, KeepsFilled}
-use Rattle.ub_index_change.specs.Making.{IsCommitted, PutsSheets, StayOutside, changed}
-use Rattle.ub_index_change.specs.Preparing.{ChangeView, IsForeign, MakesIndex, added_at}
-use Rattle.ub_index.specs.View.{IndexView, entries_in, entries_under, entry_at}
-use Rattle.ub_region.specs.declared.region.Region.{Region}
-use Rattle.ub_page.proofs.PageLaws.{region_parts}
-use Rattle.ub_region.specs.RegionPage.{region_page}
-use Rattle.ub_region.specs.declared.entry.Entry.{Entry}
-use Rattle.ub_store.specs.Facts.{StoreFacts, IsHonest, page_count}
-use Rattle.ub_table.specs.Region.{IsRegion}
-use Rattle.ub_table.specs.declared.row.Key.{Key}
-use Rattle.ub_table.specs.declared.row.Row.{Row}
-use Rattle.ub_table.specs.declared.schema.Schema.{Schema}
+use Rattle.ub_tree.proofs.Common.{added_at, AllByRecursion, AreOwnPages, ArePlaced, changed, ChangeView, common_steps, count_replaced, entries_in}
+use Rattle.ub_tree.proofs.Common.{entries_under, Entry, entry_at, entry_of, foreign_regions, Grows, HasIndex, IndexView, IsCommitted, IsFilled, IsForeign}
+use Rattle.ub_tree.proofs.Common.{IsHonest, IsOutside, IsRegion, IsRegionIn, IsStored, KeepsFilled, KeepsGrown, Key, made_filled, MakesIndex, own_added}
+use Rattle.ub_tree.proofs.Common.{page_count, Placed, placed_in, placed_of, placed_with, PutsSheets, PutsTwo, Region, region_page, region_pages, region_parts}
+use Rattle.ub_tree.proofs.Common.{Replaces, reserved, Row, Schema, Stand, StayOutside, StoreFacts, TreeView}
 use Rattle.ub_tree.proofs.PutFacts.{view_placed}
 use Rattle.ub_tree.proofs.SplitFacts.{after_regions, before_regions, committed, is, new_are, new_indexed, new_placed, own, page_foreign, there as there_regions}
 use Rattle.ub_tree.proofs.StoredFacts.{IsTold}
 use Rattle.ub_tree.proofs.TreeFacts.{length-placed}
-use Rattle.ub_tree.specs.Indexed.{HasIndex, reserved}
-use Rattle.ub_tree.specs.Placed.{Placed, ArePlaced, placed_of, entry_of}
-use Rattle.ub_tree.specs.Tree.{placed_in}
-use Rattle.ub_tree.specs.View.{TreeView}
-use Rattle.ub_tree.specs.inner.Change.{IsRegionIn, IsStored, KeepsGrown, placed_with}
-use Rattle.ub_writing.specs.Puts.{PutsTwo}
 
 -- a region of a stored tree is parted: its first half stands on its page, the other one on the page that the store got first
 module _ (t : TreeView) (seen : t.placed ≡ placed_in t.schema t.inner.index t.store) (stored : IsStored t) (i : ℕ) (span : Region) (at : IsRegionIn t i span) (here : span.page < page_count t.store)
@@ -88,8 +66,7 @@ module _ (t : TreeView) (seen : t.placed ≡ placed_in t.schema t.inner.index t.
 
   told_right : IsTold schema new.pages (record { page = page_count a; region = record { first = first; rows = right } })
   told_right = (
-    made.kept (page_count a) (all_foreign.1 (omega arith))
-        ∙ (ap (slice_get filled.pages) (sym number_is)
+    made.kept (page_count a) (all_foreign.1 (omega arith)) ∙ (ap (slice_get filled.pages) (sym number_is)
         ∙ (put.written honest_grown (λ e. omega arith) (λ e. omega arith) ∙ ap (λ (q : List ℕ). Some q) other_is)),
     (region_parts schema (record { first = first; rows = right }) (region_page schema (record { first = first; rows = right })) good_right refl).on,
   )
@@ -112,8 +89,7 @@ module _ (t : TreeView) (seen : t.placed ≡ placed_in t.schema t.inner.index t.
   long : t.inner.count + 1 ≡ length (placed_with i news t.placed)
   long = grind (arith, common_steps, count_replaced, length-placed, made, new_is, view_placed, viewed)
 
-  -- the tree then, if it stands on that store, with the index that the change tells; and where rows were only put in before, that is so
-  -- still
+  -- the tree then, if it stands on that store, with the index that the change tells; and where rows were only put in before, that is so still
   pub parts_stored : KeepsFilled index a change → (d : TreeView) → d.placed ≡ placed_in d.schema d.inner.index d.store → d.schema ≡ t.schema → d.inner.index ≡ changed t.inner.index change → d.inner.count ≡ t.inner.count + 1
       → d.is_failed ≡ t.is_failed → d.store ≡ new → IsStored d × (d.placed ≡ placed_with i news t.placed) × KeepsGrown t d
   parts_stored fills d seen_d schema_is index_is count_is works store_is =

@@ -1,26 +1,10 @@
 -- Where a region would be joined with one beside it: what the regions beside one answer, over an honest store.
-use Rattle.std.proofs.Common.{rules}
-use Rattle.std.proofs.Common.{◌≡◌, ◌<◌, ◌≤◌, ◌+◌, ◌/◌, ◌^◌, inl, ℕ, true, false, Option, Some, None, Result, Ok, Err, IfSome, MatchResult, length, nat_le, nat_lt, sym, ap, subst, refl, arith}
-use Rattle.std.proofs.lemmas.Bool.{leb-false, ltb-false}
-use Rattle.std.specs.Result.{IsErrAnd}
-use Rattle.ub_index.proofs.LeadFacts.{one_given}
-use Rattle.ub_index.specs.Searching.{GivesAny, IsWayFault, key_before}
-use Rattle.ub_index.specs.View.{IndexView}
-use Rattle.ub_index.specs.declared.fault.IndexFault.{IndexFault}
-use Rattle.ub_region.specs.RegionPage.{RegionView}
-use Rattle.ub_region.specs.declared.region.Region.{Region}
-use Rattle.ub_store.specs.Facts.{StoreFacts, IsHonest}
-use Rattle.ub_table.specs.Region.{RegionRows}
-use Rattle.ub_table.specs.declared.row.Key.{Key}
+use Rattle.std.proofs.Common.{rules, ◌≡◌, ◌<◌, ◌≤◌, ◌+◌, ◌/◌, ◌^◌, inl, ℕ, true, false, Option, Some, None, Result, Ok, Err, IfSome, MatchResult, length, nat_le, nat_lt, sym, ap, subst, refl, arith}
+use Rattle.ub_tree.proofs.Common.{Answers, AnswersBeside, CanFallInto, GivesAny, HasRoomAt, index_fault, IndexFault, IndexView, IsErrAnd, IsHonest, IsJoined}
+use Rattle.ub_tree.proofs.Common.{IsPassing, IsTakenIn, IsWayFault, Key, key_before, leb-false, ltb-false, one_given, Region, RegionRows, RegionView}
+use Rattle.ub_tree.proofs.Common.{StoreFacts, TreeFault, TreeView}
 use Rattle.ub_tree.proofs.CallFacts.{way_passing}
 use Rattle.ub_tree.proofs.HoldingFacts.{no_answer, passing_by, passing_fault}
-use Rattle.ub_tree.specs.Effects.{IsTakenIn}
-use Rattle.ub_tree.specs.Faults.{index_fault}
-use Rattle.ub_tree.specs.Holding.{Answers, CanFallInto, HasRoomAt, IsJoined}
-use Rattle.ub_tree.specs.Opened.{IsPassing}
-use Rattle.ub_tree.specs.View.{TreeView}
-use Rattle.ub_tree.specs.declared.fault.TreeFault.{TreeFault}
-use Rattle.ub_tree.specs.inner.Removing.{AnswersBeside}
 
 -- one region is given for a key, and none for none
 pub any_given : (i : IndexView) (facts : StoreFacts) (sought : Option Key) (a b : Option Region) → IsHonest facts → GivesAny i facts sought a → GivesAny i facts sought b → a ≡ b

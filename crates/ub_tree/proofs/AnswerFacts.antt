@@ -1,18 +1,8 @@
 -- What a tree answers that is asked for the next region that meets some boxes again and again, over any pages: each answer is later than
 -- the one before it, and begins with a key of the space, so fewer keys are left after each.
-use Rattle.std.proofs.Common.{rules}
-use Rattle.std.proofs.Common.{◌≡◌, ◌<◌, ◌≤◌, ◌+◌, ◌-◌, ◌*◌, ◌^◌, ◌++◌, ◌∷◌, ◌⊎◌, ℕ, zero, suc, List, [], Option, Some, None, IfSome, if◌then◌else◌, nat_lt, slice_get, ap, ◌∙◌, refl, subst, sym, arith}
-use Rattle.std.specs.List.{AllByRecursion}
-use Rattle.ub_bigmin.specs.Box.{Corners, HoldsAny}
-use Rattle.ub_bigmin.specs.Extremes.{LeastFrom}
-use Rattle.ub_index.specs.Searching.{GivesFrom, at_least}
-use Rattle.ub_region.specs.Spans.{end_before, address_before}
-use Rattle.ub_table.proofs.Laws.{before_parts, before_trans}
-use Rattle.ub_table.specs.Keys.{IsBefore}
-use Rattle.ub_table.specs.declared.row.Key.{Key}
-use Rattle.ub_tree.specs.Spans.{IsLater, Meets, Region}
-use Rattle.ub_tree.specs.Told.{AreAnswers, AreFirst, GivesNext, IsRegionOf}
-use Rattle.ub_tree.specs.View.{TreeView}
+use Rattle.std.proofs.Common.{rules, ◌≡◌, ◌<◌, ◌≤◌, ◌+◌, ◌-◌, ◌*◌, ◌^◌, ◌++◌, ◌∷◌, ◌⊎◌, ℕ, zero, suc, List, [], Option, Some, None, IfSome, if◌then◌else◌, nat_lt, slice_get, ap, ◌∙◌, refl, subst, sym, arith}
+use Rattle.ub_tree.proofs.Common.{address_before, AllByRecursion, AreAnswers, AreFirst, at_least, before_parts, before_trans, Corners, end_before, GivesFrom}
+use Rattle.ub_tree.proofs.Common.{GivesNext, HoldsAny, IsBefore, IsLater, IsRegionOf, Key, LeastFrom, Meets, Region, TreeView}
 
 -- ---- how many keys of a space are later than a region's first one
 

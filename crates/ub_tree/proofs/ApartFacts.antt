@@ -1,30 +1,10 @@
 -- No two pages are one that an index and its regions stand on: pages of the index differ by their levels and first keys, those of
 -- regions by their first keys, and the one from the other by their kinds.
-use Rattle.std.proofs.Common.{rules}
-use Rattle.std.proofs.Common.{◌≡◌, ◌≢◌, ◌≤◌, ◌<◌, ◌^◌, ◌++◌, ℕ, zero, suc, List, [], ◌∷◌, Option, Some, None, IfSome, nat_eq, map, slice_get, ap, refl, sym, ◌∙◌, arith, subst}
-use Rattle.std.specs.List.{AllByRecursion, IsDistinct, flat_map}
-use Rattle.ub_check.proofs.PlacedFacts.{one_region, some_one}
-use Rattle.ub_index.proofs.FitFacts.{page_is}
-use Rattle.ub_index.proofs.KeyFacts.{le_trans}
-use Rattle.ub_index.proofs.Lists.{ascend_first}
-use Rattle.ub_index.proofs.Numbers.{StandApart, distinct_cons, distinct_join}
-use Rattle.ub_index.specs.Standing.{IsOutside}
-use Rattle.ub_index.specs.Index.{entries_of, first_or, page_in, AscendTo, EachTo, IsIndexPage, IsUnder, pages_under}
-use Rattle.ub_page.proofs.IndexLaws.{node_parts}
-use Rattle.ub_page.specs.Index.{node_on}
-use Rattle.ub_page.proofs.PageLaws.{region_parts}
-use Rattle.ub_bytes.specs.Bytes.{number_at}
-use Rattle.ub_page.specs.Entries.{IsEntry}
-use Rattle.ub_region.specs.RegionPage.{region_page}
-use Rattle.ub_region.specs.declared.entry.Entry.{Entry}
-use Rattle.ub_region.proofs.Laws.{all_after, all_append, all_more, up_tail}
-use Rattle.ub_region.specs.Regions.{firsts_of}
-use Rattle.ub_table.proofs.Laws.{before_trans, not_before_self}
-use Rattle.ub_table.specs.Keys.{IsBefore, AreKeysAscending}
-use Rattle.ub_table.specs.Region.{IsRegion}
-use Rattle.ub_table.specs.declared.row.Key.{Key}
-use Rattle.ub_table.specs.declared.schema.Schema.{Schema}
-use Rattle.ub_tree.specs.Placed.{Placed, regions_in}
+use Rattle.std.proofs.Common.{rules, ◌≡◌, ◌≢◌, ◌≤◌, ◌<◌, ◌^◌, ◌++◌, ℕ, zero, suc, List, [], ◌∷◌, Option, Some, None, IfSome, nat_eq, map, slice_get, ap, refl, sym, ◌∙◌, arith, subst}
+use Rattle.ub_tree.proofs.Common.{all_after, all_append, all_more, AllByRecursion, AreKeysAscending, ascend_first, AscendTo, before_trans, distinct_cons}
+use Rattle.ub_tree.proofs.Common.{distinct_join, EachTo, entries_of, Entry, first_or, firsts_of, flat_map, IsBefore, IsDistinct, IsEntry, IsIndexPage}
+use Rattle.ub_tree.proofs.Common.{IsOutside, IsRegion, IsUnder, Key, le_trans, node_on, node_parts, not_before_self, number_at, one_region, page_in, page_is}
+use Rattle.ub_tree.proofs.Common.{pages_under, Placed, region_page, region_parts, regions_in, Schema, some_one, StandApart, up_tail}
 
 -- a page of an index, of this level at most, that begins with a key from this first one on, and before the end
 pub record IsFrom (last : ℕ) (pages : List (List ℕ)) (level : ℕ) (first : Key) (end : Option Key) (n : ℕ) : Type 0 where

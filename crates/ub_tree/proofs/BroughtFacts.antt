@@ -1,26 +1,13 @@
 -- What bringing a table over leaves of the two stores, and why it is refused, as the upgrade tells it.
-use Rattle.std.proofs.Common.{rules}
-use Rattle.std.proofs.Common.{◌≡◌, ◌∙◌, inl, inr, ℕ, Some, None, Option, Err, ap, slice_get, sym, subst}
-use Rattle.ub_index.specs.Fitting.{IsNotTaken}
-use Rattle.ub_index.specs.Index.{page_in, top}
-use Rattle.ub_page.specs.Header.{AreLevels, numbers_of}
-use Rattle.ub_page.specs.declared.header.OldHeader.{OldHeader}
-use Rattle.ub_store.specs.Facts.{StoreFacts, IsHonest}
-use Rattle.ub_store.specs.View.{PagerView, pager_view, untouched}
-use Rattle.ub_store.specs.declared.fault.StoreFault.TheVariants as store
-use Rattle.ub_table.specs.declared.fault.PageFault.{PageFault}
+use Rattle.std.proofs.Common.{rules, ◌≡◌, ◌∙◌, inl, inr, ℕ, Some, None, Option, Err, ap, slice_get, sym, subst}
+use Rattle.ub_tree.proofs.Common.{AreLevels, BringsTable, HasOldHeader, index_of, IsBringFault, IsHeadFault, IsHonest, IsLeftBy, IsNewFault, IsNotTaken}
+use Rattle.ub_tree.proofs.Common.{IsRootRefused, IsTableFault, IsUpgradeFault, IsUpgradePassing, numbers_of, OldHeader, page_in, PageFault, pager_view}
+use Rattle.ub_tree.proofs.Common.{PagerView, StandsOver, StopsTree, StoreFacts, top, TreeView, untouched, upgrade_fault, written}
 use Rattle.ub_tree.proofs.UpgradeFacts.{over}
-use Rattle.ub_tree.specs.Checking.{StopsTree}
-use Rattle.ub_tree.specs.Faults.{upgrade_fault}
-use Rattle.ub_tree.specs.Stored.{index_of}
-use Rattle.ub_tree.specs.Upgrade.{IsLeftBy, IsUpgradeFault, IsUpgradePassing, StandsOver}
-use Rattle.ub_tree.specs.View.{TreeView}
-use Rattle.ub_upgrade.specs.Bringing.{HasOldHeader, IsBringFault, IsHeadFault}
 use Rattle.ub_upgrade.specs.Building.{IsPassing}
-use Rattle.ub_laying.specs.Effects.{written}
 use Rattle.ub_upgrade.specs.Effects.{CountsNew, counted_old}
-use Rattle.ub_upgrade.specs.Table.{BringsTable, IsNewFault, IsRootRefused, IsTableFault}
 use Rattle.ub_upgrade.specs.declared.fault.UpgradeFault.{UpgradeFault}
+use Rattle.ub_store.specs.declared.fault.StoreFault.TheVariants as store
 use Rattle.ub_upgrade.specs.declared.fault.UpgradeFault.TheVariants as upgrade
 
 -- ---- what passes

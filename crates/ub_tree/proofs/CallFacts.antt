@@ -1,33 +1,12 @@
 -- What the searches of the index answer, as answers of the tree.
-use Rattle.std.proofs.Common.{rules}
-use Rattle.std.proofs.Common.{◌≡◌, ◌<◌, ◌≤◌, ◌*◌, ◌^◌, map, inl, inr, Result, Ok, Err, MatchResult, ℕ, List, Option, Some, None, IfSome, arith}
-use Rattle.std.specs.Result.{IsErrAnd}
+use Rattle.std.proofs.Common.{rules, ◌≡◌, ◌<◌, ◌≤◌, ◌*◌, ◌^◌, map, inl, inr, Result, Ok, Err, MatchResult, ℕ, List, Option, Some, None, IfSome, arith}
+use Rattle.ub_tree.proofs.Common.{at_least, before_parts, cases_lt, Corners, end_before, entry_of, FallsTo, Gives, GivesAfter, GivesNext, HoldsAny, index_fault}
+use Rattle.ub_tree.proofs.Common.{IndexFault, IndexView, IsBefore, IsErrAnd, IsHonest, IsIndexOn, IsLater, IsPassing, IsRegionOf, IsStored, IsWayFault, Key}
+use Rattle.ub_tree.proofs.Common.{last_address, LeastFrom, one_given, PageFault, Region, Stops, StoreFacts, TreeFault, TreeView}
 use Rattle.std.proofs.Math.Pow.{pow-lt}
-use Rattle.std.proofs.lemmas.Bool.{cases_lt}
-use Rattle.ub_bigmin.specs.Box.{Corners, HoldsAny}
-use Rattle.ub_bigmin.specs.Extremes.{LeastFrom}
-use Rattle.ub_index.proofs.LeadFacts.{one_given}
-use Rattle.ub_index.specs.Searching.{Gives, GivesAfter, IsWayFault, at_least}
-use Rattle.ub_region.specs.Spans.{end_before}
-use Rattle.ub_index.specs.View.{IndexView, IsIndexOn, Stops}
-use Rattle.ub_index.specs.declared.fault.IndexFault.{IndexFault}
-use Rattle.ub_store.specs.Facts.{StoreFacts, IsHonest}
-use Rattle.ub_table.proofs.Laws.{before_parts}
-use Rattle.ub_table.specs.Keys.{IsBefore}
-use Rattle.ub_table.specs.declared.fault.PageFault.{PageFault}
-use Rattle.ub_table.specs.declared.row.Key.{Key}
 use Rattle.ub_tree.proofs.AnswerFacts.{at_least_z, begins_up_to, up_to}
 use Rattle.ub_tree.proofs.IndexedFacts.{index_on}
 use Rattle.ub_tree.proofs.WayFacts.{led_not_stopped}
-use Rattle.ub_tree.specs.Faults.{index_fault}
-use Rattle.ub_tree.specs.Opened.{IsPassing}
-use Rattle.ub_tree.specs.Placed.{entry_of}
-use Rattle.ub_tree.specs.Spans.{IsLater, Region}
-use Rattle.ub_tree.specs.Told.{FallsTo, GivesNext, IsRegionOf}
-use Rattle.ub_tree.specs.View.{TreeView}
-use Rattle.ub_tree.specs.declared.fault.TreeFault.{TreeFault}
-use Rattle.ub_tree.specs.inner.Change.{IsStored}
-use Rattle.ub_zaddr.specs.Address.{last_address}
 
 -- the last address of a space of at most four dimensions has 128 bits
 pub last_small : (dims : ℕ) → dims ≤ 4 → last_address dims < 2 ^ 128

@@ -1,28 +1,12 @@
 -- The pages of a directory of format 1 differ from each other, by the keys with which they begin, and from those of regions.
-use Rattle.std.proofs.Common.{rules}
-use Rattle.std.proofs.Common.{◌≡◌, ◌≢◌, ◌<◌, ◌-◌, ◌^◌, ◌++◌, ◌∙◌, ℕ, zero, suc, List, [], ◌∷◌, Some, nat_eq, length, map, take, drop, replicate, slice_get, ap, refl, sym, arith, subst, append_assoc}
-use Rattle.std.proofs.lemmas.Option.{slice_get_within}
-use Rattle.std.specs.List.{AllByRecursion, IsDistinct, flat_map}
-use Rattle.ub_index.proofs.FitFacts.{page_is}
-use Rattle.ub_index.proofs.Numbers.{StandApart, distinct_cons}
-use Rattle.ub_index.specs.Standing.{IsOutside}
-use Rattle.ub_index.specs.Index.{page_in}
+use Rattle.std.proofs.Common.{rules, ◌≡◌, ◌≢◌, ◌<◌, ◌-◌, ◌^◌, ◌++◌, ◌∙◌, ℕ, zero, suc, List, [], ◌∷◌, Some, nat_eq, length, map, take, drop, replicate, slice_get, ap, refl, sym, arith, subst, append_assoc}
+use Rattle.ub_tree.proofs.Common.{all_after, all_drop, all_more, all_take, AllByRecursion, AreKeysAscending, directory_page, distinct_cons, Entry, first_keys}
+use Rattle.ub_tree.proofs.Common.{flat_map, IsBefore, IsChain, IsDistinct, IsEntry, IsOutside, Key, layout, not_before_self, number_at, number_bytes, page_in}
+use Rattle.ub_tree.proofs.Common.{page_is, Placed, region_parts, Schema, slice_get_within, StandApart, up_tail}
 use Rattle.ub_bytes.proofs.BytesFacts.{length-layout, read_at}
 use Rattle.ub_page.proofs.EntryFacts.{entries_read}
-use Rattle.ub_page.proofs.PageLaws.{region_parts}
-use Rattle.ub_bytes.specs.Bytes.{layout, number_at, number_bytes}
-use Rattle.ub_page.specs.Directory.{directory_page}
-use Rattle.ub_page.specs.Entries.{IsEntry, entry_bytes, entry_on, key_on, page_fields}
-use Rattle.ub_region.specs.declared.entry.Entry.{Entry}
-use Rattle.ub_region.proofs.Laws.{all_after, all_drop, all_more, all_take, up_tail}
-use Rattle.ub_table.proofs.Laws.{not_before_self}
-use Rattle.ub_table.specs.Keys.{AreKeysAscending, IsBefore}
-use Rattle.ub_table.specs.declared.row.Key.{Key}
-use Rattle.ub_table.specs.declared.schema.Schema.{Schema}
-use Rattle.ub_index.specs.Spans.{first_keys}
+use Rattle.ub_page.specs.Entries.{entry_bytes, entry_on, key_on, page_fields}
 use Rattle.ub_tree.proofs.ApartFacts.{IsOnPage}
-use Rattle.ub_tree.specs.Placed.{Placed}
-use Rattle.ub_upgrade.specs.Chain.{IsChain}
 
 -- how a page of a directory begins, and what comes then
 module _ (entries : List Entry) (next : ℕ) where

@@ -1,31 +1,17 @@
 -- The check of a tree, by that of its table: what it comes to, and that its first fault is one.
-use Rattle.std.proofs.Common.{rules}
-use Rattle.std.proofs.Common.{◌≡◌, ◌<◌, ◌^◌, ◌⊎◌, inl, inr, ℕ, Bool, false, Result, Ok, Err, IfErr, OnOk, ap, refl, sym, ◌∙◌, subst}
-use Rattle.std.specs.Result.{IsErrAnd}
-use Rattle.ub_check.proofs.OnceFacts as once
-use Rattle.ub_check.proofs.TakenFacts.{walk_taken}
+use Rattle.std.proofs.Common.{rules, ◌≡◌, ◌<◌, ◌^◌, ◌⊎◌, inl, inr, ℕ, Bool, false, Result, Ok, Err, IfErr, OnOk, ap, refl, sym, ◌∙◌, subst}
+use Rattle.ub_tree.proofs.Common.{Answers, Asked, asked_of, ChecksPages, Failed as HasFailed, Full, index_fault, IndexFault, IndexView, IsChecked, IsCheckFault}
+use Rattle.ub_tree.proofs.Common.{IsErrAnd, IsFirst, IsFirstFault, IsHonest, IsPassing, IsWell, last_address, Memory, Page, PagerView, Schema, Store, told_of}
+use Rattle.ub_tree.proofs.Common.{tree_view, TreeFault, TreeView, walk_taken}
 use Rattle.ub_check.specs.Calls.{Checks, IsCheckFault as IsTableFault, asked_in}
-use Rattle.ub_check.specs.Checking.{Asked, IsFirst, asked_for}
+use Rattle.ub_check.specs.Checking.{asked_for}
 use Rattle.ub_check.specs.declared.checking.Told.{Told}
-use Rattle.ub_index.specs.View.{IndexView}
-use Rattle.ub_index.specs.declared.fault.IndexFault.TheVariants as index
-use Rattle.ub_index.specs.declared.fault.IndexFault.{IndexFault}
-use Rattle.ub_store.specs.Facts.{IsHonest}
-use Rattle.ub_store.specs.View.{PagerView}
-use Rattle.ub_store.specs.declared.fault.StoreFault.TheVariants as store
-use Rattle.ub_table.specs.declared.schema.Schema.{Schema}
 use Rattle.ub_tree.proofs.EffectFacts.{refused_none}
 use Rattle.ub_tree.proofs.SearchFacts.{known_is}
 use Rattle.ub_tree.proofs.WellFacts.{sound_well}
-use Rattle.ub_tree.specs.Checking.{ChecksPages, IsCheckFault, IsChecked, IsFirstFault, IsWell, asked_of, told_of}
-use Rattle.ub_tree.specs.Faults.{index_fault}
-use Rattle.ub_tree.specs.Holding.{Answers}
-use Rattle.ub_tree.specs.Opened.{IsPassing}
-use Rattle.ub_tree.specs.Tree.{tree_view}
-use Rattle.ub_tree.specs.View.{TreeView}
-use Rattle.ub_tree.specs.declared.fault.TreeFault.{TreeFault}
-use Rattle.ub_tree.specs.declared.fault.TreeFault.TheVariants.{Full, Page, Store, Failed as HasFailed, Memory}
-use Rattle.ub_zaddr.specs.Address.{last_address}
+use Rattle.ub_check.proofs.OnceFacts as once
+use Rattle.ub_index.specs.declared.fault.IndexFault.TheVariants as index
+use Rattle.ub_store.specs.declared.fault.StoreFault.TheVariants as store
 
 -- the first fault of a tree's check is one
 module _ (t : TreeView) (small : t.inner.index.last < 2 ^ 128) where
@@ -93,8 +79,7 @@ module _ (schema : Schema) (index_at : IndexView) (count next rows : ℕ) (chang
 
   module _ (told_is : told ≡ told_of tree) where
     asked_is : asked_in schema told old.store ≡ asked_of tree
-    asked_is =
-        ap (λ (t : Told). asked_in schema t old.store) told_is ∙ ap (λ (n : ℕ). asked_for schema n count next old.store.pages) (sym last_is)
+    asked_is = ap (λ (t : Told). asked_in schema t old.store) told_is ∙ ap (λ (n : ℕ). asked_for schema n count next old.store.pages) (sym last_is)
 
     first_is : (f : IndexFault) → IsFirst (asked_in schema told old.store) told f → IsFirst (asked_of tree) (told_of tree) f
     first_is f h = subst (λ (t : Told). IsFirst (asked_of tree) t f) told_is (subst (λ (a : Asked). IsFirst a told f) asked_is h)

@@ -1,22 +1,10 @@
 -- What a tree is once it was closed.
-use Rattle.std.proofs.Common.{rules}
-use Rattle.std.proofs.Common.{◌≡◌, ◌≢◌, ◌∙◌, ◌++◌, ℕ, false, List, [], ◌∷◌, map, sym, ap, subst, refl}
-use Rattle.std.proofs.lemmas.List.Elements.{All-from_recursion, recursion_from_All}
-use Rattle.std.specs.List.{AllByRecursion}
-use Rattle.ub_index.proofs.KeptFacts.{kept_index, kept_under}
-use Rattle.ub_index.proofs.Numbers.{distinct_first, kept_pages}
-use Rattle.ub_index.specs.Standing.{PagesStay}
-use Rattle.ub_index.specs.Index.{pages_under, top}
-use Rattle.ub_index.specs.View.{IndexView, index_view}
-use Rattle.ub_region.proofs.Laws.{all_left, all_right}
-use Rattle.ub_store.specs.Facts.{StoreFacts, IsHonest, page_count}
+use Rattle.std.proofs.Common.{rules, ◌≡◌, ◌≢◌, ◌∙◌, ◌++◌, ℕ, false, List, [], ◌∷◌, map, sym, ap, subst, refl}
+use Rattle.ub_tree.proofs.Common.{All-from_recursion, all_left, all_right, AllByRecursion, ArePlaced, AreSoundPages, distinct_first, entry_of, HasIndex}
+use Rattle.ub_tree.proofs.Common.{index_of, index_view, IndexView, IsClosed, IsHonest, IsSound, kept_index, kept_pages, kept_under, page_count, pages_under}
+use Rattle.ub_tree.proofs.Common.{PagesStay, Placed, recursion_from_All, reserved, StoreFacts, top, TreeView}
 use Rattle.ub_tree.proofs.StoredFacts.{IsSpelled}
 use Rattle.ub_tree.specs.Closing.{header_of}
-use Rattle.ub_tree.specs.Indexed.{HasIndex, reserved}
-use Rattle.ub_tree.specs.Placed.{Placed, ArePlaced, entry_of}
-use Rattle.ub_tree.specs.Stored.{AreSoundPages, index_of}
-use Rattle.ub_tree.specs.View.{TreeView, IsSound}
-use Rattle.ub_writing.specs.Closing.{IsClosed}
 
 -- a tree that wasn't changed has the pages of a closed table
 pub unchanged_pages : (t : TreeView) (new : StoreFacts) → new ≡ t.store → t.is_changed ≡ false → IsSound t → IsHonest new × AreSoundPages new.pages t.schema t.placed t.next

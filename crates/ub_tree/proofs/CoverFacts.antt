@@ -1,22 +1,9 @@
 -- Over an honest store a tree that is asked for the next region again and again, until there is none, leaves out no key of the boxes.
-use Rattle.std.proofs.Common.{rules}
-use Rattle.std.proofs.Common.{◌≡◌, ◌≤◌, ◌⊎◌, ◌∙◌, inl, inr, ℕ, suc, List, [], ◌∷◌, Option, Some, None, ap, arith, sym, subst, refl}
-use Rattle.std.proofs.lemmas.Bool.{cases_Bool}
 use Rattle.std.specs.Prelude.{Contains}
-use Rattle.ub_bigmin.specs.Box.{Corners, HoldsAny}
-use Rattle.ub_bigmin.specs.Extremes.{LeastFrom}
-use Rattle.ub_index.proofs.KeyFacts.{le_trans}
-use Rattle.ub_index.proofs.LeadFacts.{one_given, ways_hold}
-use Rattle.ub_index.specs.Searching.{Gives, GivesAfter, IsAim, IsAimless, IsFrom}
-use Rattle.ub_index.specs.Way.{HoldsKey}
-use Rattle.ub_store.specs.Facts.{IsHonest}
-use Rattle.ub_table.proofs.Laws.{before_from, before_parts, not_before_origin}
-use Rattle.ub_table.specs.Keys.{IsBefore, origin, precedes}
-use Rattle.ub_table.specs.declared.row.Key.{Key}
+use Rattle.std.proofs.Common.{rules, ◌≡◌, ◌≤◌, ◌⊎◌, ◌∙◌, inl, inr, ℕ, suc, List, [], ◌∷◌, Option, Some, None, ap, arith, sym, subst, refl}
+use Rattle.ub_tree.proofs.Common.{AreAnswers, before_from, before_parts, cases_Bool, Corners, Gives, GivesAfter, HoldsAny, HoldsKey, IsAim, IsAimless, IsBefore}
+use Rattle.ub_tree.proofs.Common.{IsFrom, IsHonest, Key, le_trans, LeastFrom, not_before_origin, one_given, origin, precedes, Region, TreeView, ways_hold}
 use Rattle.ub_tree.proofs.MeetFacts.{contained_at, contains_at}
-use Rattle.ub_tree.specs.Spans.{Region}
-use Rattle.ub_tree.specs.Told.{AreAnswers}
-use Rattle.ub_tree.specs.View.{TreeView}
 
 module _ (boxes : List Corners) (tree : TreeView) (honest : IsHonest tree.store) (key : Key) (inside : HoldsAny boxes key.z) (upto : key.z ≤ tree.inner.index.last) where
   abbrev To : Key → Option ℕ → Type 0

@@ -1,30 +1,11 @@
 -- What a tree is that was just created.
-use Rattle.std.proofs.Common.{rules}
-use Rattle.std.proofs.Common.{◌≡◌, ◌<◌, ℕ, zero, suc, true, false, List, [], ◌∷◌, Some, length, map, ◌∙◌, ap, refl, arith, slice_get, slice_index_or}
-use Rattle.std.proofs.lemmas.Option.{get_or_from_slice_get}
-use Rattle.std.proofs.lemmas.Map.Keys.{IsDistinct-cons}
+use Rattle.std.proofs.Common.{rules, ◌≡◌, ◌<◌, ℕ, zero, suc, true, false, List, [], ◌∷◌, Some, length, map, ◌∙◌, ap, refl, arith, slice_get, slice_index_or}
+use Rattle.ub_tree.proofs.Common.{All, ArePlaced, AreRegions, entry_of, filled_low, get_or_from_slice_get, HasIndex, index_view, IndexView, IsAlone, IsCreated}
+use Rattle.ub_tree.proofs.Common.{IsDistinct, IsDistinct-cons, IsHonest, IsLaidOut, IsRegion, last_address, nat_eq, only_region, origin, PagerView, Placed}
+use Rattle.ub_tree.proofs.Common.{placed_in, region_on, region_page, RegionRows, regions_in, reserved, Row, Schema, StoreFacts, tree_view, untouched}
 use Rattle.std.proofs.lemmas.Map.Made.{IsDistinct-from_count}
-use Rattle.std.specs.Bool.{nat_eq}
 use Rattle.std.specs.Cmp.{nat_eq_equiv}
-use Rattle.std.specs.List.{All, IsDistinct}
-use Rattle.ub_index_change.proofs.FillFacts.{filled_low}
-use Rattle.ub_index.specs.Opening.{IsAlone}
-use Rattle.ub_index.specs.View.{IndexView, index_view}
-use Rattle.ub_region.specs.RegionPage.{only_region, region_on, region_page}
-use Rattle.ub_region.specs.Regions.{AreRegions}
-use Rattle.ub_store.specs.Facts.{StoreFacts, IsHonest}
-use Rattle.ub_store.specs.View.{PagerView, untouched}
-use Rattle.ub_table.specs.Keys.{origin}
-use Rattle.ub_table.specs.Region.{RegionRows, IsRegion}
-use Rattle.ub_table.specs.declared.row.Row.{Row}
-use Rattle.ub_table.specs.declared.schema.Schema.{Schema}
 use Rattle.ub_tree.proofs.PutFacts.{view_placed}
-use Rattle.ub_tree.specs.Calls.{IsCreated}
-use Rattle.ub_tree.specs.Indexed.{HasIndex, reserved}
-use Rattle.ub_tree.specs.Placed.{Placed, ArePlaced, entry_of, regions_in}
-use Rattle.ub_tree.specs.Tree.{placed_in, tree_view}
-use Rattle.ub_writing.specs.Creation.{IsLaidOut}
-use Rattle.ub_zaddr.specs.Address.{last_address}
 
 pub none_twice : IsDistinct nat_eq []
 none_twice = IsDistinct-from_count nat_eq_equiv [] refl

@@ -1,34 +1,12 @@
 -- A region that goes: its rows were put on the page of the one before it, and then its entry was taken out of the index.
-use Rattle.std.proofs.lemmas.Grind.{common_steps}
-use Rattle.std.proofs.Common.{rules}
-use Rattle.std.proofs.Common.{◌≡◌, ◌≢◌, ◌<◌, ◌+◌, ◌∙◌, inl, ℕ, zero, suc, List, [], ◌∷◌, ◌++◌, Some, true, length, map, take, drop, nat_eq, sym, ap, subst, refl, arith, slice_get}
-use Rattle.std.proofs.lemmas.Bool.{cases_lt}
-use Rattle.std.proofs.lemmas.List.{length-map}
-use Rattle.std.proofs.lemmas.List.Elements.{recursion_from_All}
-use Rattle.std.proofs.lemmas.Option.{slice_get_past}
-use Rattle.std.specs.List.{AllByRecursion, IsDistinct, remove as remove_at_index}
-use Rattle.ub_check.proofs.StandingFacts.{each_get}
-use Rattle.ub_store.specs.Writing.{Grows}
-use Rattle.ub_index.proofs.Numbers.{apart_swap, within_store}
-use Rattle.ub_index_change.proofs.OwnFacts.{count_replaced, own_dropped}
-use Rattle.ub_index.proofs.StandFacts.{own_apart, stands_as}
-use Rattle.ub_index_change.specs.Changed.{Replaces}
-use Rattle.ub_index.specs.Standing.{IsOutside, AreOwnPages, AreRegionsThere, StandsAsOn, region_pages}
-use Rattle.ub_index_change.specs.Changing.{Stand, StayBut}
-use Rattle.ub_index_change.specs.Making.{IsCommitted, PutsSheets, changed}
-use Rattle.ub_index_change.specs.Preparing.{ChangeView, IsForeign, MakesIndex}
-use Rattle.ub_index.specs.View.{IndexView, IsIndexOn, IsReachedOnce, IsRegionAt, entries_in, entries_under, entry_at, pages_of_index}
-use Rattle.ub_region.specs.declared.region.Region.{Region}
-use Rattle.ub_index_change.specs.declared.sheet.Sheet.{Sheet}
-use Rattle.ub_page.proofs.PageLaws.{region_parts}
-use Rattle.ub_region.specs.RegionPage.{region_page}
-use Rattle.ub_region.specs.declared.entry.Entry.{Entry}
-use Rattle.ub_region.specs.Joins.{put_rows}
-use Rattle.ub_store.specs.Facts.{StoreFacts, IsHonest, page_count}
-use Rattle.ub_table.specs.Region.{RegionRows, IsRegion}
-use Rattle.ub_table.specs.declared.row.Key.{Key}
-use Rattle.ub_table.specs.declared.row.Row.{Row}
-use Rattle.ub_table.specs.declared.schema.Schema.{Schema}
+use Rattle.std.proofs.Common.{rules, ◌≡◌, ◌≢◌, ◌<◌, ◌+◌, ◌∙◌, inl, ℕ, zero, suc, List, [], ◌∷◌, ◌++◌, Some, true, length, map, take, drop, nat_eq, sym, ap, subst, refl, arith, slice_get}
+use Rattle.ub_tree.proofs.Common.{AllByRecursion, apart_swap, AreOthersKept, AreOwnPages, ArePlaced, AreRegionsThere, cases_lt, changed, ChangeView}
+use Rattle.ub_tree.proofs.Common.{common_steps, count_replaced, each_get, entries_in, entries_under, Entry, entry_at, entry_of, Grows, HasIndex, IndexView}
+use Rattle.ub_tree.proofs.Common.{IsCommitted, IsDistinct, IsForeign, IsHonest, IsIndexOn, IsOutside, IsReachedOnce, IsRegion, IsRegionAt, Key, length-map}
+use Rattle.ub_tree.proofs.Common.{MakesIndex, own_apart, own_dropped, page_count, pages_of_index, Placed, placed_of, placed_with, put_rows, PutsSheets}
+use Rattle.ub_tree.proofs.Common.{recursion_from_All, Region, region_page, region_pages, region_parts, RegionRows, regions_in, regions_with, Replaces, reserved}
+use Rattle.ub_tree.proofs.Common.{Row, Schema, Sheet, slice_get_past, Stand, stands_as, StandsAsOn, StayBut, StoreFacts, within_store}
+use Rattle.std.specs.List.{remove as remove_at_index}
 use Rattle.ub_tree.proofs.HoldingFacts.{pages_there}
 use Rattle.ub_tree.proofs.IndexedFacts.{index_on, reached_once}
 use Rattle.ub_tree.proofs.PutFacts.{put_placed}
@@ -36,10 +14,6 @@ use Rattle.ub_tree.proofs.ShrinkFacts.{map_removed, placed_without, put_joined, 
 use Rattle.ub_tree.proofs.SplitFacts.{committed, new_are, new_indexed, new_placed, pages_by}
 use Rattle.ub_tree.proofs.StoredFacts.{IsSpelled, IsTold}
 use Rattle.ub_tree.proofs.TreeFacts.{all_get, region_get, placed_there, within_placed}
-use Rattle.ub_tree.specs.Indexed.{HasIndex, reserved}
-use Rattle.ub_tree.specs.Others.{AreOthersKept}
-use Rattle.ub_tree.specs.Placed.{Placed, ArePlaced, entry_of, placed_of, regions_in}
-use Rattle.ub_tree.specs.inner.Change.{placed_with, regions_with}
 
 -- pages were put that are none of the index: a change that was prepared before makes the same of it as one prepared now
 module _ (index : IndexView) (a mid : StoreFacts) (numbers : List ℕ) (is : IsIndexOn index a) (reached : IsReachedOnce index a) (honest : IsHonest mid)

@@ -1,24 +1,11 @@
 -- What a call leaves that calls others: a search, a refusal or a write, as a change.
-use Rattle.std.proofs.Common.{rules}
-use Rattle.std.proofs.Common.{◌≡◌, ◌≢◌, ◌<◌, ◌∙◌, ◌++◌, inl, inr, ◌⊎◌, ℕ, true, List, [], ◌∷◌, Ok, Err, Result, IfErr, OnOk, arith, sym, subst, refl}
-use Rattle.std.specs.Result.{IsErrAnd}
-use Rattle.ub_index.specs.Standing.{IsOutside}
-use Rattle.ub_index_change.specs.Changing.{IsUnspelled}
-use Rattle.ub_index_change.specs.Making.{PutsSheets, SameButSheets}
-use Rattle.ub_index_change.specs.declared.sheet.Sheet.{Sheet}
-use Rattle.ub_region.specs.declared.region.Region.{Region}
-use Rattle.ub_region.proofs.Laws.{all_left, all_right, next_free}
-use Rattle.ub_store.specs.Facts.{StoreFacts, IsHonest, page_count}
+use Rattle.std.proofs.Common.{rules, ◌≡◌, ◌≢◌, ◌<◌, ◌∙◌, ◌++◌, inl, inr, ◌⊎◌, ℕ, true, List, [], ◌∷◌, Ok, Err, Result, IfErr, OnOk, arith, sym, subst, refl}
+use Rattle.ub_tree.proofs.Common.{all_left, all_right, AreOthersKept, Changes, ChangesOf, Failed as HasFailed, Full, HasEnded, HasMark, HasNumber, HasStopped}
+use Rattle.ub_tree.proofs.Common.{IsErrAnd, IsHonest, IsLeft, IsLeftOf, IsMarkedFirst, IsOutside, IsRegionOf, IsSound, IsStored, IsUnspelled, IsWriteFault}
+use Rattle.ub_tree.proofs.Common.{KeepsMark, KeepsOthers, Leaves, MakesReady, Memory, next_free, Page, page_count, PutsSheets, read_store, Region, regions}
+use Rattle.ub_tree.proofs.Common.{SameButSheets, Schema, Searches, Sheet, Store, StoreFacts, TreeFault, TreeView, Works, Writes, WritesIndex, WritesOneRegion}
+use Rattle.ub_tree.proofs.Common.{WritesPage, written_store}
 use Rattle.ub_store.specs.declared.fault.StoreFault.TheVariants as store
-use Rattle.ub_table.specs.declared.schema.Schema.{Schema}
-use Rattle.ub_tree.specs.Effects.{Changes, ChangesOf, HasEnded, HasNumber, IsLeft, IsLeftOf, IsMarkedFirst, KeepsMark, Leaves, Searches, Works, read_store, written_store}
-use Rattle.ub_tree.specs.Others.{AreOthersKept, KeepsOthers, WritesIndex, WritesOneRegion, WritesPage}
-use Rattle.ub_tree.specs.View.{TreeView, IsSound, regions}
-use Rattle.ub_tree.specs.declared.fault.TreeFault.{TreeFault}
-use Rattle.ub_tree.specs.declared.fault.TreeFault.TheVariants.{Full, Page, Store, Failed as HasFailed, Memory}
-use Rattle.ub_writing.specs.Marks.{HasMark}
-use Rattle.ub_tree.specs.inner.Change.{HasStopped, IsStored, IsWriteFault, MakesReady, Writes}
-use Rattle.ub_tree.specs.Told.{IsRegionOf}
 
 -- a sound tree is stored
 pub sound_stored : (t : TreeView) → IsSound t → IsStored t

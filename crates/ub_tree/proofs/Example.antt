@@ -1,14 +1,8 @@
 -- Table S of two dimensions and at most two rows on a page: five rows inserted, and two removed again.
-use Rattle.std.proofs.Common.{◌≡◌, ℕ, List, [], ◌∷◌, Option, Some, None, refl, replicate}
 use Rattle.std.specs.Prelude.{pos}
-use Rattle.ub_zaddr.specs.Address.{address, last_address}
-use Rattle.ub_region.specs.declared.entry.Entry.{Entry}
-use Rattle.ub_region.specs.Regions.{insert, remove}
-use Rattle.ub_table.specs.Keys.{origin}
-use Rattle.ub_table.specs.Region.{RegionRows}
-use Rattle.ub_table.specs.declared.row.Key.{Key}
-use Rattle.ub_table.specs.declared.row.Row.{Row}
-use Rattle.ub_tree.specs.Spans.{regions_of, Region}
+use Rattle.std.proofs.Common.{◌≡◌, ℕ, List, [], ◌∷◌, Option, Some, None, refl, replicate}
+use Rattle.ub_tree.proofs.Common.{Entry, insert, Key, last_address, origin, Region, RegionRows, regions_of, remove, Row}
+use Rattle.ub_zaddr.specs.Address.{address}
 
 row_at : ℕ → ℕ → ℕ → Row
 row_at n x y = record { number = n; dims = x ∷ y ∷ 0 ∷ 0 ∷ []; measures = replicate 4 (pos 0) }

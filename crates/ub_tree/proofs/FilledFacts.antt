@@ -1,21 +1,11 @@
 -- How full the pages of a tree's index are, where the page of a region was put.
-use Rattle.std.proofs.Common.{rules}
-use Rattle.std.proofs.Common.{◌∙◌, ℕ, [], ◌∷◌, Result, ap, sym, subst}
-use Rattle.std.specs.List.{AllByRecursion}
-use Rattle.ub_check.proofs.StandingFacts.{each_get}
-use Rattle.ub_index_change.proofs.FillFacts.{stands_filled}
-use Rattle.ub_index.proofs.StandFacts.{own_apart}
-use Rattle.ub_index.specs.Standing.{IsOutside}
-use Rattle.ub_index_change.specs.Filling.{IsFilled}
-use Rattle.ub_index.specs.View.{pages_of_index, IndexView}
-use Rattle.ub_region.specs.declared.region.Region.{Region}
+use Rattle.std.proofs.Common.{rules, ◌∙◌, ℕ, [], ◌∷◌, Result, ap, sym, subst}
+use Rattle.ub_tree.proofs.Common.{AllByRecursion, each_get, IndexView, IsFilled, IsOutside, IsRegionIn, IsStored, KeepsGrown, own_apart, pages_of_index, Region}
+use Rattle.ub_tree.proofs.Common.{stands_filled, TreeFault, TreeView, Writes}
 use Rattle.ub_tree.proofs.CallFacts.{stored_on}
 use Rattle.ub_tree.proofs.IndexedFacts.{reached_once}
 use Rattle.ub_tree.proofs.PutFacts.{page_at}
 use Rattle.ub_tree.proofs.SplitFacts.{pages_by}
-use Rattle.ub_tree.specs.View.{TreeView}
-use Rattle.ub_tree.specs.declared.fault.TreeFault.{TreeFault}
-use Rattle.ub_tree.specs.inner.Change.{IsRegionIn, IsStored, KeepsGrown, Writes}
 
 -- neither the first page nor that of a span is one of the index
 page_apart : (t : TreeView) (i : ℕ) (span : Region) → IsStored t → IsRegionIn t i span → AllByRecursion (λ n. IsOutside n (pages_of_index t.inner.index t.store)) (0 ∷ span.page ∷ [])

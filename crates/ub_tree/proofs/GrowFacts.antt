@@ -1,27 +1,13 @@
 -- A row put into a tree: where its region's rows come to stand, what becomes of the table, and what a call tells of it.
 use Rattle.std.proofs.Common.{◌≡◌, ◌≢◌, ◌<◌, ◌≤◌, ◌+◌, ◌^◌, ◌∙◌, ◌++◌, ◌⊎◌, inl, inr, ℕ, zero, suc, true, false, List, [], ◌∷◌, Ok, Err, Result, IfErr, IfOk, OnOk, Option, None, Some, length, map, take, drop, max, nat_le, nat_lt, sym, ap, subst, refl, arith, slice_get, append_assoc}
-use Rattle.std.proofs.lemmas.Bool.{cases_Bool, ltb-true, ltb-false}
-use Rattle.std.proofs.lemmas.List.Sorted.{length_permutation}
-use Rattle.std.specs.List.{AllByRecursion}
-use Rattle.std.specs.Result.{IsErrAnd}
-pub use Rattle.ub_check.proofs.CheckingFacts.{drop_at}
-use Rattle.ub_index.proofs.LeadFacts.{falls_once, falls_other, ways_hold}
-use Rattle.ub_index.specs.View.{entry_at}
-use Rattle.ub_index.specs.Index.{entries_of, top}
-use Rattle.ub_index_change.specs.FullWay.{EndsFull, IsFullWay}
-use Rattle.ub_index.specs.Way.{HoldsKey, LeadsTo}
-use Rattle.ub_region.specs.declared.entry.Entry.{Entry}
-use Rattle.ub_region.proofs.Laws.{all_left, all_right, insert_keeps_new, insert_table}
-use Rattle.ub_region.specs.Regions.{IsFree, firsts_of, index_holding, insert, rows_of, split_region}
-use Rattle.ub_region.specs.Rows.{Halves, has_key, insert_row, split}
-use Rattle.ub_store.specs.Facts.{IsHonest}
-use Rattle.ub_store.specs.declared.fault.StoreFault.TheVariants as store
-use Rattle.ub_table.specs.Region.{RegionRows, IsRegion, IsRow, key_of, measures_of}
-use Rattle.ub_table.specs.declared.fault.PageFault.{PageFault}
-use Rattle.ub_table.specs.declared.fault.PageFault.TheVariants.{BadCount}
-use Rattle.ub_table.specs.declared.row.Key.{Key}
-use Rattle.ub_table.specs.declared.row.Row.{Row}
-use Rattle.ub_table.specs.declared.row.TheConstants.{MAX_ROW_NUMBER}
+use Rattle.ub_tree.proofs.Common.{AddsEntry, all_left, all_right, AllByRecursion, Answers, AnswersAt, AnswersKey, BadCount, cases_Bool, ChangesOf, EndsFull}
+use Rattle.ub_tree.proofs.Common.{entries_of, Entry, entry_at, entry_of, falls_once, falls_other, FallsTo, first_keys, firsts_of, Full, GrowsAt, Halves}
+use Rattle.ub_tree.proofs.Common.{has_key, HasMark, HasNumber, HasReadAt, HoldsKey, index_holding, insert, insert_keeps_new, insert_row, insert_table, Inserts}
+use Rattle.ub_tree.proofs.Common.{InsertsAs, IsElsewhereSame, IsErrAnd, IsFree, IsFullWay, IsHonest, IsInserted, IsPassing, IsPutIn, IsRegion, IsRegionIn}
+use Rattle.ub_tree.proofs.Common.{IsRegionOf, IsRoomFault, IsRow, IsSound, IsSplitAt, IsStored, IsTakenIn, KeepsEntries, KeepsGrown, Key, key_of, last_address}
+use Rattle.ub_tree.proofs.Common.{LeadsTo, length_permutation, ltb-false, ltb-true, MAX_ROW_NUMBER, measures_of, next_after, Page, PageFault, placed_with}
+use Rattle.ub_tree.proofs.Common.{Region, region_count, RegionRows, regions, regions_in, regions_with, RegionView, Row, rows_of, split, split_of, split_region}
+use Rattle.ub_tree.proofs.Common.{Store, StoresAt, top, TreeFault, TreeView, ways_hold, WritesIndex, WritesPage}
 use Rattle.ub_tree.proofs.EffectFacts.{changes_next, sound_stored}
 use Rattle.ub_tree.proofs.HoldingFacts.{on_region, read_region}
 use Rattle.ub_tree.proofs.RemovalFacts.{IsHolder, region_stands}
@@ -29,22 +15,8 @@ use Rattle.ub_tree.proofs.RoomFacts.{found_row, number_free, rows_each}
 use Rattle.ub_tree.proofs.ShrinkFacts.{regions_put}
 use Rattle.ub_tree.proofs.MeetFacts.{contains_at}
 use Rattle.ub_tree.proofs.TreeFacts.{firsts_placed, region_get, placed_there}
-use Rattle.ub_tree.specs.Change.{IsInserted, IsPutIn, next_after}
-use Rattle.ub_tree.specs.Effects.{ChangesOf, HasNumber, IsTakenIn}
-use Rattle.ub_tree.specs.Holding.{Answers, AnswersKey, AnswersAt, GrowsAt, IsRoomFault}
-use Rattle.ub_tree.specs.Inserted.{Inserts, InsertsAs}
-use Rattle.ub_tree.specs.Opened.{IsPassing}
-use Rattle.ub_tree.specs.Others.{AddsEntry, KeepsEntries, WritesIndex, WritesPage}
-use Rattle.ub_tree.specs.Placed.{entry_of, regions_in}
-use Rattle.ub_tree.specs.Spans.{first_keys, Region}
-use Rattle.ub_tree.specs.Told.{FallsTo, IsRegionOf}
-use Rattle.ub_tree.specs.View.{TreeView, IsSound, region_count, regions}
-use Rattle.ub_tree.specs.declared.fault.TreeFault.{TreeFault}
-use Rattle.ub_tree.specs.declared.fault.TreeFault.TheVariants.{Full, Page, Store}
-use Rattle.ub_region.specs.RegionPage.{RegionView}
-use Rattle.ub_tree.specs.inner.Change.{HasReadAt, IsElsewhereSame, IsRegionIn, IsSplitAt, IsStored, KeepsGrown, StoresAt, placed_with, regions_with, split_of}
-use Rattle.ub_writing.specs.Marks.{HasMark}
-use Rattle.ub_zaddr.specs.Address.{last_address}
+pub use Rattle.ub_check.proofs.CheckingFacts.{drop_at}
+use Rattle.ub_store.specs.declared.fault.StoreFault.TheVariants as store
 
 -- rows that stand in place of a region's are one region, or two
 module _ (old new : TreeView) (i : ℕ) (span : Region) (rows : List Row) where

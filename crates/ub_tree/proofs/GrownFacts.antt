@@ -1,36 +1,14 @@
 -- What becomes of a tree whose store gets pages more: it tells of the same regions, and a sound one stays sound.
-use Rattle.std.proofs.Common.{rules}
-use Rattle.std.proofs.Common.{◌≡◌, ◌<◌, ◌≤◌, ◌∙◌, ◌+◌, ◌^◌, ℕ, Bool, true, List, [], ◌∷◌, None, Result, Err, IfErr, length, map, sym, ap, subst, arith, slice_get}
-use Rattle.std.proofs.lemmas.List.Elements.{recursion_from_All}
-use Rattle.std.proofs.lemmas.Option.{slice_get_within}
-use Rattle.std.specs.List.{AllByRecursion}
-use Rattle.ub_store.specs.Writing.{Grows, put_store}
-use Rattle.ub_index.proofs.KeptFacts.{kept_index, kept_under}
-use Rattle.ub_index.proofs.LeadFacts.{ways_stay}
-use Rattle.ub_index.proofs.Numbers.{kept_pages, within_store}
-use Rattle.ub_index.specs.Standing.{PagesStay, IsGrowFault}
-use Rattle.ub_index.specs.Index.{pages_under, top}
-use Rattle.ub_index.specs.View.{IndexView, entries_under}
-use Rattle.ub_region.specs.declared.entry.Entry.{Entry}
-use Rattle.ub_region.specs.Regions.{AreRegions, rows_of}
-use Rattle.ub_store.specs.Facts.{StoreFacts, IsHonest, page_count}
-use Rattle.ub_store.specs.View.{PagerView, SameTrace}
-use Rattle.ub_store.specs.declared.fault.StoreFault.{StoreFault}
-use Rattle.ub_store.specs.declared.fault.StoreFault.TheVariants as store
-use Rattle.ub_table.specs.declared.schema.Schema.{Schema}
+use Rattle.std.proofs.Common.{rules, ◌≡◌, ◌<◌, ◌≤◌, ◌∙◌, ◌+◌, ◌^◌, ℕ, Bool, true, List, [], ◌∷◌, None, Result, Err, IfErr, length, map, sym, ap, subst, arith, slice_get}
+use Rattle.ub_tree.proofs.Common.{AllByRecursion, ArePlaced, AreRegions, AreSoundPages, entries_under, Entry, entry_of, Grows, GrowsTo, HasIndex, HasMark}
+use Rattle.ub_tree.proofs.Common.{index_of, IndexView, IsGrowFault, IsHonest, IsSound, kept_index, kept_pages, kept_under, Leaves, Memory, page_count}
+use Rattle.ub_tree.proofs.Common.{PagerView, pages_under, PagesStay, Placed, placed_in, placed_of, put_store, recursion_from_All, regions_in, reserved, rows_of}
+use Rattle.ub_tree.proofs.Common.{SameTrace, Schema, slice_get_within, Store, StoreFacts, StoreFault, TellsStill, top, tree_view, TreeView, ways_stay}
+use Rattle.ub_tree.proofs.Common.{within_store}
 use Rattle.ub_tree.proofs.PutFacts.{view_placed}
 use Rattle.ub_tree.proofs.StoredFacts.{IsKept, IsSpelled, placed_kept}
 use Rattle.ub_tree.proofs.WriteFacts.{wrote_tree}
-use Rattle.ub_tree.specs.Effects.{Leaves}
-use Rattle.ub_tree.specs.Indexed.{HasIndex, reserved}
-use Rattle.ub_tree.specs.Placed.{Placed, ArePlaced, entry_of, placed_of, regions_in}
-use Rattle.ub_tree.specs.Stored.{AreSoundPages, index_of}
-use Rattle.ub_tree.specs.Told.{TellsStill}
-use Rattle.ub_tree.specs.Tree.{placed_in, tree_view}
-use Rattle.ub_tree.specs.View.{TreeView, IsSound}
-use Rattle.ub_tree.specs.declared.fault.TreeFault.TheVariants.{Memory, Store}
-use Rattle.ub_tree.specs.inner.Change.{GrowsTo}
-use Rattle.ub_writing.specs.Marks.{HasMark}
+use Rattle.ub_store.specs.declared.fault.StoreFault.TheVariants as store
 
 -- the pages that there were are as they were
 module _ (pages new : List (List ℕ)) (kept : (m : ℕ) → m < length pages → slice_get new m ≡ slice_get pages m) (more : length pages ≤ length new) where
@@ -61,8 +39,7 @@ module _ (pages new : List (List ℕ)) (kept : (m : ℕ) → m < length pages �
   pub grown_placed : (schema : Schema) (index : IndexView) (placed : List Placed) → HasIndex index pages (map entry_of placed) → ArePlaced schema placed (reserved index pages) pages
       → placed_of schema new (entries_under index new) ≡ placed_of schema pages (entries_under index pages)
   grown_placed schema index placed indexed placed_are =
-      ap (placed_of schema new) (same_entries index (map entry_of placed) indexed)
-      ∙ placed_kept schema pages new (entries_under index pages)
+      ap (placed_of schema new) (same_entries index (map entry_of placed) indexed) ∙ placed_kept schema pages new (entries_under index pages)
       (subst (λ (es : List Entry). AllByRecursion (IsKept pages new) es) (sym indexed.entries_are) (kept_each schema placed (recursion_from_All (IsSpelled schema pages) placed placed_are.spelled)))
 
   pub grown_pages : (schema : Schema) (placed : List Placed) (next : ℕ) → AreSoundPages pages schema placed next → AreSoundPages new schema placed next

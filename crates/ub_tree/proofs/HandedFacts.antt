@@ -1,13 +1,7 @@
 -- A walk over the index of a tree, as one of the tree.
 use Rattle.std.proofs.Common.{◌≡◌, ◌<◌, ◌^◌, ◌∙◌, List, [], ◌∷◌, Option, Some, None, IfSome}
-use Rattle.ub_bigmin.specs.Box.{Corners}
-use Rattle.ub_index.specs.Along.{Meeting}
-use Rattle.ub_index.specs.Walking.{AreGivenFirst, AreGivenNext, IsGivenAny}
+use Rattle.ub_tree.proofs.Common.{AreFirst, AreGivenFirst, AreGivenNext, AreNext, Corners, IsGivenAny, IsRegionOf, Meeting, Region, TreeView}
 use Rattle.ub_tree.proofs.CallFacts.{gives_next}
-use Rattle.ub_tree.specs.Handing.{AreNext}
-use Rattle.ub_tree.specs.Spans.{Region}
-use Rattle.ub_tree.specs.Told.{AreFirst, IsRegionOf}
-use Rattle.ub_tree.specs.View.{TreeView}
 
 module _ (boxes : List Corners) (t : TreeView) where
   -- what the index gives one after the other, the tree does

@@ -1,23 +1,9 @@
 -- The pages that a tree's pager holds stay checked.
-use Rattle.std.proofs.lemmas.Grind.{common_steps}
-use Rattle.std.proofs.Common.{rules}
-use Rattle.std.proofs.Common.{◌≡◌, ◌∙◌, ◌⊎◌, ℕ, List, Some, sym, refl, arith}
 use Rattle.std.specs.Prelude.{Contains}
-use Rattle.std.specs.List.{AllByRecursion}
-use Rattle.ub_index.specs.Held.{KeepsChecked}
-use Rattle.ub_index.specs.View.{IndexView}
-use Rattle.ub_page.specs.Index.{IsIndexKind}
-use Rattle.ub_bytes.specs.Bytes.{number_at, number_bytes}
-use Rattle.ub_page.specs.Header.{header_page, page_of}
-use Rattle.ub_page.specs.declared.header.Header.{Header}
-use Rattle.ub_store.specs.Cache.{NoneMoreBut, Renews, page_at}
-use Rattle.ub_store.specs.Facts.{IsHonest}
-use Rattle.ub_store.specs.View.{PagerView}
-use Rattle.ub_table.specs.declared.schema.Schema.{Schema}
-use Rattle.ub_tree.specs.Tree.{IsTree}
-use Rattle.ub_writing.specs.Puts.{IsPutPage}
-use Rattle.ub_writing.specs.declared.mark.Mark.{Mark}
-use Rattle.ub_writing.specs.declared.mark.Mark.TheVariants.{Written}
+use Rattle.std.proofs.Common.{rules, ◌≡◌, ◌∙◌, ◌⊎◌, ℕ, List, Some, sym, refl, arith}
+use Rattle.ub_tree.proofs.Common.{AllByRecursion, common_steps, Header, header_page, IndexView, IsHonest, IsIndexKind, IsPutPage, IsTree, KeepsChecked, Mark}
+use Rattle.ub_tree.proofs.Common.{NoneMoreBut, number_at, number_bytes, page_at, page_of, PagerView, Schema, Written}
+use Rattle.ub_store.specs.Cache.{Renews}
 
 -- what is true of a tree's parts stays so where its pages stay checked, and the mark is the same, or written
 module _ (schema : Schema) (index : IndexView) (count next rows : ℕ) (mark : Mark) (old new : PagerView) (is : IsTree schema index count next rows mark old) (kept : KeepsChecked index.last old new) where

@@ -1,35 +1,13 @@
 -- The region that a key falls into, and what calls must answer.
-use Rattle.std.proofs.Common.{rules}
-use Rattle.std.proofs.Common.{◌≡◌, ◌≢◌, ◌/◌, ◌≤◌, ◌<◌, ◌^◌, ◌++◌, inl, inr, ℕ, Bool, true, false, List, [], ◌∷◌, Result, Ok, Err, IfErr, MatchResult, length, map, ◌∙◌, sym, ap, subst, arith, nat_eq, IfOk, ◌⊎◌}
-use Rattle.std.proofs.lemmas.Bool.{cases_Bool, eqb-true}
-use Rattle.std.proofs.lemmas.List.{length-append, length-map}
-use Rattle.std.proofs.lemmas.List.Elements.{recursion_from_All}
+use Rattle.std.proofs.Common.{rules, ◌≡◌, ◌≢◌, ◌/◌, ◌≤◌, ◌<◌, ◌^◌, ◌++◌, inl, inr, ℕ, Bool, true, false, List, [], ◌∷◌, Result, Ok, Err, IfErr, MatchResult, length, map, ◌∙◌, sym, ap, subst, arith, nat_eq, IfOk, ◌⊎◌}
+use Rattle.ub_tree.proofs.Common.{all_append, AllByRecursion, Answers, AnswersKey, AnswersRemoval, BadCount, BadOrder, cases_Bool, eqb-true, FallsInto, FallsTo}
+use Rattle.ub_tree.proofs.Common.{has_key, HasReadAt, IsErrAnd, IsHonest, IsJoined, IsPassing, IsSound, IsTakenIn, Key, key_of, length-append, length-map, Page}
+use Rattle.ub_tree.proofs.Common.{page_count, Placed, recursion_from_All, Region, region_count, RegionRows, RegionView, remove_row, reserved, Row, Schema}
+use Rattle.ub_tree.proofs.Common.{slice_get_within, TreeFault, TreeView}
 use Rattle.std.proofs.lemmas.Map.Steps.{length-le_from_distinct_below}
-use Rattle.std.proofs.lemmas.Option.{slice_get_within}
-use Rattle.std.specs.List.{AllByRecursion, list_any}
-use Rattle.std.specs.Result.{IsErrAnd}
-use Rattle.ub_region.specs.declared.region.Region.{Region}
-use Rattle.ub_region.proofs.Laws.{all_append}
-use Rattle.ub_region.specs.Rows.{has_key, remove_row}
-use Rattle.ub_store.specs.Facts.{IsHonest, page_count}
-use Rattle.ub_table.specs.Region.{RegionRows, key_of}
-use Rattle.ub_table.specs.declared.fault.PageFault.TheVariants.{BadCount, BadOrder}
-use Rattle.ub_table.specs.declared.row.Key.{Key}
-use Rattle.ub_table.specs.declared.row.Row.{Row}
-use Rattle.ub_table.specs.declared.schema.Schema.{Schema}
+use Rattle.std.specs.List.{list_any}
 use Rattle.ub_tree.proofs.CallFacts.{one_falls}
 use Rattle.ub_tree.proofs.StoredFacts.{IsSpelled}
-use Rattle.ub_tree.specs.Holding.{Answers, AnswersKey, AnswersRemoval, FallsInto, IsJoined}
-use Rattle.ub_tree.specs.Indexed.{reserved}
-use Rattle.ub_tree.specs.Opened.{IsPassing}
-use Rattle.ub_tree.specs.Placed.{Placed}
-use Rattle.ub_tree.specs.Told.{FallsTo}
-use Rattle.ub_tree.specs.View.{TreeView, IsSound, region_count}
-use Rattle.ub_tree.specs.declared.fault.TreeFault.{TreeFault}
-use Rattle.ub_tree.specs.declared.fault.TreeFault.TheVariants.{Page}
-use Rattle.ub_tree.specs.Effects.{IsTakenIn}
-use Rattle.ub_tree.specs.inner.Change.{HasReadAt}
-use Rattle.ub_region.specs.RegionPage.{RegionView}
 
 each_below : (n q : ℕ) (xs : List ℕ) → AllByRecursion (λ m. m < n) xs → list_any (nat_eq q) xs ≡ true → q < n
 each_below n q [] all t = cc

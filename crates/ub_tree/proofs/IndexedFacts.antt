@@ -1,30 +1,12 @@
 -- What the index of a tree tells of its regions.
 use Rattle.std.proofs.Common.{◌≡◌, ◌∙◌, ◌++◌, ℕ, suc, List, Option, Some, map, nat_eq, sym, ap, subst, refl, slice_get}
-use Rattle.std.proofs.lemmas.Option.{slice_get_within}
-use Rattle.std.specs.List.{Contains, IsDistinct}
-use Rattle.ub_bigmin.specs.Box.{Corners, HoldsAny}
-use Rattle.ub_bigmin.specs.Extremes.{LeastFrom}
-use Rattle.ub_index.specs.Spans.{First, IsLater, Meets, first_keys, regions_of, region_of}
-use Rattle.ub_region.specs.declared.region.Region.{Region}
+use Rattle.ub_tree.proofs.Common.{Contains, Corners, distinct_left, end_before, entries_in, Entry, entry_of, FallsTo, First, first_keys, GivesAfter, HasIndex}
+use Rattle.ub_tree.proofs.Common.{HoldsAny, index_holding, IndexView, IsDistinct, IsHonest, IsIndexOn, IsLater, IsReachedOnce, IsRegionAt, IsRegionIn}
+use Rattle.ub_tree.proofs.Common.{IsRegionOf, IsSound, Key, last_address, LeastFrom, led_to, Meets, Region, region_of, regions_of, reserved, slice_get_within}
+use Rattle.ub_tree.proofs.Common.{spans_of, StoreFacts, TreeView, way_ends_at, ways_hold}
 use Rattle.ub_index.proofs.FoundFacts.{meeting_given, region_there}
-use Rattle.ub_index.proofs.LeadFacts.{led_to, ways_hold}
-use Rattle.ub_index.proofs.WayFacts.{way_ends_at}
-use Rattle.ub_index.specs.View.{IsReachedOnce, IndexView, IsIndexOn, IsRegionAt, entries_in}
-use Rattle.ub_index.specs.Searching.{GivesAfter}
-use Rattle.ub_region.specs.Spans.{end_before}
-use Rattle.ub_region.specs.declared.entry.Entry.{Entry}
-use Rattle.ub_region.specs.Regions.{index_holding}
-use Rattle.ub_store.specs.Facts.{StoreFacts, IsHonest}
-use Rattle.ub_table.specs.declared.row.Key.{Key}
-use Rattle.ub_index.proofs.Numbers.{distinct_left}
 use Rattle.ub_tree.proofs.TreeFacts.{span_entry}
 use Rattle.ub_tree.proofs.MeetFacts.{contained_at as contained, contains_at}
-use Rattle.ub_tree.specs.Indexed.{HasIndex, reserved}
-use Rattle.ub_tree.specs.Placed.{entry_of}
-use Rattle.ub_tree.specs.Told.{FallsTo, IsRegionOf}
-use Rattle.ub_tree.specs.View.{TreeView, IsSound, spans_of}
-use Rattle.ub_tree.specs.inner.Change.{IsRegionIn}
-use Rattle.ub_zaddr.specs.Address.{last_address}
 
 -- the index of a tree stands on its store
 pub index_on : (index : IndexView) (store : StoreFacts) (entries : List Entry) → IsHonest store → HasIndex index store.pages entries → IsIndexOn index store

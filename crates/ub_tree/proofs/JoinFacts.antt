@@ -1,56 +1,22 @@
 -- A tree of which two neighbouring regions were joined into the first: the change of its index was made ready, the first one's page was put,
 -- and then the pages that the change spells.
-use Rattle.std.proofs.Common.{rules}
-use Rattle.std.proofs.Common.{◌≡◌, ◌≢◌, ◌<◌, ◌≤◌, ◌+◌, ◌-◌, ◌^◌, ◌++◌, ◌⊎◌, ◌∙◌, inl, inr, slice_get, ℕ, true, List, [], ◌∷◌, Some, Ok, Err, Result, IfErr, length, map, sym, ap, subst, refl, arith}
-use Rattle.std.proofs.lemmas.Bool.{cases_eq, cases_lt}
-use Rattle.std.proofs.lemmas.List.{length-map}
-use Rattle.std.proofs.lemmas.Option.{slice_get_past}
-use Rattle.std.specs.Result.{IsErrAnd}
-use Rattle.ub_index.proofs.LeadFacts.{ways_hold}
-use Rattle.ub_index_change.specs.Changed.{Replaces}
-use Rattle.ub_index_change.specs.Changing.{AreOnce, IsUnspelled, Stand}
-use Rattle.ub_index.specs.Standing.{IsOutside}
-use Rattle.ub_index.proofs.FitFacts.{page_is}
-use Rattle.ub_index.specs.Index.{IsIndexPage, page_in, pages_under, top}
-use Rattle.ub_index_change.proofs.BesideFacts.{IsKept, dropped_once, joined_lead, others_stay}
-use Rattle.ub_index_change.specs.Lowering.{IsDropFault}
-use Rattle.ub_index_change.specs.Making.{IsPutFault, PutsSheets, changed}
-use Rattle.ub_index_change.specs.Preparing.{ChangeView, MakesIndex}
-use Rattle.ub_index.specs.View.{IndexView, Leads, entries_in, entries_under, entry_at}
-use Rattle.ub_index.specs.declared.fault.IndexFault.{IndexFault}
-use Rattle.ub_index.specs.declared.fault.IndexFault.TheVariants as index
-use Rattle.ub_region.specs.declared.region.Region.{Region}
-use Rattle.ub_index_change.specs.declared.sheet.Sheet.{Sheet}
-use Rattle.ub_region.proofs.Laws.{all_more}
-use Rattle.ub_region.specs.Joins.{put_rows}
-use Rattle.ub_region.specs.RegionPage.{region_page}
-use Rattle.ub_store.specs.Facts.{StoreFacts, IsHonest, page_count}
-use Rattle.ub_store.specs.declared.fault.StoreFault.TheVariants as store
-use Rattle.ub_table.specs.Keys.{IsBefore, origin}
-use Rattle.ub_table.specs.Region.{IsRegion}
-use Rattle.ub_table.specs.declared.row.Key.{Key}
-use Rattle.ub_table.specs.declared.row.Row.{Row}
-use Rattle.ub_table.specs.declared.schema.Schema.{Schema}
+use Rattle.std.proofs.Common.{rules, ◌≡◌, ◌≢◌, ◌<◌, ◌≤◌, ◌+◌, ◌-◌, ◌^◌, ◌++◌, ◌⊎◌, ◌∙◌, inl, inr, slice_get, ℕ, true, List, [], ◌∷◌, Some, Ok, Err, Result, IfErr, length, map, sym, ap, subst, refl, arith}
+use Rattle.ub_tree.proofs.Common.{all_more, AreOnce, AreOthersKept, ArePlaced, cases_eq, cases_lt, changed, Changes, ChangeView, dropped_once, entries_in}
+use Rattle.ub_tree.proofs.Common.{entries_under, entry_at, entry_of, FallsTo, HasEnded, HasIndex, HasMark, HasStopped, index_fault, IndexFault, IndexView}
+use Rattle.ub_tree.proofs.Common.{Inner, IsBefore, IsDropFault, IsDropReady, IsElsewhereSame, IsErrAnd, IsHonest, IsIndexFault, IsIndexPage, IsKept, IsLeft}
+use Rattle.ub_tree.proofs.Common.{IsOutside, IsPut, IsPutFault, IsRegion, IsRegionIn, IsRegionOf, IsRegionThere, IsRemovalFault, IsSound, IsSpelledAt, IsStored}
+use Rattle.ub_tree.proofs.Common.{IsUnspelled, joined_lead, JoinsAt, JoinsKeys, KeepsBeside, KeepsOthers, Key, Leads, length-map, MakesIndex, origin}
+use Rattle.ub_tree.proofs.Common.{others_stay, page_count, page_in, page_is, pages_under, Placed, placed_in, placed_of, placed_with, put_rows, PutsSheets}
+use Rattle.ub_tree.proofs.Common.{Region, region_count, region_page, regions, regions_in, Replaces, reserved, Row, Schema, Sheet, slice_get_past, Spells, Stand}
+use Rattle.ub_tree.proofs.Common.{StoreFacts, top, TreeFault, TreeView, ways_hold, Writes, WritesIndex}
 use Rattle.ub_tree.proofs.DropFacts.{dropped_are, dropped_indexed, dropped_long, dropped_placed, dropped_regions}
 use Rattle.ub_tree.proofs.EffectFacts.{left_by, writes_both, writes_told}
 use Rattle.ub_tree.proofs.IndexedFacts.{at_of_key}
 use Rattle.ub_tree.proofs.PutFacts.{view_placed}
 use Rattle.ub_tree.proofs.RoomFacts.{begins_before}
 use Rattle.ub_tree.proofs.WayFacts.{region_no_index}
-use Rattle.ub_tree.specs.Effects.{Changes, HasEnded, IsLeft}
-use Rattle.ub_tree.specs.Faults.{index_fault}
-use Rattle.ub_tree.specs.Indexed.{HasIndex, Inner, reserved}
-use Rattle.ub_tree.specs.Others.{AreOthersKept, JoinsKeys, KeepsBeside, KeepsOthers, WritesIndex}
-use Rattle.ub_tree.specs.Placed.{Placed, ArePlaced, entry_of, placed_of, regions_in}
-use Rattle.ub_tree.specs.Removal.{IsRemovalFault}
-use Rattle.ub_tree.specs.Tree.{placed_in}
-use Rattle.ub_tree.specs.View.{TreeView, IsSound, region_count, regions}
-use Rattle.ub_tree.specs.declared.fault.TreeFault.{TreeFault}
-use Rattle.ub_tree.specs.inner.Change.{HasStopped, IsDropReady, IsElsewhereSame, IsIndexFault, IsPut, IsRegionIn, IsRegionThere, IsSpelledAt, IsStored, Writes, placed_with}
-use Rattle.ub_tree.specs.inner.Removing.{JoinsAt}
-use Rattle.ub_tree.specs.Pages.{Spells}
-use Rattle.ub_tree.specs.Told.{FallsTo, IsRegionOf}
-use Rattle.ub_writing.specs.Marks.{HasMark}
+use Rattle.ub_index.specs.declared.fault.IndexFault.TheVariants as index
+use Rattle.ub_store.specs.declared.fault.StoreFault.TheVariants as store
 
 -- the first key of a region that a tree tells of falls there
 pub first_falls : (t : TreeView) (span : Region) → IsHonest t.store → IsRegionOf t span → FallsTo t span.first span

@@ -1,46 +1,19 @@
 -- The tree of regions that were laid on pages: it is sound, and these are its regions.
 use Rattle.std.proofs.Common.{◌≡◌, ◌≢◌, ◌≤◌, ◌<◌, ◌+◌, ◌^◌, ◌++◌, ◌∙◌, ℕ, suc, true, false, List, [], ◌∷◌, Some, None, Err, append_assoc, ap, arith, length, map, refl, slice_get, subst, sym}
-use Rattle.std.proofs.lemmas.List.{length-append}
-use Rattle.std.proofs.lemmas.List.Elements.{All-from_recursion}
-use Rattle.std.specs.Bool.{nat_eq}
-use Rattle.std.specs.List.{AllByRecursion, IsDistinct}
-use Rattle.ub_index.proofs.Numbers.{distinct_cons, distinct_join}
-use Rattle.ub_index.specs.Held.{AreChecked}
-use Rattle.ub_index.specs.Index.{pages_under, top}
-use Rattle.ub_index.specs.Standing.{IsOutside}
-use Rattle.ub_index.specs.View.{IndexView, index_view}
+use Rattle.ub_tree.proofs.Common.{All-from_recursion, all_append, all_more, AllByRecursion, AreChecked, ArePlaced, AreRegions, Counts, distinct_cons}
+use Rattle.ub_tree.proofs.Common.{distinct_join, Entry, entry_of, firsts_of, HasIndex, HasMark, Header, index_view, IndexView, IsCreateFault, IsDistinct}
+use Rattle.ub_tree.proofs.Common.{IsHonest, IsOutside, IsRegion, IsSound, IsTree, last_address, length-append, nat_eq, page_at, page_count, PagerView}
+use Rattle.ub_tree.proofs.Common.{pages_under, Placed, placed_in, placed_of, region_page, region_parts, RegionRows, regions_in, reserved, Root, rows_of, Schema}
+use Rattle.ub_tree.proofs.Common.{StoreFacts, StoreFault, top, tree_fault, tree_view, TreeView, Written}
 use Rattle.ub_laying.proofs.BegunFacts.{few_pages}
 use Rattle.ub_laying.specs.Begun.{BegunView, CanLay, IsLaidFor, LaysBegun, root_in}
-use Rattle.ub_laying.specs.Effects.{Counts}
 use Rattle.ub_laying.specs.Laying.{AreLaid, entries_from}
-use Rattle.ub_laying.specs.declared.levels.Root.{Root}
-use Rattle.ub_page.proofs.PageLaws.{region_parts}
-use Rattle.ub_page.specs.declared.header.Header.{Header}
-use Rattle.ub_region.proofs.Laws.{all_append, all_more}
-use Rattle.ub_region.specs.RegionPage.{region_page}
-use Rattle.ub_region.specs.Regions.{AreRegions, firsts_of, rows_of}
-use Rattle.ub_region.specs.declared.entry.Entry.{Entry}
-use Rattle.ub_store.specs.Cache.{page_at}
-use Rattle.ub_store.specs.Facts.{StoreFacts, IsHonest, page_count}
-use Rattle.ub_store.specs.View.{PagerView}
-use Rattle.ub_store.specs.declared.fault.StoreFault.{StoreFault}
-use Rattle.ub_store.specs.declared.fault.StoreFault.TheVariants as store
-use Rattle.ub_table.specs.Region.{RegionRows, IsRegion}
-use Rattle.ub_table.specs.declared.schema.Schema.{Schema}
 use Rattle.ub_tree.proofs.CreationFacts.{none_twice}
 use Rattle.ub_tree.proofs.PutFacts.{view_placed}
 use Rattle.ub_tree.proofs.StoredFacts.{IsSpelled, IsTold, placed_told}
-use Rattle.ub_tree.specs.Calls.{IsCreateFault}
-use Rattle.ub_tree.specs.Faults.{tree_fault}
-use Rattle.ub_tree.specs.Indexed.{HasIndex, reserved}
 use Rattle.ub_tree.specs.Laid.{CountsFault, IsLaid, LaysTable, placed_from}
-use Rattle.ub_tree.specs.Placed.{Placed, ArePlaced, entry_of, placed_of, regions_in}
-use Rattle.ub_tree.specs.Tree.{IsTree, placed_in, tree_view}
-use Rattle.ub_tree.specs.View.{TreeView, IsSound}
 use Rattle.ub_writing.specs.Creation.{IsLayoutFault}
-use Rattle.ub_writing.specs.Marks.{HasMark}
-use Rattle.ub_writing.specs.declared.mark.Mark.TheVariants.{Written}
-use Rattle.ub_zaddr.specs.Address.{last_address}
+use Rattle.ub_store.specs.declared.fault.StoreFault.TheVariants as store
 
 -- ---- regions on pages that follow each other
 

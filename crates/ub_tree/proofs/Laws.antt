@@ -1,33 +1,19 @@
 -- The laws of a sound tree, as specs/Laws.antt states them, and what else the proofs of crates above use.
 use Rattle.std.proofs.Common.{◌≡◌, ◌<◌, ◌^◌, inl, inr, ℕ, zero, suc, List, [], ◌∷◌, false, Some, None, map, drop, nat_eq, slice_get, sym, ap, subst, length, refl, arith, ◌∙◌}
-use Rattle.std.proofs.lemmas.Bool.{cases_lt, cases_eq, eq-eqb}
-use Rattle.std.proofs.lemmas.List.{length-map}
-use Rattle.std.proofs.lemmas.Map.Keys.{apart_from_distinct}
-use Rattle.std.proofs.lemmas.Option.{slice_get_within, get_or_from_slice_get}
-use Rattle.std.specs.List.{IsDistinct}
-use Rattle.ub_region.proofs.Laws as lists
-use Rattle.ub_region.specs.Regions.{firsts_of}
-use Rattle.ub_region.specs.Spans.{span_end}
-use Rattle.ub_table.specs.Region.{RegionRows}
+use Rattle.ub_tree.proofs.Common.{AnswersAreRegionsThatMeet, AnswersAreThoseThatMeet, AnswersAscend, AnswersCover, apart_from_distinct, AreMetBy, cases_eq}
+use Rattle.ub_tree.proofs.Common.{cases_lt, Corners, distinct_right, entries_in, entry_of, eq-eqb, filled_low_levels, First, first_keys, FirstFaultIsOne}
+use Rattle.ub_tree.proofs.Common.{firsts_of, get_or_from_slice_get, GrownIsNotFull, IsDistinct, IsLater, IsSound, last_address, length-map, MAX_LEVEL, Meets}
+use Rattle.ub_tree.proofs.Common.{NextIsLater, NextIsTheFirst, PagesDiffer, Placed, Region, RegionRows, regions, regions_in, regions_of, RegionsAreTold}
+use Rattle.ub_tree.proofs.Common.{reserved, RowsLieInSpans, slice_get_within, SoundTreesAreWell, span_end, spans_of, SpansAscend, SpansCoverTheSpace, TreeView}
+use Rattle.ub_tree.proofs.Common.{WellPagesAreSound}
 use Rattle.ub_tree.proofs.AnswerFacts.{answers_up, next_later}
 use Rattle.ub_tree.proofs.CallFacts.{last_small}
 use Rattle.ub_tree.proofs.CheckFacts.{first_once}
 use Rattle.ub_tree.proofs.CoverFacts.{covered}
 use Rattle.ub_tree.proofs.IndexedFacts.{contained_told, first_given, sound_index, spans_told, told_contained}
 use Rattle.ub_tree.proofs.WalkFacts.{answers_are_those, those_few}
-use Rattle.ub_bigmin.specs.Box.{Corners}
-use Rattle.ub_index_change.proofs.FillFacts.{filled_low_levels}
-use Rattle.ub_index.proofs.Numbers.{distinct_right}
-use Rattle.ub_index.specs.View.{entries_in}
-use Rattle.ub_page.specs.declared.header.TheConstants.{MAX_LEVEL}
-use Rattle.ub_tree.specs.Handing.{AreMetBy}
-use Rattle.ub_tree.specs.Laws.{SpansAscend, PagesDiffer, SpansCoverTheSpace, RowsLieInSpans, RegionsAreTold, NextIsTheFirst, NextIsLater, AnswersAreThoseThatMeet, AnswersAreRegionsThatMeet, AnswersAscend, AnswersCover, GrownIsNotFull, WellPagesAreSound, SoundTreesAreWell, FirstFaultIsOne}
-use Rattle.ub_tree.specs.Placed.{Placed, entry_of, regions_in}
-use Rattle.ub_tree.specs.Indexed.{reserved}
-use Rattle.ub_tree.specs.Spans.{first_keys, regions_of, First, IsLater, Meets, Region}
-use Rattle.ub_tree.specs.View.{TreeView, IsSound, regions, spans_of}
 use Rattle.ub_tree.proofs.WellFacts.{opened_pages, opened_sound, sound_well}
-use Rattle.ub_zaddr.specs.Address.{last_address}
+use Rattle.ub_region.proofs.Laws as lists
 pub use Rattle.ub_tree.proofs.AnswerFacts.{answers_ended, answers_later, answers_there, first_more, left_after, left_less}
 pub use Rattle.ub_tree.proofs.EffectFacts.{mark_then}
 pub use Rattle.ub_tree.proofs.NewFacts.{new_values, numbered_row}

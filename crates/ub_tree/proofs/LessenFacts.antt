@@ -1,38 +1,15 @@
 -- What a removal does at each of its ends, and what it answers there.
-use Rattle.std.proofs.Common.{rules}
-use Rattle.std.proofs.Common.{◌≡◌, ◌≢◌, ◌≤◌, ◌<◌, ◌/◌, ◌-◌, ◌^◌, ◌++◌, ◌∙◌, inl, inr, ℕ, Bool, true, false, List, IsTrue, Ok, Err, Result, IfErr, OnOk, length, sym, ap, subst, refl, nat_lt, arith}
-use Rattle.std.proofs.lemmas.Bool.{ltb-true}
-use Rattle.std.specs.List.{AllByRecursion}
-use Rattle.std.specs.Result.{IsErrAnd}
-use Rattle.ub_index_change.specs.Preparing.{ChangeView}
-use Rattle.ub_region.specs.Joins.{put_rows}
-use Rattle.ub_region.specs.RegionPage.{RegionView}
-use Rattle.ub_region.specs.Regions.{settle}
-use Rattle.ub_region.specs.Rows.{has_key, remove_row}
-use Rattle.ub_store.specs.Facts.{StoreFacts, IsHonest}
-use Rattle.ub_store.specs.declared.fault.StoreFault.TheVariants as store
-use Rattle.ub_table.specs.Region.{RegionRows, IsRegion}
-use Rattle.ub_table.specs.declared.fault.PageFault.TheVariants.{BadCount}
-use Rattle.ub_table.specs.declared.row.Key.{Key}
-use Rattle.ub_table.specs.declared.row.Row.{Row}
+use Rattle.std.proofs.Common.{rules, ◌≡◌, ◌≢◌, ◌≤◌, ◌<◌, ◌/◌, ◌-◌, ◌^◌, ◌++◌, ◌∙◌, inl, inr, ℕ, Bool, true, false, List, IsTrue, Ok, Err, Result, IfErr, OnOk, length, sym, ap, subst, refl, nat_lt, arith}
+use Rattle.ub_tree.proofs.Common.{AllByRecursion, AnswersLeft, BadCount, ChangeView, FallsInto, has_key, HasReadAt, HasTakenBefore, HasTakenNext, IsErrAnd}
+use Rattle.ub_tree.proofs.Common.{IsHonest, IsIndexFault, IsPassing, IsPut, IsRegion, IsRegionIn, IsRegionOf, IsRemovalFault, IsSound, IsStored, JoinsAt}
+use Rattle.ub_tree.proofs.Common.{KeepsTold, Key, last_address, Lessens, ltb-true, Page, put_rows, Region, region_count, RegionRows, regions, RegionView}
+use Rattle.ub_tree.proofs.Common.{remove_row, Removes, Row, Searches, settle, Spells, Store, StoreFacts, TakesAt, TreeFault, TreeView, Writes}
 use Rattle.ub_tree.proofs.EffectFacts.{all_same, changed_by, counted_anew, left_by, marked_sound, searched_by, unchanged}
 use Rattle.ub_tree.proofs.HoldingFacts.{fault_told, no_answer, passing_fault, passing_removal, removal_answers}
 use Rattle.ub_tree.proofs.JoinFacts.{first_falls}
 use Rattle.ub_tree.proofs.RemovalFacts.{holder, none_removed, searched_removal, shrinks_by, shrunk, some_counted}
 use Rattle.ub_tree.proofs.StandFacts.{takes_row}
-use Rattle.ub_tree.specs.Effects.{Searches}
-use Rattle.ub_tree.specs.Holding.{FallsInto}
-use Rattle.ub_tree.specs.Opened.{IsPassing}
-use Rattle.ub_tree.specs.Pages.{Spells}
-use Rattle.ub_tree.specs.Removal.{IsRemovalFault, Lessens, Removes}
-use Rattle.ub_tree.specs.Spans.{Region}
-use Rattle.ub_tree.specs.Told.{IsRegionOf, KeepsTold}
-use Rattle.ub_tree.specs.View.{TreeView, IsSound, region_count, regions}
-use Rattle.ub_tree.specs.declared.fault.TreeFault.{TreeFault}
-use Rattle.ub_tree.specs.declared.fault.TreeFault.TheVariants.{Page, Store}
-use Rattle.ub_tree.specs.inner.Change.{HasReadAt, IsIndexFault, IsPut, IsRegionIn, IsStored, Writes}
-use Rattle.ub_tree.specs.inner.Removing.{AnswersLeft, HasTakenBefore, HasTakenNext, JoinsAt, TakesAt}
-use Rattle.ub_zaddr.specs.Address.{last_address}
+use Rattle.ub_store.specs.declared.fault.StoreFault.TheVariants as store
 
 -- ---- what each end leaves
 

@@ -1,3 +1,4 @@
+pub mod Common
 pub mod ApartFacts
 pub mod TreeFacts
 pub mod WayFacts

@@ -1,15 +1,8 @@
 -- The elements of a list that have a property, one after the other: which one comes next, and which have come; and spans in order.
-use Rattle.std.proofs.lemmas.Grind.{common_steps}
-use Rattle.std.proofs.Common.{rules}
-use Rattle.std.proofs.Common.{◌≡◌, ◌<◌, ◌≤◌, inl, inr, ℕ, zero, suc, List, [], ◌∷◌, ◌++◌, Option, Some, None, IfSome, Contains, length, map, take, ◌∙◌, sym, ap, refl, arith, subst, slice_get}
-use Rattle.std.proofs.lemmas.Bool.{cases_lt, cases_eq}
-use Rattle.std.proofs.lemmas.Option.{slice_get_read, slice_get_within, get_or_from_slice_get, slice_get_cases}
+use Rattle.std.proofs.Common.{rules, ◌≡◌, ◌<◌, ◌≤◌, inl, inr, ℕ, zero, suc, List, [], ◌∷◌, ◌++◌, Option, Some, None, IfSome, Contains, length, map, take, ◌∙◌, sym, ap, refl, arith, subst, slice_get}
+use Rattle.ub_tree.proofs.Common.{AreThose, cases_eq, cases_lt, common_steps, entry_of, get_or_from_slice_get, IsBefore, IsLater, not_before_self}
+use Rattle.ub_tree.proofs.Common.{not_both_before, Placed, Region, regions_of, slice_get_cases, slice_get_read, slice_get_within}
 use Rattle.ub_check.proofs.CheckingFacts.{take_at}
-use Rattle.ub_region.specs.Those.{AreThose}
-use Rattle.ub_table.proofs.Laws.{not_both_before, not_before_self}
-use Rattle.ub_table.specs.Keys.{IsBefore}
-use Rattle.ub_tree.specs.Placed.{Placed, entry_of}
-use Rattle.ub_tree.specs.Spans.{IsLater, regions_of, Region}
 
 -- the span before the one at a place, if there is one
 abbrev pub before : ℕ → List Region → Option Region

@@ -1,24 +1,8 @@
 -- The regions beside one, over any pages: where what is found isn't its neighbour, two regions overlap.
-use Rattle.std.proofs.Common.{rules}
-use Rattle.std.proofs.Common.{◌≡◌, ◌<◌, ◌^◌, ◌∙◌, ◌⊎◌, inl, inr, ℕ, Bool, Option, Some, None, IfSome, Ok, Err, ap, sym, subst, refl, arith}
-use Rattle.ub_index.proofs.KeyFacts.{le_before}
-use Rattle.ub_index.specs.Searching.{GivesAny, GoesDown, key_before}
-use Rattle.ub_index.specs.View.{IndexView}
-use Rattle.ub_region.specs.declared.region.Region.{Region}
-use Rattle.ub_store.specs.Facts.{IsHonest}
-use Rattle.ub_store.specs.View.{PagerView}
-use Rattle.ub_table.proofs.Laws.{before_trans, not_before_self}
-use Rattle.ub_table.specs.Keys.{IsBefore}
-use Rattle.ub_table.specs.declared.fault.PageFault.TheVariants.{OutOfRegion}
-use Rattle.ub_table.specs.declared.row.Key.{Key}
-use Rattle.ub_table.specs.declared.schema.Schema.{Schema}
+use Rattle.std.proofs.Common.{rules, ◌≡◌, ◌<◌, ◌^◌, ◌∙◌, ◌⊎◌, inl, inr, ℕ, Bool, Option, Some, None, IfSome, Ok, Err, ap, sym, subst, refl, arith}
+use Rattle.ub_tree.proofs.Common.{before_trans, FallsTo, GivesAny, GoesDown, IndexView, IsBefore, IsHonest, Key, key_before, le_before, not_before_self}
+use Rattle.ub_tree.proofs.Common.{OutOfRegion, Page, PagerView, Region, Schema, Searches, tree_view, TreeFault, TreeView}
 use Rattle.ub_tree.proofs.SearchFacts.{not_empty, overlaps}
-use Rattle.ub_tree.specs.Effects.{Searches}
-use Rattle.ub_tree.specs.Told.{FallsTo}
-use Rattle.ub_tree.specs.Tree.{tree_view}
-use Rattle.ub_tree.specs.View.{TreeView}
-use Rattle.ub_tree.specs.declared.fault.TreeFault.{TreeFault}
-use Rattle.ub_tree.specs.declared.fault.TreeFault.TheVariants.{Page}
 
 key_with : ℕ → ℕ → Key
 key_with z number = record { z = z; number = number }

@@ -1,16 +1,12 @@
 -- A new row: its values, as they come, and its number.
+use Rattle.std.specs.Prelude.{FitsSigned}
 use Rattle.std.proofs.Common.{◌≡◌, ◌<◌, ◌≤◌, ◌-◌, ◌^◌, ℕ, ℤ, zero, suc, List, ◌++◌, length, replicate, rules, get_or, Fits, w32}
+use Rattle.ub_tree.proofs.Common.{All, All-append, All-from_recursion, AllByRecursion, HasRest, IsNumbered, IsRow, length-append, length-replicate, Row, row_of}
+use Rattle.ub_tree.proofs.Common.{Suits}
 use Rattle.std.proofs.lemmas.Grind.{get_or_default_zero}
-use Rattle.std.proofs.lemmas.List.{length-append, length-replicate}
-use Rattle.std.proofs.lemmas.List.Elements.{All-append, All-from_recursion}
 use Rattle.std.proofs.Math.Facts.{Fits-lt-pow}
 use Rattle.std.proofs.Math.Seq.{drop-append_seam}
-use Rattle.std.specs.Prelude.{FitsSigned}
 use Rattle.std.specs.Int.{w64}
-use Rattle.std.specs.List.{All, AllByRecursion}
-use Rattle.ub_table.specs.Region.{HasRest, IsNumbered, IsRow}
-use Rattle.ub_table.specs.declared.row.Row.{Row}
-use Rattle.ub_tree.specs.Change.{Suits, row_of}
 
 all_same : {X : Type 0} (P : X → Type 0) (x : X) (n : ℕ) → P x → AllByRecursion P (replicate n x)
 all_same P x zero h = tt

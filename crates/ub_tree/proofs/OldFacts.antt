@@ -1,38 +1,15 @@
 -- A sound tree that stands over the pages of an old store: these are a closed table of its regions.
-use Rattle.std.proofs.Common.{rules}
-use Rattle.std.proofs.Common.{◌≡◌, ◌≢◌, ◌≤◌, ◌<◌, ◌^◌, ◌++◌, ◌∙◌, inl, inr, ℕ, zero, suc, List, [], ◌∷◌, Some, None, nat_eq, length, map, slice_get, sym, subst, refl, arith}
-use Rattle.std.proofs.lemmas.List.Elements.{All-from_recursion, recursion_from_All}
-use Rattle.std.proofs.lemmas.Option.{slice_get_within}
-use Rattle.std.specs.List.{All, AllByRecursion, IsDistinct}
-use Rattle.ub_index.specs.Spans.{first_keys}
-use Rattle.ub_index.proofs.KeptFacts.{kept_index, kept_under}
-use Rattle.ub_index.proofs.Numbers.{distinct_apart, distinct_cons, distinct_first, distinct_join, distinct_left, distinct_right, kept_pages, within_store}
-use Rattle.ub_index.specs.Standing.{PagesStay, IsOutside}
-use Rattle.ub_index.specs.Index.{pages_under, top}
-use Rattle.ub_index.specs.View.{IndexView}
+use Rattle.std.proofs.Common.{rules, ◌≡◌, ◌≢◌, ◌≤◌, ◌<◌, ◌^◌, ◌++◌, ◌∙◌, inl, inr, ℕ, zero, suc, List, [], ◌∷◌, Some, None, nat_eq, length, map, slice_get, sym, subst, refl, arith}
+use Rattle.ub_tree.proofs.Common.{All, All-from_recursion, all_append, all_more, AllByRecursion, AreBelow, AreKeysAscending, AreOldPages, ArePlaced, AreTold}
+use Rattle.ub_tree.proofs.Common.{directory_of, distinct_apart, distinct_cons, distinct_first, distinct_join, distinct_left, distinct_right, Entry, entry_of}
+use Rattle.ub_tree.proofs.Common.{first_keys, HasIndex, HasOldHeader, header_page_of, index_of, IndexView, IsDirectory, IsDistinct, IsHonest, IsOutside}
+use Rattle.ub_tree.proofs.Common.{IsRegion, IsSound, kept_index, kept_pages, kept_under, Key, last_address, OldHeader, page_count, pages_under, PagesStay}
+use Rattle.ub_tree.proofs.Common.{Placed, recursion_from_All, region_page, regions_in, reserved, slice_get_within, StandsOver, StoreFacts, top, TreeView}
+use Rattle.ub_tree.proofs.Common.{versions, within_store}
 use Rattle.ub_region.proofs.AddressFacts.{small_address}
-use Rattle.ub_page.specs.Header.{header_page_of}
-use Rattle.ub_region.specs.RegionPage.{region_page}
-use Rattle.ub_region.specs.declared.entry.Entry.{Entry}
-use Rattle.ub_page.specs.declared.header.OldHeader.{OldHeader}
-use Rattle.ub_region.proofs.Laws.{all_append, all_more}
-use Rattle.ub_store.specs.Facts.{StoreFacts, IsHonest, page_count}
-use Rattle.ub_table.specs.Keys.{AreKeysAscending}
-use Rattle.ub_table.specs.Region.{IsRegion}
-use Rattle.ub_table.specs.declared.row.Key.{Key}
 use Rattle.ub_tree.proofs.ApartFacts.{IsOnPage}
 use Rattle.ub_tree.proofs.ChainFacts.{chain_apart, chain_differ, chain_within, each_of_chain}
 use Rattle.ub_tree.proofs.TreeFacts.{firsts_placed}
-use Rattle.ub_upgrade.proofs.TableFacts.{versions}
-use Rattle.ub_tree.specs.Indexed.{HasIndex, reserved}
-use Rattle.ub_tree.specs.Old.{AreOldPages, AreTold}
-use Rattle.ub_tree.specs.Placed.{Placed, ArePlaced, entry_of, regions_in}
-use Rattle.ub_tree.specs.Stored.{index_of}
-use Rattle.ub_tree.specs.Upgrade.{StandsOver}
-use Rattle.ub_tree.specs.View.{TreeView, IsSound}
-use Rattle.ub_upgrade.specs.Bringing.{HasOldHeader, directory_of}
-use Rattle.ub_upgrade.specs.Reading.{AreBelow, IsDirectory}
-use Rattle.ub_zaddr.specs.Address.{last_address}
 
 pub positive : (n : ℕ) → 0 ≢ n → 1 ≤ n
 positive zero differ = absurd (differ refl)

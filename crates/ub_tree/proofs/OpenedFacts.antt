@@ -1,32 +1,13 @@
 -- A table's pages tell of one header alone, and opening finds it and the index of which it tells.
-use Rattle.std.proofs.Common.{rules}
-use Rattle.std.proofs.Common.{◌≡◌, ℕ, false, List, [], ◌∷◌, Some, map, ◌∙◌, sym, ap, subst, refl, arith, slice_get}
-use Rattle.std.proofs.lemmas.List.Elements.{recursion_from_All}
-use Rattle.std.proofs.lemmas.Option.{slice_get_within}
-use Rattle.std.specs.List.{AllByRecursion}
-use Rattle.ub_check.proofs.PlacedFacts.{some_one}
-use Rattle.ub_index.specs.View.{IndexView, entries_under}
-use Rattle.ub_page.proofs.PageLaws.{HasParts, header_parts, region_parts, same_header, unclean_refused}
-use Rattle.ub_bytes.specs.Bytes.{number_at}
-use Rattle.ub_page.specs.Header.{AreSame, IsHeader, IsHeaderFault, header_page}
-use Rattle.ub_region.specs.RegionPage.{region_page}
-use Rattle.ub_page.specs.declared.header.Header.{Header}
-use Rattle.ub_store.specs.Facts.{StoreFacts, IsHonest}
-use Rattle.ub_store.specs.View.{PagerView, pager_view, untouched}
+use Rattle.std.proofs.Common.{rules, ◌≡◌, ℕ, false, List, [], ◌∷◌, Some, map, ◌∙◌, sym, ap, subst, refl, arith, slice_get}
+use Rattle.ub_tree.proofs.Common.{AllByRecursion, AreSame, AreSoundPages, entries_under, entry_of, HasMark, Header, header_page, index_of, IndexView, IsHeader}
+use Rattle.ub_tree.proofs.Common.{IsHeaderFault, IsHonest, IsMarkFault, IsOpened, IsOpenFault, IsRegion, IsRooted, IsSound, known_pages, number_at, PageFault}
+use Rattle.ub_tree.proofs.Common.{pager_view, PagerView, Placed, placed_in, placed_of, recursion_from_All, region_page, region_parts, regions_in, Schema}
+use Rattle.ub_tree.proofs.Common.{slice_get_within, some_one, StoreFacts, tree_view, TreeFault, TreeView, Unclean, untouched}
+use Rattle.ub_page.proofs.PageLaws.{HasParts, header_parts, same_header, unclean_refused}
 use Rattle.ub_table.proofs.Laws.{same_schema}
-use Rattle.ub_table.specs.Region.{IsRegion}
-use Rattle.ub_table.specs.declared.fault.PageFault.TheVariants.{Unclean}
-use Rattle.ub_table.specs.declared.fault.PageFault.{PageFault}
-use Rattle.ub_table.specs.declared.schema.Schema.{Schema}
 use Rattle.ub_tree.proofs.SearchFacts.{known_is}
 use Rattle.ub_tree.proofs.StoredFacts.{IsSpelled, IsTold, placed_told}
-use Rattle.ub_tree.specs.Opened.{IsMarkFault, IsOpened, IsOpenFault, IsRooted}
-use Rattle.ub_tree.specs.Placed.{Placed, entry_of, placed_of, regions_in}
-use Rattle.ub_tree.specs.Stored.{AreSoundPages, index_of}
-use Rattle.ub_tree.specs.Tree.{known_pages, placed_in, tree_view}
-use Rattle.ub_tree.specs.View.{TreeView, IsSound}
-use Rattle.ub_tree.specs.declared.fault.TreeFault.{TreeFault}
-use Rattle.ub_writing.specs.Marks.{HasMark}
 
 -- what is made of a table that was read
 pub opened : (first : StoreFacts) (header : Header) (pager now : PagerView) → pager ≡ pager_view first untouched → (IsHonest pager.store → IsRooted pager.store.pages header)

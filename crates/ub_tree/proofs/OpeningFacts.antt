@@ -1,24 +1,13 @@
 -- Why the root of a table's index is refused, as opening the table is.
-use Rattle.std.proofs.Common.{rules}
-use Rattle.std.proofs.Common.{◌≡◌, ◌∙◌, inr, ℕ, List, Result, Ok, Err, IfErr, ap, subst, refl}
-use Rattle.std.specs.Result.{IsErrAnd}
-use Rattle.ub_index.specs.Opening.{IsOpenFault as IsRootFault, IsPassing as IsPassingIndex, IsRooted as HasRoot, Opens as OpensIndex}
-use Rattle.ub_index.specs.Searching.{store_after}
-use Rattle.ub_index.specs.declared.fault.IndexFault.{IndexFault}
-use Rattle.ub_index.specs.declared.fault.IndexFault.TheVariants as index
-use Rattle.ub_page.specs.declared.header.Header.{Header}
-use Rattle.ub_store.specs.Facts.{StoreFacts, IsHonest}
-use Rattle.ub_store.specs.View.{PagerView}
-use Rattle.ub_store.specs.declared.fault.StoreFault.TheVariants as store
-use Rattle.ub_table.specs.declared.schema.Schema.{Schema}
+use Rattle.std.proofs.Common.{rules, ◌≡◌, ◌∙◌, inr, ℕ, List, Result, Ok, Err, IfErr, ap, subst, refl}
+use Rattle.ub_tree.proofs.Common.{AreSoundPages, HasHeader, Header, index_fault, index_of, IndexFault, IsErrAnd, IsHonest, IsOpenFault, IsPassing, IsRooted}
+use Rattle.ub_tree.proofs.Common.{Opens as OpensIndex, PagerView, Placed, Schema, store_after, StoreFacts, TreeFault}
+use Rattle.ub_index.specs.Opening.{IsOpenFault as IsRootFault, IsPassing as IsPassingIndex, IsRooted as HasRoot}
 use Rattle.ub_tree.proofs.OpenedFacts.{one_index}
 use Rattle.ub_tree.proofs.SearchFacts.{stores_alike}
-use Rattle.ub_tree.specs.Faults.{index_fault}
-use Rattle.ub_tree.specs.Opened.{HasHeader, IsOpenFault, IsPassing, IsRooted}
-use Rattle.ub_tree.specs.Placed.{Placed}
-use Rattle.ub_tree.specs.Stored.{AreSoundPages, index_of}
-use Rattle.ub_tree.specs.declared.fault.TreeFault.{TreeFault}
 use Rattle.ub_tree.specs.inner.Opening.{Opens}
+use Rattle.ub_index.specs.declared.fault.IndexFault.TheVariants as index
+use Rattle.ub_store.specs.declared.fault.StoreFault.TheVariants as store
 
 -- a fault of the root of which a header tells is one of opening
 root_fault : (old : StoreFacts) (header : Header) → HasHeader old header → (e : IndexFault) → IsRootFault (index_of header) old e → IsOpenFault old (index_fault e)
@@ -39,8 +28,7 @@ module _ (old mid new : PagerView) (header : Header) (first : Opens {A = Header}
   pub root_refused : {T : Type 0} (U : Type 0) (r : Result T TreeFault) → IsErrAnd r (λ x. x ≡ index_fault e) → OpensIndex {A = U} (index_of header) mid new (Err e) → Opens {A = T} old new r
   root_refused U (Ok x) is h = absurd is
   root_refused {T} U (Err f) is h = rw is (record {
-    same = h.same
-        ∙ ap (λ (p : PagerView). record p { store = store_after {A = U} (Err e) p.store; cached = new.cached }) first.same
+    same = h.same ∙ ap (λ (p : PagerView). record p { store = store_after {A = U} (Err e) p.store; cached = new.cached }) first.same
         ∙ ap (λ (s : StoreFacts). record old { store = s; cached = new.cached }) (stores_alike T U e old.store);
     faults = root_fault old.store header has e (subst (λ (s : StoreFacts). IsRootFault (index_of header) s e) stores h.faults);
   })

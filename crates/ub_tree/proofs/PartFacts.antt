@@ -1,49 +1,18 @@
--- What the parting of a region leaves: the store grew, the pages of both halves were put, and then those that the change of the index
--- spells.
-use Rattle.std.proofs.Common.{rules}
-use Rattle.std.proofs.Common.{◌≡◌, ◌≢◌, ◌<◌, ◌≤◌, ◌+◌, ◌-◌, ◌^◌, ◌∙◌, inl, inr, ℕ, Bool, true, Some, List, [], ◌∷◌, Ok, Err, Result, sym, ap, subst, refl, arith}
-use Rattle.std.proofs.lemmas.Bool.{cases_eq}
-use Rattle.std.specs.List.{AllByRecursion}
-use Rattle.std.specs.Result.{IsErrAnd}
-use Rattle.ub_index.proofs.FitFacts.{page_is}
-use Rattle.ub_index.proofs.LeadFacts.{one_given}
-use Rattle.ub_index.specs.Standing.{IsOutside}
-use Rattle.ub_index.specs.View.{IndexView, Leads}
-use Rattle.ub_index.specs.Way.{HoldsKey}
-use Rattle.ub_index_change.proofs.BesideFacts.{KeepsIndex, added_once, halves_lead, others_stay_added}
-use Rattle.ub_index_change.specs.Changing.{AreOnce, IsUnspelled, Stand}
-use Rattle.ub_index.specs.Index.{IsIndexPage, page_in, pages_under, top}
-use Rattle.ub_index_change.specs.Making.{IsPutFault, PutsSheets, changed}
-use Rattle.ub_index_change.specs.Preparing.{ChangeView, IsWithinRegion, NeedsPages}
-use Rattle.ub_region.specs.declared.region.Region.{Region}
-use Rattle.ub_index_change.specs.declared.sheet.Sheet.{Sheet}
-use Rattle.ub_page.specs.declared.header.TheConstants.{MAX_LEVEL}
-use Rattle.ub_region.proofs.Laws.{all_more, before_cases}
-use Rattle.ub_region.specs.RegionPage.{region_page}
-use Rattle.ub_region.specs.Spans.{end_before}
-use Rattle.ub_page.specs.Header.{header_page}
-use Rattle.ub_store.specs.Facts.{StoreFacts, IsHonest, page_count}
-use Rattle.ub_store.specs.declared.fault.StoreFault.TheVariants as store
-use Rattle.ub_table.specs.declared.row.Key.{Key}
-use Rattle.ub_table.specs.declared.row.Row.{Row}
-use Rattle.ub_table.specs.declared.schema.Schema.{Schema}
+-- What the parting of a region leaves: the store grew, the pages of both halves were put, and then those that the change of the index spells.
+use Rattle.std.proofs.Common.{rules, ◌≡◌, ◌≢◌, ◌<◌, ◌≤◌, ◌+◌, ◌-◌, ◌^◌, ◌∙◌, inl, inr, ℕ, Bool, true, Some, List, [], ◌∷◌, Ok, Err, Result, sym, ap, subst, refl, arith}
+use Rattle.ub_tree.proofs.Common.{added_once, AddsEntry, all_more, AllByRecursion, AnswersAt, AreOnce, before_cases, cases_eq, changed, Changes, ChangeView}
+use Rattle.ub_tree.proofs.Common.{Due, end_before, FallsTo, first_page, GrowsTo, halves_lead, HasEnded, HasMark, HasNoRoom, HasStopped, header_page, HoldsKey}
+use Rattle.ub_tree.proofs.Common.{IndexView, Inner, is_written, IsAddReady, IsErrAnd, IsHalfOf, IsHonest, IsIndexFault, IsIndexPage, IsLeft, IsMarkedFirst}
+use Rattle.ub_tree.proofs.Common.{IsMarkOf, IsOutside, IsPut, IsPutFault, IsRegionOf, IsRegionThere, IsRoomFault, IsSpelledAt, IsUnspelled, IsWithinRegion}
+use Rattle.ub_tree.proofs.Common.{IsWriteFault, KeepsAllBut, KeepsIndex, KeepsMark, KeepsOthers, Key, Leads, Mark, Marks, MAX_LEVEL, NeedsPages, one_given}
+use Rattle.ub_tree.proofs.Common.{others_stay_added, page_count, page_in, page_is, pages_under, PutsMark, PutsSheets, Region, region_count, region_page, Row}
+use Rattle.ub_tree.proofs.Common.{Schema, Sheet, Spells, SplitsKeys, Stand, Store, StoreFacts, StoresAt, top, TreeFault, TreeView, WritesBoth, WritesIndex}
+use Rattle.ub_tree.proofs.Common.{Written, written_store}
 use Rattle.ub_tree.proofs.EffectFacts.{left_by, writes_both, writes_told, writes_wider}
 use Rattle.ub_tree.proofs.JoinFacts.{first_falls}
 use Rattle.ub_tree.proofs.PutFacts.{own_page}
 use Rattle.ub_tree.proofs.WayFacts.{region_no_index}
-use Rattle.ub_tree.specs.Effects.{Changes, HasEnded, IsLeft, IsMarkedFirst, KeepsMark, written_store}
-use Rattle.ub_tree.specs.Holding.{AnswersAt, HasNoRoom, IsRoomFault}
-use Rattle.ub_tree.specs.Indexed.{Inner}
-use Rattle.ub_tree.specs.Others.{AddsEntry, IsHalfOf, KeepsAllBut, KeepsOthers, SplitsKeys, WritesIndex}
-use Rattle.ub_tree.specs.Pages.{Spells}
-use Rattle.ub_tree.specs.Told.{FallsTo, IsRegionOf}
-use Rattle.ub_tree.specs.View.{TreeView, region_count}
-use Rattle.ub_tree.specs.declared.fault.TreeFault.{TreeFault}
-use Rattle.ub_tree.specs.declared.fault.TreeFault.TheVariants.{Store}
-use Rattle.ub_tree.specs.inner.Change.{GrowsTo, HasStopped, IsAddReady, IsIndexFault, IsPut, IsRegionThere, IsSpelledAt, IsWriteFault, StoresAt, WritesBoth}
-use Rattle.ub_writing.specs.Marks.{HasMark, IsMarkOf, Marks, PutsMark, first_page, is_written}
-use Rattle.ub_writing.specs.declared.mark.Mark.{Mark}
-use Rattle.ub_writing.specs.declared.mark.Mark.TheVariants.{Due, Written}
+use Rattle.ub_store.specs.declared.fault.StoreFault.TheVariants as store
 
 -- what a write did that marked the table, where it wasn't marked
 pub marks_then : (schema : Schema) (was now : Mark) (numbers : List ℕ) (old new : StoreFacts) → IsMarkOf schema was → Marks numbers was now old new → AllByRecursion (λ n. n ≢ 0) numbers → IsHonest old

@@ -1,43 +1,16 @@
 -- What putting the page of a region leaves of a tree: its index, and the regions, each on its page.
-use Rattle.std.proofs.Common.{rules}
-use Rattle.std.proofs.Common.{◌≡◌, ◌≢◌, ◌<◌, ◌≤◌, ◌∙◌, ◌++◌, ◌^◌, ℕ, zero, suc, Bool, List, [], ◌∷◌, Option, Some, length, map, take, drop, nat_eq, sym, ap, subst, refl, arith, slice_get, append_assoc}
-use Rattle.std.proofs.lemmas.Bool.{cases_eq}
-use Rattle.std.proofs.lemmas.List.{map-append, take-map, drop-map, length-map}
-use Rattle.std.proofs.lemmas.List.Elements.{recursion_from_All}
-use Rattle.std.proofs.lemmas.Option.{slice_get_within}
-use Rattle.std.specs.List.{AllByRecursion, IsDistinct}
-use Rattle.ub_check.proofs.PlacedFacts.{placed_at}
-use Rattle.ub_index.proofs.FirstFacts.{leads_kept, ways_miss}
-use Rattle.ub_index.proofs.KeptFacts.{kept_index, kept_under}
+use Rattle.std.proofs.Common.{rules, ◌≡◌, ◌≢◌, ◌<◌, ◌≤◌, ◌∙◌, ◌++◌, ◌^◌, ℕ, zero, suc, Bool, List, [], ◌∷◌, Option, Some, length, map, take, drop, nat_eq, sym, ap, subst, refl, arith, slice_get, append_assoc}
+use Rattle.ub_tree.proofs.Common.{all_left, all_right, AllByRecursion, ArePlaced, cases_eq, distinct_apart, distinct_first, drop-map, entries_under, Entry}
+use Rattle.ub_tree.proofs.Common.{entry_at, entry_of, HasIndex, IndexView, IsDistinct, IsHonest, IsIndexKind, IsOutside, IsPage, IsRegion, IsRegionAt}
+use Rattle.ub_tree.proofs.Common.{IsRegionIn, IsRegionOf, IsRegionThere, IsStored, KeepsTold, kept_index, kept_pages, kept_under, Key, leads_kept, LeadsTo}
+use Rattle.ub_tree.proofs.Common.{length-map, map-append, page_in, PagerView, pages_under, PagesStay, Placed, placed_at, placed_in, placed_of, placed_with}
+use Rattle.ub_tree.proofs.Common.{Puts, recursion_from_All, Region, region_page, region_pages, region_parts, RegionRows, reserved, Row, Schema}
+use Rattle.ub_tree.proofs.Common.{slice_get_within, StoreFacts, take-map, top, tree_view, TreeView, ways_miss}
 use Rattle.ub_index.proofs.HeldFacts.{ends_of}
-use Rattle.ub_index.proofs.Numbers.{distinct_apart, distinct_first, kept_pages}
-use Rattle.ub_index.specs.Standing.{PagesStay, IsOutside, region_pages}
-use Rattle.ub_index.specs.Index.{page_in, pages_under, top}
-use Rattle.ub_index.specs.View.{IndexView, IsRegionAt, entries_under, entry_at}
-use Rattle.ub_index.specs.Way.{LeadsTo}
-use Rattle.ub_page.specs.Index.{IsIndexKind}
-use Rattle.ub_page.proofs.PageLaws.{region_parts}
-use Rattle.ub_region.specs.RegionPage.{region_page}
-use Rattle.ub_region.specs.declared.entry.Entry.{Entry}
-use Rattle.ub_region.proofs.Laws.{all_left, all_right}
-use Rattle.ub_store.specs.Facts.{StoreFacts, IsHonest, IsPage}
-use Rattle.ub_store.specs.View.{PagerView}
-use Rattle.ub_table.specs.Region.{RegionRows, IsRegion}
-use Rattle.ub_table.specs.declared.row.Key.{Key}
-use Rattle.ub_table.specs.declared.row.Row.{Row}
-use Rattle.ub_table.specs.declared.schema.Schema.{Schema}
 use Rattle.ub_tree.proofs.SearchFacts.{known_is}
 use Rattle.ub_tree.proofs.SplitFacts.{apart_after_two, apart_before_two, pages_by}
 use Rattle.ub_tree.proofs.StoredFacts.{IsKept, IsSpelled, IsTold, parted, placed_changed, spelled_changed}
 use Rattle.ub_tree.proofs.TreeFacts.{entries_back}
-use Rattle.ub_tree.specs.Indexed.{HasIndex, reserved}
-use Rattle.ub_tree.specs.Placed.{Placed, ArePlaced, entry_of, placed_of}
-use Rattle.ub_tree.specs.Spans.{Region}
-use Rattle.ub_tree.specs.Told.{IsRegionOf, KeepsTold}
-use Rattle.ub_tree.specs.Tree.{placed_in, tree_view}
-use Rattle.ub_tree.specs.View.{TreeView}
-use Rattle.ub_tree.specs.inner.Change.{IsRegionIn, IsRegionThere, IsStored, placed_with}
-use Rattle.ub_writing.specs.Puts.{Puts}
 
 -- on an honest store the regions are those that its pages tell
 pub view_placed : (schema : Schema) (index : IndexView) (store : StoreFacts) → IsHonest store → placed_in schema index store ≡ placed_of schema store.pages (entries_under index store.pages)
@@ -138,8 +111,7 @@ module _ (schema : Schema) (index : IndexView) (pages new : List (List ℕ)) (pl
   pub put_placed : placed_of schema new (entries_under index new) ≡ placed_with i news placed
   put_placed =
       ap (placed_of schema new) (same_entries ∙ sym whole ∙ sym (append_assoc before (map entry_of news) after))
-      ∙ placed_changed schema pages new before after news kept_before kept_after (told, tt)
-      ∙ parts_new
+      ∙ placed_changed schema pages new before after news kept_before kept_after (told, tt) ∙ parts_new
 
   pub put_indexed : HasIndex index new (map entry_of (placed_with i news placed))
   put_indexed = search (rules, entries_back, kept_index, put_placed, stay)

@@ -1,21 +1,11 @@
 -- What a tree keeps over several calls that read it.
-use Rattle.std.proofs.Common.{rules}
-use Rattle.std.proofs.Common.{◌≡◌, ◌≤◌, ◌∙◌, inl, inr, ℕ, List, Option, Result, Ok, Err, IfErr, subst, sym, ap, refl}
-use Rattle.std.specs.Result.{IsErrAnd}
-use Rattle.ub_bigmin.specs.Box.{Corners}
-use Rattle.ub_store.specs.Facts.{page_count}
-use Rattle.ub_store.specs.View.{Trace, emptied}
+use Rattle.std.proofs.Common.{rules, ◌≡◌, ◌≤◌, ◌∙◌, inl, inr, ℕ, List, Option, Result, Ok, Err, IfErr, subst, sym, ap, refl}
+use Rattle.ub_tree.proofs.Common.{Corners, counted, emptied, fault_of_tree, GivesNext, IsErrAnd, IsGiven, IsPageMissing, IsPageRefused, IsReadFault, IsRegionOf}
+use Rattle.ub_tree.proofs.Common.{IsSearchFault, IsSound, IsStopped, IsWalkFault, KeepsRegions, KeepsTrace, Key, page_count, PageFault, raised_by, ReadFault}
+use Rattle.ub_tree.proofs.Common.{ReadsTree, Region, SearchesTree, SeeksNext, Trace, TreeFault, TreeView}
+use Rattle.ub_tree.specs.Reading.{read_store}
 use Rattle.ub_store.specs.declared.fault.StoreFault.TheVariants as store
-use Rattle.ub_table.specs.declared.fault.PageFault.{PageFault}
-use Rattle.ub_table.specs.declared.row.Key.{Key}
-use Rattle.ub_tree.specs.Effects.{IsReadFault, IsPageRefused, IsPageMissing, IsSearchFault, IsStopped, raised_by}
-use Rattle.ub_tree.specs.Reading.{IsGiven, IsWalkFault, ReadsTree, SearchesTree, counted, fault_of_tree, read_store}
-use Rattle.ub_tree.specs.Spans.{Region}
-use Rattle.ub_tree.specs.Told.{GivesNext, IsRegionOf, SeeksNext}
-use Rattle.ub_tree.specs.View.{TreeView, IsSound, KeepsRegions, KeepsTrace}
-use Rattle.ub_tree.specs.declared.fault.TreeFault.{TreeFault}
 use Rattle.ub_tree.specs.declared.fault.TreeFault.TheVariants as tree
-use Rattle.ub_tree.specs.declared.read_fault.ReadFault.{ReadFault}
 use Rattle.ub_tree.specs.declared.read_fault.ReadFault.TheVariants as read
 
 -- nothing but the trace and the count of fetches has changed

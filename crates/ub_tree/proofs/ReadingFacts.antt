@@ -1,39 +1,16 @@
 -- What a call that reads a region answers, and why it is refused.
-use Rattle.std.proofs.Common.{rules}
-use Rattle.std.proofs.Common.{◌⊎◌, inl, inr, ◌≡◌, ℕ, suc, Bool, List, Option, Some, IfSome, Result, Ok, Err, ap, sym, subst, refl, slice_get, map, ◌≤◌, ◌<◌, ◌∙◌, arith}
-use Rattle.std.specs.List.{AllByRecursion}
-use Rattle.std.specs.Result.{IsErrAnd, IsErrOf}
-use Rattle.ub_check.proofs.StandingFacts.{each_get}
-use Rattle.ub_check.specs.Standing as check
-use Rattle.ub_index.specs.Opening as passing
-use Rattle.ub_index.specs.Searching.{store_after}
-use Rattle.ub_index.specs.View.{IndexView}
-use Rattle.ub_index.specs.declared.fault.IndexFault.TheVariants as index
-use Rattle.ub_index.specs.declared.fault.IndexFault.{IndexFault}
-use Rattle.ub_region.specs.RegionPage.{region_page}
-use Rattle.ub_region.specs.Regions.{firsts_of, index_holding}
-use Rattle.ub_store.specs.Facts.{StoreFacts, IsHonest}
-use Rattle.ub_store.specs.View.{IsFull, Notes, PagerView, SameTrace}
-use Rattle.ub_store.specs.declared.fault.StoreFault.{StoreFault}
-use Rattle.ub_store.specs.declared.fault.StoreFault.TheVariants as store
-use Rattle.ub_table.specs.Keys.{IsBefore}
-use Rattle.ub_table.specs.Region.{RegionRows, IsRegion, keys_of}
-use Rattle.ub_table.specs.declared.row.Key.{Key}
-use Rattle.ub_table.specs.declared.schema.Schema.{Schema}
+use Rattle.std.proofs.Common.{rules, ◌⊎◌, inl, inr, ◌≡◌, ℕ, suc, Bool, List, Option, Some, IfSome, Result, Ok, Err, ap, sym, subst, refl, slice_get, map, ◌≤◌, ◌<◌, ◌∙◌, arith}
+use Rattle.ub_tree.proofs.Common.{AllByRecursion, each_get, entry_of, Failed, first_keys, firsts_of, index_fault, index_holding, IndexFault, IndexView}
+use Rattle.ub_tree.proofs.Common.{IsBefore, IsErrAnd, IsErrOf, IsFull, IsHonest, IsPassing, IsReadFault, IsRegion, IsRegionIn, IsRegionOf, IsSound, IsSpanFault}
+use Rattle.ub_tree.proofs.Common.{IsTakenIn, Key, keys_of, Memory, Notes, PagerView, read_store, Region, region_page, RegionRows, regions, SameTrace, Schema}
+use Rattle.ub_tree.proofs.Common.{store_after, StoreFacts, StoreFault, tree_view, TreeFault, TreeView}
 use Rattle.ub_tree.proofs.IndexedFacts.{at_of_key}
 use Rattle.ub_tree.proofs.SearchFacts.{stores_alike}
 use Rattle.ub_tree.proofs.TreeFacts.{all_get, apart_next, firsts_placed, region_get, placed_there}
-use Rattle.ub_tree.specs.Effects.{IsReadFault, IsSpanFault, IsTakenIn, read_store}
-use Rattle.ub_tree.specs.Faults.{index_fault}
-use Rattle.ub_tree.specs.Opened.{IsPassing}
-use Rattle.ub_tree.specs.Placed.{entry_of}
-use Rattle.ub_tree.specs.Spans.{first_keys, Region}
-use Rattle.ub_tree.specs.Told.{IsRegionOf}
-use Rattle.ub_tree.specs.Tree.{tree_view}
-use Rattle.ub_tree.specs.View.{TreeView, IsSound, regions}
-use Rattle.ub_tree.specs.declared.fault.TreeFault.{TreeFault}
-use Rattle.ub_tree.specs.declared.fault.TreeFault.TheVariants.{Failed, Memory}
-use Rattle.ub_tree.specs.inner.Change.{IsRegionIn}
+use Rattle.ub_check.specs.Standing as check
+use Rattle.ub_index.specs.Opening as passing
+use Rattle.ub_index.specs.declared.fault.IndexFault.TheVariants as index
+use Rattle.ub_store.specs.declared.fault.StoreFault.TheVariants as store
 
 -- on a sound tree a region stands on the page of each span
 pub sound_on : (t : TreeView) (i : ℕ) (span : Region) → IsSound t → IsRegionIn t i span → (r : RegionRows) × IsTakenIn t span r

@@ -1,41 +1,15 @@
 -- A change of the index of a tree, made ready: why it isn't, and which pages it spells.
-use Rattle.std.proofs.Common.{rules}
-use Rattle.std.proofs.Common.{◌≡◌, ◌≢◌, ◌≤◌, ◌<◌, ◌+◌, ◌^◌, ◌∙◌, ◌⊎◌, inl, inr, ℕ, zero, suc, Bool, List, [], ◌∷◌, ◌++◌, Option, Some, None, Result, Ok, Err, IfErr, length, ap, sym, subst, refl, arith}
-use Rattle.std.proofs.lemmas.List.{append-nil, length-map}
-use Rattle.std.specs.List.{AllByRecursion, flat_map}
-use Rattle.std.specs.Result.{IsErrAnd}
-use Rattle.ub_index_change.proofs.DropFacts.{narrow}
-use Rattle.ub_index_change.proofs.SpelledFacts.{no_parts}
-use Rattle.ub_index_change.specs.Changing.{IsAtMostOne, Mends, Spelled, Turns, so_far}
-use Rattle.ub_index.specs.Index.{entries_of, pages_under, top, under}
-use Rattle.ub_index_change.specs.Lowering.{IsDropFault, IsDropped, IsLowerFault, IsRootRefused}
-use Rattle.ub_index_change.specs.Preparing.{ChangeView, IsChangeFault, IsPrepared, Settles, change_view}
-use Rattle.ub_index.specs.Searching.{Gives, store_after}
-use Rattle.ub_index.specs.View.{IndexView}
-use Rattle.ub_index.specs.declared.fault.IndexFault.{IndexFault}
-use Rattle.ub_index.specs.declared.fault.IndexFault.TheVariants as index
-use Rattle.ub_region.specs.declared.region.Region.{Region}
-use Rattle.ub_index_change.specs.declared.told.Told.{Told}
-use Rattle.ub_index_change.specs.declared.told.Told.TheVariants.{Same, Gone, One, Two}
-use Rattle.ub_page.specs.declared.header.TheConstants.{MAX_LEVEL}
-use Rattle.ub_region.specs.declared.entry.Entry.{Entry}
-use Rattle.ub_region.proofs.Laws.{all_append, all_more}
-use Rattle.ub_store.specs.Facts.{StoreFacts, IsHonest, page_count}
-use Rattle.ub_store.specs.View.{PagerView}
-use Rattle.ub_store.specs.declared.fault.StoreFault.TheVariants as store
-use Rattle.ub_table.specs.declared.fault.PageFault.{PageFault}
-use Rattle.ub_table.specs.declared.row.Key.{Key}
-use Rattle.ub_table.specs.declared.schema.Schema.{Schema}
+use Rattle.std.proofs.Common.{rules, ◌≡◌, ◌≢◌, ◌≤◌, ◌<◌, ◌+◌, ◌^◌, ◌∙◌, ◌⊎◌, inl, inr, ℕ, zero, suc, Bool, List, [], ◌∷◌, ◌++◌, Option, Some, None, Result, Ok, Err, IfErr, length, ap, sym, subst, refl, arith}
+use Rattle.ub_tree.proofs.Common.{all_append, all_more, AllByRecursion, append-nil, change_view, ChangeView, entries_of, Entry, entry_of, flat_map, Gives, Gone}
+use Rattle.ub_tree.proofs.Common.{HasNoRoom, index_fault, IndexFault, IndexView, IsAtMostOne, IsChangeFault, IsDropFault, IsDropped, IsErrAnd, IsHonest}
+use Rattle.ub_tree.proofs.Common.{IsLowerFault, IsPrepared, IsReadyFault, IsRoomFault, IsSound, IsSpelledAt, Key, length-map, MakesReady, MAX_LEVEL, Mends}
+use Rattle.ub_tree.proofs.Common.{narrow, no_parts, One, page_count, PageFault, PagerView, pages_under, Region, region_count, Same, Schema, Settles}
+use Rattle.ub_tree.proofs.Common.{slice_get_within, so_far, Spelled, store_after, StoreFacts, Told, top, tree_view, TreeFault, TreeView, Turns, Two, under}
+use Rattle.ub_index_change.specs.Lowering.{IsRootRefused}
 use Rattle.ub_tree.proofs.SearchFacts.{index_not_refused, no_stop}
 use Rattle.ub_tree.proofs.WayFacts.{IsSpelledOf, Spells, led_not_stopped, never_gone, spells}
-use Rattle.ub_tree.specs.Faults.{index_fault}
-use Rattle.ub_tree.specs.Holding.{HasNoRoom, IsRoomFault}
-use Rattle.ub_tree.specs.Placed.{entry_of}
-use Rattle.ub_tree.specs.Tree.{tree_view}
-use Rattle.ub_tree.specs.View.{TreeView, IsSound, region_count}
-use Rattle.ub_tree.specs.declared.fault.TreeFault.{TreeFault}
-use Rattle.ub_tree.specs.inner.Change.{IsReadyFault, IsSpelledAt, MakesReady}
-use Rattle.std.proofs.lemmas.Option.{slice_get_within}
+use Rattle.ub_index.specs.declared.fault.IndexFault.TheVariants as index
+use Rattle.ub_store.specs.declared.fault.StoreFault.TheVariants as store
 
 -- where the way to a key leads to a span, a region comes behind it, unless there is no room
 pub change_room : (i : IndexView) (facts : StoreFacts) (key : Key) (span : Region) → i.last < 2 ^ 128 → IsHonest facts → Gives i facts key span

@@ -1,34 +1,14 @@
 -- A row taken out of a tree: what becomes of the regions where the one that had it is left with few rows.
-use Rattle.std.proofs.Common.{rules}
-use Rattle.std.proofs.Common.{◌≡◌, ◌≢◌, ◌<◌, ◌+◌, ◌-◌, ◌/◌, ◌^◌, inl, inr, ℕ, suc, Bool, true, false, List, [], ◌∷◌, ◌++◌, Some, Ok, Err, Result, IfErr, OnOk, length, map, nat_le, nat_lt, ◌∙◌, sym, ap, subst, refl, arith, slice_get, if◌then◌else◌}
-use Rattle.std.proofs.lemmas.List.Sorted.{length_permutation}
-use Rattle.std.specs.List.{AllByRecursion}
-use Rattle.std.specs.Result.{IsErrAnd}
-use Rattle.ub_region.proofs.Laws.{remove_keeps, remove_none, remove_rows, remove_table}
-use Rattle.ub_region.specs.Joins.{put_rows, JoinsNext, JoinsBefore}
-use Rattle.ub_region.specs.Regions.{AreRegions, firsts_of, index_holding, remove, rows_of, settle}
-use Rattle.ub_region.specs.Rows.{has_key, remove_row}
-use Rattle.ub_store.specs.Facts.{IsHonest, page_count}
-use Rattle.ub_table.specs.Region.{RegionRows, IsRegion}
-use Rattle.ub_table.specs.declared.row.Key.{Key}
-use Rattle.ub_table.specs.declared.row.Row.{Row}
+use Rattle.std.proofs.Common.{rules, ◌≡◌, ◌≢◌, ◌<◌, ◌+◌, ◌-◌, ◌/◌, ◌^◌, inl, inr, ℕ, suc, Bool, true, false, List, [], ◌∷◌, ◌++◌, Some, Ok, Err, Result, IfErr, OnOk, length, map, nat_le, nat_lt, ◌∙◌, sym, ap, subst, refl, arith, slice_get, if◌then◌else◌}
+use Rattle.ub_tree.proofs.Common.{AllByRecursion, AreRegions, entry_of, FallsTo, first_keys, firsts_of, has_key, HasMark, HasReadAt, index_holding}
+use Rattle.ub_tree.proofs.Common.{IsElsewhereSame, IsErrAnd, IsHonest, IsReadFault, IsRegion, IsRegionIn, IsRegionThere, IsRemovalFault, IsRemoved, IsSound}
+use Rattle.ub_tree.proofs.Common.{IsStored, IsTakenIn, JoinsBefore, JoinsNext, KeepsEntries, Key, last_address, length_permutation, page_count, Placed}
+use Rattle.ub_tree.proofs.Common.{placed_with, put_rows, Region, region_count, RegionRows, regions, regions_in, regions_with, RegionView, remove, remove_keeps}
+use Rattle.ub_tree.proofs.Common.{remove_none, remove_row, remove_rows, remove_table, Row, rows_of, settle, ShrinksAt, TakesAt, tree_rows, TreeFault, TreeView}
 use Rattle.ub_tree.proofs.EffectFacts.{sound_stored}
-use Rattle.ub_tree.proofs.ShrinkFacts.{has_at, join_one, join_with, length-regions, put_alone, regions_put, removed_at, settle_before, settle_large, settle_next}
+use Rattle.ub_tree.proofs.ShrinkFacts.{has_at, join_one, join_with, length-regions, put_alone, regions_put, removed_at, settle_before, settle_large}
+use Rattle.ub_tree.proofs.ShrinkFacts.{settle_next}
 use Rattle.ub_tree.proofs.TreeFacts.{firsts_placed, region_get, placed_there, within_placed}
-use Rattle.ub_tree.specs.Holding.{ShrinksAt}
-use Rattle.ub_tree.specs.Others.{KeepsEntries}
-use Rattle.ub_tree.specs.Placed.{Placed, entry_of, regions_in}
-use Rattle.ub_tree.specs.Effects.{IsReadFault, IsTakenIn}
-use Rattle.ub_tree.specs.Removal.{IsRemovalFault, IsRemoved}
-use Rattle.ub_tree.specs.Spans.{first_keys, Region}
-use Rattle.ub_tree.specs.Told.{FallsTo}
-use Rattle.ub_tree.specs.View.{TreeView, IsSound, region_count, regions, tree_rows}
-use Rattle.ub_tree.specs.declared.fault.TreeFault.{TreeFault}
-use Rattle.ub_region.specs.RegionPage.{RegionView}
-use Rattle.ub_tree.specs.inner.Change.{HasReadAt, IsElsewhereSame, IsRegionIn, IsRegionThere, IsStored, placed_with, regions_with}
-use Rattle.ub_tree.specs.inner.Removing.{TakesAt}
-use Rattle.ub_writing.specs.Marks.{HasMark}
-use Rattle.ub_zaddr.specs.Address.{last_address}
 
 -- the rows that were read of the next region are put to these, where a page holds both
 pub joins_next : (a s m : TreeView) (i : ℕ) (next : Region) (rows new more : List Row) (fit : Bool) (c : ℕ) → s ≡ a → m ≡ s → IsRegionIn a (i + 1) next

@@ -1,29 +1,14 @@
 -- Which rows can stand in the place of a region's, and where a region of theirs begins.
-use Rattle.std.proofs.Common.{rules}
-use Rattle.std.proofs.Common.{◌≡◌, ◌≢◌, ◌<◌, ◌≤◌, ◌+◌, ◌-◌, inl, inr, ℕ, zero, suc, true, false, List, [], ◌∷◌, ◌++◌, Option, Some, None, IfSome, length, nat_le, drop, ◌∙◌, sym, ap, subst, refl, arith, slice_get, length-append}
-use Rattle.std.proofs.lemmas.Bool.{cases_Bool, and_from, eq-eqb, le-leb, lt-leb, leb-true, leb-false}
-use Rattle.std.proofs.lemmas.List.{length-drop}
-use Rattle.std.specs.List.{AllByRecursion}
-use Rattle.ub_index.proofs.Laws.{same_key}
-use Rattle.ub_index.proofs.KeyFacts.{le_before}
-use Rattle.ub_index_change.specs.Preparing.{ChangeView, IsWithinRegion}
-use Rattle.ub_index.specs.Way.{HoldsKey}
-use Rattle.ub_region.specs.declared.region.Region.{Region}
-use Rattle.ub_region.proofs.Laws.{IsFilled, two_chain, all_append, all_drop, all_left, all_more, all_right, before_or_same, upto_before, IsBeforeNext, up_append, up_head, up_tail, up_cons, up_remove, keys_append, all_keys, all_of_keys, all_insert, all_remove, length-insert_row, length-remove_row}
-use Rattle.ub_region.specs.Regions.{rows_of, two_regions}
-use Rattle.ub_region.specs.Rows.{left_half, has_key, insert_row, remove_row, cut, split}
-use Rattle.ub_table.proofs.Laws.{before_of, before_trans, precedes_of}
-use Rattle.ub_table.specs.Keys.{IsBefore, AreKeysAscending, is_same, precedes}
-use Rattle.ub_table.specs.Region.{RegionRows, IsRegion, IsRow, AreFrom, key_of, keys_of, measures_of}
-use Rattle.ub_table.specs.declared.row.Key.{Key}
-use Rattle.ub_table.specs.declared.row.Row.{Row}
-use Rattle.ub_table.specs.declared.row.TheConstants.{MAX_ROW_NUMBER}
-use Rattle.ub_table.specs.declared.schema.Schema.{Schema}
-use Rattle.ub_tree.specs.Told.{FallsTo}
-use Rattle.ub_tree.specs.View.{TreeView}
-use Rattle.ub_tree.specs.inner.Change.{AreRowsFrom, CanStand, IsAddReady, split_of}
-use Rattle.ub_tree.specs.Effects.{IsTakenIn}
-use Rattle.ub_zaddr.specs.Address.{last_address}
+use Rattle.std.proofs.Common.{rules, ◌≡◌, ◌≢◌, ◌<◌, ◌≤◌, ◌+◌, ◌-◌, inl, inr, ℕ, zero, suc, true, false, List, [], ◌∷◌, ◌++◌, Option, Some, None, IfSome, length, nat_le, drop, ◌∙◌, sym, ap, subst, refl, arith, slice_get, length-append}
+use Rattle.ub_tree.proofs.Common.{all_append, all_drop, all_insert, all_keys, all_left, all_more, all_of_keys, all_remove, all_right, AllByRecursion, and_from}
+use Rattle.ub_tree.proofs.Common.{AreFrom, AreKeysAscending, AreRowsFrom, before_of, before_or_same, before_trans, CanStand, cases_Bool, ChangeView, eq-eqb}
+use Rattle.ub_tree.proofs.Common.{FallsTo, has_key, HoldsKey, insert_row, is_same, IsAddReady, IsBefore, IsBeforeNext, IsRegion, IsRow, IsTakenIn}
+use Rattle.ub_tree.proofs.Common.{IsWithinRegion, Key, key_of, keys_append, keys_of, last_address, le-leb, le_before, leb-false, leb-true, length-drop}
+use Rattle.ub_tree.proofs.Common.{length-insert_row, length-remove_row, lt-leb, MAX_ROW_NUMBER, measures_of, precedes, precedes_of, Region, RegionRows}
+use Rattle.ub_tree.proofs.Common.{remove_row, Row, rows_of, same_key, Schema, split, split_of, TreeView, two_chain, two_regions, up_append, up_cons, up_head}
+use Rattle.ub_tree.proofs.Common.{up_remove, up_tail, upto_before}
+use Rattle.ub_region.proofs.Laws.{IsFilled}
+use Rattle.ub_region.specs.Rows.{left_half, cut}
 
 not_before : (key first : Key) → precedes key first ≡ false → ¬ (IsBefore key first)
 not_before key first f h = let t = precedes_of key first h in cc

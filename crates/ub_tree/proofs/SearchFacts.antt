@@ -1,35 +1,11 @@
 -- Searches in the index of a tree, as calls of the tree.
-use Rattle.std.proofs.lemmas.Grind.{common_steps}
-use Rattle.std.proofs.Common.{arith}
-use Rattle.std.proofs.Common.{rules}
-use Rattle.std.proofs.Common.{◌≡◌, ◌<◌, ◌^◌, ◌∙◌, inl, inr, ℕ, Bool, Option, Some, None, IfSome, Result, Ok, Err, if◌then◌else◌, ap, refl}
-use Rattle.std.proofs.lemmas.Bool.{cases_Bool}
-use Rattle.std.specs.Result.{IsErrAnd}
-use Rattle.ub_index.proofs.KeyFacts.{le_before}
-use Rattle.ub_index.proofs.LeadFacts.{one_given, ways_hold}
-use Rattle.ub_index.proofs.WayFacts.{never_stops}
-use Rattle.ub_index.specs.Held.{AreChecked}
-use Rattle.ub_index.specs.Index.{top}
-use Rattle.ub_index.specs.Searching.{GoesDown, IsWayFault, store_after}
-use Rattle.ub_index.specs.View.{IndexView, Stops}
-use Rattle.ub_index.specs.Way.{HoldsKey}
+use Rattle.std.proofs.Common.{arith, rules, ◌≡◌, ◌<◌, ◌^◌, ◌∙◌, inl, inr, ℕ, Bool, Option, Some, None, IfSome, Result, Ok, Err, if◌then◌else◌, ap, refl}
+use Rattle.ub_tree.proofs.Common.{AreChecked, before_of, cases_Bool, common_steps, FallsTo, GoesDown, HoldsKey, index_fault, IndexFault, IndexView, IsBefore}
+use Rattle.ub_tree.proofs.Common.{IsErrAnd, IsHonest, IsIndexRefused, IsReadFault, IsSearchFault, IsSound, IsWayFault, Key, known_pages, le_before, never_stops}
+use Rattle.ub_tree.proofs.Common.{not_before_self, not_both_before, one_given, PageFault, PagerView, precedes, precedes_of, read_store, Region, Schema}
+use Rattle.ub_tree.proofs.Common.{Searches, SearchesFor, Stops, store_after, StoreFacts, top, tree_view, TreeFault, TreeView, ways_hold}
 use Rattle.ub_index.specs.declared.fault.IndexFault.TheVariants as index
-use Rattle.ub_index.specs.declared.fault.IndexFault.{IndexFault}
-use Rattle.ub_region.specs.declared.region.Region.{Region}
-use Rattle.ub_store.specs.Facts.{StoreFacts, IsHonest}
-use Rattle.ub_store.specs.View.{PagerView}
 use Rattle.ub_store.specs.declared.fault.StoreFault.TheVariants as store
-use Rattle.ub_table.proofs.Laws.{before_of, not_before_self, not_both_before, precedes_of}
-use Rattle.ub_table.specs.Keys.{IsBefore, precedes}
-use Rattle.ub_table.specs.declared.fault.PageFault.{PageFault}
-use Rattle.ub_table.specs.declared.row.Key.{Key}
-use Rattle.ub_table.specs.declared.schema.Schema.{Schema}
-use Rattle.ub_tree.specs.Effects.{IsIndexRefused, IsReadFault, IsSearchFault, Searches, SearchesFor, read_store}
-use Rattle.ub_tree.specs.Faults.{index_fault}
-use Rattle.ub_tree.specs.Told.{FallsTo}
-use Rattle.ub_tree.specs.Tree.{known_pages, tree_view}
-use Rattle.ub_tree.specs.View.{TreeView, IsSound}
-use Rattle.ub_tree.specs.declared.fault.TreeFault.{TreeFault}
 
 -- the pages of an honest store are known
 pub known_is : (facts : StoreFacts) → IsHonest facts → known_pages facts ≡ facts.pages

@@ -1,22 +1,11 @@
 -- Regions in a list: one gets other rows, or is joined with the next one or the one before, and whether one has a key.
-use Rattle.std.proofs.lemmas.Grind.{common_steps}
-use Rattle.std.proofs.Common.{rules}
-use Rattle.std.proofs.Common.{◌≡◌, ◌≢◌, ◌<◌, ◌+◌, ◌-◌, ◌/◌, ◌||◌, inl, inr, ℕ, zero, suc, Bool, true, false, List, [], ◌∷◌, ◌++◌, Some, length, map, take, drop, nat_le, nat_lt, ◌∙◌, sym, ap, refl, arith, slice_get, if◌then◌else◌}
-use Rattle.std.proofs.lemmas.Bool.{cases_Bool}
-use Rattle.std.proofs.lemmas.List.{append-nil, length-map, map-append, take-map, drop-map}
+use Rattle.std.proofs.Common.{rules, ◌≡◌, ◌≢◌, ◌<◌, ◌+◌, ◌-◌, ◌/◌, ◌||◌, inl, inr, ℕ, zero, suc, Bool, true, false, List, [], ◌∷◌, ◌++◌, Some, length, map, take, drop, nat_le, nat_lt, ◌∙◌, sym, ap, refl, arith, slice_get, if◌then◌else◌}
+use Rattle.ub_tree.proofs.Common.{all_from, all_more, all_of_keys, append-nil, AreRegions, before_of, cases_Bool, chain_of, change_from, common_steps, drop-map}
+use Rattle.ub_tree.proofs.Common.{firsts_of, fits_next, has_append, has_key, has_none, index_holding, is_same, is_small, IsBefore, join_first, JoinsBefore}
+use Rattle.ub_tree.proofs.Common.{JoinsNext, Key, key_of, length-map, map-append, other_key, Placed, placed_with, precedes, precedes_of, put_rows, RegionRows}
+use Rattle.ub_tree.proofs.Common.{regions_in, regions_with, remove, remove_first, remove_row, Row, rows_of, Schema, settle, take-map}
 use Rattle.std.specs.List.{remove as remove_at_index}
-use Rattle.ub_region.proofs.Laws.{IsChain, chain_of, all_more, all_from, other_key, all_of_keys, has_append, has_none}
-use Rattle.ub_region.specs.Joins.{put_rows, JoinsNext, JoinsBefore}
-use Rattle.ub_region.specs.Regions.{AreRegions, change_from, firsts_of, fits_next, is_small, join_first, index_holding, remove, remove_first, rows_of, settle}
-use Rattle.ub_region.specs.Rows.{has_key, remove_row}
-use Rattle.ub_table.proofs.Laws.{before_of, precedes_of}
-use Rattle.ub_table.specs.Keys.{IsBefore, precedes, is_same}
-use Rattle.ub_table.specs.Region.{RegionRows, key_of}
-use Rattle.ub_table.specs.declared.row.Key.{Key}
-use Rattle.ub_table.specs.declared.row.Row.{Row}
-use Rattle.ub_table.specs.declared.schema.Schema.{Schema}
-use Rattle.ub_tree.specs.Placed.{Placed, regions_in}
-use Rattle.ub_tree.specs.inner.Change.{placed_with, regions_with}
+use Rattle.ub_region.proofs.Laws.{IsChain}
 
 -- what stands at an index of a list
 pub some_at : {X : Type 0} (xs : List X) (i : ℕ) → i < length xs → (x : X) × (slice_get xs i ≡ Some x)

@@ -1,35 +1,15 @@
 -- What becomes of the regions of a tree, each on its page, where a change of its index is made: one region was parted, or taken into
 -- the one before it.
-use Rattle.std.proofs.Common.{rules}
-use Rattle.std.proofs.Common.{◌≡◌, ◌≢◌, ◌<◌, ◌≤◌, ◌∙◌, ℕ, suc, List, [], ◌∷◌, ◌++◌, map, take, drop, nat_eq, sym, ap, subst, refl, arith, slice_get, append_assoc}
-use Rattle.std.proofs.lemmas.List.{map-append, take-map, drop-map}
-use Rattle.std.proofs.lemmas.List.Elements.{All-from_recursion, recursion_from_All}
-use Rattle.std.proofs.lemmas.Option.{slice_get_within}
-use Rattle.std.specs.List.{AllByRecursion, IsDistinct}
-use Rattle.ub_check.proofs.PlacedFacts.{placed_at}
-use Rattle.ub_store.specs.Writing.{Grows}
-use Rattle.ub_index_change.proofs.MadeFacts.{made}
-use Rattle.ub_index.proofs.Numbers.{distinct_apart, distinct_first, distinct_right, within_store}
-use Rattle.ub_index_change.proofs.OwnFacts.{foreign_regions, replaced_at}
-use Rattle.ub_index.proofs.StandFacts.{are_places}
-use Rattle.ub_index_change.specs.Changed.{Replaces}
-use Rattle.ub_index.specs.Standing.{IsOutside, AreOwnPages, AreRegionsThere, region_pages}
-use Rattle.ub_index_change.specs.Changing.{Stand}
-use Rattle.ub_index.specs.Index.{pages_under, top}
-use Rattle.ub_index_change.specs.Making.{IsCommitted, PutsSheets, StayOutside, changed}
-use Rattle.ub_index_change.specs.Preparing.{ChangeView, IsForeign, MakesIndex}
-use Rattle.ub_index.specs.View.{IndexView, IsIndexOn, IsRegionAt, entries_in, entries_under, entry_at}
-use Rattle.ub_region.specs.declared.region.Region.{Region}
-use Rattle.ub_region.specs.declared.entry.Entry.{Entry}
-use Rattle.ub_region.proofs.Laws.{all_left, all_more, all_right}
-use Rattle.ub_store.specs.Facts.{StoreFacts, IsHonest, page_count}
-use Rattle.ub_table.specs.declared.schema.Schema.{Schema}
+use Rattle.std.proofs.Common.{rules, ◌≡◌, ◌≢◌, ◌<◌, ◌≤◌, ◌∙◌, ℕ, suc, List, [], ◌∷◌, ◌++◌, map, take, drop, nat_eq, sym, ap, subst, refl, arith, slice_get, append_assoc}
+use Rattle.ub_tree.proofs.Common.{All-from_recursion, all_left, all_more, all_right, AllByRecursion, are_places, AreOwnPages, ArePlaced, AreRegionsThere}
+use Rattle.ub_tree.proofs.Common.{changed, ChangeView, distinct_apart, distinct_first, distinct_right, drop-map, entries_in, entries_under, Entry, entry_at}
+use Rattle.ub_tree.proofs.Common.{entry_of, foreign_regions, Grows, HasIndex, IndexView, IsCommitted, IsDistinct, IsForeign, IsHonest, IsIndexOn, IsOutside}
+use Rattle.ub_tree.proofs.Common.{IsRegionAt, made, MakesIndex, map-append, page_count, pages_under, Placed, placed_at, placed_of, placed_with, PutsSheets}
+use Rattle.ub_tree.proofs.Common.{recursion_from_All, Region, region_pages, replaced_at, Replaces, reserved, Schema, slice_get_within, Stand, StayOutside}
+use Rattle.ub_tree.proofs.Common.{StoreFacts, take-map, top, within_store}
 use Rattle.ub_tree.proofs.IndexedFacts.{index_on}
 use Rattle.ub_tree.proofs.StoredFacts.{IsKept, IsSpelled, IsTold, parted, placed_changed, spelled_changed}
 use Rattle.ub_tree.proofs.TreeFacts.{entries_back}
-use Rattle.ub_tree.specs.Indexed.{HasIndex, reserved}
-use Rattle.ub_tree.specs.Placed.{Placed, ArePlaced, entry_of, placed_of}
-use Rattle.ub_tree.specs.inner.Change.{placed_with}
 
 -- the pages of the regions, by their entries
 pub pages_by : (placed : List Placed) → region_pages (map entry_of placed) ≡ map (λ p. p.page) placed

@@ -1,33 +1,14 @@
 -- What stands on the pages of a tree's regions once a row was put in, or taken out, over an honest store.
 use Rattle.std.proofs.Common.{◌≡◌, ◌≢◌, ◌<◌, ◌+◌, ◌^◌, ◌∙◌, inl, inr, ℕ, List, Result, Ok, Err, OnOk, IfSome, Some, length, sym, ap, subst, refl, arith, slice_get}
-use Rattle.std.specs.List.{AllByRecursion}
-use Rattle.ub_index.proofs.LeadFacts.{ways_hold}
-use Rattle.ub_index_change.specs.Changing.{IsUnspelled}
-use Rattle.ub_index_change.specs.Making.{PutsSheets}
-use Rattle.ub_index_change.specs.Preparing.{ChangeView}
-use Rattle.ub_index_change.specs.declared.sheet.Sheet.{Sheet}
-use Rattle.ub_region.proofs.Laws.{all_more, length-insert_row}
-use Rattle.ub_region.specs.RegionPage.{RegionView, region_page}
-use Rattle.ub_region.specs.Rows.{insert_row, split, remove_row}
-use Rattle.ub_region.specs.declared.region.Region.{Region}
-use Rattle.ub_store.specs.Facts.{StoreFacts, IsHonest, page_count}
-use Rattle.ub_table.specs.Keys.{IsBefore}
-use Rattle.ub_table.specs.Region.{RegionRows, IsRegion, key_of, keys_of}
-use Rattle.ub_table.specs.declared.row.Key.{Key}
-use Rattle.ub_table.specs.declared.row.Row.{Row}
-use Rattle.ub_table.specs.declared.schema.Schema.{Schema}
+use Rattle.ub_tree.proofs.Common.{all_more, AllByRecursion, CanStand, ChangeView, FallsInto, FallsTo, GrowsAt, HasReadAt, insert_row, IsAddReady, IsBefore}
+use Rattle.ub_tree.proofs.Common.{IsHonest, IsRegion, IsRegionOf, IsRegionThere, IsSpelledAt, IsTakenIn, IsUnspelled, KeepsTold, Key, key_of, keys_of}
+use Rattle.ub_tree.proofs.Common.{LeavesRows, length-insert_row, page_count, PutsRow, PutsSheets, PutsTwo, Region, region_page, RegionRows, RegionView}
+use Rattle.ub_tree.proofs.Common.{remove_row, Row, Schema, Sheet, Spells, SpellsHalves, split, StandAt, StoreFacts, StoresAt, TakesRow, TreeFault, TreeView}
+use Rattle.ub_tree.proofs.Common.{ways_hold}
 use Rattle.ub_tree.proofs.GrowFacts.{grows_by}
 use Rattle.ub_tree.proofs.HoldingFacts.{on_region, read_region}
 use Rattle.ub_tree.proofs.RoomFacts.{before_next, one_stands}
 use Rattle.ub_tree.proofs.WayFacts.{region_no_index}
-use Rattle.ub_tree.specs.Effects.{IsTakenIn}
-use Rattle.ub_tree.specs.Holding.{FallsInto, GrowsAt}
-use Rattle.ub_tree.specs.Pages.{PutsRow, Spells, SpellsHalves, LeavesRows, TakesRow}
-use Rattle.ub_tree.specs.Told.{FallsTo, IsRegionOf, KeepsTold}
-use Rattle.ub_tree.specs.View.{TreeView}
-use Rattle.ub_tree.specs.declared.fault.TreeFault.{TreeFault}
-use Rattle.ub_tree.specs.inner.Change.{CanStand, HasReadAt, IsAddReady, IsRegionThere, IsSpelledAt, StandAt, StoresAt}
-use Rattle.ub_writing.specs.Puts.{PutsTwo}
 use Rattle.ub_tree.proofs.CallFacts.{one_falls}
 
 -- no page that a change of the index spells is that of a region: what stands there is none of an index
@@ -62,8 +43,7 @@ module _ (a g h n : TreeView) (span : Region) (there : IsRegionThere a span) (fi
       let apart : number ≢ span.page = λ e. absurd (omega arith) in (
         ap (λ (s : StoreFacts). slice_get s.pages span.page) stores
             ∙ puts.others honest_h span.page (own_unspelled a (page_count a.store + 1) change span small honest there (ready.spelled honest))
-            ∙ put.written_other honest_g
-            ∙ ap (λ (s : Schema). Some (region_page s left)) (sym schemas)
+            ∙ put.written_other honest_g ∙ ap (λ (s : Schema). Some (region_page s left)) (sym schemas)
             ∙ ap (λ (k : Key). Some (region_page d.schema (record { first = k; rows = left.rows }))) first_is,
         subst (λ (m : ℕ). Spells d m right.first right.rows) at
             (ap (λ (s : StoreFacts). slice_get s.pages number) stores ∙ puts.others honest_h number (new_unspelled honest) ∙ put.written honest_g some apart
@@ -154,8 +134,7 @@ pub joined_stand : (b mid n d : TreeView) (span : Region) (change : ChangeView) 
     → (IsHonest b.store → Spells mid span.page span.first rows) → d.store ≡ n.store → d.schema ≡ mid.schema → IsHonest b.store → Spells d span.page span.first rows
 joined_stand b mid n d span change rows there small spelled honest_mid puts put stores schemas honest =
     ap (λ (s : StoreFacts). slice_get s.pages span.page) stores
-    ∙ puts.others (honest_mid honest) span.page (own_unspelled b (page_count b.store) change span small honest there (spelled honest))
-    ∙ put honest
+    ∙ puts.others (honest_mid honest) span.page (own_unspelled b (page_count b.store) change span small honest there (spelled honest)) ∙ put honest
     ∙ ap (λ (s : Schema). Some (region_page s (record { first = span.first; rows = rows }))) (sym schemas)
 
 -- what is left of the region that was read

@@ -1,16 +1,8 @@
 -- What a change of some pages leaves of the regions that stand on the others.
-use Rattle.std.proofs.Common.{rules}
-use Rattle.std.proofs.Common.{◌≡◌, ℕ, zero, suc, List, [], ◌∷◌, ◌++◌, Some, map, take, drop, ◌∙◌, sym, ap, refl, slice_get, slice_index_or}
-use Rattle.std.proofs.lemmas.Option.{get_or_from_slice_get, unwrap_or-slice_get}
-use Rattle.std.proofs.lemmas.List.Elements.{All-from_recursion}
-use Rattle.std.specs.List.{All, AllByRecursion}
+use Rattle.std.proofs.Common.{rules, ◌≡◌, ℕ, zero, suc, List, [], ◌∷◌, ◌++◌, Some, map, take, drop, ◌∙◌, sym, ap, refl, slice_get, slice_index_or}
+use Rattle.ub_tree.proofs.Common.{All, All-from_recursion, all_append, all_more, AllByRecursion, Entry, entry_of, get_or_from_slice_get, Placed, placed_append}
+use Rattle.ub_tree.proofs.Common.{placed_at, placed_of, region_on, region_page, Schema, unwrap_or-slice_get}
 use Rattle.std.specs.Option.{unwrap_or}
-use Rattle.ub_check.proofs.PlacedFacts.{placed_append, placed_at}
-use Rattle.ub_region.specs.RegionPage.{region_on, region_page}
-use Rattle.ub_region.specs.declared.entry.Entry.{Entry}
-use Rattle.ub_region.proofs.Laws.{all_more, all_append}
-use Rattle.ub_table.specs.declared.schema.Schema.{Schema}
-use Rattle.ub_tree.specs.Placed.{Placed, placed_of, entry_of}
 
 index_same : (xs ys : List (List ℕ)) (n : ℕ) → slice_get xs n ≡ slice_get ys n → slice_index_or xs n [] ≡ slice_index_or ys n []
 index_same xs ys n same = sym (unwrap_or-slice_get xs n []) ∙ ap (λ o. unwrap_or o []) same ∙ unwrap_or-slice_get ys n []

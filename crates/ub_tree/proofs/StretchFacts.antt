@@ -1,38 +1,20 @@
 -- Stretches of a tree: the laws, from those of its index; what is kept over calls that read; and why opening one is refused.
+use Rattle.std.specs.Prelude.{Contains}
 use Rattle.std.proofs.Common.{rules, ◌≡◌, ◌≤◌, ◌<◌, ◌+◌, ◌^◌, ◌↔◌, inl, ℕ, Bool, List, [], ◌∷◌, Some, None, Result, Ok, Err, IsTrue, flat_map, sym, ap, subst, ◌∙◌}
-use Rattle.std.specs.Result.{IsErrAnd}
-use Rattle.ub_bigmin.specs.Box.{Corners}
-use Rattle.ub_index.proofs.StretchCover as cover
-use Rattle.ub_index.proofs.StretchFacts.{comes_leads, comes_stops, parts_inside, parts_told, parts_up, whole_told}
-use Rattle.ub_index.specs.Descending.{IsStepFault}
-use Rattle.ub_index.specs.Index.{top}
-use Rattle.ub_index.specs.Searching.{store_after}
-use Rattle.ub_index.specs.Stretches as index
-use Rattle.ub_index.specs.Stretches.{IsStretchOn}
-use Rattle.ub_index.specs.View.{IndexView, Stops, entry_at}
-use Rattle.ub_index.specs.declared.fault.IndexFault.TheVariants as fault
-use Rattle.ub_index.specs.declared.fault.IndexFault.{IndexFault}
-use Rattle.ub_region.proofs.Laws.{all_more}
-use Rattle.ub_region.specs.Those.{AreThose}
-use Rattle.ub_region.specs.declared.region.Region.{Region}
-use Rattle.ub_store.specs.Facts.{StoreFacts, page_count}
-use Rattle.ub_store.specs.View.{PagerView}
-use Rattle.ub_store.specs.declared.fault.StoreFault.TheVariants as store
-use Rattle.ub_table.specs.declared.fault.PageFault.{PageFault}
-use Rattle.ub_table.specs.declared.schema.Schema.{Schema}
+use Rattle.ub_tree.proofs.Common.{all_more, AllAreWithin, AreThose, comes_leads, comes_stops, Corners, entry_at, fault_of_tree, index_fault, IndexFault}
+use Rattle.ub_tree.proofs.Common.{IndexView, IsErrAnd, IsIndexRefused, IsReadFault, IsStepFault, IsStopped, IsStretchOn, LiesIn, LowestAreRegions}
+use Rattle.ub_tree.proofs.Common.{LowestHoldOne, Meets, MeetsAny, page_count, PageFault, PagerView, parts_inside, parts_told, parts_up, PartsAreTold}
+use Rattle.ub_tree.proofs.Common.{PartsAscend, PartsCover, PartsLieWithin, ReadFault, Region, Schema, SomeRegionMeets, Stops, store_after, StoreFacts, Stretch}
+use Rattle.ub_tree.proofs.Common.{StretchesBegin, StretchIsItsRegions, top, tree_view, TreeView, whole_told, WholeIsTold, within}
 use Rattle.ub_tree.proofs.IndexedFacts.{sound_index, spans_told}
 use Rattle.ub_tree.proofs.ReadFacts.{IsTraced, given_of}
 use Rattle.ub_tree.proofs.SearchFacts.{index_not_refused, no_stop}
-use Rattle.ub_tree.specs.Effects.{IsIndexRefused, IsReadFault, IsStopped}
-use Rattle.ub_tree.specs.Faults.{index_fault}
-use Rattle.ub_tree.specs.Laws.{AllAreWithin, LiesIn, LowestAreRegions, LowestHoldOne, PartsAreTold, PartsAscend, PartsCover, PartsLieWithin, SomeRegionMeets, StretchIsItsRegions, StretchesBegin, WholeIsTold}
-use Rattle.ub_tree.specs.Reading.{fault_of_tree, read_store}
-use Rattle.ub_tree.specs.Spans.{Meets}
-use Rattle.ub_tree.specs.Stretches.{ArePartsOf, IsOpeningFault, IsStretchOf, MeetsAny, OpensStretch, Stretch, whole_of, within}
-use Rattle.ub_tree.specs.Tree.{tree_view}
-use Rattle.ub_tree.specs.View.{TreeView}
-use Rattle.ub_tree.specs.declared.read_fault.ReadFault.{ReadFault}
-use Rattle.std.specs.Prelude.{Contains}
+use Rattle.ub_tree.specs.Reading.{read_store}
+use Rattle.ub_tree.specs.Stretches.{ArePartsOf, IsOpeningFault, IsStretchOf, OpensStretch, whole_of}
+use Rattle.ub_index.proofs.StretchCover as cover
+use Rattle.ub_index.specs.Stretches as index
+use Rattle.ub_index.specs.declared.fault.IndexFault.TheVariants as fault
+use Rattle.ub_store.specs.declared.fault.StoreFault.TheVariants as store
 pub use Rattle.ub_index.proofs.StretchCover.{held_key, key_held}
 
 -- ---- over any tree

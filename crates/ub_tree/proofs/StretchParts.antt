@@ -1,24 +1,10 @@
 -- The parts of a stretch over any tree: how many there are, which addresses lie in them, and that none is passed over.
 use Rattle.std.proofs.Common.{◌≡◌, ◌≤◌, ◌+◌, ◌-◌, inl, inr, ℕ, zero, suc, List, [], ◌∷◌, Option, Some, None, IfSome, slice_get, ◌∙◌, ap, subst, refl, arith}
-use Rattle.std.proofs.lemmas.Bool.{cases_Bool}
-use Rattle.std.specs.List.{AllByRecursion}
-use Rattle.ub_index.proofs.Lists.{ascend_first}
-use Rattle.ub_index.proofs.StretchFacts.{stretches_each, those_each, those_few}
+use Rattle.ub_tree.proofs.Common.{AllByRecursion, AreThose, ascend_first, AscendTo, before_of, cases_Bool, end_before, Entry, first_or, HoldsKey, IsBefore}
+use Rattle.ub_tree.proofs.Common.{IsEntry, Key, LiesIn, MeetsAny, node_on, not_both_before, parts_on, PartsAreBelow, PartsHold, PartsLieIn, precedes}
+use Rattle.ub_tree.proofs.Common.{precedes_of, Stretch, stretch_of, stretches_each, stretches_to, those_each, those_few}
 use Rattle.ub_index.proofs.StretchSteps.{begins_up_to, ends_from, ends_up, stretches_long}
-use Rattle.ub_index.specs.Index.{AscendTo, first_or}
-use Rattle.ub_index.specs.Stretches.{parts_on, stretch_of, stretches_to}
-use Rattle.ub_index.specs.Way.{HoldsKey}
-use Rattle.ub_page.specs.Entries.{IsEntry}
-use Rattle.ub_page.specs.Index.{node_on}
-use Rattle.ub_region.specs.Spans.{end_before}
-use Rattle.ub_region.specs.Those.{AreThose}
-use Rattle.ub_region.specs.declared.entry.Entry.{Entry}
-use Rattle.ub_table.proofs.Laws.{before_of, not_both_before, precedes_of}
-use Rattle.ub_table.specs.Keys.{IsBefore, precedes}
-use Rattle.ub_table.specs.declared.row.Key.{Key}
 use Rattle.ub_tree.proofs.MeetFacts.{contains_at}
-use Rattle.ub_tree.specs.Laws.{LiesIn, PartsAreBelow, PartsHold, PartsLieIn}
-use Rattle.ub_tree.specs.Stretches.{MeetsAny, Stretch}
 
 pub parts_are_below : PartsAreBelow
 parts_are_below t boxes s parts some are =

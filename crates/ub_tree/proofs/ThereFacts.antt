@@ -1,21 +1,9 @@
 -- What is read of a region of a sound tree.
 use Rattle.std.proofs.Common.{◌≡◌, ◌∙◌, ℕ, Bool, List, Some, sym, ap, subst, refl, slice_get}
-use Rattle.std.specs.List.{Contains}
-use Rattle.ub_index.specs.View.{IndexView, entries_under, entry_at}
-use Rattle.ub_region.specs.RegionPage.{region_on}
-use Rattle.ub_region.specs.declared.entry.Entry.{Entry}
-use Rattle.ub_store.specs.Facts.{IsHonest}
-use Rattle.ub_store.specs.View.{PagerView}
-use Rattle.ub_table.specs.Region.{RegionRows}
-use Rattle.ub_table.specs.declared.schema.Schema.{Schema}
+use Rattle.ub_tree.proofs.Common.{ArePlaced, Contains, entries_under, Entry, entry_at, IndexView, IsHonest, IsRegionIn, IsSound, known_pages, PagerView, Placed}
+use Rattle.ub_tree.proofs.Common.{placed_of, Region, region_on, RegionRows, reserved, Schema, spans_of, tree_view, TreeView}
 use Rattle.ub_tree.proofs.SearchFacts.{known_is}
 use Rattle.ub_tree.proofs.TreeFacts.{IsKnown, entries_back, rows_read, span_known, spans_are}
-use Rattle.ub_tree.specs.Indexed.{reserved}
-use Rattle.ub_tree.specs.Placed.{Placed, ArePlaced, placed_of}
-use Rattle.ub_tree.specs.Spans.{Region}
-use Rattle.ub_tree.specs.Tree.{known_pages, tree_view}
-use Rattle.ub_tree.specs.View.{TreeView, IsSound, spans_of}
-use Rattle.ub_tree.specs.inner.Change.{IsRegionIn}
 
 module _ (schema : Schema) (index : IndexView) (count next rows : ℕ) (changed failed : Bool) (pager : PagerView) where
   abbrev tree : TreeView

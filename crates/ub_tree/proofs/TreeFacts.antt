@@ -1,27 +1,11 @@
 -- A tree's regions, by its entries and the pages of its store.
 use Rattle.std.proofs.Common.{◌≡◌, ◌<◌, ℕ, zero, suc, List, [], ◌∷◌, Option, Some, IfSome, length, map, ◌∙◌, sym, ap, subst, refl, arith, slice_get, slice_index_or}
-use Rattle.std.proofs.lemmas.List.{length-map}
-use Rattle.std.proofs.lemmas.Option.{slice_get_read, slice_get_within, get_or_from_slice_get}
-use Rattle.std.specs.List.{All, AllByRecursion, Contains}
-use Rattle.ub_check.proofs.PlacedFacts.{placed_at}
-use Rattle.ub_check.proofs.StandingFacts.{each_get}
+use Rattle.ub_tree.proofs.Common.{All, AllByRecursion, AreApart, ArePlaced, AreRegions, Contains, each_get, Entry, entry_of, first_keys, firsts_of}
+use Rattle.ub_tree.proofs.Common.{get_or_from_slice_get, IsBefore, IsRegion, IsRegionAt, Key, keys_of, last_address, length-map, Placed, placed_at, placed_of}
+use Rattle.ub_tree.proofs.Common.{Region, region_on, region_page, region_with, RegionRows, regions_in, regions_of, Row, Schema, slice_get_read}
+use Rattle.ub_tree.proofs.Common.{slice_get_within, span_end, spans_in}
 use Rattle.ub_check.specs.Standing.{IsHeldBy}
-use Rattle.ub_zaddr.specs.Address.{last_address}
-use Rattle.ub_region.specs.RegionPage.{region_on, region_page}
-use Rattle.ub_index.specs.View.{IsRegionAt}
-use Rattle.ub_region.specs.declared.entry.Entry.{Entry}
-use Rattle.ub_region.specs.Regions.{AreRegions, AreApart, firsts_of}
-use Rattle.ub_region.specs.Spans.{span_end}
-use Rattle.ub_table.specs.Keys.{IsBefore}
-use Rattle.ub_table.specs.Region.{RegionRows, IsRegion, keys_of}
-use Rattle.ub_table.specs.declared.row.Key.{Key}
-use Rattle.ub_table.specs.declared.row.Row.{Row}
-use Rattle.ub_table.specs.declared.schema.Schema.{Schema}
 use Rattle.ub_tree.proofs.MeetFacts.{contains_at}
-use Rattle.ub_tree.specs.Spans.{first_keys, regions_of, Region}
-use Rattle.ub_tree.specs.Placed.{Placed, ArePlaced, placed_of, regions_in, entry_of}
-use Rattle.ub_tree.specs.View.{spans_in}
-use Rattle.ub_index.proofs.Laws.{region_with}
 
 pub entries_back : (schema : Schema) (pages : List (List ℕ)) (entries : List Entry) → map entry_of (placed_of schema pages entries) ≡ entries
 entries_back schema pages [] = refl

@@ -1,38 +1,13 @@
 -- The pages of an old table, brought over: what stands on them, and why they aren't.
-use Rattle.std.proofs.Common.{rules}
-use Rattle.std.proofs.Common.{◌≡◌, ◌≢◌, ◌≤◌, ◌<◌, ◌+◌, ◌++◌, ◌∙◌, inl, inr, ℕ, zero, suc, true, false, List, [], ◌∷◌, Some, length, map, slice_get, ap, sym, subst, refl, arith}
-use Rattle.std.proofs.lemmas.List.Elements.{All-from_recursion, recursion_from_All}
-use Rattle.std.proofs.lemmas.Option.{slice_get_within}
-use Rattle.std.specs.List.{All, AllByRecursion}
-use Rattle.ub_index.proofs.KeptFacts.{kept_index, kept_under}
-use Rattle.ub_index.proofs.Numbers.{distinct_apart, distinct_cons, distinct_first, distinct_join, distinct_left, distinct_right, kept_pages}
-use Rattle.ub_index.specs.Standing.{PagesStay, IsOutside}
-use Rattle.ub_index.specs.Index.{pages_under, top}
-use Rattle.ub_index.specs.View.{IndexView, index_view}
-use Rattle.ub_region.specs.declared.entry.Entry.{Entry}
-use Rattle.ub_page.specs.declared.header.OldHeader.{OldHeader}
-use Rattle.ub_page.specs.Header.{header_page_of}
-use Rattle.ub_region.specs.RegionPage.{region_page}
-use Rattle.ub_region.proofs.Laws.{all_append, all_more}
-use Rattle.ub_store.specs.Facts.{StoreFacts, IsHonest, page_count}
-use Rattle.ub_store.specs.View.{PagerView}
-use Rattle.ub_table.specs.declared.schema.Schema.{Schema}
+use Rattle.std.proofs.Common.{rules, ◌≡◌, ◌≢◌, ◌≤◌, ◌<◌, ◌+◌, ◌++◌, ◌∙◌, inl, inr, ℕ, zero, suc, true, false, List, [], ◌∷◌, Some, length, map, slice_get, ap, sym, subst, refl, arith}
+use Rattle.ub_tree.proofs.Common.{All, All-from_recursion, all_append, all_more, AllByRecursion, AreBelow, AreOldPages, ArePlaced, CanBring, directory_of}
+use Rattle.ub_tree.proofs.Common.{distinct_apart, distinct_cons, distinct_first, distinct_join, distinct_left, distinct_right, Entry, entry_of, HasIndex}
+use Rattle.ub_tree.proofs.Common.{HasIndexOf, HasOldHeader, head_of, header_page_of, index_of, index_view, IndexView, IsBrought, IsCarried, IsDirectory}
+use Rattle.ub_tree.proofs.Common.{IsHonest, IsOutside, kept_index, kept_pages, kept_under, last_address, OldHeader, page_count, PagerView, pages_under}
+use Rattle.ub_tree.proofs.Common.{PagesStay, Placed, recursion_from_All, region_page, reserved, Root, root_fits, root_in, Schema, slice_get_within, StandsOver}
+use Rattle.ub_tree.proofs.Common.{StoreFacts, top, tree_view, TreeView}
 use Rattle.ub_tree.proofs.OldFacts.{positive}
-use Rattle.ub_tree.specs.Indexed.{HasIndex, reserved}
-use Rattle.ub_tree.specs.Old.{AreOldPages, head_of}
-use Rattle.ub_tree.specs.Placed.{Placed, ArePlaced, entry_of}
-use Rattle.ub_tree.specs.Stored.{index_of}
-use Rattle.ub_tree.specs.Tree.{tree_view}
-use Rattle.ub_tree.specs.Upgrade.{StandsOver}
-use Rattle.ub_tree.specs.View.{TreeView}
-use Rattle.ub_tree.specs.inner.Upgrading.{IsCarried}
-use Rattle.ub_upgrade.proofs.TableFacts.{root_fits}
-use Rattle.ub_upgrade.specs.Table.{CanBring, root_in}
-use Rattle.ub_upgrade.specs.Bringing.{HasIndexOf, HasOldHeader, IsBrought, directory_of}
 use Rattle.ub_laying.specs.Levels.{index_pages}
-use Rattle.ub_upgrade.specs.Reading.{AreBelow, IsDirectory}
-use Rattle.ub_laying.specs.declared.levels.Root.{Root}
-use Rattle.ub_zaddr.specs.Address.{last_address}
 
 -- ---- the index that stands on the new pages
 

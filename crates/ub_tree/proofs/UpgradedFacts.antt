@@ -1,44 +1,18 @@
 -- The tree that an upgrade makes: when it is sound, and why it is refused.
-use Rattle.std.proofs.Common.{rules}
-use Rattle.std.proofs.Common.{◌≡◌, ◌≤◌, ◌<◌, ◌^◌, ◌∙◌, inl, inr, ℕ, true, false, List, [], ◌∷◌, Some, None, Result, Ok, Err, IfErr, IfOk, OnOk, MatchResult, map, slice_get, ap, sym, subst, refl, arith}
-use Rattle.std.proofs.lemmas.List.Elements.{recursion_from_All}
-use Rattle.std.proofs.lemmas.Option.{slice_get_within}
-use Rattle.std.specs.List.{AllByRecursion}
+use Rattle.std.proofs.Common.{rules, ◌≡◌, ◌≤◌, ◌<◌, ◌^◌, ◌∙◌, inl, inr, ℕ, true, false, List, [], ◌∷◌, Some, None, Result, Ok, Err, IfErr, IfOk, OnOk, MatchResult, map, slice_get, ap, sym, subst, refl, arith}
+use Rattle.ub_tree.proofs.Common.{AllByRecursion, AreOldPages, asked_of, entry_of, Failed as HasFailed, HasIndexOf, HasMark, HasOldHeader, HasTable, head_of}
+use Rattle.ub_tree.proofs.Common.{header_page_of, index_view, IndexView, IsCarried, IsCheckFault, IsFirstFault, IsHonest, IsMade, IsMadeOf, IsPassing, IsRegion}
+use Rattle.ub_tree.proofs.Common.{IsSound, IsUnopened, IsUpgraded, IsUpgradeFault, IsUpgradePassing, IsWell, last_address, Memory, OldHeader, Page, page_count}
+use Rattle.ub_tree.proofs.Common.{PageFault, PagerView, Placed, placed_in, read_store, recursion_from_All, region_page, region_parts, regions_in, root_in}
+use Rattle.ub_tree.proofs.Common.{Schema, slice_get_within, StandsOver, StopsTree, Store, StoreFacts, top, TreeFault, TreeView, untouched, versions}
 use Rattle.ub_check.proofs.StopFacts.{stops_low, stops_there}
-use Rattle.ub_index.specs.Index.{top}
-use Rattle.ub_index.specs.View.{IndexView, index_view}
-use Rattle.ub_page.proofs.PageLaws.{region_parts}
-use Rattle.ub_page.specs.Header.{header_page_of}
-use Rattle.ub_region.specs.RegionPage.{region_page}
-use Rattle.ub_page.specs.declared.header.OldHeader.{OldHeader}
-use Rattle.ub_store.specs.Facts.{StoreFacts, IsHonest, page_count}
-use Rattle.ub_store.specs.View.{PagerView, untouched}
-use Rattle.ub_store.specs.declared.fault.StoreFault.TheVariants as store
-use Rattle.ub_table.specs.Region.{IsRegion}
-use Rattle.ub_table.specs.declared.fault.PageFault.{PageFault}
-use Rattle.ub_table.specs.declared.schema.Schema.{Schema}
 use Rattle.ub_tree.proofs.CallFacts.{last_small}
 use Rattle.ub_tree.proofs.OldFacts.{old_are}
 use Rattle.ub_tree.proofs.SearchFacts.{known_is}
 use Rattle.ub_tree.proofs.StoredFacts.{IsSpelled, IsTold, placed_told}
 use Rattle.ub_tree.proofs.UpgradeFacts.{carried, over, stands_over}
-use Rattle.ub_upgrade.proofs.TableFacts.{versions}
 use Rattle.ub_tree.proofs.WellFacts.{well_index, well_placed, well_regions}
-use Rattle.ub_tree.specs.Checking.{IsCheckFault, IsFirstFault, IsWell, StopsTree, asked_of}
-use Rattle.ub_tree.specs.Effects.{read_store}
-use Rattle.ub_tree.specs.Old.{AreOldPages, head_of}
-use Rattle.ub_tree.specs.Opened.{IsPassing}
-use Rattle.ub_tree.specs.Placed.{Placed, entry_of, regions_in}
-use Rattle.ub_tree.specs.Tree.{placed_in}
-use Rattle.ub_tree.specs.Upgrade.{HasTable, IsUnopened, IsUpgraded, IsUpgradeFault, IsUpgradePassing, StandsOver}
-use Rattle.ub_tree.specs.View.{TreeView, IsSound}
-use Rattle.ub_tree.specs.declared.fault.TreeFault.{TreeFault}
-use Rattle.ub_tree.specs.declared.fault.TreeFault.TheVariants.{Page, Store, Failed as HasFailed, Memory}
-use Rattle.ub_tree.specs.inner.Upgrading.{IsCarried}
-use Rattle.ub_upgrade.specs.Bringing.{HasIndexOf, HasOldHeader}
-use Rattle.ub_upgrade.specs.Table.{IsMade, IsMadeOf, root_in}
-use Rattle.ub_writing.specs.Marks.{HasMark}
-use Rattle.ub_zaddr.specs.Address.{last_address}
+use Rattle.ub_store.specs.declared.fault.StoreFault.TheVariants as store
 
 -- ---- what was made of an old store
 

@@ -1,14 +1,8 @@
 -- Answers, each the first one later than the answer before it, are the elements that have the property asked for.
 use Rattle.std.proofs.Common.{◌≡◌, ◌<◌, ◌≤◌, ◌+◌, ◌-◌, ◌↔◌, inl, inr, ℕ, zero, suc, List, [], ◌∷◌, Option, Some, None, length, drop, sym, ap, refl, arith, subst, slice_get, ◌∙◌}
-use Rattle.std.proofs.lemmas.Bool.{cases_lt, cases_eq}
-use Rattle.ub_bigmin.specs.Box.{Corners}
-use Rattle.ub_region.specs.Those.{AreThose}
-use Rattle.ub_table.proofs.Laws.{not_both_before, not_before_self}
-use Rattle.ub_table.specs.Keys.{IsBefore}
+use Rattle.ub_tree.proofs.Common.{AreAnswers, AreThose, cases_eq, cases_lt, Corners, First, GivesNext, IsBefore, IsLater, Meets, not_before_self}
+use Rattle.ub_tree.proofs.Common.{not_both_before, Region, spans_of, TreeView}
 use Rattle.ub_tree.proofs.MeetFacts.{contained_at, contains_at}
-use Rattle.ub_tree.specs.Spans.{First, IsLater, Meets, Region}
-use Rattle.ub_tree.specs.Told.{AreAnswers, GivesNext}
-use Rattle.ub_tree.specs.View.{TreeView, spans_of}
 
 module _ {X : Type 0} where
   pub drop_get : (n i : ℕ) (xs : List X) → slice_get (drop n xs) i ≡ slice_get xs (n + i)

@@ -1,34 +1,11 @@
 -- Ways down the index of a tree, over any pages: to which they lead, what becomes of them where a region's page is put anew, and
 -- which pages a change of the index spells.
-use Rattle.std.proofs.Common.{rules}
-use Rattle.std.proofs.Common.{◌≡◌, ◌≢◌, ◌≤◌, ◌<◌, ◌+◌, ◌^◌, ◌∙◌, ◌⊎◌, inl, inr, ℕ, zero, suc, List, [], ◌∷◌, ◌++◌, Option, Some, length, take, drop, ap, sym, subst, refl, arith, slice_get, append_assoc}
-use Rattle.std.proofs.lemmas.List.{append-nil}
-use Rattle.std.proofs.lemmas.Option.{slice_get_within}
-use Rattle.std.specs.List.{AllByRecursion, flat_map}
-use Rattle.ub_check.proofs.PlacedFacts.{some_one}
-use Rattle.ub_index.proofs.FirstFacts.{below_some}
-use Rattle.ub_index.proofs.LeadFacts.{falls_once}
-use Rattle.ub_index_change.proofs.SpelledFacts.{no_parts}
-use Rattle.ub_index.proofs.WayFacts.{named_not_refused}
-use Rattle.ub_page.proofs.IndexLaws.{node_not_refused}
-use Rattle.ub_index.specs.Standing.{IsOutside}
-use Rattle.ub_index_change.specs.Changing.{Mends, Spelled, Spreads, Turns, sheet_of, so_far}
+use Rattle.std.proofs.Common.{rules, ◌≡◌, ◌≢◌, ◌≤◌, ◌<◌, ◌+◌, ◌^◌, ◌∙◌, ◌⊎◌, inl, inr, ℕ, zero, suc, List, [], ◌∷◌, ◌++◌, Option, Some, length, take, drop, ap, sym, subst, refl, arith, slice_get, append_assoc}
+use Rattle.ub_tree.proofs.Common.{all_append, all_left, all_more, all_right, AllByRecursion, append-nil, below_some, entries_of, Entry, falls_once, flat_map}
+use Rattle.ub_tree.proofs.Common.{Gone, IsIndexPage, IsOutside, IsRegion, Key, LeadsTo, Mends, named_not_refused, NamesFitting, no_parts, node_not_refused}
+use Rattle.ub_tree.proofs.Common.{node_on, One, page_in, PageFault, pages_under, region_page, region_parts, RegionRows, Same, Schema, Sheet, sheet_of}
+use Rattle.ub_tree.proofs.Common.{slice_get_within, so_far, some_one, Spelled, Spreads, StopsAt, Told, Turns, Two, WrongKind}
 use Rattle.ub_index.specs.Fitting.{FallsTo}
-use Rattle.ub_index.specs.Index.{IsIndexPage, NamesFitting, entries_of, page_in, pages_under}
-use Rattle.ub_index.specs.Way.{LeadsTo, StopsAt}
-use Rattle.ub_index_change.specs.declared.sheet.Sheet.{Sheet}
-use Rattle.ub_index_change.specs.declared.told.Told.{Told}
-use Rattle.ub_index_change.specs.declared.told.Told.TheVariants.{Same, Gone, One, Two}
-use Rattle.ub_page.proofs.PageLaws.{region_parts}
-use Rattle.ub_region.proofs.Laws.{all_append, all_left, all_more, all_right}
-use Rattle.ub_region.specs.RegionPage.{region_page}
-use Rattle.ub_region.specs.declared.entry.Entry.{Entry}
-use Rattle.ub_page.specs.Index.{node_on}
-use Rattle.ub_table.specs.Region.{RegionRows, IsRegion}
-use Rattle.ub_table.specs.declared.fault.PageFault.TheVariants.{WrongKind}
-use Rattle.ub_table.specs.declared.fault.PageFault.{PageFault}
-use Rattle.ub_table.specs.declared.row.Key.{Key}
-use Rattle.ub_table.specs.declared.schema.Schema.{Schema}
 
 -- a way that leads to an entry doesn't stop
 module _ (last : ℕ) (pages : List (List ℕ)) (key : Key) where

@@ -1,42 +1,16 @@
 -- What a check takes of a tree is what makes its pages sound, and over sound pages it takes all.
-use Rattle.std.proofs.Common.{rules}
-use Rattle.std.proofs.Common.{◌≡◌, ◌≤◌, ◌<◌, ◌^◌, ℕ, List, [], ◌∷◌, Option, Some, None, map, slice_get, ap, refl, sym, ◌∙◌, arith, subst}
-use Rattle.std.proofs.lemmas.List.Elements.{All-from_recursion, recursion_from_All}
-use Rattle.std.proofs.lemmas.Option.{slice_get_within}
-use Rattle.std.specs.List.{AllByRecursion}
-use Rattle.ub_check.proofs.PlacedFacts.{placed_at}
-use Rattle.ub_check.proofs.TakenFacts.{IsTaken, new_below, new_differ, new_of, taken_walk, walk_taken}
-use Rattle.ub_check.specs.Checking.{Asked, StandsHere, numbers_of}
-use Rattle.ub_check.specs.Numbers.{IsNone}
-use Rattle.ub_index.specs.Spans.{first_keys}
-use Rattle.ub_index.proofs.Numbers.{within_store}
+use Rattle.std.proofs.Common.{rules, ◌≡◌, ◌≤◌, ◌<◌, ◌^◌, ℕ, List, [], ◌∷◌, Option, Some, None, map, slice_get, ap, refl, sym, ◌∙◌, arith, subst}
+use Rattle.ub_tree.proofs.Common.{All-from_recursion, all_more, AllByRecursion, AreApart, AreKeysAscending, ArePlaced, AreRegions, AreSoundPages, ascending_of}
+use Rattle.ub_tree.proofs.Common.{Asked, asked_of, EachTo, Entry, entry_of, first_keys, firsts_of, HasIndex, header_page, IndexView, IsEntry, IsHonest}
+use Rattle.ub_tree.proofs.Common.{IsIndexOn, IsNone, IsOpened, IsRegion, IsRooted, IsSound, IsTaken, IsUnder, IsWell, Key, last_address, new_below, new_differ}
+use Rattle.ub_tree.proofs.Common.{new_of, Placed, placed_at, placed_of, recursion_from_All, region_page, region_parts, regions, regions_in, reserved, Row}
+use Rattle.ub_tree.proofs.Common.{Schema, slice_get_within, StandsHere, StoreFacts, taken_walk, TakesTree, top, TreeView, under, walk_taken, within_store}
+use Rattle.ub_check.specs.Checking.{numbers_of}
 use Rattle.ub_index.proofs.PlaceFacts.{begins, each_entry, up}
-use Rattle.ub_index.specs.Index.{EachTo, IsUnder, top, under}
-use Rattle.ub_index.specs.View.{IndexView, IsIndexOn}
-use Rattle.ub_page.specs.Entries.{IsEntry}
-use Rattle.ub_page.specs.Header.{header_page}
-use Rattle.ub_region.specs.RegionPage.{region_page}
-use Rattle.ub_region.specs.declared.entry.Entry.{Entry}
-use Rattle.ub_region.proofs.Laws.{all_more, ascending_of}
-use Rattle.ub_region.specs.Regions.{AreApart, AreRegions, firsts_of}
-use Rattle.ub_store.specs.Facts.{StoreFacts, IsHonest}
-use Rattle.ub_table.specs.Keys.{AreKeysAscending}
-use Rattle.ub_table.specs.Region.{IsRegion}
-use Rattle.ub_table.specs.declared.row.Key.{Key}
-use Rattle.ub_table.specs.declared.row.Row.{Row}
-use Rattle.ub_table.specs.declared.schema.Schema.{Schema}
 use Rattle.ub_tree.proofs.ApartFacts.{IsOnPage, all_differ, under_differ, under_from}
-use Rattle.ub_tree.specs.Checking.{IsWell, TakesTree, asked_of}
-use Rattle.ub_page.proofs.PageLaws.{region_parts}
 use Rattle.ub_tree.proofs.StoredFacts.{IsSpelled, IsTold, placed_told}
 use Rattle.ub_tree.proofs.TreeFacts.{entries_back, firsts_back}
-use Rattle.ub_tree.specs.Indexed.{HasIndex, reserved}
 use Rattle.ub_tree.proofs.CallFacts.{last_small}
-use Rattle.ub_tree.specs.Opened.{IsOpened, IsRooted}
-use Rattle.ub_tree.specs.Placed.{Placed, ArePlaced, entry_of, placed_of, regions_in}
-use Rattle.ub_tree.specs.Stored.{AreSoundPages}
-use Rattle.ub_tree.specs.View.{TreeView, IsSound, regions}
-use Rattle.ub_zaddr.specs.Address.{last_address}
 
 -- what holds of the numbers of rows holds of the rows
 rows_below : (bound : ℕ) (rows : List Row) → AllByRecursion (λ n. n < bound) (numbers_of rows) → AllByRecursion (λ row. row.number < bound) rows

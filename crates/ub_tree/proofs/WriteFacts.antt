@@ -1,26 +1,9 @@
 -- What a call that only writes leaves of a tree.
-use Rattle.std.proofs.Common.{rules}
-use Rattle.std.proofs.Common.{◌≡◌, ◌≢◌, ◌∙◌, ℕ, Bool, true, List, [], ◌∷◌, Err, IsTrue, Result, sym, subst, refl}
-use Rattle.std.specs.List.{AllByRecursion}
-use Rattle.ub_store.specs.Writing.{IsOther, KeepsBut, put_store}
-use Rattle.ub_index.specs.Standing.{IsOutside}
-use Rattle.ub_index.specs.View.{IndexView}
-use Rattle.ub_page.specs.Header.{header_page}
-use Rattle.ub_store.specs.Facts.{StoreFacts, IsHonest}
-use Rattle.ub_store.specs.View.{PagerView, SameTrace}
-use Rattle.ub_store.specs.declared.fault.StoreFault.{StoreFault}
+use Rattle.std.proofs.Common.{rules, ◌≡◌, ◌≢◌, ◌∙◌, ℕ, Bool, true, List, [], ◌∷◌, Err, IsTrue, Result, sym, subst, refl}
+use Rattle.ub_tree.proofs.Common.{AllByRecursion, Due, first_page, HasMark, HasStopped, header_page, IndexView, is_written, IsHonest, IsMarkedFirst, IsMarkOf}
+use Rattle.ub_tree.proofs.Common.{IsOther, IsOutside, IsWriteFault, KeepsBut, KeepsOthers, KeepsUnless, Mark, Marks, PagerView, put_store, PutsMark, SameTrace}
+use Rattle.ub_tree.proofs.Common.{Schema, Store, StoreFacts, StoreFault, tree_view, TreeFault, TreeView, Written, written_store}
 use Rattle.ub_store.specs.declared.fault.StoreFault.TheVariants as store
-use Rattle.ub_table.specs.declared.schema.Schema.{Schema}
-use Rattle.ub_tree.specs.Effects.{IsMarkedFirst, written_store}
-use Rattle.ub_tree.specs.Others.{KeepsOthers}
-use Rattle.ub_tree.specs.Tree.{tree_view}
-use Rattle.ub_tree.specs.View.{TreeView}
-use Rattle.ub_tree.specs.declared.fault.TreeFault.{TreeFault}
-use Rattle.ub_tree.specs.declared.fault.TreeFault.TheVariants.{Store}
-use Rattle.ub_tree.specs.inner.Change.{HasStopped, IsWriteFault}
-use Rattle.ub_writing.specs.Marks.{HasMark, IsMarkOf, KeepsUnless, Marks, PutsMark, first_page, is_written}
-use Rattle.ub_writing.specs.declared.mark.Mark.{Mark}
-use Rattle.ub_writing.specs.declared.mark.Mark.TheVariants.{Due, Written}
 
 pub put_is : (U V : Type 0) (fault : StoreFault) (old new : StoreFacts) → put_store {A = U} (Err fault) old new ≡ written_store {A = V} (Err (Store fault)) old new
 put_is U V fault old new = search rules

@@ -1,14 +1,8 @@
 -- The header that was read, and why pages aren't brought over.
 use Rattle.std.proofs.Common.{rules, ◌≡◌, ◌∙◌, ℕ, Bool, Option, Some, Result, IfErr, ap, refl}
-use Rattle.ub_page.specs.Header.{AreSame}
+use Rattle.ub_upgrade.proofs.Common.{AreSame, directory_of, IsBringFault, IsBuildFault, OldHeader, page_count, Schema, StoreFacts, UpgradeFault}
 use Rattle.ub_page.specs.declared.header.Header.{Header}
-use Rattle.ub_page.specs.declared.header.OldHeader.{OldHeader}
-use Rattle.ub_store.specs.Facts.{StoreFacts, page_count}
 use Rattle.ub_table.proofs.Laws.{same_schema}
-use Rattle.ub_table.specs.declared.schema.Schema.{Schema}
-use Rattle.ub_upgrade.specs.Bringing.{IsBringFault, directory_of}
-use Rattle.ub_upgrade.specs.Building.{IsBuildFault}
-use Rattle.ub_upgrade.specs.declared.fault.UpgradeFault.{UpgradeFault}
 
 abbrev header_with : Schema → ℕ → ℕ → ℕ → ℕ → ℕ → Bool → Header
 header_with schema next rows regions root levels unclean = record { schema = schema; next = next; rows = rows; regions = regions; root = root; levels = levels; unclean = unclean }

@@ -1,28 +1,13 @@
 -- The lowest level of the index while the directory is read.
 use Rattle.std.proofs.Common.{rules, ◌≡◌, ◌≤◌, ◌<◌, ◌+◌, ◌-◌, ◌^◌, ◌++◌, ◌∙◌, ℕ, List, [], ◌∷◌, Some, None, Result, Ok, Err, IfErr, true, false, ap, arith, length, refl, subst, sym}
-use Rattle.std.proofs.lemmas.List.{length-append}
-use Rattle.ub_page.specs.Index.{index_page}
-use Rattle.ub_page.specs.Directory.{Listing, IsListing, directory_page}
-use Rattle.ub_region.specs.declared.entry.Entry.{Entry}
-use Rattle.ub_region.proofs.Laws.{all_append}
-use Rattle.ub_store.specs.Facts.{StoreFacts, IsHonest, IsPage, page_count, raised}
-use Rattle.std.specs.Result.{IsErrAnd}
-use Rattle.ub_page.proofs.PageLaws.{small_address}
-use Rattle.ub_store.specs.View.{PagerView}
-use Rattle.ub_store.specs.declared.fault.StoreFault.TheVariants as store
-use Rattle.ub_zaddr.specs.Address.{last_address}
-use Rattle.ub_upgrade.specs.Building.{AreLeaves, IsBuildFault, IsBuilt}
-use Rattle.ub_laying.specs.Effects.{AddsPages, HasNotFailed}
+use Rattle.ub_upgrade.proofs.Common.{AddsPages, all_append, AreBegun, AreBelow, AreLeaves, cut_added, directory_page, Entry, HasNotFailed, HasPart, HeadingView}
+use Rattle.ub_upgrade.proofs.Common.{index_page, IsBuildFault, IsBuilt, IsErrAnd, IsHonest, IsListing, IsMet, IsPage, IsReadUpTo, last_address, length-append}
+use Rattle.ub_upgrade.proofs.Common.{Level, Listing, lowest_level, New, Old, page_count, PagerView, raised, Root, small_address, StoreFacts, UpgradeFault}
 use Rattle.ub_upgrade.specs.Effects.{BringsOver, counted_old}
 use Rattle.ub_laying.specs.Levels.{Cut, IsIndexOf, IsRaised}
-use Rattle.ub_laying.specs.declared.levels.Root.{Root}
-use Rattle.ub_upgrade.specs.declared.fault.UpgradeFault.{UpgradeFault}
-use Rattle.ub_upgrade.specs.declared.fault.UpgradeFault.TheVariants.{Old, New}
-use Rattle.ub_laying.specs.declared.levels.Level.{Level}
-use Rattle.ub_upgrade.specs.Reading.{HeadingView, AreBegun, AreBelow, HasPart, IsMet, IsReadUpTo}
 use Rattle.ub_upgrade.specs.declared.chain.Place.{Place}
-use Rattle.ub_laying.proofs.LevelFacts.{cut_added, lowest_level}
 use Rattle.ub_upgrade.proofs.ReadFacts.{IsReadWhole, part_full, part_whole}
+use Rattle.ub_store.specs.declared.fault.StoreFault.TheVariants as store
 
 -- the directory was read up to a place, and so many pages from one on tell the same entries
 pub record IsHalfWay (from start : StoreFacts) (heading : HeadingView) (pages : List (List ℕ)) (first count : ℕ) (place : Place) : Type 0 where

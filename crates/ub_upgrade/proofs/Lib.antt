@@ -1,3 +1,4 @@
+pub mod Common
 pub mod ReadFacts
 pub mod WholeFacts
 pub mod LeafFacts

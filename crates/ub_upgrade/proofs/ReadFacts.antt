@@ -1,28 +1,13 @@
 -- Reading a directory page by page.
-use Rattle.std.proofs.lemmas.Grind.{common_steps}
 use Rattle.std.proofs.Common.{rules, ◌≡◌, ◌<◌, ◌≤◌, ◌+◌, ◌-◌, ◌↔◌, ◌&&◌, ◌++◌, inl, inr, ℕ, suc, get_or, Bool, true, IsTrue, List, [], ◌∷◌, Some, None, Err, length, take, drop, ◌∙◌, ap, subst, refl, arith, slice_get, slice_index_or}
-use Rattle.std.proofs.lemmas.Bool.{and_parts, cases_eq, cases_lt}
-use Rattle.std.proofs.lemmas.List.{drop_all, length-append, length-take, take-append-le, take_all, drop-append-le}
-use Rattle.std.proofs.lemmas.List.Elements.{All-from_recursion}
-use Rattle.std.specs.List.{All, AllByRecursion}
-use Rattle.ub_zaddr.specs.Address.{last_address}
-use Rattle.ub_page.specs.Directory.{Listing, IsListing, directory_page}
-use Rattle.ub_page.specs.Entries.{AreAscending, IsEntry}
-use Rattle.ub_region.specs.declared.entry.Entry.{Entry}
-use Rattle.ub_region.proofs.Laws.{all_more, all_append}
-use Rattle.ub_store.specs.Facts.{StoreFacts, IsHonest, IsPage, page_count}
-use Rattle.ub_table.proofs.Laws.{precedes_of}
-use Rattle.ub_table.specs.Keys.{origin, precedes, is_same, are_ascending}
-use Rattle.ub_upgrade.specs.Reading.{HeadingView, Spells, AreBelow, AreFull, AreBegun, HasPart, IsAskedFor, IsNamed, IsDirectory, IsReadUpTo, last_first}
-use Rattle.ub_upgrade.specs.Building.{IsBuildFault}
-use Rattle.ub_upgrade.specs.declared.fault.UpgradeFault.TheVariants.{Old}
-use Rattle.ub_store.specs.declared.fault.StoreFault.{StoreFault}
-use Rattle.ub_store.specs.declared.fault.StoreFault.TheVariants as store
-use Rattle.std.specs.Result.{IsErrOf}
-use Rattle.ub_index.specs.Spans.{ArePlaces, first_keys}
-use Rattle.ub_upgrade.specs.Chain.{IsChain}
+use Rattle.ub_upgrade.proofs.Common.{All, All-from_recursion, all_append, all_more, AllByRecursion, and_parts, are_ascending, AreAscending, AreBegun, AreBelow}
+use Rattle.ub_upgrade.proofs.Common.{AreFull, ArePlaces, cases_eq, cases_lt, common_steps, directory_page, drop-append-le, drop_all, Entry, first_keys, HasPart}
+use Rattle.ub_upgrade.proofs.Common.{HeadingView, IsAskedFor, IsBuildFault, IsChain, IsDirectory, IsEntry, IsErrOf, IsHonest, IsListing, IsNamed, IsPage}
+use Rattle.ub_upgrade.proofs.Common.{IsReadUpTo, Key, last_address, last_first, length-append, length-take, Listing, Old, origin, page_count, precedes}
+use Rattle.ub_upgrade.proofs.Common.{precedes_of, Spells, StoreFacts, StoreFault, take-append-le, take_all}
+use Rattle.ub_table.specs.Keys.{is_same}
 use Rattle.ub_index.proofs.Laws.{same_key}
-use Rattle.ub_table.specs.declared.row.Key.{Key}
+use Rattle.ub_store.specs.declared.fault.StoreFault.TheVariants as store
 
 -- a directory that was read whole
 pub record IsReadWhole (store : StoreFacts) (heading : HeadingView) (chain : List ℕ) (entries : List Entry) : Type 0 where

@@ -1,26 +1,11 @@
 -- A table of an older format, over a new store: its mark stays, the root of its index stands where it stood, and why that isn't taken.
 use Rattle.std.proofs.Common.{rules, ◌≡◌, ◌≤◌, ◌∙◌, ◌⊎◌, inl, inr, ℕ, List, [], None, Some, Result, IfErr, MatchResult, length, ap, slice_get, sym, subst, arith}
-use Rattle.std.proofs.lemmas.Option.{get_or_from_slice_get}
-use Rattle.std.specs.Result.{IsErrAnd}
-use Rattle.ub_index.specs.Fitting.{IsNotTaken, IsUnfit}
-use Rattle.ub_index.specs.Index.{IsUnder, NamesFitting, page_in, top}
-use Rattle.ub_page.specs.Header.{IsOldHeader}
-use Rattle.ub_page.specs.declared.header.OldHeader.{OldHeader}
-use Rattle.ub_region.specs.declared.entry.Entry.{Entry}
-use Rattle.ub_store.specs.Facts.{StoreFacts, IsHonest, page_count}
+use Rattle.ub_upgrade.proofs.Common.{CanBring, Entry, get_or_from_slice_get, HasMark, HasOldHeader, IsBringFault, IsBrought, IsErrAnd, IsHonest, IsNotTaken}
+use Rattle.ub_upgrade.proofs.Common.{IsOldHeader, IsPassing, IsTableFault, IsUnder, IsUnfit, last_address, NamesFitting, New, Old, OldHeader, Page, page_count}
+use Rattle.ub_upgrade.proofs.Common.{page_in, PageFault, Root, Schema, StoreFacts, top, UpgradeFault}
 use Rattle.ub_store.specs.Writing.{Grows}
-use Rattle.ub_store.specs.declared.fault.StoreFault.TheVariants as store
-use Rattle.ub_table.specs.declared.fault.PageFault.{PageFault}
-use Rattle.ub_table.specs.declared.schema.Schema.{Schema}
-use Rattle.ub_upgrade.specs.Bringing.{HasOldHeader, IsBringFault, IsBrought}
-use Rattle.ub_upgrade.specs.Building.{IsPassing}
-use Rattle.ub_upgrade.specs.Table.{CanBring, IsTableFault}
-use Rattle.ub_laying.specs.declared.levels.Root.{Root}
-use Rattle.ub_upgrade.specs.declared.fault.UpgradeFault.{UpgradeFault}
-use Rattle.ub_upgrade.specs.declared.fault.UpgradeFault.TheVariants.{Page, Old, New}
 use Rattle.ub_upgrade.specs.inner.Table.{IsRootFault}
-use Rattle.ub_writing.specs.Marks.{HasMark}
-use Rattle.ub_zaddr.specs.Address.{last_address}
+use Rattle.ub_store.specs.declared.fault.StoreFault.TheVariants as store
 
 -- what a refusal answers
 pub err_passes : {T : Type 0} (r : Result T UpgradeFault) (Q : T → Type 0) (e : UpgradeFault) → IsErrAnd r (λ x. x ≡ e) → IsPassing e → MatchResult r Q IsPassing

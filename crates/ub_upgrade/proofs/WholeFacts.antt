@@ -1,31 +1,14 @@
 -- The pages of a store hold one directory of format 1 alone that begins on a page, and reading finds it.
-use Rattle.std.proofs.lemmas.Grind.{common_steps}
 use Rattle.std.proofs.Common.{rules, ◌≡◌, ◌<◌, ◌≤◌, ◌+◌, ◌-◌, ◌^◌, ◌++◌, inl, inr, ℕ, zero, suc, true, List, [], ◌∷◌, Some, None, Result, length, take, drop, ◌∙◌, sym, ap, subst, refl, arith, slice_get, slice_index_or, append_assoc}
+use Rattle.ub_upgrade.proofs.Common.{all_right, AllByRecursion, and_from, and_parts, are_ascending, AreAscending, AreBegun, AreBelow, AreFull, ArePlaces}
+use Rattle.ub_upgrade.proofs.Common.{ascend_of, common_steps, directory_page, Entry, first_keys, HasBuilt, HasPart, HeadingView, IsBuildFault, IsBuilt, IsChain}
+use Rattle.ub_upgrade.proofs.Common.{IsDirectory, IsEntry, IsErrAnd, IsHonest, IsListing, IsMisfit, IsPartFault, IsPassing, IsReadUpTo, last_address}
+use Rattle.ub_upgrade.proofs.Common.{length-append, length-drop, Listing, listing_not_refused, listing_parts, MatchResult, New, Old, Page, page_count}
+use Rattle.ub_upgrade.proofs.Common.{PageFault, Root, slice_get_within, Spells, StoreFacts, take-append-drop, UpgradeFault}
 use Rattle.std.proofs.Math.Seq.{take-append-add}
-use Rattle.std.proofs.lemmas.Bool.{and_parts, and_from}
-use Rattle.std.proofs.lemmas.List.{length-append, length-drop, take-append-drop}
-use Rattle.std.proofs.lemmas.Option.{slice_get_within}
-use Rattle.std.specs.List.{AllByRecursion}
-use Rattle.std.specs.Result.{IsErrAnd, MatchResult}
-use Rattle.ub_zaddr.specs.Address.{last_address}
-use Rattle.ub_page.proofs.PageLaws.{listing_not_refused, listing_parts}
-use Rattle.ub_page.specs.Directory.{Listing, IsListing, directory_page}
-use Rattle.ub_page.specs.Entries.{AreAscending, IsEntry}
-use Rattle.ub_region.specs.declared.entry.Entry.{Entry}
-use Rattle.ub_region.proofs.Laws.{all_drop, all_right, all_take}
-use Rattle.ub_store.specs.Facts.{StoreFacts, IsHonest, page_count}
-use Rattle.ub_table.specs.Keys.{are_ascending}
-use Rattle.ub_table.specs.declared.fault.PageFault.{PageFault}
+use Rattle.ub_region.proofs.Laws.{all_drop, all_take}
 use Rattle.ub_upgrade.proofs.BringFacts.{some_same}
 use Rattle.ub_index.proofs.Lists.{ascending_of}
-use Rattle.ub_laying.proofs.LevelFacts.{ascend_of}
-use Rattle.ub_upgrade.specs.Chain.{IsChain}
-use Rattle.ub_upgrade.specs.Reading.{HeadingView, IsDirectory, Spells, AreBelow, AreFull, AreBegun, HasPart, IsMisfit, IsPartFault, IsReadUpTo}
-use Rattle.ub_upgrade.specs.Building.{HasBuilt, IsBuildFault, IsBuilt, IsPassing}
-use Rattle.ub_laying.specs.declared.levels.Root.{Root}
-use Rattle.ub_index.specs.Spans.{ArePlaces, first_keys}
-use Rattle.ub_upgrade.specs.declared.fault.UpgradeFault.{UpgradeFault}
-use Rattle.ub_upgrade.specs.declared.fault.UpgradeFault.TheVariants.{Page, Old, New}
 use Rattle.ub_store.specs.declared.fault.StoreFault.TheVariants as store
 
 ascending_take : (n : ℕ) (entries : List Entry) → AreAscending entries → AreAscending (take n entries)

@@ -1,9 +1,6 @@
 use Rattle.std.proofs.Common.{Err, ◌≡◌, ◌≤◌, ◌<◌, ◌+◌, ◌-◌, suc, ℕ, List, OnOk, length, slice_index_or, arith, rules, subst, sym}
-use Rattle.ub_index.specs.Descending.{Steps}
-use Rattle.ub_index.specs.Index.{NamesFitting}
-use Rattle.ub_region.specs.declared.entry.Entry.{Entry}
+use Rattle.ub_check.proofs.Common.{Entry, IsWalkedTo, NamesFitting, Steps, TakesOn, Walks}
 use Rattle.ub_check.proofs.CheckingFacts.{below_stops, entry_there, page_stops, page_taken, walked_more}
-use Rattle.ub_check.specs.inner.Checking.{IsWalkedTo, TakesOn, Walks}
 use Rattle.ub_check.proofs.checking.+check_under.Goals as goal
 
 pub returns-then-level-eq0-clause-taken : goal.returns-then-level-eq0-clause-taken

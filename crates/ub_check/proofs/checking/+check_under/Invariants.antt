@@ -1,5 +1,5 @@
 use Rattle.std.proofs.Common.{◌-◌}
-use Rattle.ub_check.specs.inner.Checking.{IsWalkedTo}
+use Rattle.ub_check.proofs.Common.{IsWalkedTo}
 use Rattle.ub_check.proofs.checking.+check_under.Given as goal
 
 abbrev pub decreases-check_under : goal.decreases-check_under

@@ -1,9 +1,6 @@
 use Rattle.std.proofs.Common.{◌-◌, ◌++◌, Err, Ok, ℕ, List, ap, refl, rules, subst}
-use Rattle.ub_region.specs.declared.region.Region.{Region}
-use Rattle.ub_store.specs.View.{PagerView}
+use Rattle.ub_check.proofs.Common.{AreNew, HasJust, PagerView, ReadsAt, Region}
 use Rattle.ub_check.proofs.CheckingFacts.{pager_read, region_not_new, region_refused, region_stands, region_taken}
-use Rattle.ub_check.specs.Numbers.{AreNew, HasJust}
-use Rattle.ub_check.specs.Standing.{ReadsAt}
 use Rattle.ub_check.proofs.checking.check_region.Goals as goal
 
 pub returns-in_err-read_region-clause-effect : goal.returns-in_err-read_region-clause-effect

@@ -1,6 +1,6 @@
 use Rattle.std.proofs.Common.{◌∙◌, ap}
+use Rattle.ub_check.proofs.Common.{last_address}
 use Rattle.ub_check.proofs.CheckFacts.{run_ends, run_refused, run_well}
-use Rattle.ub_zaddr.specs.Address.{last_address}
 use Rattle.ub_check.proofs.checking.check_with.Goals as goal
 
 pub returns-in_err-check_under : goal.returns-in_err-check_under

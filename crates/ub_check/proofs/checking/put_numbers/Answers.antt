@@ -1,7 +1,6 @@
 use Rattle.std.proofs.Common.{◌≡◌, ◌≤◌, ◌+◌, suc, Some, slice_get, slice_index_or, length, subst, arith}
-use Rattle.std.proofs.lemmas.Option.{slice_get-get_or}
+use Rattle.ub_check.proofs.Common.{IsPutTo, slice_get-get_or}
 use Rattle.ub_check.proofs.CheckingFacts.{put_all, put_more, put_not}
-use Rattle.ub_check.specs.inner.Checking.{IsPutTo}
 use Rattle.ub_check.proofs.checking.put_numbers.Goals as goal
 
 pub returns-then-not-put-clause-refused : goal.returns-then-not-put-clause-refused

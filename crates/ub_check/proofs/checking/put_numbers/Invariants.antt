@@ -1,4 +1,4 @@
-use Rattle.ub_check.specs.inner.Checking.{IsPutTo}
+use Rattle.ub_check.proofs.Common.{IsPutTo}
 use Rattle.ub_check.proofs.checking.put_numbers.Given as goal
 
 abbrev pub invariant-loop-number : goal.invariant-loop-number

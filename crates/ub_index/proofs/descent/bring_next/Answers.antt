@@ -1,10 +1,5 @@
 use Rattle.std.proofs.Common.{◌≡◌, ◌∙◌, Bool, List, ℕ, Ok, inl, inr, ap, refl, subst, sym}
-use Rattle.std.proofs.lemmas.Bool.{cases_Bool, true≢false}
-use Rattle.ub_store.specs.Facts.{IsHonest}
-use Rattle.ub_index.specs.Held.{AreChecked, WasChecked}
-use Rattle.ub_page.specs.Index.{head_on}
-use Rattle.ub_index.specs.Fitting.{FitsAtEnds}
-use Rattle.ub_index.specs.Index.{IsIndexPage}
+use Rattle.ub_index.proofs.Common.{AreChecked, cases_Bool, FitsAtEnds, head_on, IsHonest, IsIndexPage, true≢false, WasChecked}
 use Rattle.ub_index.proofs.FitFacts.{is_refused, same_page}
 use Rattle.ub_index.proofs.HeldFacts.{keeps_but, keeps_gone, more_but, more_gone}
 use Rattle.ub_index.proofs.StepFacts.{forgets, held_once, honest_back, names_fitting, same_honest, stepped_down}

@@ -1,5 +1,5 @@
 use Rattle.std.proofs.Common.{◌∙◌, Some, ap, arith}
-use Rattle.ub_table.specs.declared.row.Key.{Key}
+use Rattle.ub_index.proofs.Common.{Key}
 use Rattle.ub_index.proofs.FitFacts.{after_first, after_none}
 use Rattle.ub_index.proofs.descent.first_after.Goals as goal
 

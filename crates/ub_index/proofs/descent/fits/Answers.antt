@@ -1,7 +1,6 @@
 use Rattle.std.proofs.Common.{◌<◌, ◌^◌, arith}
+use Rattle.ub_index.proofs.Common.{Fits, FitsAtEnds, IsUnfit, IsUnfitAtEnds}
 use Rattle.ub_index.proofs.HeldFacts.{ends_of, err_so, fits_of, ok_so, unfit_of}
-use Rattle.ub_index.specs.Fitting.{FitsAtEnds, IsUnfit, IsUnfitAtEnds}
-use Rattle.ub_index.specs.Index.{Fits}
 use Rattle.ub_index.proofs.descent.fits.Goals as goal
 
 pub returns-clause-found : goal.returns-clause-found

@@ -1,6 +1,5 @@
+use Rattle.ub_index.proofs.Common.{Fits, FitsAtEnds, IsUnfit, IsUnfitAtEnds}
 use Rattle.ub_index.proofs.HeldFacts.{err_so, fits_checked, ok_so, unfit_checked}
-use Rattle.ub_index.specs.Fitting.{FitsAtEnds, IsUnfit, IsUnfitAtEnds}
-use Rattle.ub_index.specs.Index.{Fits}
 use Rattle.ub_index.proofs.descent.fits_so.Goals as goal
 
 pub returns-else-is_read-clause-found : goal.returns-else-is_read-clause-found

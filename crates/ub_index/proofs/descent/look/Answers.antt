@@ -1,5 +1,5 @@
 use Rattle.std.proofs.Common.{◌≤◌, subst, sym}
-use Rattle.ub_page.specs.declared.index.Head.{Head}
+use Rattle.ub_index.proofs.Common.{Head}
 use Rattle.ub_index.proofs.descent.look.Goals as goal
 
 pub looked-requires-clause-some : goal.looked-requires-clause-some

@@ -1,8 +1,6 @@
 use Rattle.std.proofs.Common.{subst, sym}
-use Rattle.ub_index.specs.Fitting.{FallsTo}
+use Rattle.ub_index.proofs.Common.{Entry, FallsTo, node_on}
 use Rattle.ub_index.proofs.FitFacts.{falls}
-use Rattle.ub_page.specs.Index.{node_on}
-use Rattle.ub_region.specs.declared.entry.Entry.{Entry}
 use Rattle.ub_index.proofs.descent.place_in.Goals as goal
 
 pub returns-clause-falls : goal.returns-clause-falls

@@ -1,5 +1,5 @@
 use Rattle.std.proofs.Common.{◌≤◌, subst, sym}
-use Rattle.ub_page.specs.declared.index.Head.{Head}
+use Rattle.ub_index.proofs.Common.{Head}
 use Rattle.ub_index.proofs.BehindFacts.{below_holds}
 use Rattle.ub_index.proofs.descent.step_down.Goals as goal
 

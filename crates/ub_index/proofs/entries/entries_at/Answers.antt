@@ -1,5 +1,5 @@
 use Rattle.std.proofs.Common.{ap}
-use Rattle.ub_page.specs.declared.index.Head.{Head}
+use Rattle.ub_index.proofs.Common.{Head}
 use Rattle.ub_index.proofs.FitFacts.{few_count}
 use Rattle.ub_index.proofs.StepFacts.{step_misfits}
 use Rattle.ub_index.proofs.entries.entries_at.Goals as goal

@@ -1,10 +1,5 @@
 use Rattle.std.proofs.Common.{◌≡◌, ap, arith, refl, subst, sym}
-use Rattle.ub_store.specs.View.{PagerView}
-use Rattle.ub_table.specs.declared.row.Key.{Key}
-use Rattle.ub_index.specs.Searching.{Gives}
-use Rattle.ub_index.specs.View.{index_view}
-use Rattle.ub_index.specs.declared.descent.Place.{Place}
-use Rattle.ub_region.specs.declared.region.Region.{Region}
+use Rattle.ub_index.proofs.Common.{Gives, index_view, Key, PagerView, Place, Region}
 use Rattle.ub_index.proofs.BehindFacts.{step_before, step_given}
 use Rattle.ub_index.proofs.SearchFacts.{down_keeps, step_refused}
 use Rattle.ub_index.proofs.index.descend.Goals as goal

@@ -1,10 +1,5 @@
 use Rattle.std.proofs.Common.{◌≡◌, ◌∙◌, ap, arith, refl, subst, ℕ}
-use Rattle.ub_store.specs.View.{PagerView}
-use Rattle.ub_table.specs.declared.row.Key.{Key}
-use Rattle.ub_index.specs.Descending.{LeadsDown}
-use Rattle.ub_index.specs.View.{index_view}
-use Rattle.ub_index.specs.declared.descent.Leaf.{Leaf}
-use Rattle.ub_index.specs.declared.descent.Place.{Place}
+use Rattle.ub_index.proofs.Common.{index_view, Key, LeadsDown, Leaf, PagerView, Place}
 use Rattle.ub_index.proofs.BehindFacts.{down_step, holds_step, step_before}
 use Rattle.ub_index.proofs.HeldFacts.{both_on}
 use Rattle.ub_index.proofs.SearchFacts.{step_keeps, step_refused}

@@ -1,8 +1,5 @@
 use Rattle.std.proofs.Common.{◌≡◌, ◌≤◌}
-use Rattle.ub_index.specs.Descending.{HoldsLeaf, LeadsDown}
-use Rattle.ub_index.specs.Held.{AreChecked}
-use Rattle.ub_index.specs.View.{index_view}
-use Rattle.ub_store.specs.Facts.{IsHonest}
+use Rattle.ub_index.proofs.Common.{AreChecked, HoldsLeaf, index_view, IsHonest, LeadsDown}
 use Rattle.ub_index.proofs.HeldFacts.{Keeps}
 use Rattle.ub_index.proofs.index.leaf_of.Given as goal
 

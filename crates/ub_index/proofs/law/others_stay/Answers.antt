@@ -1,4 +1,4 @@
-use Rattle.ub_index.proofs.KeptFacts.{kept_index, kept_under}
+use Rattle.ub_index.proofs.Common.{kept_index, kept_under}
 use Rattle.ub_index.proofs.law.others_stay.Goals as goal
 
 pub returns : goal.returns

@@ -1,8 +1,6 @@
 use Rattle.std.proofs.Common.{◌≡◌, ◌++◌, ◌∷◌, [], arith, subst}
-use Rattle.std.proofs.lemmas.Option.{slice_get_within}
+use Rattle.ub_index.proofs.Common.{MeetsAny, parts_on, slice_get_within, Stretch}
 use Rattle.ub_index.proofs.StretchSteps.{handed_all, handed_more, none_next, slot_within, takes_more}
-use Rattle.ub_index.specs.Stretches.{MeetsAny, parts_on}
-use Rattle.ub_index.specs.declared.stretch.Stretch.{Stretch}
 use Rattle.ub_index.proofs.stretch.hand_parts.Goals as goal
 
 pub part_at-requires-clause-within : goal.part_at-requires-clause-within

@@ -1,8 +1,6 @@
 use Rattle.std.proofs.Common.{◌-◌, List, length}
+use Rattle.ub_index.proofs.Common.{MeetsAny, parts_on, Stretch, TakesThese}
 use Rattle.ub_index.proofs.StretchSteps.{IsHandedTo}
-use Rattle.ub_index.specs.Sinks.{TakesThese}
-use Rattle.ub_index.specs.Stretches.{MeetsAny, parts_on}
-use Rattle.ub_index.specs.declared.stretch.Stretch.{Stretch}
 use Rattle.ub_index.proofs.stretch.hand_parts.Given as goal
 
 abbrev pub invariant-loop-slot : goal.invariant-loop-slot

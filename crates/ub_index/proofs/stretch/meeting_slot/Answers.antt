@@ -1,7 +1,7 @@
 use Rattle.std.proofs.Common.{◌-◌, arith}
+use Rattle.ub_index.proofs.Common.{entry_at}
 use Rattle.ub_index.proofs.FitFacts.{few_count}
 use Rattle.ub_index.proofs.StretchSteps.{meets_later, none_behind, none_found, none_later}
-use Rattle.ub_index.specs.View.{entry_at}
 use Rattle.ub_index.proofs.stretch.meeting_slot.Goals as goal
 
 pub returns-then-from-count : goal.returns-then-from-count

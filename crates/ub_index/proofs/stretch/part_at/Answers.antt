@@ -1,7 +1,7 @@
 use Rattle.std.proofs.Common.{arith}
+use Rattle.ub_index.proofs.Common.{entry_at}
 use Rattle.ub_index.proofs.FitFacts.{few_count}
 use Rattle.ub_index.proofs.StretchSteps.{part_is}
-use Rattle.ub_index.specs.View.{entry_at}
 use Rattle.ub_index.proofs.stretch.part_at.Goals as goal
 
 pub entry_at-entry-requires : goal.entry_at-entry-requires

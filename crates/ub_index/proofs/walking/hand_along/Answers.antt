@@ -1,11 +1,7 @@
 use Rattle.std.proofs.Common.{◌++◌, ◌∷◌, [], inl, inr, List, Option, Some, None, append-nil, refl, subst, sym, arith}
+use Rattle.ub_index.proofs.Common.{FollowOn, IsBefore, IsSlotNext, Key, Meeting, node_on, Region}
 use Rattle.ub_index.proofs.AlongFacts.{follow_more, is_none, later_on, next_begun, next_later, none_there, one_aim, stands_met, stands_next}
 use Rattle.ub_index.proofs.StretchSteps.{takes_more}
-use Rattle.ub_index.specs.Along.{FollowOn, IsSlotNext, Meeting}
-use Rattle.ub_page.specs.Index.{node_on}
-use Rattle.ub_region.specs.declared.region.Region.{Region}
-use Rattle.ub_table.specs.Keys.{IsBefore}
-use Rattle.ub_table.specs.declared.row.Key.{Key}
 use Rattle.ub_index.proofs.walking.hand_along.Goals as goal
 
 pub next_slot-requires-clause-few : goal.next_slot-requires-clause-few

@@ -1,11 +1,5 @@
 use Rattle.std.proofs.Common.{◌≡◌, ◌<◌, ◌⊎◌, List, Some}
-use Rattle.ub_index.specs.Along.{FollowOn, Meeting}
-use Rattle.ub_index.specs.Searching.{IsAim}
-use Rattle.ub_index.specs.Sinks.{TakesThese}
-use Rattle.ub_page.specs.Index.{node_on}
-use Rattle.ub_region.specs.declared.region.Region.{Region}
-use Rattle.ub_table.specs.Keys.{IsBefore}
-use Rattle.ub_table.specs.declared.row.Key.{Key}
+use Rattle.ub_index.proofs.Common.{FollowOn, IsAim, IsBefore, Key, Meeting, node_on, Region, TakesThese}
 use Rattle.ub_index.proofs.walking.hand_along.Given as goal
 
 abbrev pub invariant-loop : goal.invariant-loop

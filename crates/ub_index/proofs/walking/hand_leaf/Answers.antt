@@ -1,15 +1,7 @@
 use Rattle.std.proofs.Common.{◌≡◌, Option, inl, ap, arith, refl, subst, sym}
+use Rattle.ub_index.proofs.Common.{Head, index_view, IsAim, Key, Leaf, Meeting, Memory, PagerView, Store}
 use Rattle.ub_index.proofs.AlongFacts.{is_none, leaf_handed, leaf_none, leaf_refused, memory_after}
 use Rattle.ub_index.proofs.SearchFacts.{down_keeps, search_refused, step_refused}
-use Rattle.ub_index.specs.Along.{Meeting}
-use Rattle.ub_index.specs.Searching.{IsAim}
-use Rattle.ub_index.specs.View.{index_view}
-use Rattle.ub_index.specs.declared.descent.Leaf.{Leaf}
-use Rattle.ub_index.specs.declared.fault.IndexFault.TheVariants.{Store}
-use Rattle.ub_page.specs.declared.index.Head.{Head}
-use Rattle.ub_store.specs.View.{PagerView}
-use Rattle.ub_store.specs.declared.fault.StoreFault.TheVariants.{Memory}
-use Rattle.ub_table.specs.declared.row.Key.{Key}
 use Rattle.ub_index.proofs.walking.hand_leaf.Goals as goal
 
 pub returns-in_default : goal.returns-in_default

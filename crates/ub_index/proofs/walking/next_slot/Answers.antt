@@ -1,9 +1,6 @@
 use Rattle.std.proofs.Common.{◌∙◌, subst, sym}
-use Rattle.std.proofs.lemmas.Bool.{true≢false}
+use Rattle.ub_index.proofs.Common.{before_of, IsBefore, Key, precedes_of, true≢false}
 use Rattle.ub_index.proofs.AlongFacts.{is_none, none_aimless, none_crossed, none_elsewhere}
-use Rattle.ub_table.proofs.Laws.{before_of, precedes_of}
-use Rattle.ub_table.specs.Keys.{IsBefore}
-use Rattle.ub_table.specs.declared.row.Key.{Key}
 use Rattle.ub_index.proofs.walking.next_slot.Goals as goal
 
 pub returns-in_default : goal.returns-in_default

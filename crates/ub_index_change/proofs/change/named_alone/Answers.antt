@@ -1,6 +1,5 @@
 use Rattle.std.proofs.Common.{None}
-use Rattle.ub_index.specs.Index.{top}
-use Rattle.ub_index.proofs.StepFacts.{step_misfits}
+use Rattle.ub_index_change.proofs.Common.{step_misfits, top}
 use Rattle.ub_index_change.proofs.change.named_alone.Goals as goal
 
 pub returns-in_err-bring_root-clause-effect : goal.returns-in_err-bring_root-clause-effect

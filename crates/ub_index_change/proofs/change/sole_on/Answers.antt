@@ -1,5 +1,5 @@
 use Rattle.std.proofs.Common.{subst, ℕ, ◌≢◌}
-use Rattle.ub_bytes.specs.Bytes.{number_at}
+use Rattle.ub_index_change.proofs.Common.{number_at}
 use Rattle.ub_index_change.proofs.LowerFacts.{sole_none}
 use Rattle.ub_index_change.proofs.change.sole_on.Goals as goal
 

@@ -1,8 +1,5 @@
 use Rattle.std.proofs.Common.{List, subst, sym, rules}
-use Rattle.ub_index.proofs.StepFacts.{if_err}
-use Rattle.ub_index_change.specs.Changing.{AreBelow, AreIndexPages}
-use Rattle.ub_index_change.specs.Making.{IsPutFault}
-use Rattle.ub_index_change.specs.declared.sheet.Sheet.{Sheet}
+use Rattle.ub_index_change.proofs.Common.{AreBelow, AreIndexPages, if_err, IsPutFault, Sheet}
 use Rattle.ub_index_change.proofs.making.commit.Goals as goal
 
 pub returns-in_err-put_all : goal.returns-in_err-put_all

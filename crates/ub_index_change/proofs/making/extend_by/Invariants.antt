@@ -1,6 +1,5 @@
 use Rattle.std.proofs.Common.{◌≡◌, ◌≤◌, ◌+◌}
-use Rattle.ub_store.specs.Writing.{Grows}
-use Rattle.ub_store.specs.Facts.{page_count}
+use Rattle.ub_index_change.proofs.Common.{Grows, page_count}
 use Rattle.ub_index_change.proofs.making.extend_by.Given as goal
 
 abbrev pub invariant-loop-left : goal.invariant-loop-left

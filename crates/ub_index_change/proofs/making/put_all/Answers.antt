@@ -1,10 +1,7 @@
 use Rattle.std.proofs.Common.{◌≡◌, ◌∙◌, [], Some, ap, inl, inr, slice_get, slice_index_or}
+use Rattle.ub_index_change.proofs.Common.{if_err, IsPutFault, Sheet, StoreFacts}
 use Rattle.std.proofs.lemmas.Option.{slice_get-get_or}
-use Rattle.ub_index_change.specs.declared.sheet.Sheet.{Sheet}
-use Rattle.ub_index_change.specs.Making.{IsPutFault}
-use Rattle.ub_store.specs.Facts.{StoreFacts}
 use Rattle.ub_index_change.proofs.PutFacts.{put_fault, put_keeps, puts_more, stands_more, then_done}
-use Rattle.ub_index.proofs.StepFacts.{if_err}
 use Rattle.ub_index_change.proofs.making.put_all.Goals as goal
 
 pub loop-sheet-preserved : goal.loop-sheet-preserved

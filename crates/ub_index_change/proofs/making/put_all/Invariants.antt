@@ -1,8 +1,5 @@
 use Rattle.std.proofs.Common.{◌≡◌, ℕ, take}
-use Rattle.ub_index_change.specs.Changing.{AreIndexPages, AreOnce, Stand}
-use Rattle.ub_index.specs.Held.{KeepsChecked}
-use Rattle.ub_index_change.specs.Making.{PutsSheets}
-use Rattle.ub_store.specs.Facts.{IsHonest}
+use Rattle.ub_index_change.proofs.Common.{AreIndexPages, AreOnce, IsHonest, KeepsChecked, PutsSheets, Stand}
 use Rattle.ub_index_change.proofs.making.put_all.Given as goal
 
 abbrev pub invariant-loop-sheet : goal.invariant-loop-sheet

@@ -1,11 +1,6 @@
 use Rattle.std.proofs.Common.{◌≡◌, ◌≤◌, ◌+◌, ◌∙◌, ℕ, Err, IfErr, ap, rules, subst}
-use Rattle.ub_index.specs.View.{IndexView, index_view}
+use Rattle.ub_index_change.proofs.Common.{Change, index_view, IndexView, IsSettleFault, Keeps, Prepares, Told, Turns, TurnsRoot}
 use Rattle.ub_index.specs.declared.descent.Place.{Place}
-use Rattle.ub_index.proofs.HeldFacts.{Keeps}
-use Rattle.ub_index_change.specs.Changing.{Prepares, Turns}
-use Rattle.ub_index_change.specs.Preparing.{IsSettleFault, TurnsRoot}
-use Rattle.ub_index_change.specs.declared.change.Change.{Change}
-use Rattle.ub_index_change.specs.declared.told.Told.{Told}
 use Rattle.ub_index_change.proofs.ReadyFacts.{settled_all, turn_refused}
 use Rattle.ub_index_change.proofs.preparing.prepare.Goals as goal
 

@@ -1,8 +1,5 @@
 use Rattle.std.proofs.Common.{◌+◌, [], refl, rules}
-use Rattle.ub_index_change.specs.Changing.{so_far}
-use Rattle.ub_index_change.specs.Preparing.{ChangeView, added_at}
-use Rattle.ub_store.specs.Facts.{page_count}
-use Rattle.ub_index.proofs.FoundFacts.{if_ok}
+use Rattle.ub_index_change.proofs.Common.{added_at, ChangeView, if_ok, page_count, so_far}
 use Rattle.ub_index_change.proofs.FullFacts.{takes_needed}
 use Rattle.ub_index_change.proofs.ReadyFacts.{IsAddition, added_both}
 use Rattle.ub_index_change.proofs.SheetFacts.{added_pages}

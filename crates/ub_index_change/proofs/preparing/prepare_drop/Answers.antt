@@ -1,12 +1,6 @@
 use Rattle.std.proofs.Common.{[], None, ap, rules, subst, sym}
-use Rattle.ub_index_change.specs.Changing.{AreIndexPages, so_far}
-use Rattle.ub_index_change.specs.Lowering.{LowersTo}
-use Rattle.ub_index_change.specs.Preparing.{ChangeView, IsPrepared}
-use Rattle.ub_index_change.specs.declared.change.Change.{Change}
-use Rattle.ub_store.specs.Facts.{page_count}
-use Rattle.ub_store.specs.View.{PagerView}
+use Rattle.ub_index_change.proofs.Common.{AreIndexPages, Change, ChangeView, if_ok, IsPrepared, LowersTo, page_count, PagerView, so_far}
 use Rattle.ub_index_change.proofs.DropFacts.{dropped_effect, dropped_low, dropped_makes}
-use Rattle.ub_index.proofs.FoundFacts.{if_ok}
 use Rattle.ub_index_change.proofs.SheetFacts.{dropped_pages}
 use Rattle.ub_index_change.proofs.preparing.prepare_drop.Goals as goal
 

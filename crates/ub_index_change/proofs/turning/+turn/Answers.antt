@@ -1,15 +1,8 @@
 use Rattle.std.proofs.Common.{◌+◌, ◌-◌, ◌≤◌, ◌∙◌, length, List, ap, arith, subst, sym, rules}
-use Rattle.ub_index_change.specs.Changing.{Mends, NeedsNoGrowth, Turns}
-use Rattle.ub_index_change.specs.declared.told.Told.{Told}
+use Rattle.ub_index_change.proofs.Common.{both_on, Entry, if_ok, IsHonest, Mends, NeedsNoGrowth, pager_so, PagerView, steps_keep, StoreFacts, Told, Turns}
 use Rattle.ub_index_change.specs.declared.turning.Opened.{Opened}
-use Rattle.ub_region.specs.declared.entry.Entry.{Entry}
-use Rattle.ub_store.specs.Facts.{StoreFacts, IsHonest}
-use Rattle.ub_store.specs.View.{PagerView}
 use Rattle.ub_index_change.proofs.BelowFacts.{still_on}
 use Rattle.ub_index_change.proofs.ClimbFacts.{below_refused, mend_refused, open_refused, turns_on}
-use Rattle.ub_index.proofs.FoundFacts.{if_ok}
-use Rattle.ub_index.proofs.HeldFacts.{both_on}
-use Rattle.ub_index.proofs.StepFacts.{pager_so, steps_keep}
 use Rattle.ub_index_change.proofs.turning.+turn.Goals as goal
 
 pub returns-in_err-opened : goal.returns-in_err-opened

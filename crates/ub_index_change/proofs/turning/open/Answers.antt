@@ -1,8 +1,6 @@
 use Rattle.std.proofs.Common.{ap}
-use Rattle.ub_page.specs.declared.index.Head.{Head}
-use Rattle.ub_index.proofs.FitFacts.{few_count, some_count}
+use Rattle.ub_index_change.proofs.Common.{brought_page, few_count, Head, some_count, step_misfits}
 use Rattle.ub_index_change.proofs.ClimbFacts.{opens_page}
-use Rattle.ub_index.proofs.StepFacts.{brought_page, step_misfits}
 use Rattle.ub_index_change.proofs.turning.open.Goals as goal
 
 pub opened_at-requires-clause-few : goal.opened_at-requires-clause-few

@@ -1,10 +1,5 @@
 use Rattle.std.proofs.Common.{◌≡◌, ◌∙◌, ℕ, List, ap, arith, length, take, drop, ◌+◌}
-use Rattle.ub_page.specs.Index.{node_on}
-use Rattle.ub_page.proofs.IndexLaws.{length-node_on}
-use Rattle.ub_page.specs.Entries.{entries_on}
-use Rattle.ub_region.specs.declared.entry.Entry.{Entry}
-use Rattle.ub_index.specs.Index.{first_or}
-use Rattle.ub_index.proofs.FitFacts.{falls_around}
+use Rattle.ub_index_change.proofs.Common.{entries_on, Entry, falls_around, first_or, length-node_on, node_on}
 use Rattle.ub_index_change.proofs.turning.opened_at.Goals as goal
 
 pub around-requires-clause-within : goal.around-requires-clause-within

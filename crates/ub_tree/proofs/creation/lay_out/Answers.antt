@@ -1,12 +1,7 @@
 use Rattle.std.proofs.Common.{[], ◌∷◌, ◌∙◌, Bool, IsTrue, ℕ, ap, arith, subst, rules}
-use Rattle.ub_index.proofs.HeldFacts.{keeps_on}
-use Rattle.ub_index.specs.Held.{KeepsChecked}
-use Rattle.ub_region.specs.RegionPage.{only_region, region_page}
-use Rattle.ub_store.specs.Facts.{StoreFacts}
+use Rattle.ub_tree.proofs.Common.{keeps_on, KeepsChecked, last_address, only_region, region_no_kind, region_page, StoreFacts}
 use Rattle.ub_tree.proofs.CreationFacts.{empty_is_region}
 use Rattle.ub_tree.proofs.HeldFacts.{written_checked}
-use Rattle.ub_check.proofs.ReadingFacts.{region_no_kind}
-use Rattle.ub_zaddr.specs.Address.{last_address}
 use Rattle.ub_tree.proofs.creation.lay_out.Goals as goal
 
 pub returns : goal.returns

@@ -1,7 +1,5 @@
 use Rattle.std.proofs.Common.{List, inl, ℕ, refl, subst, sym}
-use Rattle.ub_check.proofs.StandingFacts.{page_still}
-use Rattle.ub_index.proofs.StepFacts.{pager_so}
-use Rattle.ub_page.specs.Index.{IsIndexKind}
+use Rattle.ub_tree.proofs.Common.{IsIndexKind, page_still, pager_so}
 use Rattle.ub_tree.proofs.HeldFacts.{header_no_kind, kind_checked}
 use Rattle.ub_tree.proofs.opening.read_first.Goals as goal
 

@@ -1,12 +1,8 @@
 use Rattle.std.proofs.Common.{◌∙◌, Err, ℕ, ap, subst, sym, rules}
-use Rattle.ub_index.proofs.HeldFacts.{keeps_on}
-use Rattle.ub_index.specs.Held.{KeepsChecked}
-use Rattle.ub_index.specs.Opening.{IsPassing, IsRooted, Opens}
-use Rattle.ub_index.specs.View.{IndexView, index_view}
+use Rattle.ub_tree.proofs.Common.{index_view, IndexView, IsHonest, keeps_on, KeepsChecked, last_address, Opens}
+use Rattle.ub_index.specs.Opening.{IsPassing, IsRooted}
 use Rattle.ub_index.specs.declared.index.Index.{Index}
-use Rattle.ub_store.specs.Facts.{IsHonest}
 use Rattle.ub_tree.proofs.OpeningFacts.{root_passes, root_refused}
-use Rattle.ub_zaddr.specs.Address.{last_address}
 use Rattle.ub_tree.proofs.opening.read_table.Goals as goal
 
 pub returns-in_err-index : goal.returns-in_err-index

@@ -1,9 +1,6 @@
 use Rattle.std.proofs.Common.{IfErr, ap, arith, subst, rules}
-use Rattle.ub_store.specs.Facts.{StoreFacts}
-use Rattle.ub_store.specs.View.{PagerView}
+use Rattle.ub_upgrade.proofs.Common.{directory_of, IsBuildFault, PagerView, StoreFacts}
 use Rattle.ub_upgrade.proofs.BringFacts.{build_refused}
-use Rattle.ub_upgrade.specs.Bringing.{directory_of}
-use Rattle.ub_upgrade.specs.Building.{IsBuildFault}
 use Rattle.ub_upgrade.proofs.bringing.bring_pages.Goals as goal
 
 pub returns : goal.returns

@@ -1,6 +1,5 @@
 use Rattle.std.proofs.Common.{refl, rules, slice_get}
-use Rattle.ub_page.specs.Header.{header_page_of}
-use Rattle.ub_store.specs.Facts.{IsPage}
+use Rattle.ub_upgrade.proofs.Common.{header_page_of, IsPage}
 use Rattle.ub_upgrade.proofs.BringFacts.{same_head, some_same}
 use Rattle.ub_upgrade.proofs.bringing.read_head.Goals as goal
 

@@ -1,7 +1,5 @@
 use Rattle.std.proofs.Common.{◌<◌, ◌^◌, arith}
-use Rattle.ub_store.specs.Facts.{page_count}
-use Rattle.ub_upgrade.specs.Reading.{heading_of}
-use Rattle.ub_laying.proofs.AddFacts.{honest_over}
+use Rattle.ub_upgrade.proofs.Common.{heading_of, honest_over, page_count}
 use Rattle.ub_upgrade.proofs.LeafFacts.{built_of}
 use Rattle.ub_upgrade.proofs.WholeFacts.{built_same, exactly_refused}
 use Rattle.ub_upgrade.proofs.building.build_index.Goals as goal

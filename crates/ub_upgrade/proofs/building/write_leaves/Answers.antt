@@ -1,12 +1,6 @@
 use Rattle.std.proofs.Common.{◌-◌, ◌∙◌, ◌++◌, [], ◌∷◌, ap, arith, refl, subst, sym, List, rules}
-use Rattle.std.proofs.lemmas.List.{length-append}
-use Rattle.ub_region.specs.declared.entry.Entry.{Entry}
-use Rattle.ub_page.specs.Index.{index_page}
-use Rattle.ub_store.specs.Facts.{StoreFacts, IsPage, page_count}
-use Rattle.ub_upgrade.specs.Reading.{HeadingView, IsReadUpTo, AreBelow}
-use Rattle.ub_page.specs.Directory.{directory_page}
-use Rattle.ub_laying.specs.declared.levels.Level.{Level}
-use Rattle.ub_laying.proofs.AddFacts.{adds_self, adds_trans, not_after, honest_after}
+use Rattle.ub_upgrade.proofs.Common.{adds_self, adds_trans, AreBelow, directory_page, Entry, HeadingView, honest_after, index_page, IsPage, IsReadUpTo}
+use Rattle.ub_upgrade.proofs.Common.{length-append, Level, not_after, page_count, StoreFacts}
 use Rattle.ub_upgrade.proofs.LeafFacts.{begun_way, more_way, read_ended, refused_by, same_store}
 use Rattle.ub_upgrade.proofs.building.write_leaves.Goals as goal
 

@@ -1,6 +1,5 @@
 use Rattle.std.proofs.Common.{◌≡◌, ◌≤◌, ◌<◌, ◌+◌, ◌-◌, ◌*◌}
-use Rattle.ub_store.specs.Facts.{page_count}
-use Rattle.ub_laying.specs.Effects.{AddsPages, HasNotFailed}
+use Rattle.ub_upgrade.proofs.Common.{AddsPages, HasNotFailed, page_count}
 use Rattle.ub_upgrade.proofs.LeafFacts.{IsHalfWay}
 use Rattle.ub_upgrade.proofs.building.write_leaves.Given as goal
 

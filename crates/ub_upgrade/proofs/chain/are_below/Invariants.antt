@@ -1,5 +1,5 @@
 use Rattle.std.proofs.Common.{◌↔◌, drop}
-use Rattle.ub_upgrade.specs.Reading.{AreBelow}
+use Rattle.ub_upgrade.proofs.Common.{AreBelow}
 use Rattle.ub_upgrade.proofs.chain.are_below.Given as goal
 
 abbrev pub invariant-loop-entry : goal.invariant-loop-entry

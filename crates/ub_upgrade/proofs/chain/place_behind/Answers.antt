@@ -1,5 +1,5 @@
 use Rattle.std.proofs.Common.{ap, sym, length, arith}
-use Rattle.std.proofs.lemmas.List.{length-append}
+use Rattle.ub_upgrade.proofs.Common.{length-append}
 use Rattle.ub_upgrade.proofs.ReadFacts.{last_behind}
 use Rattle.ub_upgrade.proofs.chain.place_behind.Goals as goal
 

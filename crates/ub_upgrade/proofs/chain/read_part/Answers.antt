@@ -1,6 +1,5 @@
 use Rattle.std.proofs.Common.{◌≡◌, rules, true}
-use Rattle.ub_store.specs.Facts.{IsPage, page_count}
-use Rattle.ub_upgrade.specs.Reading.{AreBelow}
+use Rattle.ub_upgrade.proofs.Common.{AreBelow, IsPage, page_count}
 use Rattle.ub_upgrade.proofs.ReadFacts.{named_missing, read_refused}
 use Rattle.ub_upgrade.proofs.chain.read_part.Goals as goal
 

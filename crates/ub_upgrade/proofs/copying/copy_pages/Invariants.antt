@@ -1,6 +1,5 @@
 use Rattle.std.proofs.Common.{◌≡◌, ◌≤◌, ◌<◌, max, ℕ, slice_get}
-use Rattle.ub_store.specs.Facts.{IsHonest, page_count}
-use Rattle.ub_laying.specs.Effects.{AddsPages, HasNotFailed}
+use Rattle.ub_upgrade.proofs.Common.{AddsPages, HasNotFailed, IsHonest, page_count}
 use Rattle.ub_upgrade.proofs.copying.copy_pages.Given as goal
 
 abbrev pub invariant-loop-n : goal.invariant-loop-n

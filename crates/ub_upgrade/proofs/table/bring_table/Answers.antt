@@ -1,13 +1,8 @@
 use Rattle.std.proofs.Common.{◌≡◌, ◌≤◌, ◌∙◌, inl, inr, ℕ, List, ap, rules, subst, sym}
-use Rattle.ub_index.specs.View.{IndexView}
-use Rattle.ub_page.specs.declared.header.OldHeader.{OldHeader}
-use Rattle.ub_store.specs.Facts.{StoreFacts, IsHonest, page_count}
-use Rattle.ub_store.specs.View.{PagerView}
+use Rattle.ub_upgrade.proofs.Common.{CanBring, HasMark, IndexView, IsBringFault, IsBrought, IsHonest, IsTableFault, OldHeader, page_count, PagerView, root_in}
+use Rattle.ub_upgrade.proofs.Common.{StoreFacts}
 use Rattle.ub_writing.proofs.MarkFacts.{on_err}
 use Rattle.ub_upgrade.proofs.TableFacts.{bring_moved, err_passes, err_refused, mark_before, root_fault, rooted}
-use Rattle.ub_upgrade.specs.Bringing.{IsBringFault, IsBrought}
-use Rattle.ub_upgrade.specs.Table.{CanBring, IsTableFault, root_in}
-use Rattle.ub_writing.specs.Marks.{HasMark}
 use Rattle.ub_upgrade.proofs.table.bring_table.Goals as goal
 
 pub returns-in_err-root-clause-unopened : goal.returns-in_err-root-clause-unopened

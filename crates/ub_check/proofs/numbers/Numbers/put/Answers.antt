@@ -1,5 +1,5 @@
 use Rattle.std.proofs.Common.{◌≡◌, ◌<◌, ◌≤◌, ◌/◌, ◌*◌, length, slice_index_or, arith, refl, rules}
-use Rattle.std.proofs.lemmas.List.{get_or_read_under}
+use Rattle.ub_check.proofs.Common.{get_or_read_under}
 use Rattle.ub_check.proofs.NumberFacts.{is_new, put_has}
 use Rattle.ub_check.proofs.numbers.Numbers.put.Goals as goal
 

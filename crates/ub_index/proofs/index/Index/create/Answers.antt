@@ -1,8 +1,5 @@
 use Rattle.std.proofs.Common.{◌≡◌, List, ℕ, ap, arith, inl, rules, subst, sym}
-use Rattle.ub_index.specs.Opening.{IsAlone, root_page}
-use Rattle.ub_index.specs.View.{IndexView}
-use Rattle.ub_index.specs.Index.{IsIndexPage}
-use Rattle.ub_store.specs.Facts.{StoreFacts}
+use Rattle.ub_index.proofs.Common.{IndexView, IsAlone, IsIndexPage, root_page, StoreFacts}
 use Rattle.ub_index.proofs.StandFacts.{put_checked, root_page_is, made_alone}
 use Rattle.ub_index.proofs.index.Index.create.Goals as goal
 

@@ -1,9 +1,8 @@
 use Rattle.std.proofs.Common.{◌∙◌, ℕ, Err, Ok, ap, option_copied, subst, sym}
+use Rattle.ub_index.proofs.Common.{HandsLeaf, IndexView, Meeting}
 use Rattle.ub_index.proofs.AlongFacts.{takes_none}
 use Rattle.ub_index.proofs.NextFacts.{handed, handed_none, next_crossed, next_refused}
 use Rattle.ub_index.proofs.WalkingFacts.{view_so}
-use Rattle.ub_index.specs.Along.{HandsLeaf, Meeting}
-use Rattle.ub_index.specs.View.{IndexView}
 use Rattle.ub_index.proofs.index.Index.hand_next.Goals as goal
 
 pub returns-in_default : goal.returns-in_default

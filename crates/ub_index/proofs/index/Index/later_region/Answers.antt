@@ -1,12 +1,5 @@
 use Rattle.std.proofs.Common.{◌∙◌, None, Option, Some, rules, subst, sym}
-use Rattle.std.specs.Option.{option_copied}
-use Rattle.ub_region.specs.declared.region.Region.{Region}
-use Rattle.ub_table.proofs.Laws.{before_of}
-use Rattle.ub_table.specs.declared.fault.PageFault.TheVariants.{OutOfRegion}
-use Rattle.ub_table.specs.declared.row.Key.{Key}
-use Rattle.ub_index.specs.Descending.{FindsAfter}
-use Rattle.ub_index.specs.Held.{AreChecked}
-use Rattle.ub_index.specs.Searching.{Aims, GivesAfter, IsSought}
+use Rattle.ub_index.proofs.Common.{Aims, AreChecked, before_of, FindsAfter, GivesAfter, IsSought, Key, option_copied, OutOfRegion, Region}
 use Rattle.ub_index.proofs.BehindFacts.{is_later, not_crossed}
 use Rattle.ub_index.proofs.FoundFacts.{goal_given}
 use Rattle.ub_index.proofs.StepFacts.{refused_after}

@@ -1,7 +1,6 @@
 use Rattle.std.proofs.Common.{ℕ, Err, subst}
+use Rattle.ub_index.proofs.Common.{BringsFitting, entry_at}
 use Rattle.ub_index.proofs.StretchSteps.{opens_misfits}
-use Rattle.ub_index.specs.Bringing.{BringsFitting}
-use Rattle.ub_index.specs.View.{entry_at}
 use Rattle.ub_index.proofs.index.Index.open_stretch.Goals as goal
 
 pub returns-in_err-head : goal.returns-in_err-head

@@ -1,15 +1,7 @@
 use Rattle.std.proofs.Common.{◌≡◌, ◌∙◌, ℕ, None, Some, Option, Err, inl, ap, arith, refl, subst, sym, rules}
-use Rattle.ub_store.specs.Facts.{StoreFacts}
-use Rattle.ub_store.specs.View.{PagerView}
-use Rattle.ub_table.specs.declared.row.Key.{Key}
-use Rattle.ub_index.specs.Descending.{FindsAfter, LooksAt}
-use Rattle.ub_index.specs.Held.{AreChecked}
-use Rattle.ub_index.specs.Searching.{Aims, Gives, GoesDown, IsSought}
-use Rattle.ub_index.specs.Spans.{region_of}
-use Rattle.ub_index.specs.View.{IndexView, index_view}
+use Rattle.ub_index.proofs.Common.{Aims, AreChecked, FindsAfter, Gives, GoesDown, index_view, IndexView, IsSought, Key, Leaf, LooksAt, PagerView, Region}
+use Rattle.ub_index.proofs.Common.{region_of, StoreFacts}
 use Rattle.ub_index.specs.declared.descent.Found.{Found}
-use Rattle.ub_index.specs.declared.descent.Leaf.{Leaf}
-use Rattle.ub_region.specs.declared.region.Region.{Region}
 use Rattle.ub_index.proofs.BehindFacts.{beyond_found, beyond_sought, here_found, nothing_found}
 use Rattle.ub_index.proofs.HeldFacts.{both_on, Keeps}
 use Rattle.ub_index.proofs.SearchFacts.{down_keeps, search_refused, step_keeps, step_refused}

@@ -1,13 +1,6 @@
 use Rattle.std.proofs.Common.{Result, Ok, Err, IfOk, subst, sym}
-use Rattle.ub_index.specs.Held.{AreChecked}
-use Rattle.ub_index.specs.Spans.{first_keys}
-use Rattle.ub_region.specs.Regions.{index_holding}
-use Rattle.ub_store.specs.Facts.{StoreFacts}
-use Rattle.ub_table.specs.declared.row.Key.{Key}
-use Rattle.ub_index.specs.Searching.{Gives}
-use Rattle.ub_index.specs.View.{IndexView, IsIndexOn, IsRegionAt, entries_in}
-use Rattle.ub_index.specs.declared.fault.IndexFault.{IndexFault}
-use Rattle.ub_region.specs.declared.region.Region.{Region}
+use Rattle.ub_index.proofs.Common.{AreChecked, entries_in, first_keys, Gives, index_holding, IndexFault, IndexView, IsIndexOn, IsRegionAt, Key, Region}
+use Rattle.ub_index.proofs.Common.{StoreFacts}
 use Rattle.ub_index.proofs.WayFacts.{way_ends_at}
 use Rattle.ub_index.proofs.index.Index.region_holding.Goals as goal
 

@@ -1,12 +1,6 @@
 use Rattle.std.proofs.Common.{arith, ◌≡◌, ◌≤◌, ◌∙◌, ℕ, IfSome, List, Option, ap, subst, sym}
-use Rattle.ub_index_change.specs.Lowering.{entries_then, sole_page}
-use Rattle.ub_index_change.specs.Preparing.{ChangeView}
-use Rattle.ub_index_change.specs.declared.sheet.Sheet.{Sheet}
-use Rattle.ub_store.specs.Facts.{StoreFacts, IsHonest}
-use Rattle.ub_store.specs.View.{PagerView}
-use Rattle.ub_index.proofs.HeldFacts.{both_on}
+use Rattle.ub_index_change.proofs.Common.{both_on, ChangeView, entries_then, IsHonest, PagerView, Sheet, sole_page, steps_keep, StoreFacts}
 use Rattle.ub_index_change.proofs.LowerFacts.{lowers_on}
-use Rattle.ub_index.proofs.StepFacts.{steps_keep}
 use Rattle.ub_index_change.proofs.change.Change.lowered.Goals as goal
 
 pub loop-levels-preserved : goal.loop-levels-preserved

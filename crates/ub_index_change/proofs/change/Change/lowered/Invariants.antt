@@ -1,7 +1,5 @@
 use Rattle.std.proofs.Common.{◌≡◌, ◌≤◌}
-use Rattle.ub_index_change.specs.Lowering.{Lowers}
-use Rattle.ub_store.specs.Facts.{IsHonest}
-use Rattle.ub_index.proofs.HeldFacts.{Keeps}
+use Rattle.ub_index_change.proofs.Common.{IsHonest, Keeps, Lowers}
 use Rattle.ub_index_change.proofs.change.Change.lowered.Given as goal
 
 abbrev pub invariant-loop-levels : goal.invariant-loop-levels

@@ -1,5 +1,5 @@
 use Rattle.std.proofs.Common.{◌≡◌, drop}
-use Rattle.ub_index_change.specs.Lowering.{spelled_page}
+use Rattle.ub_index_change.proofs.Common.{spelled_page}
 use Rattle.ub_index_change.proofs.sheets.Sheets.find.Given as goal
 
 abbrev pub invariant-loop-sheet : goal.invariant-loop-sheet

@@ -1,8 +1,8 @@
 use Rattle.std.proofs.Common.{◌≡◌, ◌<◌, ◌^◌, ℕ, ap, false, subst, sym, rules}
+use Rattle.ub_tree.proofs.Common.{is_written}
 use Rattle.ub_check.specs.declared.checking.Told.{Told}
 use Rattle.ub_tree.proofs.CallFacts.{last_small}
 use Rattle.ub_tree.proofs.CheckFacts.{checked_done, checked_refused}
-use Rattle.ub_writing.specs.Marks.{is_written}
 use Rattle.ub_tree.proofs.tree.Tree.check.Goals as goal
 
 pub returns-in_err-check_pages : goal.returns-in_err-check_pages

@@ -1,9 +1,6 @@
 use Rattle.std.proofs.Common.{◌∙◌, ℕ, ap, false, subst, sym, rules}
-use Rattle.ub_store.specs.Facts.{StoreFacts}
+use Rattle.ub_tree.proofs.Common.{is_written, IsClosed, StoreFacts, tree_view}
 use Rattle.ub_tree.proofs.ClosingFacts.{sound_pages, unchanged_pages}
-use Rattle.ub_tree.specs.Tree.{tree_view}
-use Rattle.ub_writing.specs.Closing.{IsClosed}
-use Rattle.ub_writing.specs.Marks.{is_written}
 use Rattle.ub_tree.proofs.tree.Tree.close.Goals as goal
 
 pub returns-then-not-is_written : goal.returns-then-not-is_written

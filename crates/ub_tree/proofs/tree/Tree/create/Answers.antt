@@ -1,5 +1,5 @@
 use Rattle.std.proofs.Common.{◌∙◌, ap, rules}
-use Rattle.ub_store.specs.View.{PagerView}
+use Rattle.ub_tree.proofs.Common.{PagerView}
 use Rattle.ub_tree.proofs.CreationFacts.{created}
 use Rattle.ub_tree.proofs.tree.Tree.create.Goals as goal
 

@@ -1,7 +1,6 @@
 use Rattle.std.proofs.Common.{◌-◌, ◌∙◌, Err, ap}
-use Rattle.ub_store.specs.declared.fault.StoreFault.{StoreFault}
+use Rattle.ub_tree.proofs.Common.{is_written, StoreFault}
 use Rattle.ub_tree.proofs.GrownFacts.{grow_device, grow_memory, grow_size}
-use Rattle.ub_writing.specs.Marks.{is_written}
 use Rattle.ub_tree.proofs.tree.Tree.grow.Goals as goal
 
 pub returns-in-Err-Device : goal.returns-in-Err-Device

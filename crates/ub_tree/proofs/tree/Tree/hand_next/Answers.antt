@@ -1,11 +1,8 @@
 use Rattle.std.proofs.Common.{◌<◌, ◌^◌, option_copied, subst, sym}
-use Rattle.ub_index.specs.Along.{Meeting}
-use Rattle.ub_index.specs.Walking.{AreGivenNext, IsGivenAny}
+use Rattle.ub_tree.proofs.Common.{AreGivenNext, is_written, IsGivenAny, Meeting, TreeView}
 use Rattle.ub_tree.proofs.CallFacts.{last_small}
 use Rattle.ub_tree.proofs.HandedFacts.{are_next, told_given}
 use Rattle.ub_tree.proofs.SearchFacts.{sought_refused}
-use Rattle.ub_tree.specs.View.{TreeView}
-use Rattle.ub_writing.specs.Marks.{is_written}
 use Rattle.ub_tree.proofs.tree.Tree.hand_next.Goals as goal
 
 pub hand_next-requires-clause-given : goal.hand_next-requires-clause-given

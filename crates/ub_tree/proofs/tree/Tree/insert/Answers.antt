@@ -1,10 +1,5 @@
 use Rattle.std.proofs.Common.{◌∙◌, ap, arith, subst}
-use Rattle.ub_table.specs.Region.{measures_of}
-use Rattle.ub_table.specs.declared.row.Row.{Row}
-use Rattle.ub_table.specs.declared.schema.Schema.{Schema}
-use Rattle.ub_tree.specs.Change.{numbered, row_of}
-use Rattle.ub_tree.specs.Inserted.{Inserts}
-use Rattle.ub_tree.specs.View.{TreeView}
+use Rattle.ub_tree.proofs.Common.{Inserts, measures_of, numbered, Row, row_of, Schema, TreeView}
 use Rattle.ub_tree.proofs.NewFacts.{new_values, words_of}
 use Rattle.ub_tree.proofs.tree.Tree.insert.Goals as goal
 

@@ -1,8 +1,5 @@
 use Rattle.std.proofs.Common.{sym, subst}
-use Rattle.ub_tree.specs.Inserted.{InsertsAs}
-use Rattle.ub_tree.specs.Tree.{tree_view}
-use Rattle.ub_tree.specs.View.{TreeView}
-use Rattle.ub_writing.specs.Marks.{is_written}
+use Rattle.ub_tree.proofs.Common.{InsertsAs, is_written, tree_view, TreeView}
 use Rattle.ub_tree.proofs.tree.Tree.insert_numbered.Goals as goal
 
 pub returns : goal.returns

@@ -1,12 +1,7 @@
 use Rattle.std.proofs.Common.{◌≡◌, ◌∙◌, ap, arith, subst}
-use Rattle.ub_region.proofs.Laws.{next_free}
-use Rattle.ub_region.specs.Regions.{numbered}
-use Rattle.ub_table.specs.Region.{IsRow, measures_of}
-use Rattle.ub_table.specs.declared.row.Row.{Row}
+use Rattle.ub_tree.proofs.Common.{Inserts, IsRow, IsSound, measures_of, next_free, numbered, regions, Row, TreeView}
 use Rattle.ub_tree.proofs.GrowFacts.{inserts_next}
 use Rattle.ub_tree.proofs.NewFacts.{numbered_row}
-use Rattle.ub_tree.specs.Inserted.{Inserts}
-use Rattle.ub_tree.specs.View.{TreeView, IsSound, regions}
 use Rattle.ub_tree.proofs.tree.Tree.insert_row.Goals as goal
 
 pub returns : goal.returns

@@ -1,23 +1,11 @@
 use Rattle.std.proofs.Common.{◌≡◌, ◌<◌, ◌+◌, ◌^◌, ◌∙◌, ℕ, Ok, Err, sym, ap, subst, length, inr, refl, true, false}
-use Rattle.ub_region.specs.Rows.{has_key, insert_row}
-use Rattle.ub_store.specs.Facts.{IsHonest}
-use Rattle.ub_table.specs.Region.{IsRow, key_of, measures_of}
-use Rattle.ub_table.specs.declared.fault.PageFault.TheVariants.{BadOrder}
-use Rattle.ub_table.specs.declared.row.Key.{Key}
+use Rattle.ub_tree.proofs.Common.{BadOrder, CanStand, FallsInto, has_key, HasReadAt, insert_row, InsertsAs, is_written, IsHonest, IsRow, Key, key_of}
+use Rattle.ub_tree.proofs.Common.{last_address, measures_of, next_after, Page, StandAt, StoresAt, tree_view, TreeView}
 use Rattle.ub_tree.proofs.EffectFacts.{changes_of, counted_anew, left_by, marked_sound, searched_by, then_changed, unchanged_of}
 use Rattle.ub_tree.proofs.GrowFacts.{added_answers, grown, grows_by, key_there, passing_answers_key, answers_err_at, answers_ok_at, next_is, refused_inserts}
 use Rattle.ub_tree.proofs.HoldingFacts.{key_is_there, next_key}
 use Rattle.ub_tree.proofs.RemovalFacts.{holder}
 use Rattle.ub_tree.proofs.RoomFacts.{can_stand, rows_on}
-use Rattle.ub_tree.specs.Holding.{FallsInto}
-use Rattle.ub_tree.specs.Change.{next_after}
-use Rattle.ub_tree.specs.Inserted.{InsertsAs}
-use Rattle.ub_tree.specs.Tree.{tree_view}
-use Rattle.ub_tree.specs.View.{TreeView}
-use Rattle.ub_tree.specs.declared.fault.TreeFault.TheVariants.{Page}
-use Rattle.ub_tree.specs.inner.Change.{CanStand, HasReadAt, StandAt, StoresAt}
-use Rattle.ub_writing.specs.Marks.{is_written}
-use Rattle.ub_zaddr.specs.Address.{last_address}
 use Rattle.ub_tree.proofs.StandFacts.{puts_row}
 use Rattle.ub_tree.proofs.tree.Tree.insert_within.Goals as goal
 
@@ -104,8 +92,7 @@ returns g c =
     let few : after.inner.count < 2 ^ 32 = subst (λ (v : TreeView). v.inner.count < 2 ^ 32) c.self-2.view_is c.self-2.invariant.few in
     let last : after.inner.index.last ≡ last_address after.schema.dims = subst (λ (v : TreeView). v.inner.index.last ≡ last_address v.schema.dims) c.self-2.view_is c.self-2.invariant.last_is in
     let same = c.in_ok-region.ensures.effect.same in
-    let whole = d_is
-    ∙ ap (λ (v : TreeView). record v { next = next_after v.next row.number; rows = v.rows + 1 }) c.in_ok-store_with.ensures.same.same
+    let whole = d_is ∙ ap (λ (v : TreeView). record v { next = next_after v.next row.number; rows = v.rows + 1 }) c.in_ok-store_with.ensures.same.same
     ∙ ap (λ (v : TreeView). record v { placed = after.placed; store = after.store; is_changed = true; inner = after.inner; next = next_after v.next row.number; rows = v.rows + 1 }) same in
     let stores = subst (λ (v : TreeView). StoresAt span (length page.region.rows) v after) same c.in_ok-store_with.ensures.same in
     let stand = subst (λ (v : TreeView). IsHonest v.store → StandAt span (length page.region.rows) (insert_row v.schema.dims row page.region.rows) v after) same c.in_ok-store_with.ensures.put in

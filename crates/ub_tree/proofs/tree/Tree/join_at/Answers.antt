@@ -1,23 +1,12 @@
 use Rattle.std.proofs.Common.{◌≡◌, ◌+◌, ◌-◌, ◌≤◌, ◌∙◌, true, Ok, sym, ap, subst, refl, Err, ◌<◌, ◌^◌, rules}
-use Rattle.ub_region.specs.Joins.{put_rows}
-use Rattle.ub_store.specs.Facts.{IsHonest}
-use Rattle.ub_store.specs.declared.fault.StoreFault.TheVariants as store
-use Rattle.ub_table.specs.Region.{IsRegion}
-use Rattle.ub_tree.specs.Pages.{Spells}
-use Rattle.ub_tree.specs.Removal.{IsRemovalFault}
-use Rattle.ub_tree.specs.Told.{IsRegionOf}
-use Rattle.ub_tree.specs.Tree.{placed_in, tree_view}
-use Rattle.ub_tree.specs.View.{TreeView, region_count, regions}
-use Rattle.ub_tree.specs.declared.fault.TreeFault.{TreeFault}
-use Rattle.ub_tree.specs.declared.fault.TreeFault.TheVariants.{Store}
-use Rattle.ub_tree.specs.inner.Change.{IsDropReady, IsRegionIn, IsRegionThere, IsStored}
-use Rattle.ub_tree.specs.inner.Removing.{JoinsAt}
+use Rattle.ub_tree.proofs.Common.{is_written, IsDropReady, IsHonest, IsRegion, IsRegionIn, IsRegionOf, IsRegionThere, IsRemovalFault, IsStored, JoinsAt}
+use Rattle.ub_tree.proofs.Common.{placed_in, put_rows, region_count, regions, Spells, Store, tree_view, TreeFault, TreeView}
 use Rattle.ub_tree.proofs.CallFacts.{last_small}
 use Rattle.ub_tree.proofs.EffectFacts.{changes_by, ready_by}
 use Rattle.ub_tree.proofs.JoinFacts.{alone_not_sound, index_failed, joined_at, joined_effect, joined_written}
 use Rattle.ub_tree.proofs.LessenFacts.{alone_lessens, device_removal, fault_by, put_removal, then_lessens}
 use Rattle.ub_tree.proofs.StandFacts.{joined_stand}
-use Rattle.ub_writing.specs.Marks.{is_written}
+use Rattle.ub_store.specs.declared.fault.StoreFault.TheVariants as store
 use Rattle.ub_tree.proofs.tree.Tree.join_at.Goals as goal
 
 pub returns-then-self-eq1 : goal.returns-then-self-eq1

@@ -1,15 +1,10 @@
 use Rattle.std.proofs.Common.{◌≡◌, ◌+◌, ◌++◌, ◌∙◌, if◌then◌else◌, ap, arith, length, refl, subst, sym, rules}
-use Rattle.std.proofs.lemmas.Bool.{leb-true}
+use Rattle.ub_tree.proofs.Common.{IsRegionThere, IsTakenIn, key_before, leb-true, RegionView, TreeView}
 use Rattle.ub_tree.proofs.RoomFacts.{next_region, rows_on}
 use Rattle.ub_tree.proofs.RemovalFacts.{joins_one, read_there}
 use Rattle.ub_tree.proofs.HoldingFacts.{no_answer}
-use Rattle.ub_region.specs.RegionPage.{RegionView}
 use Rattle.ub_writing.specs.declared.room.Room.{Room}
-use Rattle.ub_tree.specs.View.{TreeView}
-use Rattle.ub_tree.specs.Effects.{IsTakenIn}
-use Rattle.ub_index.specs.Searching.{key_before}
 use Rattle.ub_tree.proofs.AloneFacts.{no_fit, none_beside, room_fits, unfound_beside, unread_beside}
-use Rattle.ub_tree.specs.inner.Change.{IsRegionThere}
 use Rattle.ub_tree.proofs.tree.Tree.join_before.Goals.{then-join, else-join}
 use Rattle.ub_tree.proofs.tree.Tree.join_before.Goals as goal
 

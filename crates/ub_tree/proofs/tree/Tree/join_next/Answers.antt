@@ -1,14 +1,9 @@
 use Rattle.std.proofs.Common.{◌≡◌, ◌+◌, ◌∙◌, suc, ap, arith, length, refl, subst, sym, rules}
-use Rattle.std.proofs.lemmas.Bool.{leb-true}
-use Rattle.std.proofs.lemmas.List.{length-map}
+use Rattle.ub_tree.proofs.Common.{entry_of, IsTakenIn, leb-true, length-map, regions, RegionView, TreeView}
 use Rattle.ub_tree.proofs.RoomFacts.{next_region, rows_on}
 use Rattle.ub_tree.proofs.RemovalFacts.{joins_next}
 use Rattle.ub_tree.proofs.HoldingFacts.{no_answer}
 use Rattle.ub_tree.proofs.ShrinkFacts.{join_last, length-regions}
-use Rattle.ub_region.specs.RegionPage.{RegionView}
-use Rattle.ub_tree.specs.Placed.{entry_of}
-use Rattle.ub_tree.specs.View.{TreeView, regions}
-use Rattle.ub_tree.specs.Effects.{IsTakenIn}
 use Rattle.ub_tree.proofs.AloneFacts.{no_fit, none_beside, room_fits, unfound_beside, unread_beside}
 use Rattle.ub_tree.proofs.tree.Tree.join_next.Goals.{then-join, else-join}
 use Rattle.ub_tree.proofs.tree.Tree.join_next.Goals as goal

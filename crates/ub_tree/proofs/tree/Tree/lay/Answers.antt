@@ -2,8 +2,7 @@ use Rattle.ub_tree.proofs.LaidFacts.{laid_not, laid_parts, laid_tree}
 use Rattle.ub_tree.proofs.tree.Tree.lay.Goals as goal
 
 pub over-requires : goal.over-requires
-over-requires g c =
-    laid_parts c.args.begun c.args.next c.args.grown.now c.in-Ok.head c.in-Ok.index c.in-Ok.pager c.requires c.in-Ok.ensures.laid
+over-requires g c = laid_parts c.args.begun c.args.next c.args.grown.now c.in-Ok.head c.in-Ok.index c.in-Ok.pager c.requires c.in-Ok.ensures.laid
 
 pub returns-in-Ok : goal.returns-in-Ok
 returns-in-Ok g c =

@@ -1,12 +1,7 @@
 use Rattle.std.proofs.Common.{◌<◌, ◌^◌, Option, option_copied, subst, sym}
-use Rattle.ub_bigmin.specs.Box.{HoldsAny}
-use Rattle.ub_bigmin.specs.Extremes.{LeastFrom}
-use Rattle.ub_index.specs.Searching.{GivesAfter}
+use Rattle.ub_tree.proofs.Common.{GivesAfter, HoldsAny, is_written, LeastFrom, Region, TreeView}
 use Rattle.ub_tree.proofs.CallFacts.{gives_next, last_small}
 use Rattle.ub_tree.proofs.SearchFacts.{sought_refused}
-use Rattle.ub_tree.specs.Spans.{Region}
-use Rattle.ub_tree.specs.View.{TreeView}
-use Rattle.ub_writing.specs.Marks.{is_written}
 use Rattle.ub_tree.proofs.tree.Tree.next_meeting.Goals as goal
 
 pub returns-clause-gives : goal.returns-clause-gives

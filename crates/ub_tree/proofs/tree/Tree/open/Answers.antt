@@ -1,9 +1,7 @@
 use Rattle.std.proofs.Common.{◌≡◌, ◌∙◌, ap, subst, sym, rules}
-use Rattle.ub_store.specs.Facts.{StoreFacts, IsHonest}
-use Rattle.ub_store.specs.View.{PagerView}
+use Rattle.ub_tree.proofs.Common.{IsHonest, IsOpenFault, IsRooted, PagerView, StoreFacts}
 use Rattle.ub_tree.proofs.OpenedFacts.{mark_refused, never_clean, opened, opened_sound}
 use Rattle.ub_tree.proofs.OpeningFacts.{table_rooted}
-use Rattle.ub_tree.specs.Opened.{IsOpenFault, IsRooted}
 use Rattle.ub_tree.proofs.tree.Tree.open.Goals as goal
 
 pub returns-in-Ok-read_table : goal.returns-in-Ok-read_table

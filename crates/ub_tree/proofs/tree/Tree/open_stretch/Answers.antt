@@ -1,9 +1,7 @@
 use Rattle.std.proofs.Common.{◌<◌, ◌^◌, ◌∙◌, IsTrue, Err, ap, subst, sym}
+use Rattle.ub_tree.proofs.Common.{fault_of_tree, is_written, TreeView}
 use Rattle.ub_tree.proofs.CallFacts.{last_small}
 use Rattle.ub_tree.proofs.StretchFacts.{opens_refused}
-use Rattle.ub_tree.specs.Reading.{fault_of_tree}
-use Rattle.ub_tree.specs.View.{TreeView}
-use Rattle.ub_writing.specs.Marks.{is_written}
 use Rattle.ub_tree.proofs.tree.Tree.open_stretch.Goals as goal
 
 pub returns-in-Err : goal.returns-in-Err

@@ -1,19 +1,9 @@
 use Rattle.std.proofs.Common.{◌<◌, ◌+◌, ◌^◌, List, Some, inr, subst, sym, arith}
-use Rattle.ub_index.specs.Index.{top}
-use Rattle.ub_index_change.specs.Preparing.{added_at}
-use Rattle.ub_index.specs.View.{IsRegionAt}
-use Rattle.ub_region.specs.declared.entry.Entry.{Entry}
-use Rattle.ub_store.specs.Facts.{page_count}
-use Rattle.ub_index.proofs.StepFacts.{if_err}
+use Rattle.ub_tree.proofs.Common.{added_at, Entry, if_err, index_fault, is_written, IsRegionAt, IsRoomFault, page_count, top, tree_view, TreeView}
 use Rattle.ub_tree.proofs.CallFacts.{last_small, stored_on}
 use Rattle.ub_tree.proofs.IndexedFacts.{reached_once}
 use Rattle.ub_tree.proofs.ReadyFacts.{add_fault, all_spelled, change_room, not_ready, room_err, room_fault}
 use Rattle.ub_tree.proofs.WayFacts.{spells}
-use Rattle.ub_tree.specs.Faults.{index_fault}
-use Rattle.ub_tree.specs.Holding.{IsRoomFault}
-use Rattle.ub_tree.specs.Tree.{tree_view}
-use Rattle.ub_tree.specs.View.{TreeView}
-use Rattle.ub_writing.specs.Marks.{is_written}
 use Rattle.ub_tree.proofs.tree.Tree.prepare_add.Goals as goal
 
 pub returns-in_err-change-clause-led : goal.returns-in_err-change-clause-led

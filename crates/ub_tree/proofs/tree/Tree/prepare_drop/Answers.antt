@@ -1,20 +1,10 @@
 use Rattle.std.proofs.Common.{◌≢◌, ◌<◌, ◌^◌, List, map, subst, sym, arith}
-use Rattle.ub_index_change.proofs.DropFacts.{roots_taken}
-use Rattle.ub_index_change.specs.Lowering.{IsDropFault}
-use Rattle.ub_index.specs.View.{IsRegionAt}
-use Rattle.ub_region.specs.declared.entry.Entry.{Entry}
-use Rattle.ub_region.specs.Regions.{index_holding}
-use Rattle.ub_store.specs.Facts.{page_count}
+use Rattle.ub_tree.proofs.Common.{Entry, entry_of, first_keys, index_holding, is_written, IsDropFault, IsRegionAt, IsRegionOf, page_count, region_count}
+use Rattle.ub_tree.proofs.Common.{roots_taken, tree_view, TreeView}
 use Rattle.ub_tree.proofs.CallFacts.{last_small, stored_on}
 use Rattle.ub_tree.proofs.IndexedFacts.{reached_once, at_of_key, sound_index}
 use Rattle.ub_tree.proofs.JoinFacts.{drop_removal}
 use Rattle.ub_tree.proofs.ReadyFacts.{drop_fault, drop_spelled, not_ready}
-use Rattle.ub_tree.specs.Placed.{entry_of}
-use Rattle.ub_tree.specs.Spans.{first_keys}
-use Rattle.ub_tree.specs.Tree.{tree_view}
-use Rattle.ub_tree.specs.View.{TreeView, region_count}
-use Rattle.ub_tree.specs.Told.{IsRegionOf}
-use Rattle.ub_writing.specs.Marks.{is_written}
 use Rattle.ub_tree.proofs.tree.Tree.prepare_drop.Goals as goal
 
 pub returns-clause-ready : goal.returns-clause-ready

@@ -1,17 +1,9 @@
 use Rattle.std.proofs.Common.{ap, ◌<◌, ◌∙◌, ◌∷◌, [], true, Ok, Err, subst, sym, refl, length, Bool, IsTrue}
-use Rattle.ub_region.specs.RegionPage.{region_page}
-use Rattle.ub_table.specs.Region.{IsRegion}
-use Rattle.ub_check.proofs.ReadingFacts.{region_no_kind}
-use Rattle.ub_store.specs.Facts.{StoreFacts, page_count}
-use Rattle.ub_store.specs.declared.fault.StoreFault.{StoreFault}
+use Rattle.ub_tree.proofs.Common.{is_written, IsRegion, page_count, region_no_kind, region_page, Store, StoreFacts, StoreFault, tree_view, TreeView}
 use Rattle.ub_tree.proofs.PartFacts.{marks_then}
 use Rattle.ub_tree.proofs.ReadingFacts.{only_device, past_pages}
 use Rattle.ub_tree.proofs.WriteFacts.{ended_by, others_written, put_is, write_refused, wrote_tree}
-use Rattle.ub_tree.specs.Tree.{tree_view}
-use Rattle.ub_tree.specs.View.{TreeView}
-use Rattle.ub_tree.specs.declared.fault.TreeFault.TheVariants.{Store}
 use Rattle.ub_tree.proofs.HeldFacts.{tree_written, written_checked}
-use Rattle.ub_writing.specs.Marks.{is_written}
 use Rattle.ub_tree.proofs.tree.Tree.put_halves.Goals as goal
 
 pub returns-in-Ok-clause-effect : goal.returns-in-Ok-clause-effect

@@ -1,18 +1,9 @@
 use Rattle.std.proofs.Common.{ap, refl, subst, sym, rules}
-use Rattle.ub_index.proofs.StepFacts.{if_err}
-use Rattle.ub_page.proofs.PageLaws.{region_parts}
-use Rattle.ub_region.specs.RegionPage.{region_page}
-use Rattle.ub_store.specs.View.{PagerView}
+use Rattle.ub_tree.proofs.Common.{if_err, index_fault, is_written, IsReadFault, IsRegionOf, PagerView, region_page, region_parts, tree_view, TreeView}
 use Rattle.ub_tree.proofs.HeldFacts.{tree_kept}
 use Rattle.ub_tree.proofs.HoldingFacts.{passing_by}
 use Rattle.ub_tree.proofs.ReadingFacts.{passing_there, read_by, region_fault, searched_tree}
 use Rattle.ub_tree.proofs.ThereFacts.{rows_there}
-use Rattle.ub_tree.specs.Effects.{IsReadFault}
-use Rattle.ub_tree.specs.Faults.{index_fault}
-use Rattle.ub_tree.specs.Told.{IsRegionOf}
-use Rattle.ub_tree.specs.Tree.{tree_view}
-use Rattle.ub_tree.specs.View.{TreeView}
-use Rattle.ub_writing.specs.Marks.{is_written}
 use Rattle.ub_tree.proofs.tree.Tree.read_at.Goals as goal
 
 pub returns-in_err-read_region : goal.returns-in_err-read_region

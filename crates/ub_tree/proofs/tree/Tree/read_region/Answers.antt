@@ -1,16 +1,10 @@
 use Rattle.std.proofs.Common.{Err, ap, refl, rules}
-use Rattle.ub_index.proofs.StepFacts.{if_err}
-use Rattle.ub_store.specs.View.{PagerView}
+use Rattle.ub_tree.proofs.Common.{if_err, index_fault, is_written, IsReadFault, IsSpanFault, PagerView, tree_view, TreeView}
 use Rattle.ub_tree.proofs.EffectFacts.{refused_none}
 use Rattle.ub_tree.proofs.HeldFacts.{tree_kept}
 use Rattle.ub_tree.proofs.ReadingFacts.{never_failed, noted_by, read_by, read_tree, region_fault, span_fault}
 use Rattle.ub_tree.proofs.SearchFacts.{known_is}
 use Rattle.ub_tree.proofs.ThereFacts.{tree_known}
-use Rattle.ub_tree.specs.Effects.{IsReadFault, IsSpanFault}
-use Rattle.ub_tree.specs.Faults.{index_fault}
-use Rattle.ub_tree.specs.Tree.{tree_view}
-use Rattle.ub_tree.specs.View.{TreeView}
-use Rattle.ub_writing.specs.Marks.{is_written}
 use Rattle.ub_tree.proofs.tree.Tree.read_region.Goals as goal
 
 pub returns-in_err-fetch_region : goal.returns-in_err-fetch_region

@@ -1,14 +1,8 @@
 use Rattle.std.proofs.Common.{◌<◌, ◌^◌, inl, inr, Option, subst, sym, Some, None, ◌≡◌, rules}
-use Rattle.ub_region.specs.declared.region.Region.{Region}
+use Rattle.ub_tree.proofs.Common.{GivesAny, is_written, IsHonest, IsRegionOf, IsWayFault, Region, tree_view, TreeView}
 use Rattle.ub_tree.proofs.CallFacts.{last_small}
 use Rattle.ub_tree.proofs.NeighbourFacts.{given_next, next_begins, search_apart}
 use Rattle.ub_tree.proofs.SearchFacts.{search_refused}
-use Rattle.ub_store.specs.Facts.{IsHonest}
-use Rattle.ub_tree.specs.Tree.{tree_view}
-use Rattle.ub_tree.specs.View.{TreeView}
-use Rattle.ub_tree.specs.Told.{IsRegionOf}
-use Rattle.ub_writing.specs.Marks.{is_written}
-use Rattle.ub_index.specs.Searching.{GivesAny, IsWayFault}
 use Rattle.ub_tree.proofs.AloneFacts.{any_given, any_refused}
 use Rattle.ub_tree.proofs.tree.Tree.region_after.Goals as goal
 

@@ -1,15 +1,8 @@
 use Rattle.std.proofs.Common.{◌≡◌, ◌<◌, ◌^◌, inl, inr, Option, Some, subst, sym, None, rules}
-use Rattle.ub_index.specs.Searching.{key_before, GivesAny, IsWayFault}
-use Rattle.ub_region.specs.declared.region.Region.{Region}
-use Rattle.ub_table.specs.declared.row.Key.{Key}
+use Rattle.ub_tree.proofs.Common.{GivesAny, is_written, IsHonest, IsRegionOf, IsWayFault, Key, key_before, Region, tree_view, TreeView}
 use Rattle.ub_tree.proofs.CallFacts.{last_small}
 use Rattle.ub_tree.proofs.NeighbourFacts.{before_ends, few_of, given_next, search_apart}
 use Rattle.ub_tree.proofs.SearchFacts.{search_refused}
-use Rattle.ub_tree.specs.Told.{IsRegionOf}
-use Rattle.ub_store.specs.Facts.{IsHonest}
-use Rattle.ub_tree.specs.Tree.{tree_view}
-use Rattle.ub_tree.specs.View.{TreeView}
-use Rattle.ub_writing.specs.Marks.{is_written}
 use Rattle.ub_tree.proofs.AloneFacts.{any_given, any_refused}
 use Rattle.ub_tree.proofs.tree.Tree.region_before.Goals as goal
 

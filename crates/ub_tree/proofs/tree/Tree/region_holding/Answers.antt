@@ -1,10 +1,7 @@
 use Rattle.std.proofs.Common.{◌≡◌, ◌<◌, ◌^◌, subst, sym}
-use Rattle.ub_index.specs.Searching.{Gives, IsWayFault}
-use Rattle.ub_region.specs.declared.region.Region.{Region}
+use Rattle.ub_tree.proofs.Common.{Gives, is_written, IsWayFault, Region, TreeView}
 use Rattle.ub_tree.proofs.CallFacts.{holding_refused, last_small, one_falls}
 use Rattle.ub_tree.proofs.SearchFacts.{search_refused}
-use Rattle.ub_tree.specs.View.{TreeView}
-use Rattle.ub_writing.specs.Marks.{is_written}
 use Rattle.ub_tree.proofs.tree.Tree.region_holding.Goals as goal
 
 pub returns-clause-led : goal.returns-clause-led

@@ -1,8 +1,5 @@
 use Rattle.std.proofs.Common.{subst, sym}
-use Rattle.ub_tree.specs.Removal.{Removes}
-use Rattle.ub_tree.specs.Tree.{tree_view}
-use Rattle.ub_tree.specs.View.{TreeView}
-use Rattle.ub_writing.specs.Marks.{is_written}
+use Rattle.ub_tree.proofs.Common.{is_written, Removes, tree_view, TreeView}
 use Rattle.ub_tree.proofs.tree.Tree.remove.Goals as goal
 
 pub returns : goal.returns

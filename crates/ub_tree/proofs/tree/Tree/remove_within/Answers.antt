@@ -1,14 +1,9 @@
 use Rattle.std.proofs.Common.{◌≡◌, ◌<◌, ◌-◌, ◌^◌, ◌∙◌, ap, sym, subst, refl, ℕ}
-use Rattle.ub_region.specs.RegionPage.{RegionView}
-use Rattle.ub_region.specs.Rows.{remove_row}
+use Rattle.ub_tree.proofs.Common.{is_written, last_address, region_count, RegionView, remove_row, tree_view, TreeView}
 use Rattle.ub_tree.proofs.HoldingFacts.{has_told}
 use Rattle.ub_tree.proofs.LessenFacts.{none_removes, shrunk_removes, uncounted_removes, unread_removes, unsettled_removes}
 use Rattle.ub_tree.proofs.RoomFacts.{rows_on, rows_without}
-use Rattle.ub_tree.specs.Tree.{tree_view}
-use Rattle.ub_tree.specs.View.{TreeView, region_count}
 use Rattle.ub_tree.specs.inner.Change.{IsMadeOf}
-use Rattle.ub_writing.specs.Marks.{is_written}
-use Rattle.ub_zaddr.specs.Address.{last_address}
 use Rattle.ub_tree.proofs.tree.Tree.remove_within.Goals as goal
 
 pub returns-in_err-region : goal.returns-in_err-region

@@ -1,20 +1,10 @@
 use Rattle.std.proofs.Common.{◌<◌, ◌^◌, ◌∙◌, ◌∷◌, [], true, Ok, Err, ap, subst, sym, refl, length, Bool, IsTrue, ℕ, List, Some, rules}
-use Rattle.ub_region.specs.RegionPage.{region_page}
-use Rattle.ub_store.specs.Facts.{StoreFacts}
-use Rattle.ub_store.specs.declared.fault.StoreFault.{StoreFault}
-use Rattle.ub_table.specs.Region.{IsRegion}
-use Rattle.ub_table.specs.declared.row.Key.{Key}
+use Rattle.ub_tree.proofs.Common.{is_written, IsRegion, IsRegionThere, Key, region_no_kind, region_page, Store, StoreFacts, StoreFault, tree_view, TreeView}
 use Rattle.ub_tree.proofs.CallFacts.{last_small}
 use Rattle.ub_tree.proofs.PutFacts.{own_page, put_rows, told_there}
 use Rattle.ub_tree.proofs.ReadingFacts.{only_device, past_page}
 use Rattle.ub_tree.proofs.WriteFacts.{ended_by, marks_first, others_written, put_is, write_refused, wrote_tree}
-use Rattle.ub_tree.specs.Tree.{tree_view}
-use Rattle.ub_tree.specs.View.{TreeView}
-use Rattle.ub_tree.specs.declared.fault.TreeFault.TheVariants.{Store}
-use Rattle.ub_tree.specs.inner.Change.{IsRegionThere}
 use Rattle.ub_tree.proofs.HeldFacts.{tree_written, written_checked}
-use Rattle.ub_check.proofs.ReadingFacts.{region_no_kind}
-use Rattle.ub_writing.specs.Marks.{is_written}
 use Rattle.ub_tree.proofs.tree.Tree.rewrite.Goals as goal
 
 pub returns-in-Ok : goal.returns-in-Ok

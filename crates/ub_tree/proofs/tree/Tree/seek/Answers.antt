@@ -1,10 +1,7 @@
 use Rattle.std.proofs.Common.{◌≡◌, ◌<◌, ◌^◌, Option, Some, option_copied, subst, sym}
-use Rattle.ub_index.specs.Searching.{GivesAfter}
+use Rattle.ub_tree.proofs.Common.{GivesAfter, is_written, Region, TreeView}
 use Rattle.ub_tree.proofs.CallFacts.{last_small, seek_told}
 use Rattle.ub_tree.proofs.SearchFacts.{sought_refused}
-use Rattle.ub_tree.specs.Spans.{Region}
-use Rattle.ub_tree.specs.View.{TreeView}
-use Rattle.ub_writing.specs.Marks.{is_written}
 use Rattle.ub_tree.proofs.tree.Tree.seek.Goals as goal
 
 pub returns-clause-later : goal.returns-clause-later

@@ -1,16 +1,11 @@
 use Rattle.std.proofs.Common.{◌≡◌, ◌/◌, ◌∙◌, refl, ap, sym, subst, length, nat_lt, true, false, OnOk, rules}
-use Rattle.ub_index.specs.Searching.{key_before}
-use Rattle.ub_region.specs.RegionPage.{RegionView}
-use Rattle.ub_store.specs.Facts.{IsHonest}
+use Rattle.ub_tree.proofs.Common.{CanFallInto, HasRoomAt, HasTakenBefore, HasTakenNext, IsHonest, IsPair, key_before, region_count, RegionView, Spells}
+use Rattle.ub_tree.proofs.Common.{TreeView}
 use Rattle.ub_tree.proofs.AloneFacts.{are_few, before_room, next_can, none_some, room_any, told_answers}
 use Rattle.ub_tree.proofs.HoldingFacts.{passing_answers}
 use Rattle.ub_tree.proofs.EffectFacts.{refused_none}
 use Rattle.ub_tree.proofs.LessenFacts.{few_left, searched_lessens, taken_alone, taken_before, taken_next, then_lessens, wrote_lessens}
 use Rattle.ub_tree.proofs.RemovalFacts.{settled_alone, settled_before, settled_large, settled_next}
-use Rattle.ub_tree.specs.Holding.{CanFallInto, HasRoomAt}
-use Rattle.ub_tree.specs.Pages.{Spells}
-use Rattle.ub_tree.specs.View.{TreeView, region_count}
-use Rattle.ub_tree.specs.inner.Removing.{HasTakenBefore, HasTakenNext, IsPair}
 use Rattle.ub_tree.proofs.tree.Tree.settle.Goals as goal
 
 pub returns-then-not-are_few : goal.returns-then-not-are_few

@@ -1,21 +1,10 @@
 use Rattle.std.proofs.Common.{◌≡◌, ◌≤◌, ◌+◌, ◌-◌, ◌∙◌, ℕ, Ok, ap, subst, sym, refl, ◌<◌, ◌^◌, rules}
-use Rattle.ub_store.specs.Facts.{StoreFacts, IsHonest, page_count}
-use Rattle.ub_index_change.specs.Making.{changed}
-use Rattle.ub_page.specs.declared.header.TheConstants.{MAX_LEVEL}
-use Rattle.ub_region.specs.RegionPage.{region_page}
-use Rattle.ub_table.specs.declared.row.Key.{Key}
-use Rattle.ub_table.specs.declared.schema.Schema.{Schema}
+use Rattle.ub_tree.proofs.Common.{AreIndexPages, changed, GrowsTo, is_written, IsHonest, Key, MAX_LEVEL, page_count, placed_in, region_page, Schema, Spells}
+use Rattle.ub_tree.proofs.Common.{StoreFacts, tree_view, TreeView, ways_hold}
 use Rattle.ub_tree.proofs.AddFacts.{parts_stored}
 use Rattle.ub_tree.proofs.RoomFacts.{ready_for}
 use Rattle.ub_tree.proofs.EffectFacts.{ready_by, refused_none}
 use Rattle.ub_tree.proofs.PartFacts.{halves_refused, index_refused, parts_at, parts_effect, unready_answers}
-use Rattle.ub_tree.specs.Pages.{Spells}
-use Rattle.ub_tree.specs.Tree.{placed_in, tree_view}
-use Rattle.ub_tree.specs.View.{TreeView}
-use Rattle.ub_tree.specs.inner.Change.{GrowsTo}
-use Rattle.ub_index.proofs.LeadFacts.{ways_hold}
-use Rattle.ub_index_change.specs.Changing.{AreIndexPages}
-use Rattle.ub_writing.specs.Marks.{is_written}
 use Rattle.ub_tree.proofs.CallFacts.{last_small}
 use Rattle.ub_tree.proofs.StandFacts.{halves_stand}
 use Rattle.ub_tree.proofs.tree.Tree.split.Goals as goal

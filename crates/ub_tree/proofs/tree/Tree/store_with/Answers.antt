@@ -1,22 +1,13 @@
 use Rattle.std.proofs.Common.{◌≡◌, ◌<◌, ◌∙◌, [], ◌∷◌, List, OnOk, true, nat_le, ap, subst, sym, length, arith, false, refl, ◌+◌, rules}
-use Rattle.std.proofs.lemmas.Bool.{le-leb, lt-leb}
+use Rattle.ub_tree.proofs.Common.{CanStand, Halves, insert_row, IsHonest, IsRegion, IsStored, le-leb, length-insert_row, lt-leb, page_count, placed_with}
+use Rattle.ub_tree.proofs.Common.{RegionRows, RegionView, Row, Spells, SpellsHalves, split, StoresRows, TreeView}
 use Rattle.std.proofs.lemmas.List.Edits.{length-insert}
-use Rattle.ub_region.specs.Rows.{Halves, split}
 use Rattle.std.specs.List.{insert}
-use Rattle.ub_region.specs.RegionPage.{RegionView}
-use Rattle.ub_region.proofs.Laws.{length-insert_row}
-use Rattle.ub_region.specs.Rows.{insert_row}
-use Rattle.ub_table.specs.Region.{IsRegion, RegionRows}
-use Rattle.ub_table.specs.declared.row.Row.{Row}
 use Rattle.ub_tree.proofs.EffectFacts.{changed_by}
 use Rattle.ub_tree.proofs.FilledFacts.{writes_grown}
 use Rattle.ub_tree.proofs.GrowFacts.{one_stored, same_split, two_stored}
 use Rattle.ub_tree.proofs.RoomFacts.{one_stands, two_stand}
-use Rattle.ub_tree.specs.View.{TreeView}
-use Rattle.ub_tree.specs.inner.Change.{CanStand, IsStored, StoresRows, placed_with}
-use Rattle.ub_store.specs.Facts.{IsHonest, page_count}
 use Rattle.ub_tree.proofs.StandFacts.{stand_alone, stand_halved}
-use Rattle.ub_tree.specs.Pages.{Spells, SpellsHalves}
 use Rattle.ub_tree.proofs.tree.Tree.store_with.Goals as goal
 
 pub returns : goal.returns

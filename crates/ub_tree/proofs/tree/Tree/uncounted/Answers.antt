@@ -1,6 +1,5 @@
 use Rattle.std.proofs.Common.{◌<◌, ◌^◌, arith, subst}
-use Rattle.ub_store.specs.Facts.{page_count}
-use Rattle.ub_tree.specs.View.{TreeView}
+use Rattle.ub_tree.proofs.Common.{page_count, TreeView}
 use Rattle.ub_tree.proofs.HoldingFacts.{never_full}
 use Rattle.ub_tree.proofs.tree.Tree.uncounted.Goals as goal
 

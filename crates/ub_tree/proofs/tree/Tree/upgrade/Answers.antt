@@ -1,16 +1,10 @@
 use Rattle.std.proofs.Common.{◌∙◌, inr, ap, map, subst, sym, refl, rules}
-use Rattle.ub_store.specs.Facts.{StoreFacts, IsHonest}
-use Rattle.ub_store.specs.View.{PagerView}
+use Rattle.ub_tree.proofs.Common.{entry_of, HasTable, head_of, IsCheckFault, IsHonest, IsLeftBy, IsUnopened, IsUpgraded, IsUpgradeFault, IsUpgradePassing}
+use Rattle.ub_tree.proofs.Common.{IsWell, PagerView, StoreFacts, TreeFault, TreeView, upgrade_fault}
 use Rattle.ub_tree.proofs.BroughtFacts.{pages_pass, table_fault, table_refused}
 use Rattle.ub_tree.proofs.UpgradeFacts.{can_bring, head_is}
-use Rattle.ub_tree.proofs.UpgradedFacts.{begun_of, carried_by, check_fault, header_small, made_of, refused_of, sound_made, stands_made, table_over, unopened_of, upgraded}
-use Rattle.ub_tree.specs.Checking.{IsCheckFault, IsWell}
-use Rattle.ub_tree.specs.Faults.{upgrade_fault}
-use Rattle.ub_tree.specs.Old.{head_of}
-use Rattle.ub_tree.specs.Placed.{entry_of}
-use Rattle.ub_tree.specs.Upgrade.{HasTable, IsLeftBy, IsUnopened, IsUpgraded, IsUpgradeFault, IsUpgradePassing}
-use Rattle.ub_tree.specs.View.{TreeView}
-use Rattle.ub_tree.specs.declared.fault.TreeFault.{TreeFault}
+use Rattle.ub_tree.proofs.UpgradedFacts.{begun_of, carried_by, check_fault, header_small, made_of, refused_of, sound_made, stands_made, table_over, unopened_of}
+use Rattle.ub_tree.proofs.UpgradedFacts.{upgraded}
 use Rattle.ub_tree.proofs.tree.Tree.upgrade.Goals as goal
 
 pub returns-in-Ok-bring_table : goal.returns-in-Ok-bring_table
