@@ -19,7 +19,7 @@ PAGE = TOP / "docs" / "BELIEVE.md"
 PROMISE = ("ub_shell", "program", "run_program")
 SHORT = "short"
 HEART = ("ub_query", "Meaning", "IsMeaning")
-USE = re.compile(r"(?:ghost |pub )?use (Rattle\.[^\s;{]+?)\.?(?:\{([^}]*)\}| as ([^\s;]+))?;?$")
+USE = re.compile(r"(?:ghost |(?:unfoldable )?pub )?use (Rattle\.[^\s;{]+?)\.?(?:\{([^}]*)\}| as ([^\s;]+))?;?$")
 
 # What a word stands for that is no definition of the repository: a type or a constant of its code, or a word of a library.
 Other = namedtuple("Other", "kind crate file name")

@@ -94,12 +94,12 @@ def lost_in_map():
 
 
 def lacking_in_map():
-    """The files of the libraries and of `ubq` that the table doesn't name in a row of their crate."""
+    """The files of the libraries and of `ubq` that the table doesn't name in a row of their crate, without those that only pass names on."""
     named = named_in_map()
     for crate in program_crates():
         sources = sorted((TOP / "crates" / crate / "src").glob("*.rt"))
         words = [(path.name, f"src/{path.name}") for path in sources if path.stem not in UNNAMED]
-        words += [(file.name, f"specs/{file.name}.antt") for file in files_outside_inner(crate)]
+        words += [(file.name, f"specs/{file.name}.antt") for file in files_outside_inner(crate) if file.definitions]
         for word, path in words:
             if (crate, word) not in named:
                 yield f"crates/{crate}/{path}"
