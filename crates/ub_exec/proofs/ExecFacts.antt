@@ -27,10 +27,10 @@ same_err (Err x) e f is q at told =
     let three : e ≡ f = cc in
     ap Err (one ∙ three)
 
--- a sweep by a plan of which more is known
+-- a sweep of a query of which more is known
 pub swept_where : (V W : Type 0) (p : PlanView) (old new : TreeView) (r : Result (List (List Cell)) ReadFault) → ExecutesSwept W p old new r → (V → W) → ExecutesSwept V p old new r
 swept_where V W p old new r executes of_w = record {
-  done = λ ready of. executes.done ready (of_w of);
+  done = λ ready kind of. executes.done ready kind (of_w of);
   shaped = executes.shaped;
   swept = executes.swept;
   notes = executes.notes;

@@ -1,7 +1,7 @@
 -- What the calls that carry out a plan promise, one record for each, and what those below them do.
 use Rattle.std.specs.Prelude.{◌≡◌, ℕ, false, IsTrue, List, Result, Ok, Err, IfOk, OnErr, OnOk, length, take}
 use Rattle.ub_exec.specs.Common.{Cell, Failed, IsShaped, PlanView, ReadFault, ReadsTree, Tree, TreeView}
-use Rattle.ub_exec.specs.Answers.{IsAnswer, IsReady, begun}
+use Rattle.ub_exec.specs.Answers.{IsAnswer, IsReady, IsSwept, begun}
 use Rattle.ub_exec.specs.Deleting.{Deletes, IsDeletionOf, ReadsFirst}
 use Rattle.ub_exec.specs.Reading.{CarriesOut, NotesPages, ReadsSwept}
 use Rattle.ub_exec.specs.Scanned.{IsOfRead, IsScanOf}
@@ -27,9 +27,9 @@ pub record Executes {A : Type 0} (p : PlanView) (old new : TreeView) (result : R
   pub reads : CarriesOut p (begun old) new (λ a. length (cells a)) result
   pub effect : ReadsTree old new result
 
--- the same by a sweep, where that is what the plan asks for
+-- the same by a sweep, where that is what the plan asks for, and where this holds of its query
 pub record ExecutesSwept (Of : Type 0) (p : PlanView) (old new : TreeView) (result : Result (List (List Cell)) ReadFault) : Type 0 where
-  pub done : IsReady old p → Of → Answers p old (begun old) new result (λ cells. cells)
+  pub done : IsReady old p → IsSwept p.kind → Of → Answers p old (begun old) new result (λ cells. cells)
   pub shaped : IfOk result (IsShaped p.asked)
   pub swept : ReadsSwept p (begun old) new (λ cells. length cells) result
   pub notes : NotesPages (begun old) new result

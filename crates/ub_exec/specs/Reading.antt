@@ -1,8 +1,8 @@
 -- What carrying out a plan reads of any tree, also of one that isn't sound: which pages are noted, and that each was taken in.
 use Rattle.std.specs.Prelude.{◌≡◌, ◌≢◌, ◌≤◌, ◌++◌, ◌∷◌, ◌⊎◌, [], ℕ, Bool, List, Option, Some, None, Result, Ok, Err, OnOk, length, map}
 use Rattle.ub_exec.specs.Common.{AllByRecursion, AreInOrder, AreStretchesOf, AreValued, AwaitedRegion, AwaitedStretch, Corners, HasNoted, HoldsAny}
-use Rattle.ub_exec.specs.Common.{IsSweepOf, IsTakenIn, KeepsTrace, Key, lowest, PlanView, ReadFault, Region, RegionRows, Row, times_held, TreeView}
-use Rattle.ub_exec.specs.Common.{whole_of}
+use Rattle.ub_exec.specs.Common.{IsSweepOf, IsTakenIn, KeepsTrace, Key, lowest, PlanView, ReadFault, ReadsTree, Region, RegionRows, Row}
+use Rattle.ub_exec.specs.Common.{times_held, TreeView, whole_of}
 use Rattle.ub_exec.specs.Answers.{IsSwept}
 use Rattle.ub_tetris.specs.Effects.{AreAsked, fetches_then}
 use Rattle.ub_tree.specs.Handing.{AreMetBy}
@@ -22,6 +22,11 @@ pub record NotesPages {A : Type 0} (old new : TreeView) (result : Result A ReadF
   pub trace_is : new.trace.pages ≡ old.trace.pages ++ noted
   pub fetches_are : new.trace.fetches ≡ fetches_then old.trace.fetches (length noted)
   pub read : OnOk result (AllByRecursion (IsRead old) noted)
+
+-- so pages were noted, and the tree was read and no more
+pub record ReadsNoting {A : Type 0} (old new : TreeView) (result : Result A ReadFault) : Type 0 where
+  pub notes : NotesPages old new result
+  pub reads : ReadsTree old new result
 
 -- no region that meets the boxes was passed over: all that the tree tells of were taken in, and their pages noted, in this order, and no others
 pub record HasReadAll (boxes : List Corners) (old new : TreeView) : Type 0 where

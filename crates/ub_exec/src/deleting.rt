@@ -1,11 +1,10 @@
 ghost use Rattle.std.specs.Prelude.{◌≡◌, ◌++◌, length, IfOk, OnOk};
 ghost use Rattle.ub_exec.specs.Calls.{DeletesBy, FetchesVisits};
 ghost use Rattle.ub_exec.specs.Deleting.{HasReadKeys, IsDeletionOf, TakesOutBy};
-ghost use Rattle.ub_exec.specs.Reading.{NotesPages};
+ghost use Rattle.ub_exec.specs.Reading.{ReadsNoting};
 ghost use Rattle.ub_exec.specs.Stand.{Stand, IsStandOf, selected_of};
 ghost use Rattle.ub_query.specs.Posed.{IsPosed};
 ghost use Rattle.ub_table.specs.Region.{keys_of};
-ghost use Rattle.ub_tree.specs.Reading.{ReadsTree};
 
 use crate::walking::walk;
 use std::alloc::{AllocError, Global};
@@ -67,14 +66,12 @@ fn keys_of_selected<S: PageStore>(
     plan: &Plan,
 ) -> Result<Vec<Key>, ReadFault>
     requires { IsPosed (length tree.old.schema.columns) plan.now.asked }
-    ensures keys { (s : Stand) → IsStandOf tree.old s → IsDeletionOf tree.old plan.now
-        → IfOk result
+    ensures keys { (s : Stand) → IsStandOf tree.old s → IsDeletionOf tree.old plan.now → IfOk result
         (λ keys. keys.items ≡ keys_of s.table.schema.dims (selected_of plan.now.asked s)) }
     ensures read { IfOk result (λ keys. HasReadKeys plan.now tree.old tree.new keys.items) }
     ensures fetches { IsDeletionOf tree.old plan.now
         → FetchesVisits plan.now tree.old tree.new result }
-    ensures notes { NotesPages tree.old tree.new result }
-    ensures effect { ReadsTree tree.old tree.new result }
+    ensures effect { ReadsNoting tree.old tree.new result }
 {
     let mut doomed = Doomed {
         keys: Vec::new(alloc),

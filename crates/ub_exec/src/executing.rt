@@ -1,4 +1,5 @@
-ghost use Rattle.std.specs.Prelude.{◌≡◌, ◌≢◌, ◌↔◌, true, false, [], Some, length, IsTrue, IfOk};
+ghost use Rattle.std.specs.Prelude.{◌≡◌, ◌≢◌, ◌↔◌, [], Some, length, IsTrue, IfOk};
+ghost use Rattle.std.specs.Bool.{MatchBool};
 ghost use Rattle.ub_answer.specs.Shaped.{IsShaped};
 ghost use Rattle.ub_exec.specs.Answers.{IsReady, IsSwept};
 ghost use Rattle.ub_exec.specs.Calls.{Answers, Executes, ExecutesSwept};
@@ -71,14 +72,14 @@ fn result_rows<S: PageStore>(
     }
 }
 
-// The rows of the result by a sweep. The trace begins anew.
+// The rows of the result by a sweep, whatever the query. The trace begins anew.
 fn swept<S: PageStore>(
     alloc: Global,
     tree: &mut Tree<S>,
     plan: &Plan,
 ) -> Result<ResultSet, ReadFault>
     requires { IsPosed (length tree.old.schema.columns) plan.now.asked }
-    ensures { ExecutesSwept (IsSwept plan.now.kind) plan.now tree.old tree.new result }
+    ensures { ExecutesSwept (Unit {0}) plan.now tree.old tree.new result }
 {
     if is_grouped(plan.query()) {
         swept_groups(alloc, tree, plan)
@@ -89,8 +90,7 @@ fn swept<S: PageStore>(
 
 // Whether a query has a GROUP BY.
 fn is_grouped(query: &Query) -> bool
-    ensures grouped { result ≡ true → query.now.group ≢ [] }
-    ensures plain { result ≡ false → query.now.group ≡ [] }
+    ensures { MatchBool result (query.now.group ≢ []) (query.now.group ≡ []) }
 {
     !query.group.as_slice().is_empty()
 }

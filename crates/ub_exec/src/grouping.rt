@@ -1,7 +1,6 @@
 ghost use Rattle.std.specs.Prelude.{◌≡◌, ◌≢◌, ◌≤◌, [], None, length, IfOk};
 ghost use Rattle.std.specs.List.{All};
 ghost use Rattle.ub_answer.specs.Shaped.{IsShaped};
-ghost use Rattle.ub_exec.specs.Answers.{IsSwept};
 ghost use Rattle.ub_exec.specs.Calls.{ExecutesSwept};
 ghost use Rattle.ub_query.specs.Meaning.{IsMeaning};
 ghost use Rattle.ub_query.specs.Posed.{IsPosed};
@@ -27,8 +26,7 @@ pub(crate) fn swept_groups<S: PageStore>(
     plan: &Plan,
 ) -> Result<ResultSet, ReadFault>
     requires { IsPosed (length tree.old.schema.columns) plan.now.asked }
-    ensures { ExecutesSwept (IsSwept plan.now.kind × (plan.now.asked.group ≢ [])) plan.now tree.old
-        tree.new result }
+    ensures { ExecutesSwept (plan.now.asked.group ≢ []) plan.now tree.old tree.new result }
 {
     match plan.query().limit {
         None => all_groups(alloc, tree, plan),
@@ -45,8 +43,7 @@ fn all_groups<S: PageStore>(
 ) -> Result<ResultSet, ReadFault>
     requires posed { IsPosed (length tree.old.schema.columns) plan.now.asked }
     requires whole { plan.now.asked.limit ≡ None }
-    ensures { ExecutesSwept (IsSwept plan.now.kind × (plan.now.asked.group ≢ [])) plan.now tree.old
-        tree.new result }
+    ensures { ExecutesSwept (plan.now.asked.group ≢ []) plan.now tree.old tree.new result }
 {
     let mut sweep = Sweep::new(alloc, tree, plan)?;
     let query = plan.query();
@@ -64,8 +61,7 @@ fn first_groups<S: PageStore>(
     plan: &Plan,
 ) -> Result<ResultSet, ReadFault>
     requires { IsPosed (length tree.old.schema.columns) plan.now.asked }
-    ensures { ExecutesSwept (IsSwept plan.now.kind × (plan.now.asked.group ≢ [])) plan.now tree.old
-        tree.new result }
+    ensures { ExecutesSwept (plan.now.asked.group ≢ []) plan.now tree.old tree.new result }
 {
     let mut sweep = Sweep::new(alloc, tree, plan)?;
     let query = plan.query();

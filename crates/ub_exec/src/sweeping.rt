@@ -1,14 +1,13 @@
-ghost use Rattle.std.specs.Prelude.{◌≡◌, ◌<◌, ◌++◌, ◌∷◌, ℕ, true, false, [], length, IfOk, IfSome, OnErr, OnOk};
+ghost use Rattle.std.specs.Prelude.{◌≡◌, ◌<◌, ◌++◌, ◌∷◌, ℕ, [], length, IfOk, IfSome, OnErr, OnOk};
+ghost use Rattle.std.specs.Bool.{MatchBool};
 ghost use Rattle.ub_answer.specs.Held.{lines};
-ghost use Rattle.ub_exec.specs.Answers.{IsSwept};
 ghost use Rattle.ub_exec.specs.Calls.{ExecutesSwept};
-ghost use Rattle.ub_exec.specs.Reading.{IsFilled, NotesPages, ReadsSwept};
+ghost use Rattle.ub_exec.specs.Reading.{IsFilled, ReadsNoting, ReadsSwept};
 ghost use Rattle.ub_exec.specs.Sweeping.{Fills, IsBegun};
 ghost use Rattle.ub_exec.specs.Visits.{HasFetchedFirst};
 ghost use Rattle.ub_query.specs.Posed.{IsPosed};
 ghost use Rattle.ub_query.specs.Shape.{asked};
 ghost use Rattle.ub_tetris.specs.Sweep.{HasBegun};
-ghost use Rattle.ub_tree.specs.Reading.{ReadsTree};
 
 use std::alloc::{AllocError, Global};
 use ub_answer::ResultSet;
@@ -27,8 +26,7 @@ pub(crate) fn swept_rows<S: PageStore>(
     plan: &Plan,
 ) -> Result<ResultSet, ReadFault>
     requires { IsPosed (length tree.old.schema.columns) plan.now.asked }
-    ensures { ExecutesSwept (IsSwept plan.now.kind × (plan.now.asked.group ≡ [])) plan.now tree.old
-        tree.new result }
+    ensures { ExecutesSwept (plan.now.asked.group ≡ []) plan.now tree.old tree.new result }
 {
     match Sweep::new(alloc, tree, plan) {
         Ok(mut sweep) => filled_rows(alloc, &mut sweep, tree, plan),
@@ -50,8 +48,7 @@ fn filled_rows<S: PageStore>(
     ensures swept { ReadsSwept plan.now tree.old tree.new (λ cells. length cells) result }
     ensures broken { HasBegun plan.now tree.old sweep.old → plan.now.asked.group ≡ []
         → OnErr result ((count : ℕ) × HasFetchedFirst plan.now tree.old tree.new count) }
-    ensures notes { NotesPages tree.old tree.new result }
-    ensures effect { ReadsTree tree.old tree.new result }
+    ensures effect { ReadsNoting tree.old tree.new result }
 {
     let query = plan.query();
     let mut rows = Vec::new(alloc);
@@ -84,8 +81,7 @@ fn result_of(rows: Vec<Row>, schema: &Schema, query: &Query) -> ResultSet
 /// Whether so many rows, or groups, are as many as the limit says. No count of the tree is asked how often a sweep is asked for
 /// more: in a file whose first page is damaged it may be wrong.
 pub(crate) fn is_filled(limit: Option<u64>, rows: usize) -> bool
-    ensures filled { result ≡ true → IsFilled limit rows }
-    ensures left { result ≡ false → IfSome limit (λ most. rows < most) }
+    ensures { MatchBool result (IsFilled limit rows) (IfSome limit (λ most. rows < most)) }
 {
     match limit {
         None => false,

@@ -1,12 +1,11 @@
 ghost use Rattle.std.specs.Prelude.{◌≡◌, ◌++◌, List, Some, length, option_copied, IfOk, IfSome, OnErr, OnOk};
 ghost use Rattle.std.specs.List.{filter};
-ghost use Rattle.ub_exec.specs.Reading.{AreRowsOfNext, HasReadAll, HasReadNext, HasReadRows, NotesPages, StandAhead};
+ghost use Rattle.ub_exec.specs.Reading.{AreRowsOfNext, HasReadAll, HasReadNext, HasReadRows, ReadsNoting, StandAhead};
 ghost use Rattle.ub_filter.specs.Choice.{IsFit, is_chosen};
 ghost use Rattle.ub_exec.specs.Visits.{Hands, HasTurned, HasTurnedSome, HasWalked, HasWalkedFirst};
 ghost use Rattle.ub_query.specs.Posed.{IsPosed};
 ghost use Rattle.ub_table.specs.declared.row.Row.{Row as RowView};
 ghost use Rattle.ub_tree.specs.Effects.{SearchesFor};
-ghost use Rattle.ub_tree.specs.Reading.{ReadsTree};
 ghost use Rattle.ub_tree.specs.Spans.{First, IsLater, Meets};
 ghost use Rattle.ub_tree.specs.Told.{GivesNext, IsRegionOf, SeeksNext};
 ghost use Rattle.ub_tree.specs.View.{IsSound, spans_of};
@@ -37,12 +36,10 @@ pub(crate) fn walk<S: PageStore, K: RowSink>(
         (λ rows. HasReadRows plan.now.covering.boxes tree.old tree.new rows
         × (IsSound tree.old → HasWalked plan.now.covering.boxes tree.old tree.new rows))) }
     ensures broken { (before : K) (taken : List RowView)
-        → K.HasTaken tree.old.schema plan.now.asked before taken sink.old
-        → IsSound tree.old → OnErr result (HasWalkedFirst plan.now.covering.boxes tree.old
-        tree.new) }
+        → K.HasTaken tree.old.schema plan.now.asked before taken sink.old → IsSound tree.old
+        → OnErr result (HasWalkedFirst plan.now.covering.boxes tree.old tree.new) }
     ensures all { OnOk result (HasReadAll plan.now.covering.boxes tree.old tree.new) }
-    ensures notes { NotesPages tree.old tree.new result }
-    ensures effect { ReadsTree tree.old tree.new result }
+    ensures effect { ReadsNoting tree.old tree.new result }
 {
     let mut page = tree.empty_region();
     let mut ahead = VecDeque::new(alloc);
@@ -86,8 +83,7 @@ fn visit_next<S: PageStore, K: RowSink>(
     ensures next { IfOk result (λ found. HasReadNext plan.now.covering.boxes
         (option_copied after.entry) tree.old tree.new found × IfSome found
         (λ span. StandAhead plan.now.covering.boxes tree.old (Some span) ahead.new.items)) }
-    ensures notes { NotesPages tree.old tree.new result }
-    ensures effect { ReadsTree tree.old tree.new result }
+    ensures effect { ReadsNoting tree.old tree.new result }
 {
     let are_new = ahead.is_empty();
     let Some(region) = take_next(tree, plan.boxes(), after, ahead)? else {

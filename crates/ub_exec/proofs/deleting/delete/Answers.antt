@@ -37,7 +37,7 @@ returns-in_err-keys g c = record {
   deleted = λ s stand deletion. no_answer c.from_residual.result _ _ c.from_residual.ensures.1;
   stopped = λ s stand deletion.
       on_err c.from_residual.result _
-      (λ working. read_stopped c.args.tree.now c.begin.new.self c.keys_of_selected.new.tree c.args.plan.now.asked s _ c.begin.ensures stand c.in_err-keys.ensures.effect);
+      (λ working. read_stopped c.args.tree.now c.begin.new.self c.keys_of_selected.new.tree c.args.plan.now.asked s _ c.begin.ensures stand c.in_err-keys.ensures.effect.reads);
   fetches = λ deletion. record {
     pages = no_result c.from_residual.result _ _ c.from_residual.ensures.1;
     broken =
@@ -48,12 +48,12 @@ returns-in_err-keys g c = record {
   untouched = λ same. not_answered c.from_residual.result _ _ c.from_residual.ensures.1 same;
   reads = first_by c.from_residual.result _ c.args.plan.now (begun c.args.tree.now) c.keys_of_selected.new.tree c.from_residual.ensures.1
       (first_read _ c.args.plan.now (begun c.args.tree.now) c.keys_of_selected.new.tree
-      (subst (λ (t : TreeView). ReadsTree t c.keys_of_selected.new.tree (Err c.in_err-keys.field-0.0)) c.begin.ensures c.in_err-keys.ensures.effect)
-      (subst (λ (t : TreeView). NotesPages t c.keys_of_selected.new.tree (Err c.in_err-keys.field-0.0)) c.begin.ensures c.in_err-keys.ensures.notes));
+      (subst (λ (t : TreeView). ReadsTree t c.keys_of_selected.new.tree (Err c.in_err-keys.field-0.0)) c.begin.ensures c.in_err-keys.ensures.effect.reads)
+      (subst (λ (t : TreeView). NotesPages t c.keys_of_selected.new.tree (Err c.in_err-keys.field-0.0)) c.begin.ensures c.in_err-keys.ensures.effect.notes));
   effect =
       deletes_by c.from_residual.result _ c.args.tree.now c.keys_of_selected.new.tree c.from_residual.ensures.1
       (deletes_read c.args.tree.now c.keys_of_selected.new.tree _ (works_still c.args.tree.now c.begin.new.self c.has_failed.result c.begin.ensures c.has_failed.ensures c.if-has_failed.false)
-      (subst (λ (t : TreeView). ReadsTree t c.keys_of_selected.new.tree (Err c.in_err-keys.field-0.0)) c.begin.ensures c.in_err-keys.ensures.effect));
+      (subst (λ (t : TreeView). ReadsTree t c.keys_of_selected.new.tree (Err c.in_err-keys.field-0.0)) c.begin.ensures c.in_err-keys.ensures.effect.reads));
 }
 
 pub returns-in_err-count : goal.returns-in_err-count
@@ -61,7 +61,7 @@ returns-in_err-count g c = record {
   deleted = λ s stand deletion. no_answer c.from_residual-in_err-count.result _ _ c.from_residual-in_err-count.ensures.1;
   stopped = λ s stand deletion.
       on_err c.from_residual-in_err-count.result _
-      (λ working. stopped_stand c.args.tree.now c.begin.new.self c.keys_of_selected.new.tree c.take_out.new.tree c.args.plan.now.asked s c.begin.ensures c.in_ok-keys.ensures.effect.same stand
+      (λ working. stopped_stand c.args.tree.now c.begin.new.self c.keys_of_selected.new.tree c.take_out.new.tree c.args.plan.now.asked s c.begin.ensures c.in_ok-keys.ensures.effect.reads.same stand
       c.as_slice.result.now
       (c.as_slice.ensures.value ∙ c.in_ok-keys.ensures.keys s (begun_stand c.args.tree.now c.begin.new.self s c.begin.ensures stand) (begun_deletion c.args.tree.now c.begin.new.self c.args.plan.now c.begin.ensures deletion))
       _ c.in_err-count.ensures working);
@@ -69,7 +69,7 @@ returns-in_err-count g c = record {
     pages = no_result c.from_residual-in_err-count.result _ _ c.from_residual-in_err-count.ensures.1;
     broken =
         let working = works_still c.args.tree.now c.begin.new.self c.has_failed.result c.begin.ensures c.has_failed.ensures c.if-has_failed.false in
-        let traced = begun_then c.args.tree.now c.begin.new.self c.keys_of_selected.new.tree c.begin.ensures c.in_ok-keys.ensures.effect.same in
+        let traced = begun_then c.args.tree.now c.begin.new.self c.keys_of_selected.new.tree c.begin.ensures c.in_ok-keys.ensures.effect.reads.same in
         let still = ap (λ (t : TreeView). t.is_failed) traced ∙ working in
         on_err c.from_residual-in_err-count.result _
         (all_fetched c.args.plan.now (begun c.args.tree.now) c.take_out.new.tree
@@ -81,12 +81,12 @@ returns-in_err-count g c = record {
   untouched = λ same. not_answered c.from_residual-in_err-count.result _ _ c.from_residual-in_err-count.ensures.1 same;
   reads =
       let working = works_still c.args.tree.now c.begin.new.self c.has_failed.result c.begin.ensures c.has_failed.ensures c.if-has_failed.false in
-      let traced = begun_then c.args.tree.now c.begin.new.self c.keys_of_selected.new.tree c.begin.ensures c.in_ok-keys.ensures.effect.same in
+      let traced = begun_then c.args.tree.now c.begin.new.self c.keys_of_selected.new.tree c.begin.ensures c.in_ok-keys.ensures.effect.reads.same in
       let still = ap (λ (t : TreeView). t.is_failed) traced ∙ working in
       first_by c.from_residual-in_err-count.result _ c.args.plan.now (begun c.args.tree.now) c.take_out.new.tree c.from_residual-in_err-count.ensures.1
       (first_stopped c.in_ok-keys.keys c.args.plan.now (begun c.args.tree.now) c.keys_of_selected.new.tree c.take_out.new.tree
-      (subst (λ (t : TreeView). ReadsTree t c.keys_of_selected.new.tree (Ok c.in_ok-keys.keys)) c.begin.ensures c.in_ok-keys.ensures.effect)
-      (subst (λ (t : TreeView). NotesPages t c.keys_of_selected.new.tree (Ok c.in_ok-keys.keys)) c.begin.ensures c.in_ok-keys.ensures.notes)
+      (subst (λ (t : TreeView). ReadsTree t c.keys_of_selected.new.tree (Ok c.in_ok-keys.keys)) c.begin.ensures c.in_ok-keys.ensures.effect.reads)
+      (subst (λ (t : TreeView). NotesPages t c.keys_of_selected.new.tree (Ok c.in_ok-keys.keys)) c.begin.ensures c.in_ok-keys.ensures.effect.notes)
       c.as_slice.result.now
       (subst (λ (keys : List Key). HasReadKeys c.args.plan.now (begun c.args.tree.now) c.keys_of_selected.new.tree keys) (sym c.as_slice.ensures.value)
       (subst (λ (t : TreeView). HasReadKeys c.args.plan.now t c.keys_of_selected.new.tree c.in_ok-keys.keys.items) c.begin.ensures c.in_ok-keys.ensures.read))
@@ -95,13 +95,13 @@ returns-in_err-count g c = record {
       deletes_by c.from_residual-in_err-count.result _ c.args.tree.now c.take_out.new.tree c.from_residual-in_err-count.ensures.1
       (deletes_stopped c.args.tree.now c.keys_of_selected.new.tree c.take_out.new.tree
       (works_still c.args.tree.now c.begin.new.self c.has_failed.result c.begin.ensures c.has_failed.ensures c.if-has_failed.false)
-      (begun_then c.args.tree.now c.begin.new.self c.keys_of_selected.new.tree c.begin.ensures c.in_ok-keys.ensures.effect.same) c.as_slice.result.now _ c.in_err-count.ensures);
+      (begun_then c.args.tree.now c.begin.new.self c.keys_of_selected.new.tree c.begin.ensures c.in_ok-keys.ensures.effect.reads.same) c.as_slice.result.now _ c.in_err-count.ensures);
 }
 
 pub returns : goal.returns
 returns g c = record {
   deleted = λ s stand deletion.
-      done_stand c.args.tree.now c.begin.new.self c.keys_of_selected.new.tree c.take_out.new.tree c.args.plan.now.asked s c.begin.ensures c.in_ok-keys.ensures.effect.same stand
+      done_stand c.args.tree.now c.begin.new.self c.keys_of_selected.new.tree c.take_out.new.tree c.args.plan.now.asked s c.begin.ensures c.in_ok-keys.ensures.effect.reads.same stand
       c.as_slice.result.now
       (c.as_slice.ensures.value ∙ c.in_ok-keys.ensures.keys s (begun_stand c.args.tree.now c.begin.new.self s c.begin.ensures stand) (begun_deletion c.args.tree.now c.begin.new.self c.args.plan.now c.begin.ensures deletion))
       c.in_ok-count.count c.in_ok-count.ensures;
@@ -116,11 +116,11 @@ returns g c = record {
   };
   untouched = λ none.
       none_gone c.as_slice.result.now c.args.tree.now c.keys_of_selected.new.tree c.take_out.new.tree c.in_ok-count.count
-      (begun_then c.args.tree.now c.begin.new.self c.keys_of_selected.new.tree c.begin.ensures c.in_ok-keys.ensures.effect.same) c.in_ok-count.ensures cc;
+      (begun_then c.args.tree.now c.begin.new.self c.keys_of_selected.new.tree c.begin.ensures c.in_ok-keys.ensures.effect.reads.same) c.in_ok-count.ensures cc;
   reads =
       first_done c.in_ok-keys.keys c.args.plan.now (begun c.args.tree.now) c.keys_of_selected.new.tree c.take_out.new.tree
-      (subst (λ (t : TreeView). ReadsTree t c.keys_of_selected.new.tree (Ok c.in_ok-keys.keys)) c.begin.ensures c.in_ok-keys.ensures.effect)
-      (subst (λ (t : TreeView). NotesPages t c.keys_of_selected.new.tree (Ok c.in_ok-keys.keys)) c.begin.ensures c.in_ok-keys.ensures.notes)
+      (subst (λ (t : TreeView). ReadsTree t c.keys_of_selected.new.tree (Ok c.in_ok-keys.keys)) c.begin.ensures c.in_ok-keys.ensures.effect.reads)
+      (subst (λ (t : TreeView). NotesPages t c.keys_of_selected.new.tree (Ok c.in_ok-keys.keys)) c.begin.ensures c.in_ok-keys.ensures.effect.notes)
       c.as_slice.result.now
       (subst (λ (keys : List Key). HasReadKeys c.args.plan.now (begun c.args.tree.now) c.keys_of_selected.new.tree keys) (sym c.as_slice.ensures.value)
       (subst (λ (t : TreeView). HasReadKeys c.args.plan.now t c.keys_of_selected.new.tree c.in_ok-keys.keys.items) c.begin.ensures c.in_ok-keys.ensures.read))
@@ -128,7 +128,7 @@ returns g c = record {
   effect =
       deletes_done c.args.tree.now c.keys_of_selected.new.tree c.take_out.new.tree
       (works_still c.args.tree.now c.begin.new.self c.has_failed.result c.begin.ensures c.has_failed.ensures c.if-has_failed.false)
-      (begun_then c.args.tree.now c.begin.new.self c.keys_of_selected.new.tree c.begin.ensures c.in_ok-keys.ensures.effect.same) c.as_slice.result.now c.in_ok-count.count c.in_ok-count.ensures;
+      (begun_then c.args.tree.now c.begin.new.self c.keys_of_selected.new.tree c.begin.ensures c.in_ok-keys.ensures.effect.reads.same) c.as_slice.result.now c.in_ok-count.count c.in_ok-count.ensures;
 }
 
 pub keys_of_selected-requires : goal.keys_of_selected-requires

@@ -60,17 +60,17 @@ returns-in_err-walk-clause-keys g c s stand deletion = no_answer c.from_residual
 pub returns-in_err-walk-clause-read : goal.returns-in_err-walk-clause-read
 returns-in_err-walk-clause-read g c = no_answer c.from_residual.result _ _ c.from_residual.ensures.1
 
-pub returns-in_err-walk-clause-notes : goal.returns-in_err-walk-clause-notes
-returns-in_err-walk-clause-notes g c = notes_err c.from_residual.result _ (Err _) c.args.tree.now c.walk.new.tree c.from_residual.ensures.1 c.in_err-walk.ensures.notes
-
 pub returns-in_err-walk-clause-effect : goal.returns-in_err-walk-clause-effect
-returns-in_err-walk-clause-effect g c = reads_by c.from_residual.result _ c.args.tree.now c.args.tree.now c.walk.new.tree c.from_residual.ensures.1 refl c.in_err-walk.ensures.effect
-
-pub returns-clause-notes : goal.returns-clause-notes
-returns-clause-notes g c = notes_ok _ _ c.args.tree.now c.walk.new.tree c.in_ok-walk.ensures.notes
+returns-in_err-walk-clause-effect g c = record {
+  notes = notes_err c.from_residual.result _ (Err _) c.args.tree.now c.walk.new.tree c.from_residual.ensures.1 c.in_err-walk.ensures.effect.notes;
+  reads = reads_by c.from_residual.result _ c.args.tree.now c.args.tree.now c.walk.new.tree c.from_residual.ensures.1 refl c.in_err-walk.ensures.effect.reads;
+}
 
 pub returns-clause-effect : goal.returns-clause-effect
-returns-clause-effect g c = record { same = c.in_ok-walk.ensures.effect.same; faults = tt }
+returns-clause-effect g c = record {
+  notes = notes_ok _ _ c.args.tree.now c.walk.new.tree c.in_ok-walk.ensures.effect.notes;
+  reads = record { same = c.in_ok-walk.ensures.effect.reads.same; faults = tt };
+}
 
 pub of-choice-requires : goal.of-choice-requires
 of-choice-requires g c =

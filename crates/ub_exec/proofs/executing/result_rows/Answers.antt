@@ -65,7 +65,7 @@ returns-in-Sweep g c =
     let sweeps = c.swept.ensures in
     record {
       done = λ ready.
-          let done = sweeps.done (then c.args.tree.now c.begin.new.self plan c.begin.ensures ready) kind in
+          let done = sweeps.done (then c.args.tree.now c.begin.new.self plan c.begin.ensures ready) kind tt in
           record {
             rows = subst (λ (t : TreeView). IfOk c.swept.result (λ cells. IsAnswer t plan.asked cells)) c.begin.ensures done.rows;
             fetches = subst (λ (t : TreeView). FetchesVisits plan (begun t) c.swept.new.tree c.swept.result) c.begin.ensures done.fetches;

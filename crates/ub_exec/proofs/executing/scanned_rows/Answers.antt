@@ -44,7 +44,7 @@ returns-clause-scanned g c scan =
     let f = is_chosen c.of-choice.result c.args.tree.now.schema c.args.plan.now in
     let begun = subst (λ (q : Asked). IsGathered c.args.tree.now.schema q [] c.new-gathering.result) same (subst (λ (s : Schema). IsGathered s query [] c.new-gathering.result) c.schema.ensures c.new-gathering.ensures.gathered) in
     let (handed, held, walk) = c.in_ok-walk.ensures.rows c.new-gathering.result [] (none_taken c.args.tree.now.schema c.args.plan.now.asked c.new-gathering.result) in
-    let after : c.schema-3.result.now ≡ c.args.tree.now.schema = c.schema-3.ensures ∙ ap (λ (t : TreeView). t.schema) c.in_ok-walk.ensures.effect.same in
+    let after : c.schema-3.result.now ≡ c.args.tree.now.schema = c.schema-3.ensures ∙ ap (λ (t : TreeView). t.schema) c.in_ok-walk.ensures.effect.reads.same in
     answered_read c.args.tree.now c.walk.new.tree c.args.plan.now scan.0 scan.1 c.of-choice.result query same handed walk.0 _
     (λ table condition schema order numbers chosen.
     c.in_ok-finish.ensures.answer table condition (filter f handed) (schema ∙ sym after) order numbers chosen
@@ -68,15 +68,15 @@ returns-then-asks_for_none-clause-reads g c apart =
     carries_none (λ (cells : List (List Cell)). length cells) _ c.args.plan.now c.args.tree.now c.args.tree.now apart refl limit
 
 pub returns-clause-reads : goal.returns-clause-reads
-returns-clause-reads g c apart = carries_all (λ (cells : List (List Cell)). length cells) _ _ c.args.plan.now c.args.tree.now c.walk.new.tree apart c.in_ok-walk.ensures.notes c.in_ok-walk.ensures.all
+returns-clause-reads g c apart = carries_all (λ (cells : List (List Cell)). length cells) _ _ c.args.plan.now c.args.tree.now c.walk.new.tree apart c.in_ok-walk.ensures.effect.notes c.in_ok-walk.ensures.all
 
 pub returns-in_err-walk-clause-reads : goal.returns-in_err-walk-clause-reads
 returns-in_err-walk-clause-reads g c apart =
-    carries_err (λ (cells : List (List Cell)). length cells) c.from_residual.result _ (Err _) c.args.plan.now c.args.tree.now c.walk.new.tree apart c.from_residual.ensures.1 c.in_err-walk.ensures.notes
+    carries_err (λ (cells : List (List Cell)). length cells) c.from_residual.result _ (Err _) c.args.plan.now c.args.tree.now c.walk.new.tree apart c.from_residual.ensures.1 c.in_err-walk.ensures.effect.notes
 
 pub returns-in_err-finish-clause-reads : goal.returns-in_err-finish-clause-reads
 returns-in_err-finish-clause-reads g c apart =
-    carries_err (λ (cells : List (List Cell)). length cells) c.from_residual-in_err-finish.result _ (Ok _) c.args.plan.now c.args.tree.now c.walk.new.tree apart c.from_residual-in_err-finish.ensures.1 c.in_ok-walk.ensures.notes
+    carries_err (λ (cells : List (List Cell)). length cells) c.from_residual-in_err-finish.result _ (Ok _) c.args.plan.now c.args.tree.now c.walk.new.tree apart c.from_residual-in_err-finish.ensures.1 c.in_ok-walk.ensures.effect.notes
 
 pub returns-in_err-walk-clause-shaped : goal.returns-in_err-walk-clause-shaped
 returns-in_err-walk-clause-shaped g c = no_answer c.from_residual.result _ _ c.from_residual.ensures.1
@@ -85,14 +85,14 @@ pub returns-in_err-finish-clause-shaped : goal.returns-in_err-finish-clause-shap
 returns-in_err-finish-clause-shaped g c = no_answer c.from_residual-in_err-finish.result _ _ c.from_residual-in_err-finish.ensures.1
 
 pub returns-in_err-walk-clause-effect : goal.returns-in_err-walk-clause-effect
-returns-in_err-walk-clause-effect g c = reads_by c.from_residual.result _ c.args.tree.now c.args.tree.now c.walk.new.tree c.from_residual.ensures.1 refl c.in_err-walk.ensures.effect
+returns-in_err-walk-clause-effect g c = reads_by c.from_residual.result _ c.args.tree.now c.args.tree.now c.walk.new.tree c.from_residual.ensures.1 refl c.in_err-walk.ensures.effect.reads
 
 pub returns-in_err-finish-clause-effect : goal.returns-in_err-finish-clause-effect
 returns-in_err-finish-clause-effect g c =
-    memory_reads c.from_residual-in_err-finish.result c.args.tree.now c.walk.new.tree c.from_residual-in_err-finish.ensures.1 c.in_ok-walk.ensures.effect.same
+    memory_reads c.from_residual-in_err-finish.result c.args.tree.now c.walk.new.tree c.from_residual-in_err-finish.ensures.1 c.in_ok-walk.ensures.effect.reads.same
 
 pub returns-clause-effect : goal.returns-clause-effect
-returns-clause-effect g c = record { same = c.in_ok-walk.ensures.effect.same; faults = tt }
+returns-clause-effect g c = record { same = c.in_ok-walk.ensures.effect.reads.same; faults = tt }
 
 pub returns-then-asks_for_none-clause-done : goal.returns-then-asks_for_none-clause-done
 returns-then-asks_for_none-clause-done g c ready apart =
@@ -111,7 +111,7 @@ returns-clause-done g c ready apart = record {
       let f = is_chosen c.of-choice.result c.args.tree.now.schema c.args.plan.now in
       let begun = subst (λ (q : Asked). IsGathered c.args.tree.now.schema q [] c.new-gathering.result) same (subst (λ (s : Schema). IsGathered s query [] c.new-gathering.result) c.schema.ensures c.new-gathering.ensures.gathered) in
       let (handed, held, walk) = c.in_ok-walk.ensures.rows c.new-gathering.result [] (none_taken c.args.tree.now.schema c.args.plan.now.asked c.new-gathering.result) in
-      let after : c.schema-3.result.now ≡ c.args.tree.now.schema = c.schema-3.ensures ∙ ap (λ (t : TreeView). t.schema) c.in_ok-walk.ensures.effect.same in
+      let after : c.schema-3.result.now ≡ c.args.tree.now.schema = c.schema-3.ensures ∙ ap (λ (t : TreeView). t.schema) c.in_ok-walk.ensures.effect.reads.same in
       answered c.args.tree.now ready.sound rows are c.args.plan.now ready.planned some c.of-choice.result query same c.walk.new.tree handed (walk.1 ready.sound) _
       (λ table condition schema order numbers chosen.
       c.in_ok-finish.ensures.answer table condition (filter f handed) (schema ∙ sym after) order numbers chosen
@@ -160,4 +160,4 @@ walk-requires-clause-fit g c =
 pub finish-requires : goal.finish-requires
 finish-requires g c =
     posed_as c.args.tree.now.schema c.schema-3.result.now c.args.plan.now.asked (asked c.query-query.result.now)
-    (c.schema-3.ensures ∙ ap (λ (t : TreeView). t.schema) c.in_ok-walk.ensures.effect.same) c.query-query.ensures c.requires
+    (c.schema-3.ensures ∙ ap (λ (t : TreeView). t.schema) c.in_ok-walk.ensures.effect.reads.same) c.query-query.ensures c.requires

@@ -41,7 +41,7 @@ returns-in_err-sweep g c =
     let is = c.from_residual.ensures.1 in
     let kept = begun_err _ start new c.in_err-sweep.ensures.effect in
     record {
-      done = λ ready of. answers_err c.from_residual.result _ plan start (begun start) new (λ cells. cells) is (none_fetched plan (begun start) new (ready_begun start plan ready) kept);
+      done = λ ready kind of. answers_err c.from_residual.result _ plan start (begun start) new (λ cells. cells) is (none_fetched plan (begun start) new (ready_begun start plan ready) kept);
       shaped = no_answer c.from_residual.result _ _ is;
       swept = swept_err (λ (rows : List (List Cell)). length rows) c.from_residual.result _ plan (begun start) new is (λ dim is_descending of. inl kept);
       notes = notes_none c.from_residual.result (begun start) new kept;
@@ -63,12 +63,12 @@ returns-in_err-hand_over g c =
     let kept = Keeps-by start mid (begun_traced start mid begins) in
     let is = c.from_residual-in_err-hand_over.ensures.1 in
     record {
-      done = λ ready of.
-          let (dim, is_descending, way) = swept_kind plan.kind of.0 in
+      done = λ ready kind of.
+          let (dim, is_descending, way) = swept_kind plan.kind kind in
           let has = began.begun dim is_descending (record { sound = ready.sound; planned = ready.planned; kind = way }) in
           answers_err c.from_residual-in_err-hand_over.result _ plan start (begun start) new (λ cells. cells) is
           (whole_first plan start mid dim is_descending sweep ready way c.requires.whole has kept new
-          (ap (λ (t : TreeView). t.placed) stop.effect.same ∙ kept.regions.placed) (noted_more (Err _) start mid new (begun_fetches start mid begins) stop.notes) of.1
+          (ap (λ (t : TreeView). t.placed) stop.effect.same ∙ kept.regions.placed) (noted_more (Err _) start mid new (begun_fetches start mid begins) stop.notes) of
           (c.in_err-hand_over.ensures.hands.broken [] has.rest [] has.unread has.sweeping));
       shaped = no_answer c.from_residual-in_err-hand_over.result _ _ is;
       swept = swept_err (λ (rows : List (List Cell)). length rows) c.from_residual-in_err-hand_over.result _ plan (begun start) new is
@@ -95,14 +95,14 @@ returns-in_err-finish g c =
     let kept_then = Keeps-more _ _ _ kept (Keeps-by mid new all.effect.same) in
     let is = c.from_residual-in_err-finish.ensures.1 in
     record {
-      done = λ ready of.
-          let (dim, is_descending, way) = swept_kind plan.kind of.0 in
+      done = λ ready kind of.
+          let (dim, is_descending, way) = swept_kind plan.kind kind in
           let has = began.begun dim is_descending (record { sound = ready.sound; planned = ready.planned; kind = way }) in
           let (handed, takes, (found, over)) = c.in_ok-hand_over.ensures.hands.rows in
           answers_err c.from_residual-in_err-finish.result _ plan start (begun start) new (λ cells. cells) is
           (all_fetched plan (begun start) new
           (whole_fetched plan start mid dim is_descending sweep ready way c.requires.whole has kept new kept_then handed (over [] has.rest [] has.unread has.sweeping)
-          (noted_more (Ok _) start mid new (begun_fetches start mid begins) all.notes) of.1));
+          (noted_more (Ok _) start mid new (begun_fetches start mid begins) all.notes) of));
       shaped = no_answer c.from_residual-in_err-finish.result _ _ is;
       swept = swept_err (λ (rows : List (List Cell)). length rows) c.from_residual-in_err-finish.result _ plan (begun start) new is
           (λ dim is_descending of. inr (swept_first plan (begun start) new (record sweep { awaited = [] })
@@ -128,8 +128,8 @@ returns g c =
     let kept_on = Keeps-by mid new all.effect.same in
     let kept_then = Keeps-more _ _ _ kept kept_on in
     record {
-      done = λ ready of.
-          let (dim, is_descending, way) = swept_kind plan.kind of.0 in
+      done = λ ready kind of.
+          let (dim, is_descending, way) = swept_kind plan.kind kind in
           let has = began.begun dim is_descending (record { sound = ready.sound; planned = ready.planned; kind = way }) in
           let (handed, takes, (found, over)) = c.in_ok-hand_over.ensures.hands.rows in
           let gathered = subst (λ (q : Asked). IsGathered mid.schema q [] c.new-gathering.result) same (subst (λ (s : Schema). IsGathered s query [] c.new-gathering.result) c.schema.ensures c.new-gathering.ensures.gathered) in
@@ -143,7 +143,7 @@ returns g c =
                 (subst (λ (s : Schema). IsGathered s plan.asked handed c.hand_over.new.sink) (sym after) held)));
             fetches = record {
               pages = whole_fetched plan start mid dim is_descending sweep ready way c.requires.whole has kept new kept_then handed (over [] has.rest [] has.unread has.sweeping)
-                  (noted_more (Ok _) start mid new (begun_fetches start mid begins) all.notes) of.1;
+                  (noted_more (Ok _) start mid new (begun_fetches start mid begins) all.notes) of;
               broken = tt;
             };
           };

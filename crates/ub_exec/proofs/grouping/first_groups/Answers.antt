@@ -1,4 +1,5 @@
 use Rattle.std.proofs.Common.{◌≡◌, ◌≢◌, ◌∙◌, [], inl, inr, List, None, Some, Ok, Err, length, ap, refl, subst, sym}
+use Rattle.std.proofs.lemmas.Bool.{MatchBool-at_false, MatchBool-at_true}
 use Rattle.ub_exec.proofs.AskFacts.{begun_err, begun_ok, broke, came}
 use Rattle.ub_exec.proofs.BreakFacts.{ready_begun}
 use Rattle.ub_exec.proofs.ComeFacts.{HasComeOn-more, HasComeOn-none, swept_broken, swept_first, swept_full, swept_whole}
@@ -15,7 +16,7 @@ use Rattle.ub_query.specs.declared.cell.Cell.{Cell}
 use Rattle.ub_table.specs.declared.schema.Schema.{Schema}
 use Rattle.ub_tree.proofs.Laws.{Keeps-by, Keeps-more, begun_traced, reads_by, unchanged_trace}
 use Rattle.ub_tree.specs.View.{TreeView}
-use Rattle.ub_exec.specs.Answers.{IsSwept, begun}
+use Rattle.ub_exec.specs.Answers.{begun}
 use Rattle.ub_exec.specs.Calls.{ExecutesSwept}
 use Rattle.ub_exec.proofs.grouping.first_groups.Goals as goal
 
@@ -64,7 +65,7 @@ loop-query-preserved g c =
       shaped = shaped_joined plan.asked query c.loop-query.groups c.in_ok-more.more c.extend.new.self same inv.shaped c.in_ok-more.ensures.shaped c.in_ok-extend.ensures;
       come_on = HasComeOn-more plan (begun start) t c.loop-query.sweep traced inv.come_on new _ c.next_value.new.self turn.comes;
       come = HaveSwept-more plan start t (length start.schema.columns) c.requires c.loop-query.sweep c.loop-query.groups inv.kept inv.come new c.next_value.new.self c.in-Some.rows.items kept
-          (left_is query plan.asked c.len.result c.loop-query.groups same c.len.ensures (c.is_filled.ensures.left c.loop-query-test.true))
+          (left_is query plan.asked c.len.result c.loop-query.groups same c.len.ensures (MatchBool-at_false _ _ c.loop-query-test.true c.is_filled.ensures))
           (value_steps _ plan c.loop-query.sweep c.next_value.new.self t new _ (Some c.in-Some.rows) c.in-Some.is c.in_ok-rows.ensures.gives)
           c.schema.result.now query c.as_slice.result.now c.schema.ensures same c.as_slice.ensures.value c.in_ok-more.more c.extend.new.self c.in_ok-more.ensures.meaning c.in_ok-extend.ensures;
     }
@@ -93,11 +94,11 @@ returns g c =
     let inv = c.loop-query.invariant in
     let plan = c.args.plan.now in
     let start = c.args.tree.now in
-    let full = filled_is (asked c.query-query.result.now) plan.asked c.len.result c.loop-query.groups c.query-query.ensures c.len.ensures (c.is_filled.ensures.filled c.loop-query-test.false) in
-    subst (λ (cells : List (List Cell)). ExecutesSwept (IsSwept plan.kind × (plan.asked.group ≢ [])) plan start c.loop-query.tree (Ok cells)) (sym c.of_cells-2.ensures) (
+    let full = filled_is (asked c.query-query.result.now) plan.asked c.len.result c.loop-query.groups c.query-query.ensures c.len.ensures (MatchBool-at_true _ _ c.loop-query-test.false c.is_filled.ensures) in
+    subst (λ (cells : List (List Cell)). ExecutesSwept (plan.asked.group ≢ []) plan start c.loop-query.tree (Ok cells)) (sym c.of_cells-2.ensures) (
     record {
-      done = λ ready of.
-          let both = filled_groups plan start c.loop-query.tree (length start.schema.columns) c.requires c.loop-query.sweep c.loop-query.groups inv.kept inv.come ready of.0 of.1 full inv.fetches in
+      done = λ ready kind of.
+          let both = filled_groups plan start c.loop-query.tree (length start.schema.columns) c.requires c.loop-query.sweep c.loop-query.groups inv.kept inv.come ready kind of full inv.fetches in
           record { rows = both.1; fetches = record { pages = both.0; broken = tt } };
       shaped = inv.shaped;
       swept = λ dim is_descending of. swept_full plan (begun start) c.loop-query.tree c.loop-query.sweep inv.come_on dim is_descending of plan.asked.limit (length c.loop-query.groups) full;
@@ -118,11 +119,11 @@ returns-in_default g c =
     let comes = turn.comes in
     let traced = traced_begun start t inv.kept.traced in
     let kept = Keeps-more _ _ _ inv.kept (Keeps-by t new turn.effect.same) in
-    let left = left_is (asked c.query-query.result.now) plan.asked c.len.result c.loop-query.groups c.query-query.ensures c.len.ensures (c.is_filled.ensures.left c.loop-query-test.true) in
-    subst (λ (cells : List (List Cell)). ExecutesSwept (IsSwept plan.kind × (plan.asked.group ≢ [])) plan start new (Ok cells)) (sym c.of_cells.ensures) (
+    let left = left_is (asked c.query-query.result.now) plan.asked c.len.result c.loop-query.groups c.query-query.ensures c.len.ensures (MatchBool-at_false _ _ c.loop-query-test.true c.is_filled.ensures) in
+    subst (λ (cells : List (List Cell)). ExecutesSwept (plan.asked.group ≢ []) plan start new (Ok cells)) (sym c.of_cells.ensures) (
     record {
-      done = λ ready of.
-          let both = ended_groups plan start t (length start.schema.columns) c.requires c.loop-query.sweep c.loop-query.groups inv.kept inv.come ready of.0 of.1 left
+      done = λ ready kind of.
+          let both = ended_groups plan start t (length start.schema.columns) c.requires c.loop-query.sweep c.loop-query.groups inv.kept inv.come ready kind of left
           new c.next_value.new.self (noted_more (Ok _) start t new inv.fetches turn.notes) kept (value_steps _ plan c.loop-query.sweep c.next_value.new.self t new _ None c.in_default.is c.in_ok-rows.ensures.gives) in
           record { rows = both.1; fetches = record { pages = both.0; broken = tt } };
       shaped = inv.shaped;
@@ -142,7 +143,7 @@ returns-in_err-sweep g c =
     let is = c.from_residual.ensures.1 in
     let kept = begun_err _ start new c.in_err-sweep.ensures.effect in
     record {
-      done = λ ready of. answers_err c.from_residual.result _ plan start (begun start) new (λ cells. cells) is (none_fetched plan (begun start) new (ready_begun start plan ready) kept);
+      done = λ ready kind of. answers_err c.from_residual.result _ plan start (begun start) new (λ cells. cells) is (none_fetched plan (begun start) new (ready_begun start plan ready) kept);
       shaped = no_answer c.from_residual.result _ _ is;
       swept = swept_err (λ (rows : List (List Cell)). length rows) c.from_residual.result _ plan (begun start) new is (λ dim is_descending of. inl kept);
       notes = notes_none c.from_residual.result (begun start) new kept;
@@ -159,10 +160,10 @@ returns-in_err-rows g c =
     let new = c.next_value.new.tree in
     let is = c.from_residual-in_err-rows.ensures.1 in
     let stop = broke _ plan _ _ c.loop-query.sweep c.next_value.new.self t new refl inv.works c.in_err-rows.ensures.gives.effect in
-    let left = left_is (asked c.query-query.result.now) plan.asked c.len.result c.loop-query.groups c.query-query.ensures c.len.ensures (c.is_filled.ensures.left c.loop-query-test.true) in
+    let left = left_is (asked c.query-query.result.now) plan.asked c.len.result c.loop-query.groups c.query-query.ensures c.len.ensures (MatchBool-at_false _ _ c.loop-query-test.true c.is_filled.ensures) in
     record {
-      done = λ ready of. answers_err c.from_residual-in_err-rows.result _ plan start (begun start) new (λ cells. cells) is
-          (broken_before_rows plan start t (length start.schema.columns) c.requires c.loop-query.sweep c.loop-query.groups inv.kept inv.come ready of.0 of.1 left
+      done = λ ready kind of. answers_err c.from_residual-in_err-rows.result _ plan start (begun start) new (λ cells. cells) is
+          (broken_before_rows plan start t (length start.schema.columns) c.requires c.loop-query.sweep c.loop-query.groups inv.kept inv.come ready kind of left
           new c.next_value.new.self (noted_more (Err _) start t new inv.fetches stop.notes) (ap (λ (t : TreeView). t.placed) stop.effect.same) c.in_err-rows.ensures.gives.broken);
       shaped = no_answer c.from_residual-in_err-rows.result _ _ is;
       swept = swept_err (λ (rows : List (List Cell)). length rows) c.from_residual-in_err-rows.result _ plan (begun start) new is
@@ -185,10 +186,10 @@ returns-in_err-more g c =
     let turn = came _ _ plan _ c.loop-query.sweep c.next_value.new.self t new inv.works c.in_ok-rows.ensures.gives c.in_ok-rows.ensures.once in
     let traced = traced_begun start t inv.kept.traced in
     let kept = Keeps-more _ _ _ inv.kept (Keeps-by t new turn.effect.same) in
-    let left = left_is (asked c.query-query.result.now) plan.asked c.len.result c.loop-query.groups c.query-query.ensures c.len.ensures (c.is_filled.ensures.left c.loop-query-test.true) in
+    let left = left_is (asked c.query-query.result.now) plan.asked c.len.result c.loop-query.groups c.query-query.ensures c.len.ensures (MatchBool-at_false _ _ c.loop-query-test.true c.is_filled.ensures) in
     record {
-      done = λ ready of. answers_err c.from_residual-in_err-more.result _ plan start (begun start) new (λ cells. cells) is
-          (broken_after_rows plan start t (length start.schema.columns) c.requires c.loop-query.sweep c.loop-query.groups inv.kept inv.come ready of.0 of.1 left
+      done = λ ready kind of. answers_err c.from_residual-in_err-more.result _ plan start (begun start) new (λ cells. cells) is
+          (broken_after_rows plan start t (length start.schema.columns) c.requires c.loop-query.sweep c.loop-query.groups inv.kept inv.come ready kind of left
           new c.next_value.new.self (noted_more (Ok _) start t new inv.fetches turn.notes) c.in-Some.rows.items kept
           (value_steps _ plan c.loop-query.sweep c.next_value.new.self t new _ (Some c.in-Some.rows) c.in-Some.is c.in_ok-rows.ensures.gives));
       shaped = no_answer c.from_residual-in_err-more.result _ _ is;
@@ -212,10 +213,10 @@ returns-in_err-extend g c =
     let turn = came _ _ plan _ c.loop-query.sweep c.next_value.new.self t new inv.works c.in_ok-rows.ensures.gives c.in_ok-rows.ensures.once in
     let traced = traced_begun start t inv.kept.traced in
     let kept = Keeps-more _ _ _ inv.kept (Keeps-by t new turn.effect.same) in
-    let left = left_is (asked c.query-query.result.now) plan.asked c.len.result c.loop-query.groups c.query-query.ensures c.len.ensures (c.is_filled.ensures.left c.loop-query-test.true) in
+    let left = left_is (asked c.query-query.result.now) plan.asked c.len.result c.loop-query.groups c.query-query.ensures c.len.ensures (MatchBool-at_false _ _ c.loop-query-test.true c.is_filled.ensures) in
     record {
-      done = λ ready of. answers_err c.from_residual-in_err-extend.result _ plan start (begun start) new (λ cells. cells) is
-          (broken_after_rows plan start t (length start.schema.columns) c.requires c.loop-query.sweep c.loop-query.groups inv.kept inv.come ready of.0 of.1 left
+      done = λ ready kind of. answers_err c.from_residual-in_err-extend.result _ plan start (begun start) new (λ cells. cells) is
+          (broken_after_rows plan start t (length start.schema.columns) c.requires c.loop-query.sweep c.loop-query.groups inv.kept inv.come ready kind of left
           new c.next_value.new.self (noted_more (Ok _) start t new inv.fetches turn.notes) c.in-Some.rows.items kept
           (value_steps _ plan c.loop-query.sweep c.next_value.new.self t new _ (Some c.in-Some.rows) c.in-Some.is c.in_ok-rows.ensures.gives));
       shaped = no_answer c.from_residual-in_err-extend.result _ _ is;

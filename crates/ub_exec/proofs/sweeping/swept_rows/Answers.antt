@@ -29,19 +29,19 @@ returns-in-Ok g c =
     let is = begun_ok sweep old mid c.in-Ok.ensures.effect in
     let filled = c.filled_rows.ensures in
     record {
-      done = λ ready of.
-          let begins = has_begun plan old mid sweep is ready of.0 c.in-Ok.ensures.begun in
+      done = λ ready kind of.
+          let begins = has_begun plan old mid sweep is ready kind c.in-Ok.ensures.begun in
           record {
-            rows = filled_means plan old mid sweep is new c.filled_rows.result filled.fills begins of.1;
+            rows = filled_means plan old mid sweep is new c.filled_rows.result filled.fills begins of;
             fetches = record {
-              pages = filled_pages plan old mid sweep is new c.filled_rows.result filled.fills begins of.1;
-              broken = filled_broken plan old mid sweep is new c.filled_rows.result (filled.broken begins of.1);
+              pages = filled_pages plan old mid sweep is new c.filled_rows.result filled.fills begins of;
+              broken = filled_broken plan old mid sweep is new c.filled_rows.result (filled.broken begins of);
             };
           };
       shaped = filled_shaped plan old mid sweep is new c.filled_rows.result filled.fills;
       swept = filled_swept plan old mid sweep is new c.filled_rows.result filled.swept;
-      notes = notes_as c.filled_rows.result (begun old) mid new is filled.notes;
-      effect = reads_then c.filled_rows.result old mid new (begun_traced old mid is) filled.effect;
+      notes = notes_as c.filled_rows.result (begun old) mid new is filled.effect.notes;
+      effect = reads_then c.filled_rows.result old mid new (begun_traced old mid is) filled.effect.reads;
     }
 
 pub returns-in-Err : goal.returns-in-Err
@@ -51,7 +51,7 @@ returns-in-Err g c =
     let new = c.new.new.tree in
     let kept = begun_err c.in-Err.fault old new c.in-Err.ensures.effect in
     record {
-      done = λ ready of. record { rows = tt; fetches = record { pages = tt; broken = none_fetched plan (begun old) new (ready_begun old plan ready) kept } };
+      done = λ ready kind of. record { rows = tt; fetches = record { pages = tt; broken = none_fetched plan (begun old) new (ready_begun old plan ready) kept } };
       shaped = tt;
       swept = λ dim is_descending of. inl kept;
       notes = notes_none (Err c.from.result) (begun old) new kept;

@@ -52,14 +52,6 @@ returns-clause-rows g c before taken has =
       ),
     )
 
-pub returns-in_err-read_in_run-clause-effect : goal.returns-in_err-read_in_run-clause-effect
-returns-in_err-read_in_run-clause-effect g c =
-    let same = c.in_ok-region.ensures.effect.same in
-    let gives = subst (λ (f : Option Region). GivesNext c.boxes.result.now c.args.tree.now (option_copied c.args.after) f) c.in-Some.is c.in_ok-region.ensures.gives in
-    tree_reads c.from_residual-in_err-read_in_run.result _ c.args.tree.now c.take_next.new.tree c.read_in_run.new.self c.from_residual-in_err-read_in_run.ensures.1
-    (unchanged_traced c.args.tree.now c.take_next.new.tree same) c.in_err-read_in_run.ensures.effect.same
-    (c.in_err-read_in_run.ensures.effect.faults (subst (λ (t : TreeView). IsRegionOf t c.in-Some.region) (sym same) (next_is_later c.args.tree.now _ _ c.in-Some.region gives).0))
-
 pub returns-in_err-region-clause-broken : goal.returns-in_err-region-clause-broken
 returns-in_err-region-clause-broken g c sound =
     on_err c.from_residual.result _ (inl (ap (λ (t : TreeView). t.trace) c.in_err-region.ensures.effect.same))
@@ -89,30 +81,56 @@ returns-in_default-clause-next g c = (
   tt,
 )
 
-pub returns-in_default-clause-notes : goal.returns-in_default-clause-notes
-returns-in_default-clause-notes g c = notes_none (Ok None) c.args.tree.now c.take_next.new.tree (unchanged_trace c.args.tree.now c.take_next.new.tree c.in_ok-region.ensures.effect.same)
+pub returns-in_default-clause-effect : goal.returns-in_default-clause-effect
+returns-in_default-clause-effect g c = record {
+  notes = notes_none (Ok None) c.args.tree.now c.take_next.new.tree (unchanged_trace c.args.tree.now c.take_next.new.tree c.in_ok-region.ensures.effect.same);
+  reads = record { same = unchanged_traced c.args.tree.now c.take_next.new.tree c.in_ok-region.ensures.effect.same; faults = tt };
+}
 
-pub returns-in_err-region-clause-notes : goal.returns-in_err-region-clause-notes
-returns-in_err-region-clause-notes g c =
-    notes_none c.from_residual.result c.args.tree.now c.take_next.new.tree
-    (ap (λ (t : TreeView). t.trace) c.in_err-region.ensures.effect.same)
+pub returns-in_err-region-clause-effect : goal.returns-in_err-region-clause-effect
+returns-in_err-region-clause-effect g c = record {
+  notes =
+      notes_none c.from_residual.result c.args.tree.now c.take_next.new.tree
+      (ap (λ (t : TreeView). t.trace) c.in_err-region.ensures.effect.same);
+  reads = search_reads c.from_residual.result _ c.args.tree.now c.take_next.new.tree c.from_residual.ensures.1 c.in_err-region.ensures.effect;
+}
 
-pub returns-in_err-read_in_run-clause-notes : goal.returns-in_err-read_in_run-clause-notes
-returns-in_err-read_in_run-clause-notes g c =
-    notes_one c.from_residual-in_err-read_in_run.result _ c.args.tree.now c.take_next.new.tree c.read_in_run.new.self _ c.from_residual-in_err-read_in_run.ensures.1
-    (unchanged_trace c.args.tree.now c.take_next.new.tree c.in_ok-region.ensures.effect.same)
-    (either_noted _ c.take_next.new.tree c.read_in_run.new.self _ c.in_err-read_in_run.ensures.effect.noted)
+pub returns-in_err-read_in_run-clause-effect : goal.returns-in_err-read_in_run-clause-effect
+returns-in_err-read_in_run-clause-effect g c =
+    let same = c.in_ok-region.ensures.effect.same in
+    let gives = subst (λ (f : Option Region). GivesNext c.boxes.result.now c.args.tree.now (option_copied c.args.after) f) c.in-Some.is c.in_ok-region.ensures.gives in
+    record {
+      notes =
+          notes_one c.from_residual-in_err-read_in_run.result _ c.args.tree.now c.take_next.new.tree c.read_in_run.new.self _ c.from_residual-in_err-read_in_run.ensures.1
+          (unchanged_trace c.args.tree.now c.take_next.new.tree c.in_ok-region.ensures.effect.same)
+          (either_noted _ c.take_next.new.tree c.read_in_run.new.self _ c.in_err-read_in_run.ensures.effect.noted);
+      reads =
+          tree_reads c.from_residual-in_err-read_in_run.result _ c.args.tree.now c.take_next.new.tree c.read_in_run.new.self c.from_residual-in_err-read_in_run.ensures.1
+          (unchanged_traced c.args.tree.now c.take_next.new.tree same) c.in_err-read_in_run.ensures.effect.same
+          (c.in_err-read_in_run.ensures.effect.faults (subst (λ (t : TreeView). IsRegionOf t c.in-Some.region) (sym same) (next_is_later c.args.tree.now _ _ c.in-Some.region gives).0));
+    }
 
-pub returns-in_err-push_chosen-clause-notes : goal.returns-in_err-push_chosen-clause-notes
-returns-in_err-push_chosen-clause-notes g c =
-    notes_one c.from_residual-in_err-push_chosen.result _ c.args.tree.now c.take_next.new.tree c.read_in_run.new.self _ c.from_residual-in_err-push_chosen.ensures.1
-    (unchanged_trace c.args.tree.now c.take_next.new.tree c.in_ok-region.ensures.effect.same) (inr c.in_ok-read_in_run.ensures.effect.listed)
+pub returns-in_err-push_chosen-clause-effect : goal.returns-in_err-push_chosen-clause-effect
+returns-in_err-push_chosen-clause-effect g c = record {
+  notes =
+      notes_one c.from_residual-in_err-push_chosen.result _ c.args.tree.now c.take_next.new.tree c.read_in_run.new.self _ c.from_residual-in_err-push_chosen.ensures.1
+      (unchanged_trace c.args.tree.now c.take_next.new.tree c.in_ok-region.ensures.effect.same) (inr c.in_ok-read_in_run.ensures.effect.listed);
+  reads =
+      memory_reads c.from_residual-in_err-push_chosen.result c.args.tree.now c.read_in_run.new.self c.from_residual-in_err-push_chosen.ensures.1
+      (reads_then {T = Unit {0}} (Ok tt) c.args.tree.now c.take_next.new.tree c.read_in_run.new.self (unchanged_traced c.args.tree.now c.take_next.new.tree c.in_ok-region.ensures.effect.same)
+      (record { same = c.in_ok-read_in_run.ensures.effect.same; faults = tt })).same;
+}
 
-pub returns-clause-notes : goal.returns-clause-notes
-returns-clause-notes g c =
-    next_notes c.args.plan.now.covering.boxes (option_copied c.args.after) c.args.tree.now c.read_in_run.new.self (Some c.in-Some.region)
-    (read_next c.boxes.result.now c.args.plan.now.covering.boxes _ c.args.tree.now c.take_next.new.tree c.read_in_run.new.self c.in-Some.region c.read_in_run.new.page.region
-    c.boxes.ensures.boxes c.in_ok-region.ensures.effect.same (subst (λ (f : Option Region). GivesNext c.boxes.result.now c.args.tree.now (option_copied c.args.after) f) c.in-Some.is c.in_ok-region.ensures.gives) c.in_ok-read_in_run.ensures.effect.listed c.in_ok-read_in_run.ensures.taken)
+pub returns-clause-effect : goal.returns-clause-effect
+returns-clause-effect g c = record {
+  notes =
+      next_notes c.args.plan.now.covering.boxes (option_copied c.args.after) c.args.tree.now c.read_in_run.new.self (Some c.in-Some.region)
+      (read_next c.boxes.result.now c.args.plan.now.covering.boxes _ c.args.tree.now c.take_next.new.tree c.read_in_run.new.self c.in-Some.region c.read_in_run.new.page.region
+      c.boxes.ensures.boxes c.in_ok-region.ensures.effect.same (subst (λ (f : Option Region). GivesNext c.boxes.result.now c.args.tree.now (option_copied c.args.after) f) c.in-Some.is c.in_ok-region.ensures.gives) c.in_ok-read_in_run.ensures.effect.listed c.in_ok-read_in_run.ensures.taken);
+  reads =
+      reads_then (Ok (Some c.in-Some.region)) c.args.tree.now c.take_next.new.tree c.read_in_run.new.self (unchanged_traced c.args.tree.now c.take_next.new.tree c.in_ok-region.ensures.effect.same)
+      (record { same = c.in_ok-read_in_run.ensures.effect.same; faults = tt });
+}
 
 pub push_chosen-requires-clause-posed : goal.push_chosen-requires-clause-posed
 push_chosen-requires-clause-posed g c =
@@ -147,23 +165,6 @@ returns-in_err-push_chosen-clause-rows g c = no_answer c.from_residual-in_err-pu
 
 pub returns-in_err-push_chosen-clause-next : goal.returns-in_err-push_chosen-clause-next
 returns-in_err-push_chosen-clause-next g c = no_answer c.from_residual-in_err-push_chosen.result _ _ c.from_residual-in_err-push_chosen.ensures.1
-
-pub returns-in_err-region-clause-effect : goal.returns-in_err-region-clause-effect
-returns-in_err-region-clause-effect g c = search_reads c.from_residual.result _ c.args.tree.now c.take_next.new.tree c.from_residual.ensures.1 c.in_err-region.ensures.effect
-
-pub returns-in_err-push_chosen-clause-effect : goal.returns-in_err-push_chosen-clause-effect
-returns-in_err-push_chosen-clause-effect g c =
-    memory_reads c.from_residual-in_err-push_chosen.result c.args.tree.now c.read_in_run.new.self c.from_residual-in_err-push_chosen.ensures.1
-    (reads_then {T = Unit {0}} (Ok tt) c.args.tree.now c.take_next.new.tree c.read_in_run.new.self (unchanged_traced c.args.tree.now c.take_next.new.tree c.in_ok-region.ensures.effect.same)
-    (record { same = c.in_ok-read_in_run.ensures.effect.same; faults = tt })).same
-
-pub returns-in_default-clause-effect : goal.returns-in_default-clause-effect
-returns-in_default-clause-effect g c = record { same = unchanged_traced c.args.tree.now c.take_next.new.tree c.in_ok-region.ensures.effect.same; faults = tt }
-
-pub returns-clause-effect : goal.returns-clause-effect
-returns-clause-effect g c =
-    reads_then (Ok (Some c.in-Some.region)) c.args.tree.now c.take_next.new.tree c.read_in_run.new.self (unchanged_traced c.args.tree.now c.take_next.new.tree c.in_ok-region.ensures.effect.same)
-    (record { same = c.in_ok-read_in_run.ensures.effect.same; faults = tt })
 
 pub take_next-requires-clause-ahead : goal.take_next-requires-clause-ahead
 take_next-requires-clause-ahead g c =

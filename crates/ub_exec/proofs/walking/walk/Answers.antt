@@ -52,7 +52,7 @@ loop-ahead-preserved g c =
     let schema = inv.kept.regions.schema in
     let asked = c.args.plan.now.asked in
     record {
-      kept = Keeps-more _ _ _ inv.kept (Keeps-by _ _ c.in_ok-region.ensures.effect.same);
+      kept = Keeps-more _ _ _ inv.kept (Keeps-by _ _ c.in_ok-region.ensures.effect.reads.same);
       read = come_on c.args.plan.now.covering.boxes c.args.tree.now c.loop-ahead.tree c.visit_next.new.tree inv.kept.traced c.loop-ahead.after inv.read
           c.in-Some.region _ c.as_ref.ensures.value (rw c.in-Some.is at c.in_ok-region.ensures.next.0);
       told = traced_told c.args.tree.now c.loop-ahead.tree inv.kept.traced c.in-Some.region
@@ -95,34 +95,34 @@ returns-clause-all g c =
     whole_by c.args.plan.now.covering.boxes c.args.tree.now c.loop-ahead.tree c.visit_next.new.tree inv.kept.traced c.loop-ahead.after inv.read c.in_ok-region.field-0 _
     c.as_ref.ensures.value c.in_default.not-Some c.in_ok-region.ensures.next.0
 
-pub returns-clause-notes : goal.returns-clause-notes
-returns-clause-notes g c =
+pub returns-clause-effect : goal.returns-clause-effect
+returns-clause-effect g c =
     let inv = c.loop-ahead.invariant in
-    notes_then {A = Unit {0}} tt (Ok tt) c.args.tree.now c.loop-ahead.tree c.visit_next.new.tree inv.kept.traced
-    (come_notes c.args.plan.now.covering.boxes c.args.tree.now c.loop-ahead.tree c.loop-ahead.tree inv.kept.traced c.loop-ahead.after inv.read tt)
-    (notes_ok _ tt c.loop-ahead.tree c.visit_next.new.tree c.in_ok-region.ensures.notes)
-
-pub returns-in_err-region-clause-notes : goal.returns-in_err-region-clause-notes
-returns-in_err-region-clause-notes g c =
-    let inv = c.loop-ahead.invariant in
-    notes_err c.from_residual.result _ (Err _) c.args.tree.now c.visit_next.new.tree c.from_residual.ensures.1
-    (notes_then {A = Unit {0}} tt (Err _) c.args.tree.now c.loop-ahead.tree c.visit_next.new.tree inv.kept.traced
-    (come_notes c.args.plan.now.covering.boxes c.args.tree.now c.loop-ahead.tree c.loop-ahead.tree inv.kept.traced c.loop-ahead.after inv.read tt)
-    c.in_err-region.ensures.notes)
+    record {
+      notes =
+          notes_then {A = Unit {0}} tt (Ok tt) c.args.tree.now c.loop-ahead.tree c.visit_next.new.tree inv.kept.traced
+          (come_notes c.args.plan.now.covering.boxes c.args.tree.now c.loop-ahead.tree c.loop-ahead.tree inv.kept.traced c.loop-ahead.after inv.read tt)
+          (notes_ok _ tt c.loop-ahead.tree c.visit_next.new.tree c.in_ok-region.ensures.effect.notes);
+      reads = reads_then (Ok tt) c.args.tree.now c.loop-ahead.tree c.visit_next.new.tree inv.kept.traced (record { same = c.in_ok-region.ensures.effect.reads.same; faults = tt });
+    }
 
 pub returns-in_err-region-clause-effect : goal.returns-in_err-region-clause-effect
 returns-in_err-region-clause-effect g c =
-    reads_by c.from_residual.result _ c.args.tree.now c.loop-ahead.tree c.visit_next.new.tree c.from_residual.ensures.1 c.loop-ahead.invariant.kept.traced c.in_err-region.ensures.effect
+    let inv = c.loop-ahead.invariant in
+    record {
+      notes =
+          notes_err c.from_residual.result _ (Err _) c.args.tree.now c.visit_next.new.tree c.from_residual.ensures.1
+          (notes_then {A = Unit {0}} tt (Err _) c.args.tree.now c.loop-ahead.tree c.visit_next.new.tree inv.kept.traced
+          (come_notes c.args.plan.now.covering.boxes c.args.tree.now c.loop-ahead.tree c.loop-ahead.tree inv.kept.traced c.loop-ahead.after inv.read tt)
+          c.in_err-region.ensures.effect.notes);
+      reads = reads_by c.from_residual.result _ c.args.tree.now c.loop-ahead.tree c.visit_next.new.tree c.from_residual.ensures.1 inv.kept.traced c.in_err-region.ensures.effect.reads;
+    }
 
 pub returns-in_err-region-clause-rows : goal.returns-in_err-region-clause-rows
 returns-in_err-region-clause-rows g c = no_result c.from_residual.result _ _ c.from_residual.ensures.1
 
 pub returns-in_err-region-clause-all : goal.returns-in_err-region-clause-all
 returns-in_err-region-clause-all g c = no_result c.from_residual.result _ _ c.from_residual.ensures.1
-
-pub returns-clause-effect : goal.returns-clause-effect
-returns-clause-effect g c =
-    reads_then (Ok tt) c.args.tree.now c.loop-ahead.tree c.visit_next.new.tree c.loop-ahead.invariant.kept.traced (record { same = c.in_ok-region.ensures.effect.same; faults = tt })
 
 pub visit_next-requires-clause-fit : goal.visit_next-requires-clause-fit
 visit_next-requires-clause-fit g c = (
