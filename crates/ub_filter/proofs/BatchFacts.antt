@@ -1,16 +1,14 @@
--- The rows of a page at the places of a mask: one place more, how many they are, and that they are those of a test.
-use Rattle.std.proofs.Common.{◌≡◌, ◌<◌, ◌≤◌, ◌+◌, ◌-◌, ◌^◌, ◌↔◌, ◌&&◌, ◌==◌, inl, inr, ℕ, zero, suc, min, Bool, true, false, cond, List, [], ◌∷◌, ◌++◌, Option, Some, None, filter, map, take, length, zip, slice_get, slice_index_or, slice_set, ℤ, bit_and, count_ones, IsTrue, refl, sym, ap, subst, arith, ◌∙◌}
+-- The rows of a page at the places of a mask: the first of them, how many they are, and that they are those of a test.
+use Rattle.std.proofs.Common.{◌≡◌, ◌<◌, ◌≤◌, ◌+◌, ◌-◌, ◌^◌, ◌↔◌, ◌&&◌, ◌==◌, inl, inr, ℕ, zero, suc, min, Bool, true, false, cond, List, [], ◌∷◌, ◌++◌, Option, Some, None, filter, map, take, length, zip, slice_get, slice_index_or, slice_set, ℤ, ◌/◌, ◌%◌, ◌≢◌, bit_and, count_ones, IsTrue, refl, sym, ap, subst, arith, ◌∙◌}
 use Rattle.std.proofs.lemmas.Bool.{cases_Bool, cases_lt, eqb-true, eq-eqb, false≢true, true≢false}
-use Rattle.std.proofs.lemmas.List.{append-nil, length_push, map_push, take_more_set, length-map, length-take-le, map-append, take_all, take_more, get_or_past}
-use Rattle.std.proofs.lemmas.List.Elements.{filter-append}
+use Rattle.std.proofs.lemmas.List.{append_assoc, map_push, take_more_set, length-map, take_more, get_or_past}
 use Rattle.std.proofs.lemmas.List.Sums.{length-filter, count_by-le-length}
-use Rattle.std.proofs.lemmas.Nat.Bits.{bit_at_and, bit_at-lt, bit_at_ones, bit_at_ones_above, same_from_bits}
-use Rattle.std.proofs.lemmas.Option.{slice_get_within, get_or_from_slice_get}
+use Rattle.std.proofs.lemmas.Nat.Bits.{bit_at_and, bit_at_lowest, bit_at-lt, bit_at_ones, bit_at_ones_above, bit_at-suc, bit_at-trailing_zeros, bit_at-zero, same_from_bits}
+use Rattle.std.proofs.lemmas.Option.{none-some, same_Some, slice_get_within, get_or_from_slice_get}
 use Rattle.std.proofs.lemmas.Simd.{bit_mask_l, ones-mask_l}
-use Rattle.std.specs.Int.{bit_at}
+use Rattle.std.specs.Int.{bit_at, trailing_zeros, w64}
 use Rattle.std.specs.List.{range_with_len}
 use Rattle.std.specs.Simd.Lanes.{mask_l}
-use Rattle.ub_filter.proofs.ChoiceFacts.{there_is}
 use Rattle.ub_filter.specs.Batch.{rows_at}
 use Rattle.ub_filter.specs.Choice.{is_candidate, recheck_by, is_chosen}
 use Rattle.ub_filter.specs.declared.choice.Choice.{Choice}
@@ -29,80 +27,135 @@ has_bit mask p = bit_at mask p.0 == 1
 abbrev row_of : ℕ × Row → Row
 row_of p = p.1
 
--- ---- one place more
+-- ---- the first of them
 
-placed-push : (k : ℕ) (rows : List Row) (row : Row) → placed_from k (rows ++ row ∷ []) ≡ placed_from k rows ++ (k + length rows, row) ∷ []
-placed-push k [] row = let e : k ≡ k + 0 = omega arith in ap (λ (n : ℕ). (n, row) ∷ []) e
-placed-push k (r ∷ rows) row =
-    let e : k + 1 + length rows ≡ k + suc (length rows) = omega arith in
-    ap (λ (ps : List (ℕ × Row)). (k, r) ∷ ps) (placed-push (k + 1) rows row ∙ ap (λ (n : ℕ). placed_from (k + 1) rows ++ (n, row) ∷ []) e)
+-- two masks with the same bits at these places
+same_bits : (m n k : ℕ) (rows : List Row) → ((i : ℕ) → k ≤ i → i < k + length rows → bit_at m i ≡ bit_at n i)
+    → filter (has_bit m) (placed_from k rows) ≡ filter (has_bit n) (placed_from k rows)
+same_bits m n k [] same = refl
+same_bits m n k (r ∷ rows) same =
+    ap (λ (b : Bool). cond b ((k, r) ∷ filter (has_bit m) (placed_from (k + 1) rows)) (filter (has_bit m) (placed_from (k + 1) rows)))
+    (ap (λ (b : ℕ). b == 1) (same k (omega arith) (omega arith)))
+    ∙ ap (λ (ps : List (ℕ × Row)). cond (bit_at n k == 1) ((k, r) ∷ ps) ps) (same_bits m n (k + 1) rows (λ i from below. same i (omega arith) (omega arith)))
 
--- the row at a place, where the mask has a 1 there
-abbrev one_at : ℕ → ℕ → Row → List Row
-one_at mask k row = map row_of (filter (has_bit mask) ((k, row) ∷ []))
+-- the lowest 1 of a number stands at this place
+pub record IsLowest (n p : ℕ) : Type 0 where
+  pub one : bit_at n p ≡ 1
+  pub none : (i : ℕ) → i < p → bit_at n i ≡ 0
 
-rows-push : (mask : ℕ) (rows : List Row) (row : Row) (k : ℕ) → k ≡ length rows
-    → rows_at mask (rows ++ row ∷ []) ≡ rows_at mask rows ++ one_at mask k row
-rows-push mask rows row k is =
-    ap (λ (ps : List (ℕ × Row)). map row_of (filter (has_bit mask) ps)) (placed-push 0 rows row)
-    ∙ ap (map row_of) (filter-append (has_bit mask) (placed_from 0 rows) ((0 + length rows, row) ∷ []))
-    ∙ map-append row_of (filter (has_bit mask) (placed_from 0 rows)) (filter (has_bit mask) ((0 + length rows, row) ∷ []))
-    ∙ ap (λ (n : ℕ). rows_at mask rows ++ one_at mask n row) (let e : 0 + length rows ≡ k = omega arith in e)
+-- a number without the 1 at this place
+pub record IsWithout (n p m : ℕ) : Type 0 where
+  pub gone : bit_at m p ≡ 0
+  pub kept : (i : ℕ) → i ≢ p → bit_at m i ≡ bit_at n i
 
-rows-more : (mask : ℕ) (rows : List Row) (i : ℕ) (row : Row) → slice_get rows i ≡ Some row
-    → rows_at mask (take (i + 1) rows) ≡ rows_at mask (take i rows) ++ one_at mask i row
-rows-more mask rows i row at =
-    let below = slice_get_within rows i row at in
-    let long : length (take i rows) ≡ i = length-take-le i rows (omega arith) in
-    ap (rows_at mask) (take_more rows i row below ∙ ap (λ (r : Row). take i rows ++ r ∷ []) (get_or_from_slice_get rows i row row at))
-    ∙ rows-push mask (take i rows) row i (sym long)
+first_from : (n m k p : ℕ) (rows : List Row) (row : Row) → slice_get rows p ≡ Some row → bit_at n (k + p) ≡ 1
+    → ((i : ℕ) → i < k + p → bit_at n i ≡ 0) → IsWithout n (k + p) m
+    → map row_of (filter (has_bit n) (placed_from k rows)) ≡ row ∷ map row_of (filter (has_bit m) (placed_from k rows))
+first_from n m k p [] row at one none without = absurd (none-some row at)
+first_from n m k zero (r ∷ rows) row at one none without =
+    let here : k + 0 ≡ k = omega arith in
+    let set : (bit_at n k == 1) ≡ true = eq-eqb (bit_at n k) 1 (ap (bit_at n) (sym here) ∙ one) in
+    let clear : (bit_at m k == 1) ≡ false = ap (λ (b : ℕ). b == 1) (ap (bit_at m) (sym here) ∙ without.gone) in
+    let rest = same_bits n m (k + 1) rows (λ i from below. sym (without.kept i (λ is. absurd (omega arith)))) in
+    let same : r ≡ row = same_Some r row at in
+    rw (set, clear, rest, same) refl
+first_from n m k (suc p) (r ∷ rows) row at one none without =
+    let there : k + suc p ≡ k + 1 + p = omega arith in
+    let clear : (bit_at n k == 1) ≡ false = ap (λ (b : ℕ). b == 1) (none k (omega arith)) in
+    let clear_after : (bit_at m k == 1) ≡ false = ap (λ (b : ℕ). b == 1) (without.kept k (λ is. absurd (omega arith)) ∙ none k (omega arith)) in
+    let later = first_from n m (k + 1) p rows row at (ap (bit_at n) (sym there) ∙ one) (λ i below. none i (omega arith)) (subst (λ (q : ℕ). IsWithout n q m) there without) in
+    rw (clear, clear_after) later
 
-set_there : (mask i : ℕ) (row : Row) → (bit_at mask i == 1) ≡ true → one_at mask i row ≡ row ∷ []
-set_there mask i row one = ap (λ (b : Bool). map row_of (cond b ((i, row) ∷ []) [])) one
+pub first_at : (n m p : ℕ) (rows : List Row) (row : Row) → slice_get rows p ≡ Some row → IsLowest n p → IsWithout n p m → rows_at n rows ≡ row ∷ rows_at m rows
+first_at n m p rows row at lowest without =
+    let same : p ≡ 0 + p = omega arith in
+    first_from n m 0 p rows row at (ap (bit_at n) (sym same) ∙ lowest.one) (λ i below. lowest.none i (omega arith)) (subst (λ (q : ℕ). IsWithout n q m) same without)
 
-clear_there : (mask i : ℕ) (row : Row) → (bit_at mask i == 1) ≡ false → one_at mask i row ≡ []
-clear_there mask i row none = ap (λ (b : Bool). map row_of (cond b ((i, row) ∷ []) [])) none
-
--- the next place has a 1, or none
-pub next_is_set : (mask : ℕ) (rows : List Row) (i : ℕ) (row : Row) → slice_get rows i ≡ Some row → bit_at mask i ≡ 1
-    → rows_at mask (take (i + 1) rows) ≡ rows_at mask (take i rows) ++ row ∷ []
-next_is_set mask rows i row at one =
-    rows-more mask rows i row at ∙ ap (λ (rs : List Row). rows_at mask (take i rows) ++ rs) (set_there mask i row (eq-eqb (bit_at mask i) 1 one))
-
-pub next_is_clear : (mask : ℕ) (rows : List Row) (i : ℕ) (row : Row) → slice_get rows i ≡ Some row → ¬ (bit_at mask i ≡ 1)
-    → rows_at mask (take (i + 1) rows) ≡ rows_at mask (take i rows)
-next_is_clear mask rows i row at none =
-    rows-more mask rows i row at ∙ ap (λ (rs : List Row). rows_at mask (take i rows) ++ rs) (clear_there mask i row isnt)
-    ∙ append-nil (rows_at mask (take i rows))
+-- no 1, no row
+pub none_at : (rows : List Row) → rows_at 0 rows ≡ []
+none_at rows = none_from 0 rows
   where
-    isnt : (bit_at mask i == 1) ≡ false
-    isnt = elim (cases_Bool (bit_at mask i == 1)) [ inl t ↦ absurd (none (eqb-true (bit_at mask i) 1 t)) | inr f ↦ f ]
+    none_from : (k : ℕ) (rest : List Row) → map row_of (filter (has_bit 0) (placed_from k rest)) ≡ []
+    none_from k [] = refl
+    none_from k (r ∷ rest) = rw (bit_at-zero k) (none_from (k + 1) rest)
 
--- of all places
-pub at_end : (mask : ℕ) (rows : List Row) (k : ℕ) → length rows ≤ k → rows_at mask (take k rows) ≡ rows_at mask rows
-at_end mask rows k past = ap (rows_at mask) (take_all k rows past)
+-- a number that has rows isn't 0
+pub has_one : (n : ℕ) (rows : List Row) → 0 < length (rows_at n rows) → 0 < n
+has_one zero rows there = let none : length (rows_at 0 rows) ≡ 0 = ap length (none_at rows) in absurd (omega arith)
+has_one (suc n) rows there = omega arith
+
+-- the places behind the last row mean nothing
+pub within_rows : (mask n : ℕ) (rows : List Row) → n ≡ length rows → rows_at (bit_and mask (2 ^ n - 1)) rows ≡ rows_at mask rows
+within_rows mask n rows is = ap (map row_of) (same_bits (bit_and mask (2 ^ n - 1)) mask 0 rows (λ i from below.
+    let all = bit_at_ones n i (omega arith) in
+    let few = bit_at-lt mask i in
+    bit_at_and mask (2 ^ n - 1) i ∙ omega arith))
+
+-- a 1 is at the place of a row
+pub placed_within : (mask n i : ℕ) → bit_at (bit_and mask (2 ^ n - 1)) i ≡ 1 → i < n
+placed_within mask n i one = elim (cases_lt i n) [
+  | inl below ↦ below
+  | inr past ↦ let none = bit_at_ones_above n i past in let is = bit_at_and mask (2 ^ n - 1) i in absurd (omega arith)
+]
+
+-- ---- a number without its lowest 1
+
+some : (n p : ℕ) → bit_at n p ≡ 1 → 0 < n
+some zero p one = let none = bit_at-zero p in absurd (omega arith)
+some (suc n) p one = omega arith
+
+half : (n p : ℕ) → IsLowest n (suc p) → IsLowest (n / 2) p
+half n p lowest = record {
+  one = sym (bit_at-suc n p) ∙ lowest.one;
+  none = λ i below. sym (bit_at-suc n i) ∙ lowest.none (suc i) (omega arith);
+}
+
+-- half of it, less one, is half of what is less by one, where it is even
+half_less : (n p : ℕ) → IsLowest n (suc p) → (n - 1) / 2 ≡ n / 2 - 1
+half_less n p lowest =
+    let even : n % 2 ≡ 0 = sym (bit_at_lowest n) ∙ lowest.none 0 (omega arith) in
+    let there = some n (suc p) lowest.one in
+    omega arith
+
+less_at : (n p : ℕ) → IsLowest n p → bit_at (n - 1) p ≡ 0
+less_at n zero lowest = let odd : n % 2 ≡ 1 = sym (bit_at_lowest n) ∙ lowest.one in bit_at_lowest (n - 1) ∙ omega arith
+less_at n (suc p) lowest = bit_at-suc (n - 1) p ∙ ap (λ (k : ℕ). bit_at k p) (half_less n p lowest) ∙ less_at (n / 2) p (half n p lowest)
+
+less_above : (n p i : ℕ) → IsLowest n p → p < i → bit_at (n - 1) i ≡ bit_at n i
+less_above n p zero lowest above = absurd (omega arith)
+less_above n zero (suc i) lowest above =
+    let odd : n % 2 ≡ 1 = sym (bit_at_lowest n) ∙ lowest.one in
+    let same : (n - 1) / 2 ≡ n / 2 = omega arith in
+    bit_at-suc (n - 1) i ∙ ap (λ (k : ℕ). bit_at k i) same ∙ sym (bit_at-suc n i)
+less_above n (suc p) (suc i) lowest above =
+    bit_at-suc (n - 1) i ∙ ap (λ (k : ℕ). bit_at k i) (half_less n p lowest) ∙ less_above (n / 2) p i (half n p lowest) (omega arith) ∙ sym (bit_at-suc n i)
+
+pub lowest_at : (n : ℕ) → 0 < n → n < 2 ^ 64 → IsLowest n (trailing_zeros w64 n)
+lowest_at n there small = let is = bit_at-trailing_zeros w64 n there small in record { one = is.1; none = is.2 }
+
+-- no 1 comes
+pub with_less : (n i : ℕ) → bit_at (bit_and n (n - 1)) i ≡ 1 → bit_at n i ≡ 1
+with_less n i one = let is = bit_at_and n (n - 1) i in let low = bit_at-lt n i in omega arith
+
+pub without_lowest : (n p : ℕ) → IsLowest n p → IsWithout n p (bit_and n (n - 1))
+without_lowest n p lowest = record {
+  gone = let at = less_at n p lowest in bit_at_and n (n - 1) p ∙ omega arith;
+  kept = λ i other. bit_at_and n (n - 1) i ∙ elim (cases_lt i p) [
+    | inl below ↦ let none = lowest.none i below in omega arith
+    | inr past ↦ let same = less_above n p i lowest (let apart = other in omega arith) in omega arith
+  ];
+}
 
 -- ---- the values of the rows so far, put behind one another
 
-pub put_one : (value : Row → ℤ) (mask : ℕ) (rows : List Row) (i : ℕ) (row : Row) (count : ℕ) (values : List ℤ) (v : ℤ) → slice_get rows i ≡ Some row
-    → bit_at mask i ≡ 1
-    → v ≡ value row → count < length values → count ≡ length (rows_at mask (take i rows)) → take count values ≡ map value (rows_at mask (take i rows))
-    → (count + 1 ≡ length (rows_at mask (take (i + 1) rows))) ×
-    (take (count + 1) (slice_set values count v) ≡ map value (rows_at mask (take (i + 1) rows)))
-put_one value mask rows i row count values v at one is within many so_far =
-    let more = next_is_set mask rows i row at one in (
-      ap (λ (n : ℕ). n + 1) many ∙ sym (length_push (rows_at mask (take i rows)) row) ∙ ap length (sym more),
-      take_more_set values count v within ∙ ap (λ (xs : List ℤ). xs ++ v ∷ []) so_far
-          ∙ ap (λ (x : ℤ). map value (rows_at mask (take i rows)) ++ x ∷ []) is
-          ∙ sym (map_push value (rows_at mask (take i rows)) row) ∙ ap (map value) (sym more),
-    )
-
-pub put_none : (value : Row → ℤ) (mask : ℕ) (rows : List Row) (i count : ℕ) (values : List ℤ) → i < length rows → ¬ (bit_at mask i ≡ 1)
-    → count ≡ length (rows_at mask (take i rows)) → take count values ≡ map value (rows_at mask (take i rows))
-    → (count ≡ length (rows_at mask (take (i + 1) rows))) × (take count values ≡ map value (rows_at mask (take (i + 1) rows)))
-put_none value mask rows i count values below none many so_far =
-    let (row, at) = there_is rows i below in
-    let same = next_is_clear mask rows i row at none in (many ∙ ap length (sym same), so_far ∙ ap (λ (rs : List Row). map value rs) (sym same))
+-- the first row of those that are left is put next
+pub put_first : (value : Row → ℤ) (rows left : List Row) (row : Row) (count : ℕ) (values : List ℤ) (v : ℤ) (all : List ℤ) → rows ≡ row ∷ left
+    → v ≡ value row → count < length values → take count values ++ map value rows ≡ all
+    → take (count + 1) (slice_set values count v) ++ map value left ≡ all
+put_first value rows left row count values v all first is within so_far =
+    ap (λ (xs : List ℤ). xs ++ map value left) (take_more_set values count v within ∙ ap (λ (x : ℤ). take count values ++ x ∷ []) is)
+    ∙ append_assoc (take count values) (value row ∷ []) (map value left)
+    ∙ ap (λ (rs : List Row). take count values ++ map value rs) (sym first) ∙ so_far
 
 -- the same of all rows
 pub put_next : (value : Row → ℤ) (rows : List Row) (i : ℕ) (row : Row) (values : List ℤ) (v : ℤ) → slice_get rows i ≡ Some row → v ≡ value row

@@ -2,7 +2,6 @@ ghost use Rattle.std.specs.Prelude.{◌≡◌, ◌-◌, ◌^◌, ◌<◌, ◌≤
 ghost use Rattle.ub_filter.specs.Batch.{rows_at};
 ghost use Rattle.ub_table.specs.Table.{column_value};
 
-use crate::chosen::is_set;
 use ub_page::RegionPage;
 use ub_query::RowBatch;
 use ub_table::{MAX_ROWS, Row, Schema};
@@ -54,7 +53,7 @@ fn put_all(page: &RegionPage, schema: &Schema, column: usize, values: &mut [i64;
     }
 }
 
-// The same of those at the places of a mask.
+// The same of those at the places of a mask. The loop goes from one 1 of the mask to the next, so that it asks nothing of a row.
 fn put_at(
     page: &RegionPage,
     mask: u64,
@@ -67,12 +66,11 @@ fn put_at(
     ensures values { take (length (rows_at mask page.now.region.rows)) values.new
         ≡ map (λ row. column_value schema.now row column) (rows_at mask page.now.region.rows) }
 {
-    let mut count = 0;
-    for place in 0..page.len() {
-        if is_set(mask, place) {
-            values[count] = value_in(schema, &page.row(place), column);
-            count += 1;
-        }
+    let mut left = mask & places_below(page.len());
+    for count in 0..count_at(page, mask) {
+        let place = left.trailing_zeros() as usize;
+        values[count] = value_in(schema, &page.row(place), column);
+        left &= left - 1;
     }
 }
 

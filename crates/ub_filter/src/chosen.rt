@@ -90,8 +90,8 @@ fn is_true(condition: Option<&Cond>, schema: &Schema, row: &Row) -> bool
     }
 }
 
-/// Whether the bit of a number at a place is 1.
-pub(crate) fn is_set(mask: u64, place: usize) -> bool
+// Whether the bit of a number at a place is 1.
+fn is_set(mask: u64, place: usize) -> bool
     requires { place < 64 }
     ensures { IsTrue result ↔ (bit_at mask place ≡ 1) }
 {
