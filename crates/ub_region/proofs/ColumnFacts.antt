@@ -1,8 +1,8 @@
 -- What the columns of a region hold at an index.
-use Rattle.std.proofs.Common.{rules, ◌≡◌, ◌<◌, ◌≤◌, ◌+◌, ◌*◌, ℕ, ℤ, pos, zero, suc, List, [], ◌∷◌, length, map, take, replicate, get_or, Some, refl, sym, ap, arith, ◌∙◌}
+use Rattle.std.proofs.Common.{rules, ◌≡◌, ◌<◌, ◌≤◌, ◌+◌, ◌-◌, ◌*◌, inl, inr, ℕ, ℤ, pos, zero, suc, List, [], ◌∷◌, length, map, take, replicate, get_or, Some, refl, sym, ap, arith, ◌∙◌}
 use Rattle.std.proofs.Math.Seq.{get_or-take}
 use Rattle.std.proofs.lemmas.Bool.{cases_order}
-use Rattle.std.proofs.lemmas.List.{ext_get_or, length-take-le, get_or_append_left, get_or-append_right, get_or-replicate, length-append, length-replicate}
+use Rattle.std.proofs.lemmas.List.{ext_get_or, length-take-le, get_or_append_left, get_or-append_right, get_or-replicate, length-replicate}
 use Rattle.std.proofs.lemmas.List.FromFn.{length-map-range_with_len, get_or-map-range_with_len}
 use Rattle.std.proofs.lemmas.Option.{slice_get-get_or, slice_get-map}
 use Rattle.std.specs.Option.{option_map}
@@ -22,9 +22,6 @@ module _ {A : Type 0} where
   pub block_at : (total : ℕ) (blank : A) (f : ℕ → A) (n i : ℕ) (d : A) → i < n → get_or (block total blank f n) i d ≡ f i
   block_at total blank f n i d h = search (rules, get_or-map-range_with_len, get_or_append_left, length-map-range_with_len)
 
-  pub length-block : (total : ℕ) (blank : A) (f : ℕ → A) (n : ℕ) → n ≤ total → length (block total blank f n) ≡ total
-  length-block total blank f n h = search (rules, length-append, length-map-range_with_len, length-replicate)
-
   -- two functions that agree below n
   pub map_same : (f g : ℕ → A) (a n : ℕ) → ((i : ℕ) → i < n → f (a + i) ≡ g (a + i)) → map f (range_with_len a n) ≡ map g (range_with_len a n)
   map_same f g a zero h = refl
@@ -40,49 +37,61 @@ module _ {A : Type 0} where
   four : {a b c d e f g h : A} → a ≡ e → b ≡ f → c ≡ g → d ≡ h → a ∷ b ∷ c ∷ d ∷ [] ≡ e ∷ f ∷ g ∷ h ∷ []
   four p q r s = rw (p, q, r, s) refl
 
-  -- columns of blocks hold, at the index of a row, the values of those columns that are used
-  pub across_block : (rest : A) (g : ℕ → ℕ → A) (count used i : ℕ) → used ≤ 4 → i < count → count ≤ 64
-      → across rest (block 4 (replicate 64 rest) (λ d. block 64 rest (g d) count) used) i ≡ places rest (λ d. g d i) used
-  across_block rest g count zero i few less small =
-      let blank : get_or (replicate 64 rest) i rest ≡ rest = get_or-replicate 64 i rest rest (omega arith) in
-      four blank blank blank blank
-  across_block rest g count (suc zero) i few less small =
-      let blank : get_or (replicate 64 rest) i rest ≡ rest = get_or-replicate 64 i rest rest (omega arith) in
-      let used : (d : ℕ) → get_or (block 64 rest (g d) count) i rest ≡ g d i = λ d. block_at 64 rest (g d) count i rest less in
-      four (used 0) blank blank blank
-  across_block rest g count (suc (suc zero)) i few less small =
-      let blank : get_or (replicate 64 rest) i rest ≡ rest = get_or-replicate 64 i rest rest (omega arith) in
-      let used : (d : ℕ) → get_or (block 64 rest (g d) count) i rest ≡ g d i = λ d. block_at 64 rest (g d) count i rest less in
-      four (used 0) (used 1) blank blank
-  across_block rest g count (suc (suc (suc zero))) i few less small =
-      let blank : get_or (replicate 64 rest) i rest ≡ rest = get_or-replicate 64 i rest rest (omega arith) in
-      let used : (d : ℕ) → get_or (block 64 rest (g d) count) i rest ≡ g d i = λ d. block_at 64 rest (g d) count i rest less in
-      four (used 0) (used 1) (used 2) blank
-  across_block rest g count (suc (suc (suc (suc zero)))) i few less small =
-      let used : (d : ℕ) → get_or (block 64 rest (g d) count) i rest ≡ g d i = λ d. block_at 64 rest (g d) count i rest less in
-      four (used 0) (used 1) (used 2) (used 3)
-  across_block rest g count (suc (suc (suc (suc (suc used))))) i few less small = absurd (omega arith)
+  -- the first columns hold, at an index, the values of those columns, and the others a blank one
+  pub across_block : (rest : A) (g : ℕ → ℕ → A) (used i : ℕ) → used ≤ 4 → i < 64
+      → across rest (block 4 (replicate 64 rest) (λ d. map (g d) (range_with_len 0 64)) used) i ≡ places rest (λ d. g d i) used
+  across_block rest g used i few less = by_number used few
+    where
+      blank : get_or (replicate 64 rest) i rest ≡ rest
+      blank = get_or-replicate 64 i rest rest less
+
+      held : (d : ℕ) → get_or (map (g d) (range_with_len 0 64)) i rest ≡ g d i
+      held d = get_or-map-range_with_len (g d) 0 64 i i rest less (omega arith)
+
+      by_number : (used : ℕ) → used ≤ 4 → across rest (block 4 (replicate 64 rest) (λ d. map (g d) (range_with_len 0 64)) used) i ≡ places rest (λ d. g d i) used
+      by_number zero few = four blank blank blank blank
+      by_number (suc zero) few = four (held 0) blank blank blank
+      by_number (suc (suc zero)) few = four (held 0) (held 1) blank blank
+      by_number (suc (suc (suc zero))) few = four (held 0) (held 1) (held 2) blank
+      by_number (suc (suc (suc (suc zero)))) few = four (held 0) (held 1) (held 2) (held 3)
+      by_number (suc (suc (suc (suc (suc used))))) few = absurd (omega arith)
 
 -- each column has so many places
-pub columns_long : (g : ℕ → ℕ → ℕ) (count used d : ℕ) → count ≤ 64 → used ≤ 4 → d < 4 → length (get_or (block 4 blank_dims (λ d. block 64 0 (g d) count) used) d []) ≡ 64
-columns_long g count used d h k j = search (rules, block_at, cases_order, get_or-append_right, get_or-replicate, length-block, length-map-range_with_len, length-replicate, sorted)
+pub columns_long : (g : ℕ → ℕ → ℕ) (used d : ℕ) → used ≤ 4 → d < 4 → length (get_or (block 4 blank_dims (λ d. map (g d) (range_with_len 0 64)) used) d []) ≡ 64
+columns_long g used d few less = elim (sorted d used (cases_order d used)) [
+  | inl held ↦
+      ap length (get_or_append_left columns blanks [] d (omega (arith, many)) ∙ get_or-map-range_with_len (λ d. map (g d) (range_with_len 0 64)) 0 used d d [] held (omega arith))
+      ∙ length-map-range_with_len (g d) 0 64
+  | inr behind ↦
+      ap length (get_or-append_right columns blanks used d [] many behind ∙ get_or-replicate (4 - used) (d - used) blank_dims [] (omega arith))
+      ∙ length-replicate {A = ℕ} 64 0
+]
+  where
+    columns : List (List ℕ)
+    columns = map (λ d. map (g d) (range_with_len 0 64)) (range_with_len 0 used)
+
+    blanks : List (List ℕ)
+    blanks = replicate (4 - used) blank_dims
+
+    many : length columns ≡ used
+    many = length-map-range_with_len (λ d. map (g d) (range_with_len 0 64)) 0 used
 
 -- the columns hold what stands on a page that tells of so many rows
 pub record AreRead (dims measures count : ℕ) (page : List ℕ) (numbers : List ℕ) (points : List (List ℕ)) (values : List (List ℤ)) : Type 0 where
   pub few_dims : dims ≤ 4
   pub few_measures : measures ≤ 4
   pub few : count ≤ 64
-  pub numbers_are : numbers ≡ block 64 0 (λ i. number_at 4 (24 + 4 * i) page) count
-  pub points_are : points ≡ block 4 blank_dims (λ d. block 64 0 (λ i. number_at 4 (24 + 4 * count + 4 * (count * d + i)) page) count) dims
+  pub numbers_are : numbers ≡ map (λ i. number_at 4 (24 + 4 * i) page) (range_with_len 0 64)
+  pub points_are : points ≡ block 4 blank_dims (λ d. map (λ i. number_at 4 (24 + 4 * count + 4 * (count * d + i)) page) (range_with_len 0 64)) dims
   pub values_are : values
-      ≡ block 4 blank_measures (λ m. block 64 (pos 0) (λ i. cast_signed w64 (number_at 8 (24 + 4 * count + 4 * (count * dims) + 8 * (count * m + i)) page)) count) measures
+      ≡ block 4 blank_measures (λ m. map (λ i. cast_signed w64 (number_at 8 (24 + 4 * count + 4 * (count * dims) + 8 * (count * m + i)) page)) (range_with_len 0 64)) measures
 
 -- the same with each number under the name that the code has for it
 pub are_read : (dims measures count used many : ℕ) (page : List ℕ) (numbers : List ℕ) (points : List (List ℕ)) (values : List (List ℤ)) → dims ≤ 4 → measures ≤ 4 → count ≤ 64
     → used ≡ dims → many ≡ measures
-    → numbers ≡ block 64 0 (λ i. number_at 4 (24 + 4 * i) page) count
-    → points ≡ block 4 blank_dims (λ d. block 64 0 (λ i. number_at 4 (24 + 4 * count + 4 * (count * d + i)) page) count) used
-    → values ≡ block 4 blank_measures (λ m. block 64 (pos 0) (λ i. cast_signed w64 (number_at 8 (24 + 4 * count + 4 * (count * used) + 8 * (count * m + i)) page)) count) many
+    → numbers ≡ map (λ i. number_at 4 (24 + 4 * i) page) (range_with_len 0 64)
+    → points ≡ block 4 blank_dims (λ d. map (λ i. number_at 4 (24 + 4 * count + 4 * (count * d + i)) page) (range_with_len 0 64)) used
+    → values ≡ block 4 blank_measures (λ m. map (λ i. cast_signed w64 (number_at 8 (24 + 4 * count + 4 * (count * used) + 8 * (count * m + i)) page)) (range_with_len 0 64)) many
     → AreRead dims measures count page numbers points values
 are_read dims measures count used many page numbers points values h k j l m p q r = search rules
 
@@ -90,13 +99,15 @@ row_read : (dims measures count : ℕ) (page : List ℕ) (numbers : List ℕ) (p
     → (i : ℕ) → i < count → row_in numbers points values i ≡ row_on dims measures count page i
 unfolding row_on
 row_read dims measures count page numbers points values read i less =
+    let few = read.few in
+    let place : i < 64 = omega arith in
     let number : get_or numbers i 0 ≡ number_at 4 (24 + 4 * i) page
-    = ap (λ (ns : List ℕ). get_or ns i 0) read.numbers_are ∙ block_at 64 0 (λ i. number_at 4 (24 + 4 * i) page) count i 0 less in
+    = ap (λ (ns : List ℕ). get_or ns i 0) read.numbers_are ∙ get_or-map-range_with_len (λ i. number_at 4 (24 + 4 * i) page) 0 64 i i 0 place (omega arith) in
     let point : point_in points i ≡ places 0 (λ d. number_at 4 (24 + 4 * count + 4 * (count * d + i)) page) dims
-    = ap (λ (ps : List (List ℕ)). point_in ps i) read.points_are ∙ across_block 0 (λ d i. number_at 4 (24 + 4 * count + 4 * (count * d + i)) page) count dims i read.few_dims less read.few in
+    = ap (λ (ps : List (List ℕ)). point_in ps i) read.points_are ∙ across_block 0 (λ d i. number_at 4 (24 + 4 * count + 4 * (count * d + i)) page) dims i read.few_dims place in
     let value : values_in values i ≡ places (pos 0) (λ m. cast_signed w64 (number_at 8 (24 + 4 * count + 4 * (count * dims) + 8 * (count * m + i)) page)) measures
     = ap (λ (vs : List (List ℤ)). values_in vs i) read.values_are
-    ∙ across_block (pos 0) (λ m i. cast_signed w64 (number_at 8 (24 + 4 * count + 4 * (count * dims) + 8 * (count * m + i)) page)) count measures i read.few_measures less read.few in
+    ∙ across_block (pos 0) (λ m i. cast_signed w64 (number_at 8 (24 + 4 * count + 4 * (count * dims) + 8 * (count * m + i)) page)) measures i read.few_measures place in
     rw (number, point, value) refl
 
 -- the rows in the columns are those on the page

@@ -1,12 +1,12 @@
 -- Masks of comparisons, of eight lanes and of a whole column.
 use Rattle.std.proofs.lemmas.Grind.{common_steps}
-use Rattle.std.proofs.Common.{◌≡◌, ◌≢◌, ◌≤◌, ◌<◌, ◌+◌, ◌-◌, ◌*◌, ◌^◌, ◌%◌, ◌↔◌, ◌⊎◌, inl, inr, ℕ, Bool, true, false, cond, List, length, map, take, drop, replicate, get_or, slice_index, sym, ap, ◌∙◌, arith, rules, nat_le, min, max, bit_and, bit_or}
+use Rattle.std.proofs.Common.{◌≡◌, ◌≤◌, ◌<◌, ◌+◌, ◌-◌, ◌*◌, ◌^◌, ◌%◌, ◌↔◌, ◌⊎◌, inl, inr, ℕ, Bool, true, false, cond, List, length, map, take, drop, replicate, get_or, slice_index, sym, ap, ◌∙◌, arith, rules, nat_le, min, max, bit_and, bit_or}
 use Rattle.std.proofs.lemmas.Bool.{cases_order}
 use Rattle.std.proofs.lemmas.List.{length-map, length-take-le, get_or-take, get_or-drop, length-drop}
 use Rattle.std.proofs.lemmas.Nat.{shl_whole, pow_pos}
-use Rattle.std.proofs.lemmas.Nat.Bits.{bit_at_and, bit_at_or, bit_at-zero, bit_at-lt, bit_at_set_same, bit_at_set_other, bit_at_cat_low, bit_at_cat_high}
+use Rattle.std.proofs.lemmas.Nat.Bits.{bit_at_and, bit_at_or, bit_at-zero, bit_at-lt, bit_at_ones, bit_at_ones_above, bit_at_cat_low, bit_at_cat_high}
 use Rattle.std.proofs.lemmas.Simd.{tops_compared, zip2_splat_left, mask_l-mod, mask_l-lt, bit_mask_l}
-use Rattle.std.specs.Int.{bit_at, w64}
+use Rattle.std.specs.Int.{bit_at}
 use Rattle.std.specs.Simd.Lanes.{mask_l, top, zip2}
 use Rattle.ub_region.specs.Lanes.{IsMaskOf}
 use mir.Syntax.{Width}
@@ -47,26 +47,6 @@ IsMaskTo lo hi column n mask = (i : ℕ) → (bit_at mask i ≡ 1) ↔ Both (i <
 pub IsMaskTo-from : (lo hi n mask : ℕ) (column : List ℕ) → n ≤ length column → IsMaskOf lo hi (take n column) mask → IsMaskTo lo hi column n mask
 IsMaskTo-from lo hi n mask column h k = search (rules, get_or-take, length-take-le)
 
-apart : (i n : ℕ) → (i < n) ⊎ (n < i) → i ≢ n
-apart i n h = search rules
-
--- one value more, which lies between the bounds
-pub IsMaskTo-set : (lo hi n mask : ℕ) (column : List ℕ) → n < 64 → n < length column → lo ≤ get_or column n 0 → get_or column n 0 ≤ hi → IsMaskTo lo hi column n mask
-    → IsMaskTo lo hi column (n + 1) (bit_or mask (1 * 2 ^ n % 2 ^ 64))
-IsMaskTo-set lo hi n mask column small there low high so i = elim (cases_order i n) [
-  | inl same ↦ (λ bit. record { first = omega arith; second = rw same (there, low, high) }, λ h. rw same (bit_at_set_same w64 mask n small))
-  | inr other ↦
-      (let ne : i ≢ n = apart i n other in
-      let kept : bit_at (bit_or mask (1 * 2 ^ n % 2 ^ 64)) i ≡ bit_at mask i = bit_at_set_other w64 mask n small i ne in (
-        λ bit. (let was = (so i).0 (sym kept ∙ bit) in let less = was.first in record { first = omega arith; second = was.second }),
-        λ h. (let less = h.first in kept ∙ (so i).1 (record { first = omega arith; second = h.second })),
-      ))
-]
-
--- one that doesn't
-pub IsMaskTo-kept : (lo hi n mask : ℕ) (column : List ℕ) → ((lo ≤ get_or column n 0) → (get_or column n 0 ≤ hi) → ⊥) → IsMaskTo lo hi column n mask → IsMaskTo lo hi column (n + 1) mask
-IsMaskTo-kept lo hi n mask column h k = search rules
-
 pub sorted : (i n : ℕ) → (i ≡ n) ⊎ ((i < n) ⊎ (n < i)) → (i < n) ⊎ (n ≤ i)
 sorted i n h = search rules
 
@@ -104,3 +84,32 @@ IsMaskTo-chunk lo hi n mask lanes column there few small chunk so i =
                 is ∙ two.1 (inr (high ∙ (of_chunk (i - n)).1 (record { first = omega arith; second = (omega (arith, length-drop n column), rw here h.second.1, rw here h.second.2) })))),
           )
     ]
+
+-- all values
+pub IsMaskTo-all : (lo hi n mask : ℕ) (column : List ℕ) → length column ≤ n → IsMaskTo lo hi column n mask → IsMaskOf lo hi column mask
+IsMaskTo-all lo hi n mask column all so i =
+    (λ bit. ((so i).0 bit).second, λ value. (so i).1 (record { first = let there = value.0 in omega arith; second = value }))
+
+-- of the first values of a column, where those behind are left out
+first_only : (p q : ℕ) → p < 2 → q < 2 → (min p q ≡ 1) ↔ ((p ≡ 1) × (q ≡ 1))
+first_only p q h k = search rules
+
+pub IsMaskOf-first : (lo hi n : ℕ) (column : List ℕ) (mask places : ℕ) → places ≡ 2 ^ n - 1 → n ≤ length column → IsMaskOf lo hi column mask
+    → IsMaskOf lo hi (take n column) (bit_and mask places)
+IsMaskOf-first lo hi n column mask places is within so i =
+    let two = first_only (bit_at mask i) (bit_at places i) (bit_at-lt mask i) (bit_at-lt places i) in
+    let joined = bit_at_and mask places i in
+    let long : length (take n column) ≡ n = length-take-le n column within in (
+      (λ bit.
+          let both = two.0 (sym joined ∙ bit) in
+          let value = (so i).0 both.0 in
+          elim (sorted i n (cases_order i n)) [
+            | inl less ↦ let same = get_or-take n column i 0 less in (omega arith, rw same value.1, rw same value.2)
+            | inr from ↦ let none = bit_at_ones_above n i from in let one : bit_at (2 ^ n - 1) i ≡ 1 = ap (λ (m : ℕ). bit_at m i) (sym is) ∙ both.1 in absurd (omega arith)
+          ]),
+      (λ value.
+          let there = value.0 in
+          let less : i < n = omega arith in
+          let same = get_or-take n column i 0 less in
+          joined ∙ two.1 ((so i).1 (omega arith, rw same at value.1, rw same at value.2), ap (λ (m : ℕ). bit_at m i) is ∙ bit_at_ones n i less)),
+    )

@@ -1,7 +1,7 @@
-// The rows of a region's page in columns of host order: their numbers, dimensions and measures, each column in 64 places. The
-// places that no row uses are blank where a page was read.
-ghost use Rattle.std.specs.Prelude.{◌≡◌, ℕ, ◌+◌, ◌*◌, ◌<◌, ◌≤◌, ◌-◌, [], pos, length, take, slice_index_or};
-ghost use Rattle.std.specs.List.{insert};
+// The rows of a region's page in columns of host order: their numbers, dimensions and measures, each column in 64 places. Where
+// a page was read, a column that the schema doesn't have is blank. What stands in the places behind the last row means nothing.
+ghost use Rattle.std.specs.Prelude.{◌≡◌, ℕ, ◌+◌, ◌*◌, ◌<◌, ◌≤◌, ◌-◌, [], pos, drop, length, map, replicate, take, slice_index_or};
+ghost use Rattle.std.specs.List.{insert, range_with_len};
 ghost use Rattle.std.specs.Int.{w64, cast_signed};
 ghost use Rattle.ub_bytes.specs.Bytes.{number_at};
 ghost use Rattle.ub_region.specs.Columns.{block, blank_dims, blank_measures, point_in, values_in, key_in, row_in};
@@ -23,9 +23,9 @@ pub type Measures = [[i64; MAX_ROWS]; 4];
 /// Puts in a column the numbers of so many rows of a page.
 pub fn read_numbers(numbers: &mut Numbers, page: &Page, count: usize)
     requires { count ≤ MAX_ROWS }
-    ensures { numbers.new ≡ block MAX_ROWS 0 (λ i. number_at 4 (24 + 4 * i) page.now) count }
+    ensures { numbers.new
+        ≡ map (λ i. number_at 4 (24 + 4 * i) page.now) (range_with_len 0 MAX_ROWS) }
 {
-    *numbers = [0; MAX_ROWS];
     read_dim(numbers, page, 0, 24, count);
 }
 
@@ -35,26 +35,26 @@ pub fn read_dims(columns: &mut Dims, page: &Page, dims: usize, offset: usize, co
     requires dims { dims ≤ 4 }
     requires offset { offset ≤ 280 }
     requires count { count ≤ MAX_ROWS }
-    ensures { columns.new ≡ block 4 blank_dims (λ d. block MAX_ROWS 0
-        (λ i. number_at 4 (offset + 4 * (count * d + i)) page.now) count) dims }
+    ensures { columns.new ≡ block 4 blank_dims (λ d. map
+        (λ i. number_at 4 (offset + 4 * (count * d + i)) page.now) (range_with_len 0 MAX_ROWS)) dims }
 {
-    *columns = [[0; MAX_ROWS]; 4];
+    blank_from(columns, dims, 0);
     for dim in 0..dims {
         read_dim(&mut columns[dim], page, dim, offset, count);
     }
 }
 
-// One dimension of them, in a column that is blank.
+// One dimension of them. All places of the column are read, since a loop whose length is known is compiled to wide words alone.
+// What comes to stand behind the last row is what the page has there.
 fn read_dim(column: &mut [u32; MAX_ROWS], page: &Page, dim: usize, offset: usize, count: usize)
     requires dim { dim < 4 }
     requires offset { offset ≤ 280 }
     requires count { count ≤ MAX_ROWS }
-    requires blank { column.old ≡ blank_dims }
-    ensures { column.new
-        ≡ block MAX_ROWS 0 (λ i. number_at 4 (offset + 4 * (count * dim + i)) page.now) count }
+    ensures { column.new ≡ map (λ i. number_at 4 (offset + 4 * (count * dim + i)) page.now)
+        (range_with_len 0 MAX_ROWS) }
 {
     let start = offset + 4 * (count * dim);
-    BigEndian::read_u32_into(&page[start..start + 4 * count], &mut column[..count]);
+    BigEndian::read_u32_into(&page[start..start + 4 * MAX_ROWS], column);
 }
 
 /// Puts in the columns the measures of so many rows, the first of which begin at an offset of the
@@ -69,17 +69,17 @@ pub fn read_measures(
     requires measures { measures ≤ 4 }
     requires offset { offset ≤ 1304 }
     requires count { count ≤ MAX_ROWS }
-    ensures { columns.new ≡ block 4 blank_measures (λ m. block MAX_ROWS (pos 0)
-        (λ i. cast_signed w64 (number_at 8 (offset + 8 * (count * m + i)) page.now)) count)
-        measures }
+    ensures { columns.new ≡ block 4 blank_measures (λ m. map
+        (λ i. cast_signed w64 (number_at 8 (offset + 8 * (count * m + i)) page.now))
+        (range_with_len 0 MAX_ROWS)) measures }
 {
-    *columns = [[0; MAX_ROWS]; 4];
+    blank_from(columns, measures, 0);
     for measure in 0..measures {
         read_measure(&mut columns[measure], page, measure, offset, count);
     }
 }
 
-// One measure of them, in a column that is blank.
+// One measure of them, in the same way.
 fn read_measure(
     column: &mut [i64; MAX_ROWS],
     page: &Page,
@@ -90,12 +90,23 @@ fn read_measure(
     requires measure { measure < 4 }
     requires offset { offset ≤ 1304 }
     requires count { count ≤ MAX_ROWS }
-    requires blank { column.old ≡ blank_measures }
-    ensures { column.new ≡ block MAX_ROWS (pos 0)
-        (λ i. cast_signed w64 (number_at 8 (offset + 8 * (count * measure + i)) page.now)) count }
+    ensures { column.new
+        ≡ map (λ i. cast_signed w64 (number_at 8 (offset + 8 * (count * measure + i)) page.now))
+        (range_with_len 0 MAX_ROWS) }
 {
     let start = offset + 8 * (count * measure);
-    BigEndian::read_i64_into(&page[start..start + 8 * count], &mut column[..count]);
+    BigEndian::read_i64_into(&page[start..start + 8 * MAX_ROWS], column);
+}
+
+// Blanks the columns from an index on.
+fn blank_from<T: Copy>(columns: &mut [[T; MAX_ROWS]; 4], from: usize, blank: T)
+    requires { from ≤ 4 }
+    ensures long { length columns.new ≡ 4 }
+    ensures blank { drop from columns.new ≡ replicate (4 - from) (replicate MAX_ROWS blank) }
+{
+    for column in from..4 {
+        columns[column] = [blank; MAX_ROWS];
+    }
 }
 
 /// The dimensions of the row at an index.

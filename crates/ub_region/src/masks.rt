@@ -1,5 +1,5 @@
 // Comparisons of eight lanes at a time, and of a whole column.
-ghost use Rattle.std.specs.Prelude.{◌≡◌, ◌*◌, ◌≤◌, length, map, nat_le, take};
+ghost use Rattle.std.specs.Prelude.{◌≡◌, ◌-◌, ◌^◌, ◌≤◌, length, map, nat_le, take};
 ghost use Rattle.std.specs.Simd.Lanes.{mask_l};
 ghost use Rattle.ub_region.specs.Lanes.{IsMaskOf, IsMaskBelow};
 
@@ -40,37 +40,40 @@ pub(crate) fn mask_between(dims: &Dims, len: usize, lo: &[u32], hi: &[u32]) -> u
 {
     let mut mask = u64::MAX;
     for dim in 0..lo.len() {
-        let column = &dims[dim];
-        mask &= mask_of(&column[..len], lo[dim], hi[dim]);
+        mask &= mask_of(&dims[dim], len, lo[dim], hi[dim]);
     }
     mask
 }
 
-// Which values of a column, of at most 64, lie in lo ..= hi: whole chunks by lanes, and the rest one by one.
-fn mask_of(column: &[u32], lo: u32, hi: u32) -> u64
-    requires { length column.now ≤ MAX_ROWS }
+// Which of the first so many values of a column lie in lo ..= hi. All of its places are compared, and then those behind are left out.
+fn mask_of(column: &[u32; MAX_ROWS], len: usize, lo: u32, hi: u32) -> u64
+    requires { len ≤ MAX_ROWS }
+    ensures { IsMaskOf lo hi (take len column.now) result }
+{
+    mask_of_all(column, lo, hi) & places_below(len)
+}
+
+// Which values of a column lie in lo ..= hi, eight at a time. How often the loop goes on is known, so that it is compiled to none.
+fn mask_of_all(column: &[u32], lo: u32, hi: u32) -> u64
+    requires { length column.now ≡ MAX_ROWS }
     ensures { IsMaskOf lo hi column.now result }
 {
-    let chunks = column.len() / LANES;
-    let mut mask = mask_of_chunks(column, chunks, lo, hi);
-    for i in LANES * chunks..column.len() {
-        if lo <= column[i] && column[i] <= hi {
-            mask |= 1 << i;
-        }
-    }
-    mask
-}
-
-// The same of its first chunks.
-fn mask_of_chunks(column: &[u32], chunks: usize, lo: u32, hi: u32) -> u64
-    requires few { length column.now ≤ MAX_ROWS }
-    requires within { LANES * chunks ≤ length column.now }
-    ensures { IsMaskOf lo hi (take (LANES * chunks) column.now) result }
-{
     let mut mask = 0;
-    for chunk in 0..chunks {
+    for chunk in 0..MAX_ROWS / LANES {
         let lanes = u32x8::from_slice(&column[LANES * chunk..]);
         mask |= u64::from(within(lanes, lo, hi)) << (LANES * chunk);
     }
     mask
+}
+
+// A mask of the first so many places.
+fn places_below(len: usize) -> u64
+    requires { len ≤ MAX_ROWS }
+    ensures { result ≡ 2 ^ len - 1 }
+{
+    if len < MAX_ROWS {
+        (1 << len) - 1
+    } else {
+        u64::MAX
+    }
 }

@@ -1,5 +1,6 @@
 use Rattle.std.proofs.Common.{◌≡◌, ◌+◌, ◌*◌, arith, ◌∙◌, refl}
-use Rattle.ub_region.proofs.ColumnFacts.{are_read, columns_long, length-block, rows_read}
+use Rattle.std.proofs.lemmas.List.FromFn.{length-map-range_with_len}
+use Rattle.ub_region.proofs.ColumnFacts.{are_read, columns_long, rows_read}
 use Rattle.ub_bytes.specs.Bytes.{number_at}
 use Rattle.ub_region.proofs.region_page.RegionPage.take_in_columns.Goals as goal
 use Rattle.ub_table.specs.Region.{measures_of}
@@ -14,9 +15,9 @@ invariant_of-self c =
     c.read_numbers.ensures c.read_dims.ensures c.read_measures.ensures in
     record {
       few = read.few;
-      numbers_long = rw read.numbers_are (length-block 64 0 (λ i. number_at 4 (24 + 4 * i) c.args.page.now) len read.few);
+      numbers_long = rw read.numbers_are (length-map-range_with_len (λ i. number_at 4 (24 + 4 * i) c.args.page.now) 0 64);
       dims_long = λ d less. rw read.points_are
-          (columns_long (λ d i. number_at 4 (24 + 4 * len + 4 * (len * d + i)) c.args.page.now) len schema.dims d read.few read.few_dims less);
+          (columns_long (λ d i. number_at 4 (24 + 4 * len + 4 * (len * d + i)) c.args.page.now) schema.dims d read.few_dims less);
     }
 
 pub returns-clause-region : goal.returns-clause-region
