@@ -175,7 +175,7 @@ fn lay_rows<S: PageStore>(
     let shape = begun.schema().shape();
     let page_rows = begun.schema().page_rows() as usize;
     let grown = grow(alloc, shape, page_rows, rows)?;
-    match Tree::lay(alloc, begun, &grown, next) {
+    match Tree::lay(alloc, begun, grown, next) {
         Ok(tree) => Ok(tree),
         Err(refused) => Err(LoadFault::from(refused.fault)),
     }
