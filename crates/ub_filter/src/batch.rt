@@ -41,7 +41,8 @@ fn count_at(page: &RegionPage, mask: u64) -> usize
 }
 
 // Puts the values of all rows of a page in a column into the first places of a list. The loop has no test, so that it is compiled
-// to a copy of the column by wide words.
+// to a copy of the column by wide words; by itself, since then the column is chosen before it.
+#[inline(never)]
 fn put_all(page: &RegionPage, schema: &Schema, column: usize, values: &mut [i64; MAX_ROWS])
     requires { column < length schema.now.columns }
     ensures long { length values.new ≡ MAX_ROWS }
@@ -54,6 +55,7 @@ fn put_all(page: &RegionPage, schema: &Schema, column: usize, values: &mut [i64;
 }
 
 // The same of those at the places of a mask. The loop goes from one 1 of the mask to the next, so that it asks nothing of a row.
+#[inline(never)]
 fn put_at(
     page: &RegionPage,
     mask: u64,
