@@ -159,7 +159,7 @@ module _ (schema : Schema) (last : ℕ) (entry : Entry) (end : Option Key) (from
         let was = has.left in
         let long = length-append before (record { page = entry.page; region = region } ∷ []) in (
           before ++ record { page = entry.page; region = region } ∷ [],
-          record { counted = few count before has; region = region; stands = stands count honest; new = new.0; after_is = refl; },
+          record { counted = few count before has; region = region; stands = stands count honest; new = new.0; after_is = refl },
           record {
             left = omega arith;
             rows = saturated (length (rows_of (regions_in before))) (length region.rows) from.rows to.rows has.rows rows

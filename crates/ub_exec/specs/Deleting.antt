@@ -80,11 +80,15 @@ abbrev pub HasMetDevice : TreeView → TreeView → Type 0
 HasMetDevice old new =
     ((new.is_failed ≡ old.is_failed)
     × (new.store ≡ record old.store {
-      pages = new.store.pages; synced = new.store.synced; failed_reads = raised old.store.failed_reads 1;
+      pages = new.store.pages;
+      synced = new.store.synced;
+      failed_reads = raised old.store.failed_reads 1;
     }))
     ⊎ ((new.is_failed ≡ true)
     × (new.store ≡ record old.store {
-      pages = new.store.pages; synced = new.store.synced; failed_writes = raised old.store.failed_writes 1;
+      pages = new.store.pages;
+      synced = new.store.synced;
+      failed_writes = raised old.store.failed_writes 1;
     }))
 
 -- what can end a deletion, and what it leaves then
@@ -102,7 +106,12 @@ IsDeletionFault old new (Tree (Store _)) = ⊥
 -- on the first page of an honest store marks it, if it did where the table was changed before
 pub record Deletes (old new : TreeView) (result : Result ℕ ReadFault) : Type 0 where
   pub frame : new ≡ record old {
-    placed = new.placed; rows = new.rows; is_changed = new.is_changed; is_failed = new.is_failed; store = new.store; trace = new.trace;
+    placed = new.placed;
+    rows = new.rows;
+    is_changed = new.is_changed;
+    is_failed = new.is_failed;
+    store = new.store;
+    trace = new.trace;
     inner = new.inner;
   }
   pub counted : IfOk result (λ count. new.rows + count ≡ old.rows)

@@ -13,7 +13,11 @@ ArePlaces last entries =
 -- the region of an entry, up to where the next one begins, in a space that ends with this address
 abbrev pub region_of : ℕ → Entry → Option Key → Region
 region_of last entry next = record {
-  first = entry.first; next = next; from = entry.first.z; to = end_before last next; page = entry.page;
+  first = entry.first;
+  next = next;
+  from = entry.first.z;
+  to = end_before last next;
+  page = entry.page;
 }
 
 abbrev pub regions_of : ℕ → List Entry → List Region

@@ -146,7 +146,7 @@ opens_page pages last key level entry end before below next after page at fits t
     let is = page_is pages entry.page page at in
     let parts = subst (λ (p : List ℕ). (x : FallsTo key (node_on p).entries end below next) × (x.before ≡ before) × (x.after ≡ after)) (sym is) to in
     record {
-      named = record { there = at ∙ ap (λ (p : List ℕ). Some p) (sym is); fits = subst (λ (p : List ℕ). Fits last p level entry end) (sym is) fits; };
+      named = record { there = at ∙ ap (λ (p : List ℕ). Some p) (sym is); fits = subst (λ (p : List ℕ). Fits last p level entry end) (sym is) fits };
       falls = parts.0;
       before_is = parts.1;
       after_is = parts.2;

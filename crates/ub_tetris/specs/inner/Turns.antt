@@ -13,7 +13,11 @@ use Rattle.ub_tree.specs.Calls.{StandsAt}
 -- what contracts see of a sweep in this state
 abbrev pub view_by : State → Bool → SweepView
 view_by s is_failed = record {
-  dim = s.ahead.dim; is_descending = s.ahead.is_descending; held = s.held; awaited = s.ahead.stretches; is_failed = is_failed;
+  dim = s.ahead.dim;
+  is_descending = s.ahead.is_descending;
+  held = s.held;
+  awaited = s.ahead.stretches;
+  is_failed = is_failed;
 }
 
 abbrev pub view_of : State → SweepView
