@@ -41,8 +41,7 @@ fn count_at(page: &RegionPage, mask: u64) -> usize
 }
 
 // Puts the values of all rows of a page in a column into the first places of a list. The loop has no test, so that it is compiled
-// to a copy of the column by wide words; by itself, since then the column is chosen before it.
-#[inline(never)]
+// to a copy of the column by wide words.
 fn put_all(page: &RegionPage, schema: &Schema, column: usize, values: &mut [i64; MAX_ROWS])
     requires { column < length schema.now.columns }
     ensures long { length values.new ≡ MAX_ROWS }
@@ -54,7 +53,8 @@ fn put_all(page: &RegionPage, schema: &Schema, column: usize, values: &mut [i64;
     }
 }
 
-// The same of those at the places of a mask. The loop goes from one 1 of the mask to the next, so that it asks nothing of a row.
+// The same of those at the places of a mask. The loop goes from one 1 of the mask to the next, so that it asks nothing of a row;
+// it stands by itself, since then the column is chosen before it.
 #[inline(never)]
 fn put_at(
     page: &RegionPage,
