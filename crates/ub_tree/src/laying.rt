@@ -13,8 +13,7 @@ use ub_writing::Mark;
 
 impl<S: PageStore> Tree<S> {
     /// The tree of these regions, whose next row gets this number, where a table was begun: each of them on a page, from page 1 on, in
-    /// the order of their keys, and behind them its index. It counts as changed. The rows of a region are dropped as soon as its page is
-    /// put.
+    /// the order of their keys, and behind them its index. It counts as changed. The rows of a region are dropped once its page is put.
     ///
     /// Memory comes where memory was refused, Store with Device where the store failed in this call; the store is then handed back.
     pub fn lay(
