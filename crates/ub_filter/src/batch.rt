@@ -4,6 +4,7 @@ ghost use Rattle.ub_table.specs.Table.{column_value};
 
 use ub_page::RegionPage;
 use ub_query::RowBatch;
+use ub_region::masks::places_below;
 use ub_table::{MAX_ROWS, Row, Schema};
 
 /// The rows of a page at the places of a mask, for a sink that takes them at once: bit i is that of place i. Bits behind the
@@ -101,17 +102,5 @@ fn pick<T: Copy>(values: &[T; 4], index: usize) -> T
         1 => values[1],
         2 => values[2],
         _ => values[3],
-    }
-}
-
-// A mask of the first so many places.
-fn places_below(len: usize) -> u64
-    requires { len ≤ MAX_ROWS }
-    ensures { result ≡ 2 ^ len - 1 }
-{
-    if len < MAX_ROWS {
-        (1 << len) - 1
-    } else {
-        u64::MAX
     }
 }

@@ -42,7 +42,8 @@ FollowOn last To leaf entries from [] on = from ≡ on
 FollowOn last To leaf entries from (region ∷ more) on =
     (key : Key) × (from ≡ Some key) × StandsNext last To leaf entries key region × FollowOn last To leaf entries region.next more on
 
--- regions of a leaf's page that follow one another from a key on were handed over; the walk goes on where they end, at the key only if none is next
+-- the regions of a leaf's page that follow one another from the key `from` on were handed over; the walk goes on at `on`, where they end. It stays where it
+-- was only if none of the leaf's regions is next
 pub record HandsAlong {S : Type 0} (Takes : S → List Region → S → Type 0) (last : ℕ) (To : Key → Option ℕ → Type 0) (leaf : Leaf)
     (page : List ℕ) (count : ℕ) (from : Key) (before after : S) (on : Option Key) : Type 0 where
   pub regions : List Region

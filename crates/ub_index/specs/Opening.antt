@@ -29,7 +29,8 @@ IsPassing (Store store.Memory) = Unit {0}
 IsPassing (Store store.Device) = Unit {0}
 IsPassing _ = ⊥
 
--- opening with this result: the pager holds no page more but the root's, and the store has one failed read more where the device's fault is met
+-- the index was to be opened, with this result: the pager holds no page more but the root's; the store is as it was, with one failed read more where the
+-- result is the device's fault; and each refusal has its reason
 pub record Opens {A : Type 0} (index : IndexView) (old new : PagerView) (result : Result A IndexFault) : Type 0 where
   pub same : new ≡ record old { store = store_after result old.store; cached = new.cached }
   pub checked : KeepsChecked index.last old new

@@ -4,7 +4,7 @@ use Rattle.std.proofs.lemmas.List.{drop-drop, length-append}
 use Rattle.std.proofs.lemmas.Result.{on_ok_weaker}
 use Rattle.std.specs.List.{AllByRecursion}
 use Rattle.std.proofs.lemmas.List.Elements.{All-from_recursion}
-use Rattle.ub_growing.specs.Growing.{without_rows}
+use Rattle.ub_growing.specs.Growing.{with_rows_taken}
 use Rattle.ub_index.specs.Spans.{ArePlaces, first_keys}
 use Rattle.ub_index.specs.Standing.{IsGrowFault}
 use Rattle.ub_laying.proofs.LevelFacts.{cut_added, lowest_level, take_set}
@@ -95,7 +95,7 @@ length-firsts (r ∷ regions) = ap (λ (k : ℕ). suc k) (length-firsts regions)
 -- ---- regions whose rows are taken one after the other
 
 -- they begin where they did
-pub firsts_left : (regions : List RegionRows) (i : ℕ) → firsts_of (without_rows i regions) ≡ firsts_of regions
+pub firsts_left : (regions : List RegionRows) (i : ℕ) → firsts_of (with_rows_taken i regions) ≡ firsts_of regions
 firsts_left [] i = refl
 firsts_left (r ∷ regions) zero = refl
 firsts_left (r ∷ regions) (suc i) = ap (λ (keys : List Key). r.first ∷ keys) (firsts_left regions i)
@@ -105,10 +105,10 @@ pub length-left : (start now : List RegionRows) → firsts_of now ≡ firsts_of 
 length-left start now firsts = sym (length-firsts now) ∙ ap (λ (keys : List Key). length keys) firsts ∙ length-firsts start
 
 -- the later ones are as they were
-pub later_left : (start now : List RegionRows) (i : ℕ) → drop i now ≡ drop i start → drop (i + 1) (without_rows i now) ≡ drop (i + 1) start
+pub later_left : (start now : List RegionRows) (i : ℕ) → drop i now ≡ drop i start → drop (i + 1) (with_rows_taken i now) ≡ drop (i + 1) start
 later_left start now i same = behind now i ∙ one_less start now i same
   where
-    behind : (regions : List RegionRows) (i : ℕ) → drop (i + 1) (without_rows i regions) ≡ drop (i + 1) regions
+    behind : (regions : List RegionRows) (i : ℕ) → drop (i + 1) (with_rows_taken i regions) ≡ drop (i + 1) regions
     behind [] i = refl
     behind (r ∷ regions) zero = refl
     behind (r ∷ regions) (suc i) = let next : suc i + 1 ≡ suc (i + 1) = omega arith in rw next (behind regions i)
@@ -117,7 +117,7 @@ later_left start now i same = behind now i ∙ one_less start now i same
     one_less start now i same = sym (drop-drop 1 i now) ∙ ap (λ (regions : List RegionRows). drop 1 regions) same ∙ drop-drop 1 i start
 
 -- the region whose rows were taken is what it was at first
-pub taken_at : (start now then : List RegionRows) (i : ℕ) (first : Key) (rows : List Row) → then ≡ without_rows i now → slice_get (firsts_of then) i ≡ Some first
+pub taken_at : (start now then : List RegionRows) (i : ℕ) (first : Key) (rows : List Row) → then ≡ with_rows_taken i now → slice_get (firsts_of then) i ≡ Some first
     → slice_get (map (λ (region : RegionRows). region.rows) now) i ≡ Some rows → drop i now ≡ drop i start → slice_get start i ≡ Some (record { first = first; rows = rows })
 taken_at start now then i first rows is begins has same =
     let firsts = ap firsts_of is ∙ firsts_left now i in

@@ -66,8 +66,8 @@ fn mask_of_all(column: &[u32], lo: u32, hi: u32) -> u64
     mask
 }
 
-// A mask of the first so many places.
-fn places_below(len: usize) -> u64
+/// The mask of the first `len` places, 64 at most.
+pub fn places_below(len: usize) -> u64
     requires { len ≤ MAX_ROWS }
     ensures { result ≡ 2 ^ len - 1 }
 {

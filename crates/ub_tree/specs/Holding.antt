@@ -53,8 +53,9 @@ IsRoomFault IsNeeded t key (Store store.BadSize) =
     ⊎ ((n : ℕ) × NeedsPages t.inner.index t.store key n × (4294967295 < page_count t.store + 1 + n)))
 IsRoomFault IsNeeded t key fault = Unit {0}
 
--- what an insertion into a region must answer, where that is full just if this is so: BadCount of the first page just where it is, and no region more
--- can be counted; that there is no room, where each page on the way there is full, in 16 levels; and that only where there is none
+-- what an insertion into this region must answer, `IsFull` being that the region is full: BadCount of the first page where it is full and no region more
+-- can be counted, and a page's fault nowhere else; that there is no room, where it is full, the index has 16 levels, and each page on the way to the
+-- region is full; and that there is no room only for the reasons that `IsRoomFault` has
 abbrev pub AnswersAt : {A : Type 0} → Type 0 → TreeView → Region → Result A TreeFault → Type 0
 AnswersAt IsFull t span result =
     (IsFull → region_count t ≡ 4294967295 → result ≡ Err (Page 0 BadCount))
@@ -98,8 +99,9 @@ IsJoined t span left =
     (left < t.schema.page_rows / 2)
     × (HasRoomAt t span.next left ⊎ (CanFallInto t span.next × HasRoomAt t (key_before span.first.z span.first.number) left))
 
--- what a removal of the row with this key must answer: whether the region that it falls into has it; BadCount of the first page where the count of
--- rows, or of regions, can't go down; and no refusal where it hasn't it, or where as many rows are left as half of what a page holds
+-- what a removal of the row with this key must answer: whether the region that the key falls into has it; BadCount of the first page where it has it and no
+-- row is counted, or where what is left of it joins a neighbour and just one region is counted; and no fault but want of memory and the device's, where it
+-- doesn't have it, or where as many rows are left as half of what a page holds
 abbrev pub AnswersRemoval : TreeView → Key → Result Bool TreeFault → Type 0
 AnswersRemoval t key result =
     (number : ℕ) (region : RegionRows) → (into : FallsInto t key number region)

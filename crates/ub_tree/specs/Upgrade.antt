@@ -74,7 +74,8 @@ IsOldAskedFor old n =
     × (((head.version ≡ 1) × (IsAskedFor (directory_of head.header) old n ⊎ IsNamed (directory_of head.header) old n))
     ⊎ ((t : TreeView) × StandsOver old head t × StopsTree t n None)))
 
--- why an upgrade is refused: BadSize is the new store's, and NoPage and a page's fault the old one's; which page that is, is told of honest stores
+-- why an upgrade is refused: with BadSize the new store can't have as many pages as are needed; NoPage and a page's fault are about a page of the old
+-- store. Which page that is, is said only where both stores are honest
 abbrev pub IsUpgradeFault : StoreFacts → StoreFacts → TreeFault → Type 0
 IsUpgradeFault old new Memory = Unit {0}
 IsUpgradeFault old new (Store store.Device) = IsTrue old.can_fail ⊎ IsTrue new.can_fail

@@ -416,7 +416,7 @@ fn number_arg<'a>(
     option_arg(alloc, id, value, help).value_parser(value_parser!(u32).range(least..=most))
 }
 
-// The option that says how many columns are dimensions.
+// Adds the option that says how many columns are dimensions.
 fn with_dims<'a>(alloc: Global, command: Making<'a>) -> Making<'a>
     ensures { (app : App) → IfOk command.entry (λ made. IsCommandFor app (box_value made))
         → IfOk result (λ made. IsCommandFor (with_rule app dims_rule) (box_value made)) }
@@ -427,7 +427,7 @@ fn with_dims<'a>(alloc: Global, command: Making<'a>) -> Making<'a>
     with_arg(alloc, command, arg)
 }
 
-// The option that says which dimensions are signed.
+// Adds the option that says which dimensions are signed.
 fn with_signed<'a>(alloc: Global, command: Making<'a>) -> Making<'a>
     ensures { (app : App) → IfOk command.entry (λ made. IsCommandFor app (box_value made))
         → IfOk result (λ made. IsCommandFor (with_rule app signed_rule) (box_value made)) }
@@ -438,7 +438,7 @@ Which dimensions are signed: 1 for the first, 2 for the second, 4, 8, added up; 
     with_arg(alloc, command, arg)
 }
 
-// The option that says how many rows a page holds.
+// Adds the option that says how many rows a page holds.
 fn with_page_rows<'a>(alloc: Global, command: Making<'a>) -> Making<'a>
     ensures { (app : App) → IfOk command.entry (λ made. IsCommandFor app (box_value made))
         → IfOk result (λ made. IsCommandFor (with_rule app page_rows_rule) (box_value made)) }
@@ -448,7 +448,7 @@ fn with_page_rows<'a>(alloc: Global, command: Making<'a>) -> Making<'a>
     with_arg(alloc, command, arg)
 }
 
-// The option that says which name the table has.
+// Adds the option that says which name the table has.
 fn with_name<'a>(alloc: Global, command: Making<'a>) -> Making<'a>
     ensures { (app : App) → IfOk command.entry (λ made. IsCommandFor app (box_value made))
         → IfOk result (λ made. IsCommandFor (with_rule app name_rule) (box_value made)) }
@@ -458,7 +458,7 @@ fn with_name<'a>(alloc: Global, command: Making<'a>) -> Making<'a>
     with_arg(alloc, command, arg)
 }
 
-// The path of a CSV file, another word beside it, and how a table is made of the file.
+// Adds the path of a CSV file, another word beside it, and how a table is made of the file.
 fn with_data<'a>(alloc: Global, command: Making<'a>, id: &'a str, help: &'a str) -> Making<'a>
     ensures { (app : App) → IfOk command.entry (λ made. IsCommandFor app (box_value made))
         → IfOk result (λ made.
