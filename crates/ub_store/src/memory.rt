@@ -4,6 +4,7 @@ ghost use Rattle.ub_store.specs.Facts.{memory_facts, zero_page};
 
 use crate::Page;
 use crate::fault::StoreFault;
+use crate::pages::Pages;
 use crate::store::{MAX_PAGES, PageStore};
 use std::alloc::Global;
 use std::marker::Model;
@@ -43,19 +44,23 @@ impl MemStore {
         MemStore { pages }
     }
 
-    /// The page of this number, which there is.
-    pub fn page(&self, n: u32) -> &Page
-        requires there { n < length self.now }
-        ensures { slice_get self.now n ≡ Some result.now }
-    {
-        &self.pages[n as usize]
-    }
-
     /// The pages, as they are.
     pub fn into_pages(self) -> Vec<Page>
         ensures { result.items ≡ self }
     {
         self.pages
+    }
+}
+
+impl Pages for MemStore {
+    ghost pages = { λ store. store };
+
+    fn count(&self) -> u32 {
+        self.pages()
+    }
+
+    fn put_page(&self, n: u32, page: &mut Page) {
+        *page = self.pages[n as usize];
     }
 }
 
