@@ -151,9 +151,10 @@ fn put_changes<P: Place, J: Tells>(place: &mut P, journal: &J) -> Result<(), Fai
     ensures cause { Counts (P.facts place.old) (P.facts place.new) result }
 {
     place.resize(journal.count())?;
+    let mut page = [0; 4096];
     for at in 0..journal.changes() {
-        let (number, page) = journal.change(at);
-        place.write_page(number, page)?;
+        let number = journal.put_change(at, &mut page);
+        place.write_page(number, &page)?;
     }
     Ok(())
 }

@@ -45,11 +45,11 @@ pub trait Tells {
     fn changes(&self) -> usize
         ensures { result ≡ length (told self.now).changes };
 
-    /// One of these, by its place among them: its number, and its bytes, which are lent.
-    fn change(&self, at: usize) -> (u32, &Page)
+    /// Puts one of these, by its place among them, into the page that is lent, and tells its number.
+    fn put_change(&self, at: usize, page: &mut Page) -> u32
         requires within { at < length (told self.now).changes }
         ensures { slice_get (told self.now).changes at
-            ≡ Some (record { number = result.0; page = result.1.now }) };
+            ≡ Some (record { number = result; page = page.new }) };
 }
 
 impl Tells for Journal {
@@ -73,9 +73,10 @@ impl Tells for Journal {
         self.changes.len()
     }
 
-    fn change(&self, at: usize) -> (u32, &Page) {
+    fn put_change(&self, at: usize, page: &mut Page) -> u32 {
         let change = &self.changes[at];
-        (change.number, &change.page)
+        *page = change.page;
+        change.number
     }
 }
 

@@ -223,12 +223,10 @@ fn copy_of<J: Tells>(alloc: Global, journal: &J) -> Result<Journal, AllocError>
     ensures { IfOk result (λ copy. told copy ≡ J.told journal.now) }
 {
     let mut changes = Vec::new(alloc);
+    let mut page = [0; 4096];
     for at in 0..journal.changes() {
-        let (number, page) = journal.change(at);
-        changes.push(Change {
-            number,
-            page: *page,
-        })?;
+        let number = journal.put_change(at, &mut page);
+        changes.push(Change { number, page })?;
     }
     Ok(Journal {
         before: journal.before(),

@@ -29,11 +29,11 @@ pub write_page-requires : goal.write_page-requires
 write_page-requires g c = record {
   there = λ still_honest.
       let inv = c.loop-at.invariant in
-      let change : Change = record { number = c.change-number.result.0; page = c.change-number.result.1.now } in
+      let change : Change = record { number = c.put_change-number.result; page = c.put_change-number.new.page } in
       let j = g.J.Tells.told c.args.journal.now in
       let old = g.P.Place.facts c.args.place.now in
       let honest : IsHonest old = subst IsTrue inv.honest still_honest in
-      let which = among j (c.requires.begun honest).found.left.others c.loop-at.at change c.change-number.ensures in
+      let which = among j (c.requires.begun honest).found.left.others c.loop-at.at change c.put_change-number.ensures in
       let long : length (g.P.Place.facts c.loop-at.place).seen.table ≡ j.count =
       ap (λ (i : Image). length i.table) (inv.seen honest) ∙ length_put_all (take c.loop-at.at j.changes) (resized j.count old.seen.table) ∙ length_sized j.count old.seen.table in
       rw long which.1;
@@ -42,30 +42,30 @@ write_page-requires g c = record {
 pub returns-in_err-write_page-clause-crash : goal.returns-in_err-write_page-clause-crash
 returns-in_err-write_page-clause-crash g c honest =
     let inv = c.loop-at.invariant in
-    let change : Change = record { number = c.change-number.result.0; page = c.change-number.result.1.now } in
+    let change : Change = record { number = c.put_change-number.result; page = c.put_change-number.new.page } in
     (another_put (g.J.Tells.told c.args.journal.now) (c.requires.begun honest) honest (g.met.P.Place.clock c.args.place.now honest) c.loop-at.at change
-    c.change-number.ensures (inv.at honest) c.write_page.ensures.effect).now_is
+    c.put_change-number.ensures (inv.at honest) c.write_page.ensures.effect).now_is
 
 pub returns-in_err-write_page-clause-any_moment : goal.returns-in_err-write_page-clause-any_moment
 returns-in_err-write_page-clause-any_moment g c honest =
     let inv = c.loop-at.invariant in
-    let change : Change = record { number = c.change-number.result.0; page = c.change-number.result.1.now } in
+    let change : Change = record { number = c.put_change-number.result; page = c.put_change-number.new.page } in
     (another_put (g.J.Tells.told c.args.journal.now) (c.requires.begun honest) honest (g.met.P.Place.clock c.args.place.now honest) c.loop-at.at change
-    c.change-number.ensures (inv.at honest) c.write_page.ensures.effect).run
+    c.put_change-number.ensures (inv.at honest) c.write_page.ensures.effect).run
 
 pub loop-at-preserved : goal.loop-at-preserved
 loop-at-preserved g c =
     let inv = c.loop-at.invariant in
     let j = g.J.Tells.told c.args.journal.now in
     let old = g.P.Place.facts c.args.place.now in
-    let change : Change = record { number = c.change-number.result.0; page = c.change-number.result.1.now } in
+    let change : Change = record { number = c.put_change-number.result; page = c.put_change-number.new.page } in
     record {
       same = inv.same;
       honest = c.write_page.ensures.effect.counts.honest ∙ inv.honest;
       failures = c.in_ok-write_page.ensures.effect.counts.failures ∙ inv.failures;
       seen = λ honest. c.in_ok-write_page.ensures.written (inv.at honest).honest
           ∙ ap (with_page change.number change.page) (inv.seen honest)
-          ∙ ap (λ (t : List (List ℕ)). record old.seen { table = t; rest = 0 }) (put_more j.changes (resized j.count old.seen.table) c.loop-at.at change c.change-number.ensures);
+          ∙ ap (λ (t : List (List ℕ)). record old.seen { table = t; rest = 0 }) (put_more j.changes (resized j.count old.seen.table) c.loop-at.at change c.put_change-number.ensures);
       at = λ honest. another_put j (c.requires.begun honest) honest (g.met.P.Place.clock c.args.place.now honest) c.loop-at.at change
-          c.change-number.ensures (inv.at honest) c.write_page.ensures.effect;
+          c.put_change-number.ensures (inv.at honest) c.write_page.ensures.effect;
     }

@@ -7,11 +7,11 @@ use Rattle.ub_journal.proofs.torn.copy_of.Goals as goal
 
 pub loop-at-preserved : goal.loop-at-preserved
 loop-at-preserved g c =
-    let change : Change = record { number = c.change-number.result.0; page = c.change-number.result.1.now } in
+    let change : Change = record { number = c.put_change-number.result; page = c.put_change-number.new.page } in
     record {
       same = c.loop-at.invariant.same;
       changes = c.in_ok-push.ensures.items ∙ ap (λ (l : List Change). l ++ change ∷ []) c.loop-at.invariant.changes
-          ∙ sym (take_next (g.J.Tells.told c.args.journal.now).changes c.loop-at.at change c.change-number.ensures);
+          ∙ sym (take_next (g.J.Tells.told c.args.journal.now).changes c.loop-at.at change c.put_change-number.ensures);
     }
 
 pub loop-at-init : goal.loop-at-init
@@ -20,8 +20,8 @@ loop-at-init g c = record { same = refl; changes = c.new-changes.ensures.items }
 pub returns-in_err-push : goal.returns-in_err-push
 returns-in_err-push g c = IfOk-from_err c.from_residual.result _ c.from_residual.ensures.0
 
-pub change-number-requires : goal.change-number-requires
-change-number-requires g c = record { within = subst (λ n. c.loop-at.at < n) c.changes-at-end.ensures c.loop-at-test.true }
+pub put_change-number-requires : goal.put_change-number-requires
+put_change-number-requires g c = record { within = subst (λ n. c.loop-at.at < n) c.changes-at-end.ensures c.loop-at-test.true }
 
 pub returns : goal.returns
 returns g c =
