@@ -51,9 +51,10 @@ fn write_changes<W: Write, J: Tells>(out: &mut W, journal: &J) -> io::Result<usi
         within ≡ length (changes_bytes (J.told journal.now).changes) % 4096) }
 {
     let mut within = 0;
+    let mut page = [0; 4096];
     for at in 0..journal.changes() {
-        let (number, page) = journal.change(at);
-        let count = write_change(out, number, page)?;
+        let number = journal.put_change(at, &mut page);
+        let count = write_change(out, number, &page)?;
         within = (within + count) % 4096;
     }
     Ok(within)

@@ -10,11 +10,11 @@ pub loop-at-preserved : goal.loop-at-preserved
 loop-at-preserved g c =
     let inv = c.loop-at.invariant in
     let changes = (g.J.Tells.told c.args.journal.now).changes in
-    let change : Change = record { number = c.change-number.result.0; page = c.change-number.result.1.now } in
+    let change : Change = record { number = c.put_change-number.result; page = c.put_change-number.new.page } in
     record {
       same = inv.same;
-      written = written_more (g.W.Write.contents c.args.out.now) (g.W.Write.contents c.loop-at.out) (g.W.Write.contents c.write_change.new.out) changes c.loop-at.at change c.change-number.ensures inv.written c.in_ok-count.ensures.written;
-      within = within_more changes c.loop-at.at change c.loop-at.within c.in_ok-count.count _ c.change-number.ensures inv.within c.in_ok-count.ensures.count refl;
+      written = written_more (g.W.Write.contents c.args.out.now) (g.W.Write.contents c.loop-at.out) (g.W.Write.contents c.write_change.new.out) changes c.loop-at.at change c.put_change-number.ensures inv.written c.in_ok-count.ensures.written;
+      within = within_more changes c.loop-at.at change c.loop-at.within c.in_ok-count.count _ c.put_change-number.ensures inv.within c.in_ok-count.ensures.count refl;
     }
 
 pub overflow_add-within : goal.overflow_add-within
