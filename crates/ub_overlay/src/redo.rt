@@ -26,7 +26,7 @@ impl Model for Changed {
     ghost view = { λ c. changed_view (option_map (λ b. b.value) c.first) c.count (changes_of c.others.items) };
 }
 
-/// The journal that puts them into the table of the pages below, told page by page: no page is copied for it but this one.
+/// The journal that puts them into the table of the pages below, told page by page.
 #[derive(Drop)]
 pub struct Redo {
     /// The first page below.
@@ -73,14 +73,15 @@ impl Changed {
         self.others.len()
     }
 
-    // One of these, by its place among them.
-    fn change(&self, at: usize) -> (u32, &Page)
+    // Puts one of these, by its place among them, into the page that is lent, and tells its number.
+    fn put_change(&self, at: usize, page: &mut Page) -> u32
         requires { at < length self.now.others }
         ensures { slice_get self.now.others at
-            ≡ Some (record { number = result.0; page = result.1.now }) }
+            ≡ Some (record { number = result; page = page.new }) }
     {
-        let (number, page) = &self.others[at];
-        (*number, page)
+        let (number, changed) = &self.others[at];
+        *page = **changed;
+        *number
     }
 }
 
@@ -105,7 +106,7 @@ impl Tells for Redo {
         self.changed.len()
     }
 
-    fn change(&self, at: usize) -> (u32, &Page) {
-        self.changed.change(at)
+    fn put_change(&self, at: usize, page: &mut Page) -> u32 {
+        self.changed.put_change(at, page)
     }
 }
