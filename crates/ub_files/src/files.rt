@@ -3,7 +3,7 @@ ghost use Rattle.ub_files.specs.Clock.{FolderClock, IsFolderClock, IsSameFolder,
 ghost use Rattle.ub_files.specs.Files.{FilesFacts, IsLent, IsText, IsTorn, ChangesFile, KeepsFile, MakesFile, OpensFile, ReadsFile};
 
 use crate::fault::OpenFault;
-use ub_store::{MemStore, PageStore, StoreFault};
+use ub_store::{PageStore, Pages, StoreFault};
 
 /// Where the files that a command names are: texts are read whole, and of table files stores are lent.
 ///
@@ -76,15 +76,16 @@ pub trait Files {
     /// Makes a table file of these pages, of which there is one at least, in the place of what is there. Device comes where that failed
     /// in this call, Memory where memory was refused for a journal that a stopped run has left, and then nothing was done;
     /// BadJournal as of `change`, and where a journal stands beside a file with no page.
-    fn make(&mut self, path: &str, pages: &MemStore) -> Result<(), OpenFault>
-        requires some { 1 ≤ length pages.now }
+    fn make<P: Pages>(&mut self, path: &str, pages: &P) -> Result<(), OpenFault>
+        requires some { 1 ≤ length (P.pages pages.now) }
         ensures faults { IfErr result (λ fault. (fault ≡ OpenFault.BadJournal)
             ⊎ ((fault ≡ OpenFault.Store StoreFault.Device)
             ⊎ (fault ≡ OpenFault.Store StoreFault.Memory))) }
-        ensures effect { MakesFile path.now pages.now (facts self.old) (facts self.new) result }
-        ensures crash { Runs (MayBecome path.now pages.now (facts self.old))
+        ensures effect { MakesFile path.now (P.pages pages.now)
+            (facts self.old) (facts self.new) result }
+        ensures crash { Runs (MayBecome path.now (P.pages pages.now) (facts self.old))
             (facts self.old) (clock self.old) (clock self.new) }
-        ensures lasts { OnOk result (Lasts path.now pages.now
+        ensures lasts { OnOk result (Lasts path.now (P.pages pages.now)
             (facts self.old) (clock self.new)) };
 
     /// Takes back a store that isn't kept: what was written to it is gone, and no file is changed.
