@@ -2,45 +2,47 @@
 ghost use Rattle.ub_keeping.specs.Kept.{replacing};
 
 use ub_journal::Tells;
-use ub_store::{MemStore, Page, PageStore};
+use ub_store::{Page, Pages};
 
-/// The journal that makes these pages of any table with this first page. The pages are lent; the first one alone is copied, to tell
-/// it.
+/// The journal that makes these pages of any table with this first page. The pages are lent, and asked for one by one.
 #[derive(Drop)]
-pub struct Replacing<'a> {
+pub struct Replacing<'a, Q> {
     /// The first page of the table.
     pub before: Page,
     /// The pages that are to be.
-    pub pages: &'a MemStore,
+    pub pages: &'a Q,
 }
 
-impl<'a> Tells for Replacing<'a> {
+impl<'a, Q: Pages> Tells for Replacing<'a, Q> {
     ghost use Rattle.ub_keeping.specs.Kept.{replacing};
 
-    ghost told = { λ r. replacing r.before r.pages.now };
+    ghost told = { λ r. replacing r.before (Q.pages r.pages.now) };
 
     fn before(&self) -> Page {
         self.before
     }
 
     fn head(&self) -> Page {
-        if self.pages.pages() == 0 {
-            return [0; 4096];
+        let mut page = [0; 4096];
+        if self.pages.count() == 0 {
+            return page;
         }
-        *self.pages.page(0)
+        self.pages.put_page(0, &mut page);
+        page
     }
 
     fn count(&self) -> u32 {
-        self.pages.pages()
+        self.pages.count()
     }
 
     fn changes(&self) -> usize {
-        self.pages.pages().saturating_sub(1) as usize
+        self.pages.count().saturating_sub(1) as usize
     }
 
-    fn change(&self, at: usize) -> (u32, &Page) {
-        let _count = self.pages.pages();
+    fn put_change(&self, at: usize, page: &mut Page) -> u32 {
+        let _count = self.pages.count();
         let number = at as u32 + 1;
-        (number, self.pages.page(number))
+        self.pages.put_page(number, page);
+        number
     }
 }

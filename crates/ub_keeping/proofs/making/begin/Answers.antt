@@ -15,7 +15,7 @@ fill-requires-clause-zero g c after =
     let at_first = subst (λ b. IsTrue b) c.resize.ensures.effect.counts.honest at_sized in
     let honest = subst (λ b. IsTrue b) c.make_last.ensures.cause.honest at_first in
     let last = c.in_ok-make_last.ensures in
-    zero_lasts c.args.pages.now old first (c.requires.empty honest) (c.requires.alone honest) (last.seen honest) (last.durable honest) at_first (g.met.P.Place.clock c.make_last.new.place at_first)
+    zero_lasts (g.Q.Pages.pages c.args.pages.now) old first (c.requires.empty honest) (c.requires.alone honest) (last.seen honest) (last.durable honest) at_first (g.met.P.Place.clock c.make_last.new.place at_first)
     c.resize.ensures.effect c.sync.ensures.effect (c.in_ok-resize.ensures.written at_first) (c.in_ok-sync.ensures.done at_sized)
 
 pub returns-in_err-resize-clause-any_moment : goal.returns-in_err-resize-clause-any_moment
@@ -27,8 +27,8 @@ returns-in_err-resize-clause-any_moment g c honest =
     let same = last.seen honest in
     let durable = last.durable honest in
     let clock = g.met.P.Place.clock c.make_last.new.place at_first in
-    part_joined c.args.pages.now old first (g.P.Place.facts c.resize.new.self) (c.make_last.ensures.any_moment honest)
-    (one_sized c.args.pages.now old first (c.requires.empty honest) (c.requires.alone honest) same durable at_first clock c.resize.ensures.effect).run
+    part_joined (g.Q.Pages.pages c.args.pages.now) old first (g.P.Place.facts c.resize.new.self) (c.make_last.ensures.any_moment honest)
+    (one_sized (g.Q.Pages.pages c.args.pages.now) old first (c.requires.empty honest) (c.requires.alone honest) same durable at_first clock c.resize.ensures.effect).run
 
 pub returns-in_err-sync-clause-any_moment : goal.returns-in_err-sync-clause-any_moment
 returns-in_err-sync-clause-any_moment g c honest =
@@ -39,8 +39,8 @@ returns-in_err-sync-clause-any_moment g c honest =
     let same = last.seen honest in
     let durable = last.durable honest in
     let clock = g.met.P.Place.clock c.make_last.new.place at_first in
-    part_joined c.args.pages.now old first (g.P.Place.facts c.sync.new.self) (c.make_last.ensures.any_moment honest)
-    (one_synced c.args.pages.now old first (c.requires.empty honest) (c.requires.alone honest) same durable at_first clock c.resize.ensures.effect c.sync.ensures.effect).run
+    part_joined (g.Q.Pages.pages c.args.pages.now) old first (g.P.Place.facts c.sync.new.self) (c.make_last.ensures.any_moment honest)
+    (one_synced (g.Q.Pages.pages c.args.pages.now) old first (c.requires.empty honest) (c.requires.alone honest) same durable at_first clock c.resize.ensures.effect c.sync.ensures.effect).run
 
 pub returns-clause-any_moment : goal.returns-clause-any_moment
 returns-clause-any_moment g c honest =
@@ -55,8 +55,8 @@ returns-clause-any_moment g c honest =
     let synced = g.P.Place.facts c.sync.new.self in
     let at_sized = still first sized c.resize.ensures.effect.counts.honest at_first in
     let at_synced = still sized synced c.sync.ensures.effect.counts.honest at_sized in
-    part_joined c.args.pages.now old first (g.P.Place.facts c.fill.new.place) (c.make_last.ensures.any_moment honest)
-    (joined (one_synced c.args.pages.now old first (c.requires.empty honest) (c.requires.alone honest) same durable at_first clock c.resize.ensures.effect c.sync.ensures.effect).run
+    part_joined (g.Q.Pages.pages c.args.pages.now) old first (g.P.Place.facts c.fill.new.place) (c.make_last.ensures.any_moment honest)
+    (joined (one_synced (g.Q.Pages.pages c.args.pages.now) old first (c.requires.empty honest) (c.requires.alone honest) same durable at_first clock c.resize.ensures.effect c.sync.ensures.effect).run
     (c.fill.ensures.any_moment at_synced) (λ i is. is) (λ i is. is))
 
 pub returns-in_err-make_last-clause-done : goal.returns-in_err-make_last-clause-done

@@ -15,10 +15,10 @@ returns-in_err-write_page-clause-any_moment g c honest =
     let filled = g.P.Place.facts c.put_others.new.place in
     let at_sized = still old sized c.resize.ensures.effect.counts.honest honest in
     let at_filled = still sized filled c.put_others.ensures.cause.honest at_sized in
-    let at = fill_put c.args.pages.now c.requires.some honest (g.met.P.Place.clock c.args.place.now honest) (c.requires.zero honest) c.pages.result c.pages.ensures c.resize.ensures.effect
+    let at = fill_put (g.Q.Pages.pages c.args.pages.now) c.requires.some honest (g.met.P.Place.clock c.args.place.now honest) (c.requires.zero honest) c.count.result c.count.ensures c.resize.ensures.effect
     c.put_others.ensures.cause.honest (c.put_others.ensures.any_moment at_sized) (c.put_others.ensures.zero at_sized) in
-    let back = fill_back c.args.pages.now sized at c.sync.ensures.effect (c.in_ok-put_others.ensures.seen at_sized) (c.in_ok-sync.ensures.done at_filled) in
-    let put = fill_head c.args.pages.now c.requires.some back c.write_page.ensures.effect in
+    let back = fill_back (g.Q.Pages.pages c.args.pages.now) sized at c.sync.ensures.effect (c.in_ok-put_others.ensures.seen at_sized) (c.in_ok-sync.ensures.done at_filled) in
+    let put = fill_head (g.Q.Pages.pages c.args.pages.now) c.requires.some back c.write_page.ensures.effect in
     put.run
 
 pub returns-in_err-sync-2-clause-any_moment : goal.returns-in_err-sync-2-clause-any_moment
@@ -28,11 +28,11 @@ returns-in_err-sync-2-clause-any_moment g c honest =
     let filled = g.P.Place.facts c.put_others.new.place in
     let at_sized = still old sized c.resize.ensures.effect.counts.honest honest in
     let at_filled = still sized filled c.put_others.ensures.cause.honest at_sized in
-    let at = fill_put c.args.pages.now c.requires.some honest (g.met.P.Place.clock c.args.place.now honest) (c.requires.zero honest) c.pages.result c.pages.ensures c.resize.ensures.effect
+    let at = fill_put (g.Q.Pages.pages c.args.pages.now) c.requires.some honest (g.met.P.Place.clock c.args.place.now honest) (c.requires.zero honest) c.count.result c.count.ensures c.resize.ensures.effect
     c.put_others.ensures.cause.honest (c.put_others.ensures.any_moment at_sized) (c.put_others.ensures.zero at_sized) in
-    let back = fill_back c.args.pages.now sized at c.sync.ensures.effect (c.in_ok-put_others.ensures.seen at_sized) (c.in_ok-sync.ensures.done at_filled) in
-    let put = fill_head c.args.pages.now c.requires.some back c.write_page.ensures.effect in
-    (stays put c.sync-2.ensures.effect (back_part c.args.pages.now)).run
+    let back = fill_back (g.Q.Pages.pages c.args.pages.now) sized at c.sync.ensures.effect (c.in_ok-put_others.ensures.seen at_sized) (c.in_ok-sync.ensures.done at_filled) in
+    let put = fill_head (g.Q.Pages.pages c.args.pages.now) c.requires.some back c.write_page.ensures.effect in
+    (stays put c.sync-2.ensures.effect (back_part (g.Q.Pages.pages c.args.pages.now))).run
 
 pub returns-clause-any_moment : goal.returns-clause-any_moment
 returns-clause-any_moment g c honest =
@@ -41,11 +41,11 @@ returns-clause-any_moment g c honest =
     let filled = g.P.Place.facts c.put_others.new.place in
     let at_sized = still old sized c.resize.ensures.effect.counts.honest honest in
     let at_filled = still sized filled c.put_others.ensures.cause.honest at_sized in
-    let at = fill_put c.args.pages.now c.requires.some honest (g.met.P.Place.clock c.args.place.now honest) (c.requires.zero honest) c.pages.result c.pages.ensures c.resize.ensures.effect
+    let at = fill_put (g.Q.Pages.pages c.args.pages.now) c.requires.some honest (g.met.P.Place.clock c.args.place.now honest) (c.requires.zero honest) c.count.result c.count.ensures c.resize.ensures.effect
     c.put_others.ensures.cause.honest (c.put_others.ensures.any_moment at_sized) (c.put_others.ensures.zero at_sized) in
-    let back = fill_back c.args.pages.now sized at c.sync.ensures.effect (c.in_ok-put_others.ensures.seen at_sized) (c.in_ok-sync.ensures.done at_filled) in
-    let put = fill_head c.args.pages.now c.requires.some back c.write_page.ensures.effect in
-    (stays (stays put c.sync-2.ensures.effect (back_part c.args.pages.now)) c.sync_folder.ensures.effect (back_part c.args.pages.now)).run
+    let back = fill_back (g.Q.Pages.pages c.args.pages.now) sized at c.sync.ensures.effect (c.in_ok-put_others.ensures.seen at_sized) (c.in_ok-sync.ensures.done at_filled) in
+    let put = fill_head (g.Q.Pages.pages c.args.pages.now) c.requires.some back c.write_page.ensures.effect in
+    (stays (stays put c.sync-2.ensures.effect (back_part (g.Q.Pages.pages c.args.pages.now))) c.sync_folder.ensures.effect (back_part (g.Q.Pages.pages c.args.pages.now))).run
 
 pub returns-clause-done : goal.returns-clause-done
 returns-clause-done g c = on_ok_weaker c.sync_folder.result (λ done honest.
@@ -60,7 +60,7 @@ returns-clause-done g c = on_ok_weaker c.sync_folder.result (λ done honest.
     let at_synced = still filled synced c.sync.ensures.effect.counts.honest at_filled in
     let at_put = still synced put c.write_page.ensures.effect.counts.honest at_synced in
     let at_whole = still put whole c.sync-2.ensures.effect.counts.honest at_put in
-    begun_of c.args.pages.now c.page.result.now c.pages.result old sized filled synced put whole (g.P.Place.facts c.sync_folder.new.self) c.page.ensures (c.requires.alone honest)
+    begun_of (g.Q.Pages.pages c.args.pages.now) c.put_page.new.page c.count.result old sized filled synced put whole (g.P.Place.facts c.sync_folder.new.self) c.put_page.ensures (c.requires.alone honest)
     (c.in_ok-resize.ensures.written honest) (c.in_ok-put_others.ensures.seen at_sized) (c.in_ok-sync.ensures.done at_filled).seen (c.in_ok-write_page.ensures.written at_synced)
     (c.in_ok-sync-2.ensures.done at_put) (done at_whole) (c.sync_folder.ensures.effect.leaves at_whole)) c.sync_folder.ensures.done
 
@@ -109,14 +109,14 @@ returns-clause-cause g c =
 
 pub returns-in_err-resize-clause-any_moment : goal.returns-in_err-resize-clause-any_moment
 returns-in_err-resize-clause-any_moment g c honest =
-    (fill_sized c.args.pages.now c.requires.some honest (g.met.P.Place.clock c.args.place.now honest) (c.requires.zero honest) c.pages.result c.pages.ensures c.resize.ensures.effect).run
+    (fill_sized (g.Q.Pages.pages c.args.pages.now) c.requires.some honest (g.met.P.Place.clock c.args.place.now honest) (c.requires.zero honest) c.count.result c.count.ensures c.resize.ensures.effect).run
 
 pub returns-in_err-put_others-clause-any_moment : goal.returns-in_err-put_others-clause-any_moment
 returns-in_err-put_others-clause-any_moment g c honest =
     let old = g.P.Place.facts c.args.place.now in
     let sized = g.P.Place.facts c.resize.new.self in
     let at_sized = still old sized c.resize.ensures.effect.counts.honest honest in
-    let at = fill_put c.args.pages.now c.requires.some honest (g.met.P.Place.clock c.args.place.now honest) (c.requires.zero honest) c.pages.result c.pages.ensures c.resize.ensures.effect
+    let at = fill_put (g.Q.Pages.pages c.args.pages.now) c.requires.some honest (g.met.P.Place.clock c.args.place.now honest) (c.requires.zero honest) c.count.result c.count.ensures c.resize.ensures.effect
     c.put_others.ensures.cause.honest (c.put_others.ensures.any_moment at_sized) (c.put_others.ensures.zero at_sized) in
     at.run
 
@@ -125,22 +125,22 @@ returns-in_err-sync-clause-any_moment g c honest =
     let old = g.P.Place.facts c.args.place.now in
     let sized = g.P.Place.facts c.resize.new.self in
     let at_sized = still old sized c.resize.ensures.effect.counts.honest honest in
-    let at = fill_put c.args.pages.now c.requires.some honest (g.met.P.Place.clock c.args.place.now honest) (c.requires.zero honest) c.pages.result c.pages.ensures c.resize.ensures.effect
+    let at = fill_put (g.Q.Pages.pages c.args.pages.now) c.requires.some honest (g.met.P.Place.clock c.args.place.now honest) (c.requires.zero honest) c.count.result c.count.ensures c.resize.ensures.effect
     c.put_others.ensures.cause.honest (c.put_others.ensures.any_moment at_sized) (c.put_others.ensures.zero at_sized) in
-    (stays at c.sync.ensures.effect (zero_part c.args.pages.now)).run
+    (stays at c.sync.ensures.effect (zero_part (g.Q.Pages.pages c.args.pages.now))).run
 
 pub put_others-requires-clause-count : goal.put_others-requires-clause-count
 put_others-requires-clause-count g c after =
     let honest = subst (λ b. IsTrue b) c.resize.ensures.effect.counts.honest after in
-    sized_count c.pages.result c.args.pages.now (g.P.Place.facts c.args.place.now).seen (g.P.Place.facts c.resize.new.self).seen c.pages.ensures (c.in_ok-resize.ensures.written honest)
+    sized_count c.count.result (g.Q.Pages.pages c.args.pages.now) (g.P.Place.facts c.args.place.now).seen (g.P.Place.facts c.resize.new.self).seen c.count.ensures (c.in_ok-resize.ensures.written honest)
 
 pub put_others-requires-clause-zero : goal.put_others-requires-clause-zero
 put_others-requires-clause-zero g c after =
     let honest = subst (λ b. IsTrue b) c.resize.ensures.effect.counts.honest after in
-    (fill_sized c.args.pages.now c.requires.some honest (g.met.P.Place.clock c.args.place.now honest) (c.requires.zero honest) c.pages.result c.pages.ensures c.resize.ensures.effect).now_is
+    (fill_sized (g.Q.Pages.pages c.args.pages.now) c.requires.some honest (g.met.P.Place.clock c.args.place.now honest) (c.requires.zero honest) c.count.result c.count.ensures c.resize.ensures.effect).now_is
 
-pub page-requires : goal.page-requires
-page-requires g c = let some = c.requires.some in record { there = omega (arith, some) }
+pub put_page-requires : goal.put_page-requires
+put_page-requires g c = let some = c.requires.some in record { there = omega (arith, some) }
 
 pub write_page-requires : goal.write_page-requires
 write_page-requires g c =
@@ -150,5 +150,5 @@ write_page-requires g c =
       there = λ after.
           let at_filled = subst (λ b. IsTrue b) c.sync.ensures.effect.counts.honest after in
           let at_sized = subst (λ b. IsTrue b) c.put_others.ensures.cause.honest at_filled in
-          page_there c.args.pages.now filled.seen synced.seen c.requires.some (c.in_ok-sync.ensures.done at_filled).seen (c.in_ok-put_others.ensures.seen at_sized).count;
+          page_there (g.Q.Pages.pages c.args.pages.now) filled.seen synced.seen c.requires.some (c.in_ok-sync.ensures.done at_filled).seen (c.in_ok-put_others.ensures.seen at_sized).count;
     }

@@ -8,4 +8,4 @@ returns-clause-either g c =
     let old = g.P.Place.facts c.args.place in
     let last = g.P.Place.facts c.make_at-made.new.place in
     on_err c.make_at-made.result (λ honest some.
-    seen_at_end (MayMake c.args.pages.now old) old last (g.met.P.Place.clock c.make_at-made.new.place (still old last c.make_at-made.ensures.honest honest)) (c.make_at-made.ensures.any_moment some honest))
+    seen_at_end (MayMake (g.Q.Pages.pages c.args.pages.now) old) old last (g.met.P.Place.clock c.make_at-made.new.place (still old last c.make_at-made.ensures.honest honest)) (c.make_at-made.ensures.any_moment some honest))

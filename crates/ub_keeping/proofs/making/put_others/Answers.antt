@@ -13,7 +13,7 @@ loop-n-init g c =
     record {
       honest = refl;
       failures = refl;
-      put = λ honest. puts_none c.args.pages.now old.seen (c.requires.count honest);
+      put = λ honest. puts_none (g.Q.Pages.pages c.args.pages.now) old.seen (c.requires.count honest);
       at = λ honest. begins HasZero HasZero honest (g.met.P.Place.clock c.args.place.now honest) (c.requires.zero honest) (λ c is. is);
     }
 
@@ -26,8 +26,8 @@ loop-n-preserved g c =
     record {
       honest = c.write_page.ensures.effect.counts.honest ∙ inv.honest;
       failures = c.in_ok-write_page.ensures.effect.counts.failures ∙ inv.failures;
-      put = λ honest. puts_next c.loop-n.n c.args.pages.now c.page.result.now old.seen mid.seen (g.P.Place.facts c.write_page.new.self).seen (inv.put honest)
-          (subst (λ (k : ℕ). c.loop-n.n < k) c.pages-n-end.ensures c.loop-n-test.true) c.page.ensures (c.in_ok-write_page.ensures.written (still old mid inv.honest honest));
+      put = λ honest. puts_next c.loop-n.n (g.Q.Pages.pages c.args.pages.now) c.put_page.new.page old.seen mid.seen (g.P.Place.facts c.write_page.new.self).seen (inv.put honest)
+          (subst (λ (k : ℕ). c.loop-n.n < k) c.count-n-end.ensures c.loop-n-test.true) c.put_page.ensures (c.in_ok-write_page.ensures.written (still old mid inv.honest honest));
       at = λ honest. steps HasZero (inv.at honest) c.write_page.ensures.effect (λ d i is torn. zero_torn c.loop-n.n d i (λ e. omega (arith, e, up)) is torn) (λ i is. is);
     }
 

@@ -12,6 +12,6 @@ invariant-loop-n g l =
     record {
       honest : now.honest ≡ old.honest;
       failures : now.failures ≡ old.failures;
-      put : IsHonest old → PutsUpTo l.n l.pages old.seen now.seen;
+      put : IsHonest old → PutsUpTo l.n (g.Q.Pages.pages l.pages) old.seen now.seen;
       at : IsHonest old → At HasZero HasZero old now;
     }

@@ -12,21 +12,21 @@ use Rattle.ub_keeping.proofs.making.write.Goals as goal
 
 pub commit_last-requires-clause-journal : goal.commit_last-requires-clause-journal
 commit_last-requires-clause-journal g c =
-    replacing_is c.read_page.new.page c.args.pages.now c.requires.some (subst (λ (n : ℕ). n < 2 ^ 32) c.pages-count.ensures c.pages-count.type_inv)
+    replacing_is c.read_page.new.page (g.Q.Pages.pages c.args.pages.now) c.requires.some (subst (λ (n : ℕ). n < 2 ^ 32) c.count-count.ensures c.count-count.type_inv)
 
 pub commit_last-requires-clause-made : goal.commit_last-requires-clause-made
 commit_last-requires-clause-made g c honest =
     let old = g.P.Place.facts c.args.place.now in
     let read = g.P.Place.facts c.read_page.new.self in
     let first = subst (λ b. IsTrue b) c.read_page.ensures.effect.counts.honest honest in
-    replacing_made c.read_page.new.page c.args.pages.now read.seen.table c.requires.some (subst (λ (n : ℕ). n < 2 ^ 32) c.pages-count.ensures c.pages-count.type_inv)
+    replacing_made c.read_page.new.page (g.Q.Pages.pages c.args.pages.now) read.seen.table c.requires.some (subst (λ (n : ℕ). n < 2 ^ 32) c.count-count.ensures c.count-count.type_inv)
     (ap (λ (i : Image). slice_get i.table 0) (c.read_page.ensures.seen first) ∙ c.in_ok-read_page.ensures.page first)
 
 pub returns-clause-done : goal.returns-clause-done
 returns-clause-done g c =
     let old = g.P.Place.facts c.args.place.now in
     let read = g.P.Place.facts c.read_page.new.self in
-    on_ok_weaker c.commit_last.result (λ kept honest. subst (λ (p : List (List ℕ)). IsKept p (g.P.Place.facts c.commit_last.new.place)) (makes_pages c.read_page.new.page c.args.pages.now read.seen.table c.requires.some)
+    on_ok_weaker c.commit_last.result (λ kept honest. subst (λ (p : List (List ℕ)). IsKept p (g.P.Place.facts c.commit_last.new.place)) (makes_pages c.read_page.new.page (g.Q.Pages.pages c.args.pages.now) read.seen.table c.requires.some)
     (kept (still old read c.read_page.ensures.effect.counts.honest honest))) c.commit_last.ensures.done
 
 pub returns-clause-any_moment : goal.returns-clause-any_moment
@@ -34,8 +34,8 @@ returns-clause-any_moment g c some honest =
     let old = g.P.Place.facts c.args.place.now in
     let read = g.P.Place.facts c.read_page.new.self in
     let last = g.P.Place.facts c.commit_last.new.place in
-    keep_joined c.args.pages.now old read last honest (calm_step c.read_page.ensures.effect c.read_page.ensures.seen (g.met.P.Place.clock c.args.place.now))
-    (subst (λ (p : List (List ℕ)). LeavesOnly (MayKeep p read) read last) (makes_pages c.read_page.new.page c.args.pages.now read.seen.table c.requires.some)
+    keep_joined (g.Q.Pages.pages c.args.pages.now) old read last honest (calm_step c.read_page.ensures.effect c.read_page.ensures.seen (g.met.P.Place.clock c.args.place.now))
+    (subst (λ (p : List (List ℕ)). LeavesOnly (MayKeep p read) read last) (makes_pages c.read_page.new.page (g.Q.Pages.pages c.args.pages.now) read.seen.table c.requires.some)
     (c.commit_last.ensures.any_moment (still old read c.read_page.ensures.effect.counts.honest honest)))
 
 pub begin-requires-clause-empty : goal.begin-requires-clause-empty
@@ -63,7 +63,7 @@ pub returns-in_err-read_page-clause-done : goal.returns-in_err-read_page-clause-
 returns-in_err-read_page-clause-done g c = none_of _ c.from_residual.result c.from_residual.ensures.0
 
 pub returns-in_err-read_page-clause-any_moment : goal.returns-in_err-read_page-clause-any_moment
-returns-in_err-read_page-clause-any_moment g c some = quiet_keeps c.args.pages.now (g.P.Place.facts c.args.place.now) (g.P.Place.facts c.read_page.new.self) (quiet_step c.read_page.ensures.effect (g.met.P.Place.clock c.args.place.now))
+returns-in_err-read_page-clause-any_moment g c some = quiet_keeps (g.Q.Pages.pages c.args.pages.now) (g.P.Place.facts c.args.place.now) (g.P.Place.facts c.read_page.new.self) (quiet_step c.read_page.ensures.effect (g.met.P.Place.clock c.args.place.now))
 
 pub returns-in_err-read_page-clause-any_moment_begun : goal.returns-in_err-read_page-clause-any_moment_begun
 returns-in_err-read_page-clause-any_moment_begun g c none = let some = c.if-pages-eq0.false in absurd (some (c.pages.ensures ∙ none))
