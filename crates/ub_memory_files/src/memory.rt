@@ -9,7 +9,7 @@ use crate::tables::{MemTable, change_at, keep_at, make_at, open_at};
 use std::alloc::{AllocError, Global};
 use ub_files::{Files, OpenFault};
 use ub_journal::{Place, TornPlace};
-use ub_store::{MemStore, StoreFault};
+use ub_store::{MemStore, Pages, StoreFault};
 
 /// Files in memory, for a program that has no others, and for tests: texts and table files by their paths. What each path holds is
 /// told, but for a table file beside which a journal stands, and for one at which a call has failed. They are honest. A path that holds
@@ -179,7 +179,7 @@ impl Files for MemFiles {
         kept
     }
 
-    fn make(&mut self, path: &str, pages: &MemStore) -> Result<(), OpenFault> {
+    fn make<P: Pages>(&mut self, path: &str, pages: &P) -> Result<(), OpenFault> {
         let made = make_at(self.alloc, &mut self.entries, path, pages, self.due);
         self.tables = count_open(self.tables, &made);
         made

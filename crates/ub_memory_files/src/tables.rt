@@ -10,7 +10,7 @@ use ub_files::OpenFault;
 use ub_journal::{Place, TornPlace};
 use ub_keeping::{PlaceStore, ask, change, keep, make};
 use ub_overlay::Overlay;
-use ub_store::{MAX_PAGES, MemStore, PageStore, StoreFault};
+use ub_store::{MAX_PAGES, PageStore, Pages, StoreFault};
 
 /// A store of the pages of a table file in memory. What is written to it stays in it until it is kept.
 pub type MemTable = Overlay<PlaceStore<TornPlace>>;
@@ -149,19 +149,20 @@ pub fn keep_at(
 }
 
 /// Makes a table file of these pages, in the place of what is at this path.
-pub fn make_at(
+pub fn make_at<P: Pages>(
     alloc: Global,
     entries: &mut Vec<Entry>,
     path: &str,
-    pages: &MemStore,
+    pages: &P,
     k: u64,
 ) -> Result<(), OpenFault>
-    requires some { 1 ≤ length pages.now }
+    requires some { 1 ≤ length (P.pages pages.now) }
     ensures faults { IfErr result (λ fault. (fault ≡ OpenFault.BadJournal)
         ⊎ ((fault ≡ OpenFault.Store StoreFault.Device)
         ⊎ (fault ≡ OpenFault.Store StoreFault.Memory))) }
     ensures others { KeepsOthers path.now entries.old.items entries.new.items }
-    ensures made { OnOk result (HasPages (held_in entries.new.items path.now) pages.now) }
+    ensures made { OnOk result
+        (HasPages (held_in entries.new.items path.now) (P.pages pages.now)) }
     ensures either { OnErr result
         ((held_in entries.new.items path.now ≡ held_in entries.old.items path.now)
         ⊎ (held_in entries.new.items path.now ≡ untold)) }
