@@ -16,7 +16,7 @@ use ub_files::{Files, OpenFault};
 use ub_journal::Place;
 use ub_keeping::PlaceStore;
 use ub_overlay::Overlay;
-use ub_store::{MemStore, StoreFault};
+use ub_store::{Pages, StoreFault};
 use ub_words::STANDARD_INPUT;
 
 // The system's number for memory that is refused.
@@ -376,14 +376,14 @@ fn keep_at<P: Place + Reasons>(
 }
 
 // Makes a table of these pages at a place that was found for it.
-fn make_at<P: Place + Reasons>(
+fn make_at<P: Place + Reasons, Q: Pages>(
     alloc: Global,
     path: &str,
     found: io::Result<Option<P>>,
-    pages: &MemStore,
+    pages: &Q,
     failures: &mut Failures,
 ) -> Result<(), OpenFault>
-    requires some { 1 ≤ length pages.now }
+    requires some { 1 ≤ length (Q.pages pages.now) }
     ensures faults { IfErr result (λ fault. (fault ≡ OpenFault.BadJournal)
         ⊎ ((fault ≡ OpenFault.Store StoreFault.Device)
         ⊎ (fault ≡ OpenFault.Store StoreFault.Memory))) }
@@ -456,7 +456,7 @@ where
         keep_at(self.rt.alloc(), path, store, &mut self.failures)
     }
 
-    fn make(&mut self, path: &str, pages: &MemStore) -> Result<(), OpenFault> {
+    fn make<P: Pages>(&mut self, path: &str, pages: &P) -> Result<(), OpenFault> {
         let found = find_to_make(self.rt, path);
         make_at(self.rt.alloc(), path, found, pages, &mut self.failures)
     }
