@@ -65,10 +65,11 @@ pub(crate) fn tells<J: Tells>(journal: &J, wanted: &[(u32, u32, u8)]) -> bool {
         return false;
     }
     let mut right = true;
+    let mut page = [0; 4096];
     for at in 0..wanted.len() {
-        let (number, page) = journal.change(at);
+        let number = journal.put_change(at, &mut page);
         let (wanted_number, held, byte) = wanted[at];
-        right &= (number == wanted_number) & (*page == held_page(held, byte));
+        right &= (number == wanted_number) & (page == held_page(held, byte));
     }
     right
 }
