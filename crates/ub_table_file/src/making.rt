@@ -6,7 +6,7 @@ use crate::line::{Line, twice_numbered_line};
 use crate::status::{Status, tell_line, tell_open_fault};
 use ub_files::Files;
 use ub_script::Out;
-use ub_store::MemStore;
+use ub_store::Pages;
 
 /// What is told of a table that stands in a new table file.
 #[derive(Clone, Copy, PartialEq, Eq, Debug)]
@@ -23,20 +23,20 @@ pub fn is_same(path: &str, other: &str) -> bool
 }
 
 /// Makes the table file of these pages in the place of what is there, and tells how many rows and regions it has, or why it isn't made.
-pub fn make_table<F: Files, W: Out>(
+pub fn make_table<F: Files, P: Pages, W: Out>(
     files: &mut F,
     path: &str,
-    pages: &MemStore,
+    pages: &P,
     counts: Counts,
     out: &mut W,
 ) -> Status
-    requires some { 1 ≤ length pages.now }
-    ensures makes { MakesTable path.now pages.now counts.rows counts.regions
+    requires some { 1 ≤ length (P.pages pages.now) }
+    ensures makes { MakesTable path.now (P.pages pages.now) counts.rows counts.regions
         (F.facts files.old) (F.facts files.new) (W.facts out.old) (W.facts out.new) result }
-    ensures crash { Runs (MayBecome path.now pages.now (F.facts files.old))
+    ensures crash { Runs (MayBecome path.now (P.pages pages.now) (F.facts files.old))
         (F.facts files.old) (F.clock files.old) (F.clock files.new) }
     ensures lasts { result ≡ Status.Done
-        → Lasts path.now pages.now (F.facts files.old) (F.clock files.new) }
+        → Lasts path.now (P.pages pages.now) (F.facts files.old) (F.clock files.new) }
 {
     match files.make(path, pages) {
         Ok(()) => tell_line(&counts_line(counts), Status::Done, out),
