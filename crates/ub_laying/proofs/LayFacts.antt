@@ -1,10 +1,9 @@
 -- Regions on pages that follow each other, and their entries.
 use Rattle.std.proofs.Common.{◌≡◌, ◌≤◌, ◌<◌, ◌+◌, ◌-◌, ◌^◌, ◌++◌, ◌∙◌, ℕ, zero, suc, List, [], ◌∷◌, Some, Result, Ok, Err, IfErr, IfOk, IsTrue, OnOk, ap, arith, append_assoc, drop, length, map, refl, slice_get, slice_set, subst, sym, take}
-use Rattle.std.proofs.lemmas.List.{drop-drop, length-append}
+use Rattle.std.proofs.lemmas.List.{length-append}
 use Rattle.std.proofs.lemmas.Result.{on_ok_weaker}
 use Rattle.std.specs.List.{AllByRecursion}
 use Rattle.std.proofs.lemmas.List.Elements.{All-from_recursion}
-use Rattle.ub_growing.specs.Growing.{with_rows_taken}
 use Rattle.ub_index.specs.Spans.{ArePlaces, first_keys}
 use Rattle.ub_index.specs.Standing.{IsGrowFault}
 use Rattle.ub_laying.proofs.LevelFacts.{cut_added, lowest_level, take_set}
@@ -88,45 +87,6 @@ one_of P [] i region all at = cc
 one_of P (r ∷ regions) zero region all at = let same : r ≡ region = cc in subst P same all.0
 one_of P (r ∷ regions) (suc i) region all at = one_of P regions i region all.1 at
 
-pub length-firsts : (regions : List RegionRows) → length (firsts_of regions) ≡ length regions
-length-firsts [] = refl
-length-firsts (r ∷ regions) = ap (λ (k : ℕ). suc k) (length-firsts regions)
-
--- ---- regions whose rows are taken one after the other
-
--- they begin where they did
-pub firsts_left : (regions : List RegionRows) (i : ℕ) → firsts_of (with_rows_taken i regions) ≡ firsts_of regions
-firsts_left [] i = refl
-firsts_left (r ∷ regions) zero = refl
-firsts_left (r ∷ regions) (suc i) = ap (λ (keys : List Key). r.first ∷ keys) (firsts_left regions i)
-
--- there are as many of them
-pub length-left : (start now : List RegionRows) → firsts_of now ≡ firsts_of start → length now ≡ length start
-length-left start now firsts = sym (length-firsts now) ∙ ap (λ (keys : List Key). length keys) firsts ∙ length-firsts start
-
--- the later ones are as they were
-pub later_left : (start now : List RegionRows) (i : ℕ) → drop i now ≡ drop i start → drop (i + 1) (with_rows_taken i now) ≡ drop (i + 1) start
-later_left start now i same = behind now i ∙ one_less start now i same
-  where
-    behind : (regions : List RegionRows) (i : ℕ) → drop (i + 1) (with_rows_taken i regions) ≡ drop (i + 1) regions
-    behind [] i = refl
-    behind (r ∷ regions) zero = refl
-    behind (r ∷ regions) (suc i) = let next : suc i + 1 ≡ suc (i + 1) = omega arith in rw next (behind regions i)
-
-    one_less : (start now : List RegionRows) (i : ℕ) → drop i now ≡ drop i start → drop (i + 1) now ≡ drop (i + 1) start
-    one_less start now i same = sym (drop-drop 1 i now) ∙ ap (λ (regions : List RegionRows). drop 1 regions) same ∙ drop-drop 1 i start
-
--- the region whose rows were taken is what it was at first
-pub taken_at : (start now then : List RegionRows) (i : ℕ) (first : Key) (rows : List Row) → then ≡ with_rows_taken i now → slice_get (firsts_of then) i ≡ Some first
-    → slice_get (map (λ (region : RegionRows). region.rows) now) i ≡ Some rows → drop i now ≡ drop i start → slice_get start i ≡ Some (record { first = first; rows = rows })
-taken_at start now then i first rows is begins has same =
-    let firsts = ap firsts_of is ∙ firsts_left now i in
-    sym (first_left start) ∙ sym (ap (λ (regions : List RegionRows). slice_get regions 0) same) ∙ first_left now
-    ∙ region_at now i first rows (sym (ap (λ (keys : List Key). slice_get keys i) firsts) ∙ begins) has
-  where
-    first_left : (regions : List RegionRows) → slice_get (drop i regions) 0 ≡ slice_get regions i
-    first_left regions = let same : i + 0 ≡ i = omega arith in get_behind i 0 regions ∙ ap (slice_get regions) same
-
 -- one page more
 pub pages_next : (schema : Schema) (start now then : List (List ℕ)) (regions : List RegionRows) (i : ℕ) (region : RegionRows) → slice_get regions i ≡ Some region
     → now ≡ start ++ map (region_page schema) (take i regions) → then ≡ now ++ region_page schema region ∷ [] → then ≡ start ++ map (region_page schema) (take (i + 1) regions)
@@ -171,6 +131,10 @@ leaf_more b c first from named count firsts part is part_is within some more few
     subst (λ (es : List Entry). Cut c 1 first (length c - first) es) whole (cut_added b c 1 first (entries_from from (take named firsts)) part is some more few cut)
 
 -- ---- the entries of regions in order are those of an index
+
+pub length-firsts : (regions : List RegionRows) → length (firsts_of regions) ≡ length regions
+length-firsts [] = refl
+length-firsts (r ∷ regions) = ap (λ (k : ℕ). suc k) (length-firsts regions)
 
 keys_back : (n : ℕ) (firsts : List Key) → first_keys (entries_from n firsts) ≡ firsts
 keys_back n [] = refl

@@ -1,11 +1,12 @@
 // A table that is loaded: its store is begun before its rows are read, and then its regions are laid on pages, in the order of their
 // keys.
-ghost use Rattle.std.specs.Prelude.{◌≡◌, ◌<◌, ◌≤◌, length};
+ghost use Rattle.std.specs.Prelude.{◌≡◌, ◌<◌, true, length};
 ghost use Rattle.ub_laying.specs.Begun.{Begins, CanLay, LaysBegun};
 ghost use Rattle.ub_region.specs.Regions.{rows_of};
 ghost use Rattle.ub_store.specs.Facts.{page_count};
 
 use crate::laying::lay_regions;
+use crate::levels::Root;
 use crate::pager::pager_over;
 use std::alloc::Global;
 use std::marker::Model;
@@ -72,34 +73,24 @@ impl<S: PageStore> Begun<S> {
 
     /// Lays these regions, each on a page, from page 1 on, in the order of their keys, and behind them an index of theirs. The header
     /// of the table, whose next row gets this number, that index, and the pager over their pages are the result; the first page is
-    /// the mark still. The rows of a region are dropped as soon as its page is put.
+    /// the mark still.
     ///
     /// Memory comes where memory was refused, Device where the store failed in this call; the store is then handed back.
     pub fn lay(
         self,
         alloc: Global,
-        grown: Grown,
+        grown: &Grown,
         next: u32,
     ) -> Result<(Header, Index, Pager<S>), Rejected<S, StoreFault>>
-        requires { CanLay self.schema next grown }
-        ensures { LaysBegun S.facts self next grown result }
+        requires { CanLay self.schema next grown.now }
+        ensures { LaysBegun S.facts self next grown.now result }
     {
         let mut pager = self.pager;
-        let rows = count_rows(&grown);
-        let regions = count_regions(&grown);
         match lay_regions(alloc, &mut pager, &self.schema, grown) {
             Ok(root) => {
                 let end = last(self.schema.shape());
                 let index = Index::new(root.page, root.level, end);
-                let header = Header {
-                    schema: self.schema,
-                    next,
-                    rows,
-                    regions,
-                    root: root.page,
-                    levels: root.level,
-                    unclean: true,
-                };
+                let header = header_of(self.schema, grown, next, &root);
                 Ok((header, index, pager))
             }
             Err(fault) => Err(Rejected {
@@ -110,12 +101,28 @@ impl<S: PageStore> Begun<S> {
     }
 }
 
-// How many regions there are, no more than there are row numbers.
-fn count_regions(grown: &Grown) -> u32
-    requires { length grown.now ≤ 16777216 }
-    ensures { result ≡ length grown.now }
+// The header of a table of these regions, whose index has this root, and whose next row gets this number.
+fn header_of(schema: Schema, grown: &Grown, next: u32, root: &Root) -> Header
+    requires { CanLay schema next grown.now }
+    ensures { result ≡ record {
+      schema = schema;
+      next = next;
+      rows = length (rows_of grown.now);
+      regions = length grown.now;
+      root = root.now.page;
+      levels = root.now.level;
+      unclean = true;
+    } }
 {
-    grown.len() as u32
+    Header {
+        schema,
+        next,
+        rows: count_rows(grown),
+        regions: grown.len() as u32,
+        root: root.page,
+        levels: root.level,
+        unclean: true,
+    }
 }
 
 // How many rows regions have, fewer than a row number can be.

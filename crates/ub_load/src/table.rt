@@ -88,8 +88,8 @@ fn load_from<S: PageStore>(
     lay_rows(alloc, begun, rows)
 }
 
-// The schema of a table of this name whose columns are the fields of the first record, or why there is none.
-fn read_header(
+/// The schema of a table of this name whose columns are the fields of the first record, or why there is none.
+pub(crate) fn read_header(
     reader: &mut Reader<&[u8]>,
     fields: &mut ByteRecord,
     axes: Axes,
@@ -123,8 +123,8 @@ fn begin_table<S: PageStore>(
     }
 }
 
-// The rows of all other records, for a table of this schema.
-fn load_records(
+/// The rows of all other records, for a table of this schema.
+pub(crate) fn load_records(
     alloc: Global,
     reader: &mut Reader<&[u8]>,
     fields: &mut ByteRecord,
@@ -175,7 +175,7 @@ fn lay_rows<S: PageStore>(
     let shape = begun.schema().shape();
     let page_rows = begun.schema().page_rows() as usize;
     let grown = grow(alloc, shape, page_rows, rows)?;
-    match Tree::lay(alloc, begun, grown, next) {
+    match Tree::lay(alloc, begun, &grown, next) {
         Ok(tree) => Ok(tree),
         Err(refused) => Err(LoadFault::from(refused.fault)),
     }

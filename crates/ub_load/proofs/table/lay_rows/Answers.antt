@@ -41,5 +41,5 @@ returns-in-Ok-clause-laid g c =
     subst (λ (regions : List RegionRows). IsLaid c.args.begun (length rows + 1) regions c.in-Ok.tree) grown
     (subst (λ (n : ℕ). IsLaid c.args.begun n c.in_ok-grown.grown c.in-Ok.tree) next c.in-Ok.ensures.laid)
 
-pub returns-in-Err-clause-refused : goal.returns-in-Err-clause-refused
-returns-in-Err-clause-refused g c = new_refusal c.args.begun.store c.in-Err.refused.fault c.from.result c.from.ensures c.in-Err.ensures.refused
+pub returns-clause-refused : goal.returns-clause-refused
+returns-clause-refused g c = new_refusal c.args.begun.store c.in-Err.refused.fault c.from.result c.from.ensures c.in-Err.ensures.refused
