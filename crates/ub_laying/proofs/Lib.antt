@@ -3,3 +3,4 @@ pub mod LevelFacts
 pub mod SizeFacts
 pub mod LayFacts
 pub mod BegunFacts
+pub mod SpelledFacts

@@ -2,3 +2,4 @@ pub mod Effects
 pub mod Levels
 pub mod Laying
 pub mod Begun
+pub mod Spelled
