@@ -9,7 +9,7 @@ use Rattle.std.specs.List.{AllByRecursion, IsDistinct}
 use Rattle.ub_growing.proofs.LineFacts.{count_all}
 use Rattle.ub_region.proofs.Laws.{insert_keeps, insertion_adds_the_row}
 use Rattle.ub_region.specs.Regions.{AreRegions, AreTableRows, insert, insert_all, rows_of as rows_in}
-use Rattle.ub_store.specs.Facts.{StoreFacts, IsHonest}
+use Rattle.ub_store.specs.Facts.{StoreFacts, IsHonest, memory_facts}
 use Rattle.ub_table.specs.Keys.{origin}
 use Rattle.ub_table.specs.Region.{RegionRows, IsRow, measures_of}
 use Rattle.ub_table.specs.Table.{IsInOrder}
@@ -21,12 +21,15 @@ use Rattle.ub_tree.specs.Laid.{IsLaid}
 use Rattle.ub_tree.specs.View.{TreeView}
 use Rattle.ub_load.proofs.ToldFacts.{told_new}
 use Rattle.ub_load.specs.Calls.{Loads}
+use Rattle.ub_load.specs.Grown.{IsGrownTable, ReadsTable}
 use Rattle.ub_load.specs.LoadedTable.{IsLoaded, records_of}
 use Rattle.ub_load.specs.LoadedTree.{IsLoadedTree, loaded_regions}
-use Rattle.ub_load.specs.Loading.{IsAtWork, IsNewFault, IsToldOf}
+use Rattle.ub_load.specs.Loading.{IsAtWork, IsLoadFault, IsNewFault, IsToldOf}
 use Rattle.ub_load.specs.Refusals.{first_refusal}
 use Rattle.ub_load.specs.declared.fault.LoadFault.{LoadFault}
-use Rattle.ub_load.specs.inner.Progress.{AreFirstRows, AreNumberedFrom}
+use Rattle.ub_load.specs.declared.fault.LoadFault.TheVariants.{Memory}
+use Rattle.ub_load.specs.declared.grown.GrownTable.{GrownTable}
+use Rattle.ub_load.specs.inner.Progress.{AreFirstRows, AreNumberedFrom, IsGrownOf}
 
 none_twice : IsDistinct nat_eq []
 none_twice = IsDistinct-from_count nat_eq_equiv [] refl
@@ -149,3 +152,45 @@ module _ (schema : Schema) (rows : List Row) (first : AreFirstRows schema rows) 
         working = tt;
         refused = inr (subst (λ (b : Bool). IsToldOf first (IsTrue b) (¬ (IsHonest store)) fault) (ap (λ (s : StoreFacts). s.can_fail) is.store_is) told);
       }
+
+  -- the table that is grown is the one of the text
+  grown_table : (text : List ℕ) (axes : Axes) (page_rows : ℕ) (name : List ℕ) (table : GrownTable) → IsLoaded text axes page_rows name schema rows → IsGrownOf schema rows table
+      → IsGrownTable text axes page_rows name table
+  grown_table text axes page_rows name table loaded is =
+      let dims : schema.dims ≡ axes.dims = ap (λ (a : Axes). a.dims) loaded.axes_are in
+      record {
+        rows = rows;
+        loaded = subst (λ (s : Schema). IsLoaded text axes page_rows name s rows) (sym is.schema_is) loaded;
+        grown_are = is.grown_are ∙ ap (λ (d : ℕ). loaded_regions d schema.page_rows rows) dims ∙ ap (λ (c : ℕ). loaded_regions axes.dims c rows) loaded.page_rows_are;
+        table_is = subst (λ (rs : List RegionRows). AreTableRows rs rows) (sym is.grown_are) all_grown.table;
+        next_is = is.next_is;
+        can_lay = subst (λ (s : Schema). CanLay s table.next table.grown) (sym is.schema_is) (can_lay table.grown table.next is.grown_are is.next_is);
+      }
+
+  -- what is answered where the rows of a text are grown
+  pub reads_grown : (text : List ℕ) (axes : Axes) (page_rows : ℕ) (name : List ℕ) (result : Result GrownTable LoadFault) → IsLoaded text axes page_rows name schema rows
+      → IfOk result (IsGrownOf schema rows) → IfErr result (λ fault. fault ≡ Memory) → ReadsTable text axes page_rows name result
+  reads_grown text axes page_rows name (Ok table) loaded grown refused = record { read = grown_table text axes page_rows name table loaded grown; refused = tt }
+  reads_grown text axes page_rows name (Err fault) loaded grown refused =
+      record { read = tt; refused = subst (λ (f : LoadFault). IsLoadFault axes name text (memory_facts []) f) (sym refused) (inr tt) }
+
+-- a text that isn't read
+pub not_read : (text : List ℕ) (axes : Axes) (page_rows : ℕ) (name : List ℕ) (result : Result GrownTable LoadFault) (e f : LoadFault) → result ≡ Err e → e ≡ f
+    → IsLoadFault axes name text (memory_facts []) f → ReadsTable text axes page_rows name result
+not_read text axes page_rows name result e f is same told = rw (is, same) (record { read = tt; refused = told })
+
+-- the tree in which a table that was read is laid
+pub grown_tree : (table : GrownTable) (store : StoreFacts) (begun : BegunView) (t : TreeView) → IsBegun store table.schema begun → IsLaid begun table.next table.grown t → IsHonest store
+    → (text : List ℕ) (axes : Axes) (page_rows : ℕ) (name : List ℕ) → IsGrownTable text axes page_rows name table → IsLoadedTree text axes page_rows name t
+grown_tree table store begun t is laid honest text axes page_rows name grown =
+    let here : IsHonest begun.store = subst (λ (s : StoreFacts). IsHonest s) (sym is.store_is) honest in
+    let are = laid.regions_are here in
+    record {
+      rows = grown.rows;
+      loaded = subst (λ (s : Schema). IsLoaded text axes page_rows name s grown.rows) (sym (laid.schema_is ∙ is.schema_is)) grown.loaded;
+      sound = laid.sound here;
+      regions_are = are ∙ grown.grown_are;
+      table = subst (λ (rs : List RegionRows). AreTableRows rs grown.rows) (sym are) grown.table_is;
+      next = laid.next_is ∙ grown.next_is;
+      few = (let count = laid.count_is in let next = laid.next_is in let most = grown.can_lay.few in omega arith);
+    }

@@ -7,6 +7,8 @@ pub mod ReadingFacts
 pub mod HeaderFacts
 pub mod ToldFacts
 pub mod LoadFacts
+pub mod WrittenFacts
+pub mod GivenFacts
 pub mod LaidFacts
 pub mod NamedFacts
 pub mod PlacedFacts

@@ -12,7 +12,7 @@ use Rattle.ub_load.specs.Refusals.{first_of}
 use Rattle.ub_load.specs.declared.fault.LoadFault.{LoadFault}
 use Rattle.ub_load.specs.declared.fault.LoadFault.TheVariants.{NoHeader, Csv, Memory, Tree}
 use Rattle.ub_load.specs.inner.Arranged.{HasReadFirst, HasRowsFrom, IsRefusedFrom}
-use Rattle.ub_load.specs.inner.Records.{HasRead, IsAt, Source}
+use Rattle.ub_load.specs.inner.Records.{HasRead, IsAt, Source, bytes_of}
 use Rattle.ub_load.proofs.LoadFacts.{rows_of-more, rows_of-none}
 use Rattle.ub_load.proofs.NamedFacts.{heading_of_missing}
 use Rattle.ub_load.proofs.ReadingFacts.{at_end, at_front, at_next}
@@ -61,7 +61,7 @@ some_left next left number taken first is le = omega arith
 -- the records before this one have been read, with nothing wrong in them, and these are their rows
 pub record IsReading (from : Reader Source) (header : List (List ℕ)) (schema : Schema) (next number : ℕ) (rows : List Row) (rdr : Reader Source) : Type 0 where
   pub taken : List (List (List ℕ))
-  pub at : (text : List ℕ) → IsAt text (header ∷ []) from → IsAt text (header ∷ taken) rdr
+  pub at : (text : List ℕ) → IsAt bytes_of text (header ∷ []) from → IsAt bytes_of text (header ∷ taken) rdr
   pub number_is : number ≡ 1 + length taken
   pub few : number ≤ 16777216 - next + 1
   pub accepted : first_of (flat_map (appended_refusals schema next (columns_of header)) (enumerate_from 1 taken)) ≡ None
@@ -82,7 +82,7 @@ reading_none from header schema next rows none = record {
 module _ {from : Reader Source} {header : List (List ℕ)} {schema : Schema} {next number : ℕ} {rows : List Row} {a : Reader Source} (is : IsReading from header schema next number rows a)
     (b : Reader Source) (r : List (List ℕ)) where
   -- one more record
-  pub reading_more : HasRead a true r b → (row : Row) → next + number ≤ 16777216
+  pub reading_more : HasRead bytes_of a true r b → (row : Row) → next + number ≤ 16777216
       → first_of (placed_refusals (axes_of schema) (length (columns_of header)) (places_in schema.columns (columns_of header)) (number, r)) ≡ None
       → row ≡ row_of (axes_of schema) (number, arranged (places_in schema.columns (columns_of header)) r)
       → Suits schema.dims (measures_of schema) row → IsReading from header schema next (number + 1) (rows ++ row ∷ []) b
@@ -102,7 +102,7 @@ module _ {from : Reader Source} {header : List (List ℕ)} {schema : Schema} {ne
       }
 
   -- a record that is refused is the first thing wrong in the text
-  pub reading_refused : HasRead a true r b → first_of (heading_refusals schema.columns (columns_of header)) ≡ None → (f : LoadFault)
+  pub reading_refused : HasRead bytes_of a true r b → first_of (heading_refusals schema.columns (columns_of header)) ≡ None → (f : LoadFault)
       → first_of (appended_refusals schema next (columns_of header) (number, r)) ≡ Some f → IsRefusedFrom from (header ∷ []) schema next f
   unfolding misfits
   reading_refused read fine f bad = λ text start.
@@ -114,7 +114,7 @@ module _ {from : Reader Source} {header : List (List ℕ)} {schema : Schema} {ne
       ∙ flat-refused (appended_refusals schema next (columns_of header)) 1 number is.taken front.0 r f is.number_is is.accepted bad
       ))
 
-  module _ (read : HasRead a true r b) (fine : first_of (heading_refusals schema.columns (columns_of header)) ≡ None) (axes : Axes) (width : ℕ) (places : List ℕ) (axes_are : axes ≡ axes_of schema)
+  module _ (read : HasRead bytes_of a true r b) (fine : first_of (heading_refusals schema.columns (columns_of header)) ≡ None) (axes : Axes) (width : ℕ) (places : List ℕ) (axes_are : axes ≡ axes_of schema)
       (width_is : width ≡ length (columns_of header)) (places_are : places ≡ places_in schema.columns (columns_of header)) where
     -- a record whose fields are refused
     pub reading_unfit : (f : LoadFault) → (f ≡ Memory) ⊎ (first_of (placed_refusals axes width places (number, r)) ≡ Some f) → IsRefusedFrom from (header ∷ []) schema next f
@@ -138,7 +138,7 @@ module _ {from : Reader Source} {header : List (List ℕ)} {schema : Schema} {ne
         rw grown (reading_more read row (some_left next left number (length is.taken) first left_is le) (rw (axes_are, width_is, places_are) at good) (rw (axes_are, places_are) at row_is) fits)
 
   -- there are no more
-  pub all_read : HasRead a false r b → first_of (heading_refusals schema.columns (columns_of header)) ≡ None → HasRowsFrom from header schema next rows
+  pub all_read : HasRead bytes_of a false r b → first_of (heading_refusals schema.columns (columns_of header)) ≡ None → HasRowsFrom from header schema next rows
   unfolding misfits
   all_read read fine = λ text start. record {
     header = header;
@@ -149,13 +149,13 @@ module _ {from : Reader Source} {header : List (List ℕ)} {schema : Schema} {ne
   }
 
 -- a text of no record
-pub empty_refused : (a b : Reader Source) (fields : List (List ℕ)) (schema : Schema) (next : ℕ) → HasRead a false fields b → IsRefusedFrom a [] schema next NoHeader
+pub empty_refused : (a b : Reader Source) (fields : List (List ℕ)) (schema : Schema) (next : ℕ) → HasRead bytes_of a false fields b → IsRefusedFrom a [] schema next NoHeader
 unfolding misfits
 empty_refused a b fields schema next read = λ text start.
     inr (inr (ap (λ records. first_of (misfits schema next records)) (sym (at_end start b fields read)) ∙ refl))
 
 -- a header that is refused is the first thing wrong
-pub heading_refused : (a b : Reader Source) (header : List (List ℕ)) (schema : Schema) (next : ℕ) (f : LoadFault) → HasRead a true header b
+pub heading_refused : (a b : Reader Source) (header : List (List ℕ)) (schema : Schema) (next : ℕ) (f : LoadFault) → HasRead bytes_of a true header b
     → first_of (heading_refusals schema.columns (columns_of header)) ≡ Some f → IsRefusedFrom a [] schema next f
 unfolding misfits
 heading_refused a b header schema next f read bad = λ text start.
@@ -165,11 +165,11 @@ heading_refused a b header schema next f read bad = λ text start.
     ∙ first-here (heading_refusals schema.columns (columns_of header)) _ f bad
     ))
 
-pub first_read : (a b : Reader Source) (header : List (List ℕ)) → HasRead a true header b → HasReadFirst a header b
+pub first_read : (a b : Reader Source) (header : List (List ℕ)) → HasRead bytes_of a true header b → HasReadFirst a header b
 first_read a b header read = λ text start. at_next start b header read
 
 module _ {A : Type 0} (a b : Reader Source) (header : List (List ℕ)) (schema : Schema) (columns : List (List ℕ)) (are : columns ≡ schema.columns) (result : Result A LoadFault)
-    (read : HasRead a true header b) (named : first_of (map (named_refusal columns (columns_of header)) (enumerate_from 0 (columns_of header))) ≡ None) where
+    (read : HasRead bytes_of a true header b) (named : first_of (map (named_refusal columns (columns_of header)) (enumerate_from 0 (columns_of header))) ≡ None) where
   -- each column was found, or one wasn't
   pub found_fine : OnOk result (missing_refusal columns (columns_of header) ≡ None) → OnOk result (first_of (heading_refusals schema.columns (columns_of header)) ≡ None)
   found_fine h = by result h

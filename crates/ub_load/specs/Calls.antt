@@ -1,5 +1,5 @@
 -- What loading a CSV text promises.
-use Rattle.std.specs.Prelude.{ℕ, List, Result, IfErr, IfOk}
+use Rattle.std.specs.Prelude.{◌≡◌, ℕ, List, Option, Some, None, Result, IfErr, IfOk}
 use Rattle.ub_load.specs.LoadedTree.{IsLoadedTree}
 use Rattle.ub_load.specs.Loading.{IsAtWork, IsLoadFault}
 use Rattle.ub_load.specs.declared.fault.LoadFault.{LoadFault}
@@ -14,3 +14,15 @@ pub record Loads (text : List ℕ) (axes : Axes) (page_rows : ℕ) (name : List 
   pub loaded : IsHonest facts → IfOk result (IsLoadedTree text axes page_rows name)
   pub working : IfOk result (IsAtWork facts)
   pub refused : IfErr result (IsLoadFault axes name text facts)
+
+-- a source of which this is known gives this text, if it fails nowhere
+abbrev pub MayGive : Option (List ℕ) → List ℕ → Type 0
+MayGive None text = Unit {0}
+MayGive (Some known) text = text ≡ known
+
+-- the table of the text that a source gives was to be loaded so, where this is known of what it gives: the answer is that for such a text
+pub record LoadsFrom (known : Option (List ℕ)) (axes : Axes) (page_rows : ℕ) (name : List ℕ) (facts : StoreFacts) (result : Result TreeView LoadFault)
+    : Type 0 where
+  pub text : List ℕ
+  pub text_is : MayGive known text
+  pub loads : Loads text axes page_rows name facts result

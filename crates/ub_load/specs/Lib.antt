@@ -5,4 +5,5 @@ pub mod LoadedTable
 pub mod LoadedTree
 pub mod Loading
 pub mod Calls
+pub mod Grown
 pub mod Appending

@@ -1,10 +1,12 @@
 //! From the text of a CSV file to the rows of a table: what a field says (field), the header as a schema (header), a record
 //! as a row (row), the records one after the other (reading), and the whole text: as a table, whose rows are put into a UB-tree
-//! (table), or as rows for a table that there is (rows). Reading a file, keeping pages and answering queries belong elsewhere.
+//! (table), or into regions before any store is there, which can be laid later (grown); or as rows for a table that there is
+//! (rows). Reading a file, keeping pages and answering queries belong elsewhere.
 #![tactic(auto)]
 
 pub mod fault;
 mod field;
+pub mod grown;
 mod header;
 mod reading;
 mod row;
@@ -12,5 +14,6 @@ pub mod rows;
 pub mod table;
 
 pub use fault::LoadFault;
+pub use grown::{GrownTable, lay_table, read_table};
 pub use rows::read_rows;
-pub use table::load;
+pub use table::{load, load_from};

@@ -1,9 +1,9 @@
 //! A whole CSV text as a table in a UB-tree.
 
-ghost use Rattle.std.specs.Prelude.{◌≡◌, ◌≤◌, ◌+◌, ℕ, List, [], IfOk, IfErr, length};
+ghost use Rattle.std.specs.Prelude.{◌≡◌, ◌≤◌, ◌+◌, ℕ, List, Option, [], Some, IfOk, IfErr, length};
 ghost use Rattle.csv.specs.Records.{fields_of};
 ghost use Rattle.ub_laying.specs.Begun.{IsBegun};
-ghost use Rattle.ub_load.specs.Calls.{Loads};
+ghost use Rattle.ub_load.specs.Calls.{Loads, LoadsFrom};
 ghost use Rattle.ub_load.specs.LoadedTable.{axes_with};
 ghost use Rattle.ub_load.specs.LoadedTree.{loaded_regions};
 ghost use Rattle.ub_load.specs.Loading.{IsNewFault};
@@ -21,6 +21,7 @@ use crate::reading::{read_record, reader_of};
 use crate::row::read_row;
 use csv::{ByteRecord, Reader};
 use std::alloc::Global;
+use std::io::Read;
 use ub_growing::grow;
 use ub_store::PageStore;
 use ub_table::{Axes, MAX_ROW_NUMBER, Row, Schema};
@@ -52,10 +53,31 @@ pub fn load<S: PageStore>(
     requires empty { page_count (S.facts store) ≡ 0 }
     ensures { Loads text.now (axes_with dims signed) page_rows name.now (S.facts store) result }
 {
-    let mut reader = reader_of(alloc, text);
+    load_from(alloc, text, dims, page_rows, name, signed, store)
+}
+
+/// The same of the text that a source gives, which is read as it is loaded, and not held: record after record, and nothing after one
+/// that is refused. So what comes first in the text is told, a refused record before a read that fails. `Csv` is told where a read fails, too:
+/// the source knows whether one did. Where nothing is known of what the source gives, the answer is that for some text.
+pub fn load_from<R: Read + Drop, S: PageStore>(
+    alloc: Global,
+    source: R,
+    dims: u32,
+    page_rows: u32,
+    name: &[u8],
+    signed: u32,
+    store: S,
+) -> Result<Tree<S>, LoadFault>
+    requires numbers { AreTableNumbers dims page_rows }
+    requires mask { IsMask dims signed }
+    requires empty { page_count (S.facts store) ≡ 0 }
+    ensures { LoadsFrom (R.remaining source) (axes_with dims signed) page_rows name.now
+        (S.facts store) result }
+{
+    let mut reader = reader_of(alloc, source);
     // Each record is read into the place of the one before.
     let mut fields = ByteRecord::new(alloc);
-    load_from(
+    load_all(
         alloc,
         &mut reader,
         &mut fields,
@@ -67,9 +89,9 @@ pub fn load<S: PageStore>(
 }
 
 // Loads the table of this name that a reader's text holds, from its header on.
-fn load_from<S: PageStore>(
+fn load_all<R: Read, S: PageStore>(
     alloc: Global,
-    reader: &mut Reader<&[u8]>,
+    reader: &mut Reader<R>,
     fields: &mut ByteRecord,
     axes: Axes,
     page_rows: u32,
@@ -79,8 +101,9 @@ fn load_from<S: PageStore>(
     requires numbers { AreTableNumbers axes.dims page_rows }
     requires mask { IsMask axes.dims axes.signed }
     requires empty { page_count (S.facts store) ≡ 0 }
-    ensures { (text : List ℕ) → IsAt text [] reader.old
-        → Loads text axes page_rows name.now (S.facts store) result }
+    ensures { (known : Option (List ℕ))
+        → ((text : List ℕ) → known ≡ Some text → IsAt R.remaining text [] reader.old)
+        → LoadsFrom known axes page_rows name.now (S.facts store) result }
 {
     let schema = read_header(reader, fields, axes, page_rows, name)?;
     let begun = begin_table(alloc, store, &schema)?;
@@ -89,8 +112,8 @@ fn load_from<S: PageStore>(
 }
 
 /// The schema of a table of this name whose columns are the fields of the first record, or why there is none.
-pub(crate) fn read_header(
-    reader: &mut Reader<&[u8]>,
+pub(crate) fn read_header<R: Read>(
+    reader: &mut Reader<R>,
     fields: &mut ByteRecord,
     axes: Axes,
     page_rows: u32,
@@ -98,8 +121,9 @@ pub(crate) fn read_header(
 ) -> Result<Schema, LoadFault>
     requires numbers { AreTableNumbers axes.dims page_rows }
     requires mask { IsMask axes.dims axes.signed }
-    ensures read { IfOk result (HasReadHeader axes page_rows name.now reader.old reader.new) }
-    ensures refused { IfErr result (IsHeaderFault axes name.now reader.old) }
+    ensures read { IfOk result
+        (HasReadHeader R.remaining axes page_rows name.now reader.old reader.new) }
+    ensures refused { IfErr result (IsHeaderFault R.remaining axes name.now reader.old) }
 {
     if !read_record(reader, fields)? {
         return Err(LoadFault::NoHeader);
@@ -124,15 +148,16 @@ fn begin_table<S: PageStore>(
 }
 
 /// The rows of all other records, for a table of this schema.
-pub(crate) fn load_records(
+pub(crate) fn load_records<R: Read>(
     alloc: Global,
-    reader: &mut Reader<&[u8]>,
+    reader: &mut Reader<R>,
     fields: &mut ByteRecord,
     schema: &Schema,
 ) -> Result<Vec<Row>, LoadFault>
-    ensures loaded { IfOk result (λ rows. HasLoadedRecords reader.old schema.now rows.items) }
+    ensures loaded { IfOk result (λ rows.
+        HasLoadedRecords R.remaining reader.old schema.now rows.items) }
     ensures rows { IfOk result (λ rows. AreFirstRows schema.now rows.items) }
-    ensures refused { IfErr result (IsRecordsFault reader.old schema.now) }
+    ensures refused { IfErr result (IsRecordsFault R.remaining reader.old schema.now) }
 {
     let mut rows = Vec::new(alloc);
     let mut number = 1;

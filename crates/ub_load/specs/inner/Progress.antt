@@ -1,13 +1,14 @@
 -- What has been read of a text: the records so far, and the rows of those after the header.
-use Rattle.std.specs.Prelude.{◌≡◌, ◌≤◌, ◌+◌, ℕ, List, [], ◌∷◌, length, Option, None}
+use Rattle.std.specs.Prelude.{◌≡◌, ◌≤◌, ◌+◌, ◌⊎◌, ℕ, true, List, [], ◌∷◌, ◌++◌, length, Option, Some, None}
 use Rattle.std.specs.List.{AllByRecursion, enumerate_from, flat_map}
 use Rattle.csv.specs.declared.reader.Reader.{Reader}
-use Rattle.ub_load.specs.LoadedTable.{IsLoaded, IsSchemaOf, columns_of, row_of, rows_of}
-use Rattle.ub_load.specs.Loading.{IsLoadFault}
+use Rattle.ub_load.specs.LoadedTable.{IsSchemaOf, columns_of, row_of, rows_of}
+use Rattle.ub_load.specs.LoadedTree.{loaded_regions}
 use Rattle.ub_load.specs.Refusals.{first_of, header_refusal, record_refusals}
 use Rattle.ub_load.specs.declared.fault.LoadFault.{LoadFault}
-use Rattle.ub_load.specs.inner.Records.{IsAt, Source}
-use Rattle.ub_store.specs.Facts.{StoreFacts}
+use Rattle.ub_load.specs.declared.fault.LoadFault.TheVariants.{Csv, Memory, NoHeader}
+use Rattle.ub_load.specs.declared.grown.GrownTable.{GrownTable}
+use Rattle.ub_load.specs.inner.Records.{GivesAll, GivesNext, HasRead}
 use Rattle.ub_table.specs.Region.{IsRow, measures_of}
 use Rattle.ub_table.specs.Value.{axes_of}
 use Rattle.ub_table.specs.declared.axes.Axes.{Axes}
@@ -34,42 +35,49 @@ pub record AreFirstRows (schema : Schema) (rows : List Row) : Type 0 where
   pub each : AllByRecursion (IsRow schema.dims (measures_of schema)) rows
   pub few : length rows ≤ MAX_ROW_NUMBER
 
--- the header has been read, with nothing wrong in it, and it makes this schema
-pub record IsHeaded (text : List ℕ) (axes : Axes) (page_rows : ℕ) (name : List ℕ) (schema : Schema) (rdr : Reader Source) : Type 0 where
-  pub header : List (List ℕ)
-  pub at : IsAt text (header ∷ []) rdr
-  pub fine : header_refusal axes.dims name (columns_of header) ≡ None
-  pub schema_is : IsSchemaOf header axes page_rows name schema
+-- a record can't be read: `csv` refused it, or memory was refused
+abbrev pub IsUnread : LoadFault → Type 0
+IsUnread fault = (fault ≡ Csv) ⊎ (fault ≡ Memory)
 
--- the header, which makes this schema, and the records before the row of this number have been read, with nothing wrong in them; these are
--- their rows
-pub record IsLoading (text : List ℕ) (axes : Axes) (page_rows : ℕ) (name : List ℕ) (schema : Schema) (number : ℕ) (rows : List Row) (rdr : Reader Source)
+-- a reader's next record was read, is a header with nothing wrong in it, and makes this schema
+pub record HasReadHeader {R : Type 0} (rem : R → Option (List ℕ)) (axes : Axes) (page_rows : ℕ) (name : List ℕ) (old new : Reader R) (schema : Schema)
     : Type 0 where
   pub header : List (List ℕ)
-  pub taken : List (List (List ℕ))
-  pub at : IsAt text (header ∷ taken) rdr
-  pub number_is : number ≡ 1 + length taken
+  pub read : HasRead rem old true header new
   pub fine : header_refusal axes.dims name (columns_of header) ≡ None
-  pub accepted : first_of (flat_map (record_refusals axes (length header)) (enumerate_from 1 taken)) ≡ None
   pub schema_is : IsSchemaOf header axes page_rows name schema
-  pub rows_are : rows ≡ rows_of axes taken
 
--- what a reader at the start of any text gives where its header is read, and why it is refused
-abbrev pub HasReadHeader : Axes → ℕ → List ℕ → Reader Source → Reader Source → Schema → Type 0
-HasReadHeader axes page_rows name old new schema =
-    (text : List ℕ) → IsAt text [] old → IsHeaded text axes page_rows name schema new
+-- why there is none: a record can't be read, or there is no other one, or this is wrong with the next one
+abbrev pub IsHeaderFault : {R : Type 0} → (R → Option (List ℕ)) → Axes → List ℕ → Reader R → LoadFault → Type 0
+IsHeaderFault rem axes name rdr fault =
+    IsUnread fault ⊎ ((GivesAll rem rdr [] × (fault ≡ NoHeader))
+    ⊎ ((header : List (List ℕ)) × GivesNext rem rdr (header ∷ []) × (header_refusal axes.dims name (columns_of header) ≡ Some fault)))
 
-abbrev pub IsHeaderFault : Axes → List ℕ → Reader Source → LoadFault → Type 0
-IsHeaderFault axes name old fault =
-    (text : List ℕ) → (store : StoreFacts) → IsAt text [] old → IsLoadFault axes name text store fault
+-- these are the first records after the header of a table of this schema, with nothing wrong in them
+pub record AreAccepted (schema : Schema) (taken : List (List (List ℕ))) : Type 0 where
+  pub wide : AllByRecursion (λ r. length r ≡ length schema.columns) taken
+  pub accepted : first_of (flat_map (record_refusals (axes_of schema) (length schema.columns)) (enumerate_from 1 taken)) ≡ None
 
--- these are the rows of all records after the header of any text, which makes this schema; and why one is refused
-abbrev pub HasLoadedRecords : Reader Source → Schema → List Row → Type 0
-HasLoadedRecords rdr schema rows =
-    (text : List ℕ) → (axes : Axes) → (page_rows : ℕ) → (name : List ℕ) → IsHeaded text axes page_rows name schema rdr
-    → IsLoaded text axes page_rows name schema rows
+-- these are the rows of all records that a reader still gives, of a table of this schema, whose header it gave last
+pub record HasLoadedRecords {R : Type 0} (rem : R → Option (List ℕ)) (rdr : Reader R) (schema : Schema) (rows : List Row) : Type 0 where
+  pub taken : List (List (List ℕ))
+  pub all : GivesAll rem rdr taken
+  pub fine : AreAccepted schema taken
+  pub rows_are : rows ≡ rows_of (axes_of schema) taken
 
-abbrev pub IsRecordsFault : Reader Source → Schema → LoadFault → Type 0
-IsRecordsFault rdr schema fault =
-    (text : List ℕ) → (axes : Axes) → (page_rows : ℕ) → (name : List ℕ) → (store : StoreFacts) → IsHeaded text axes page_rows name schema rdr
-    → IsLoadFault axes name text store fault
+-- one of them is refused, with nothing wrong in those before it
+pub record IsBadRecord {R : Type 0} (rem : R → Option (List ℕ)) (rdr : Reader R) (schema : Schema) (fault : LoadFault) : Type 0 where
+  pub taken : List (List (List ℕ))
+  pub bad : List (List ℕ)
+  pub next : GivesNext rem rdr (taken ++ bad ∷ [])
+  pub fine : AreAccepted schema taken
+  pub refused : record_refusal schema (1 + length taken, bad) ≡ Some fault
+
+abbrev pub IsRecordsFault : {R : Type 0} → (R → Option (List ℕ)) → Reader R → Schema → LoadFault → Type 0
+IsRecordsFault rem rdr schema fault = IsUnread fault ⊎ IsBadRecord rem rdr schema fault
+
+-- the table of this schema whose rows these are
+pub record IsGrownOf (schema : Schema) (rows : List Row) (table : GrownTable) : Type 0 where
+  pub schema_is : table.schema ≡ schema
+  pub grown_are : table.grown ≡ loaded_regions schema.dims schema.page_rows rows
+  pub next_is : table.next ≡ length rows + 1

@@ -7,6 +7,7 @@ use Rattle.ub_load.specs.declared.fault.LoadFault.TheVariants.{Memory}
 use Rattle.ub_load.specs.Field.{trimmed}
 use Rattle.ub_load.specs.LoadedTable.{columns_of}
 use Rattle.ub_load.proofs.NamedFacts.{heading_few, places_inside}
+use Rattle.ub_load.specs.inner.Records.{bytes_of}
 use Rattle.ub_load.proofs.ReadingFacts.{read_none, read_one}
 use Rattle.ub_load.proofs.RowsFacts.{all_read, reading_full, reading_none, reading_step, reading_unfit, unread}
 use Rattle.ub_load.proofs.rows.take_rows.Goals as goal
@@ -40,7 +41,7 @@ returns-in_err-row-clause-refused c =
     let call = c.read_record in
     let r = fields_of call.new.fields in
     let header = fields_of c.args.fields.now in
-    let read = read_one c.loop-rows.reader call.new.reader c.in_ok-read_record.field-0 r c.in_ok-read_record.ensures.read c.if-branch.true in
+    let read = read_one bytes_of c.loop-rows.reader call.new.reader c.in_ok-read_record.field-0 r c.in_ok-read_record.ensures.read c.if-branch.true in
     let width = c.len-width.ensures ∙ sym (length-map header trimmed) in
     let p = err_from_is_err_and c.from_residual-in_err-row.result c.from_residual-in_err-row.ensures.1 in
     rw (p.1, p.2) (reading_unfit c.loop-rows.invariant call.new.reader r read c.requires.fine c.axes-axes.result c.len-width.result c.args.places.now c.axes-axes.ensures width c.requires.places
@@ -51,7 +52,7 @@ returns-then-left-number-clause-refused c =
     let call = c.read_record in
     let r = fields_of call.new.fields in
     let header = fields_of c.args.fields.now in
-    let read = read_one c.loop-rows.reader call.new.reader c.in_ok-read_record.field-0 r c.in_ok-read_record.ensures.read c.if-branch.true in
+    let read = read_one bytes_of c.loop-rows.reader call.new.reader c.in_ok-read_record.field-0 r c.in_ok-read_record.ensures.read c.if-branch.true in
     let width = c.len-width.ensures ∙ sym (length-map header trimmed) in
     reading_full c.loop-rows.invariant call.new.reader r read c.requires.fine c.axes-axes.result c.len-width.result c.args.places.now c.axes-axes.ensures width c.requires.places
     c.saturating_sub-left.result c.saturating_sub-left.ensures c.if-left-number.true c.in_ok-row.ensures.accepted
@@ -61,7 +62,7 @@ loop-rows-preserved c =
     let call = c.read_record in
     let r = fields_of call.new.fields in
     let header = fields_of c.args.fields.now in
-    let read = read_one c.loop-rows.reader call.new.reader c.in_ok-read_record.field-0 r c.in_ok-read_record.ensures.read c.if-branch.true in
+    let read = read_one bytes_of c.loop-rows.reader call.new.reader c.in_ok-read_record.field-0 r c.in_ok-read_record.ensures.read c.if-branch.true in
     let width = c.len-width.ensures ∙ sym (length-map header trimmed) in
     reading_step c.loop-rows.invariant call.new.reader r read c.requires.fine c.axes-axes.result c.len-width.result c.args.places.now c.axes-axes.ensures width c.requires.places
     c.saturating_sub-left.result c.saturating_sub-left.ensures c.in_ok-row.row _ c.if-left-number.false c.in_ok-row.ensures.accepted c.in_ok-row.ensures.row c.in_ok-row.ensures.suit c.in_ok-push.ensures.items
@@ -70,7 +71,7 @@ pub returns-clause-rows : goal.returns-clause-rows
 returns-clause-rows c =
     let call = c.read_record in
     let r = fields_of call.new.fields in
-    all_read c.loop-rows.invariant call.new.reader r (read_none c.loop-rows.reader call.new.reader c.in_ok-read_record.field-0 r c.in_ok-read_record.ensures.read c.if-branch.false) c.requires.fine
+    all_read c.loop-rows.invariant call.new.reader r (read_none bytes_of c.loop-rows.reader call.new.reader c.in_ok-read_record.field-0 r c.in_ok-read_record.ensures.read c.if-branch.false) c.requires.fine
 
 pub returns-in_err-read_record-clause-refused : goal.returns-in_err-read_record-clause-refused
 returns-in_err-read_record-clause-refused c =
