@@ -19,7 +19,7 @@ pub data Held : Type 0 where
 -- the facts of files: what each path holds; what a crash at this moment leaves it to hold, where that is one thing, and else it isn't
 -- told; whether a file gives back what was written to it; whether a table file may answer Device; how often the reading of a file, and the
 -- opening, changing, keeping or making of a table file, answered Device (counts that stay at the greatest u64); and the paths that were
--- read so far, in their order, where that is told
+-- read so far, or opened to be read, in their order, where that is told
 pub record FilesFacts : Type 0 where
   pub holds : List ℕ → Held
   pub lasts : List ℕ → Held
@@ -38,6 +38,12 @@ abbrev pub IsText : Held → List ℕ → Type 0
 IsText untold text = Unit {0}
 IsText (bytes held) text = text ≡ held
 IsText _ text = ⊥
+
+-- what is known of the bytes that a reader of it gives: where it is told, all of them
+abbrev pub IsReadAs : Held → Option (List ℕ) → Type 0
+IsReadAs untold known = Unit {0}
+IsReadAs (bytes held) known = known ≡ Some held
+IsReadAs _ known = ⊥
 
 -- where it is told, it is these pages
 abbrev pub HasPages : Held → List (List ℕ) → Type 0
@@ -121,6 +127,10 @@ pub record ReadsFile {A : Type 0} (path : List ℕ) (old new : FilesFacts) (resu
   pub kept : path ≢ standard_input → (new.holds ≡ old.holds) × (new.lasts ≡ old.lasts)
   pub others : HoldsBut path old new
   pub used_up : OnOk result (path ≡ standard_input → IsUsedUp (new.holds path))
+
+-- a call with this result that takes back a reader: nothing changes but, at Device, the count of failures
+abbrev pub ClosesText : {A : Type 0} → FilesFacts → FilesFacts → Result A StoreFault → Type 0
+ClosesText old new result = new ≡ record old { failed_reads = counted result old.failed_reads }
 
 -- a call with this result that opens the table file of this path, to ask it: nothing changes but, at Device, the count of failures
 abbrev pub OpensFile : {A : Type 0} → FilesFacts → FilesFacts → Result A StoreFault → Type 0

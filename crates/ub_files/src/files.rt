@@ -1,11 +1,13 @@
 ghost use Rattle.std.specs.Prelude.{◌≡◌, ◌≤◌, ◌⊎◌, IfOk, IfErr, IsErrOf, IsTrue, OnOk, length};
 ghost use Rattle.ub_files.specs.Clock.{FolderClock, IsFolderClock, IsSameFolder, Lasts, MayBecome, MayHold, Runs};
-ghost use Rattle.ub_files.specs.Files.{FilesFacts, IsLent, IsText, IsTorn, ChangesFile, KeepsFile, MakesFile, OpensFile, ReadsFile};
+ghost use Rattle.ub_files.specs.Files.{FilesFacts, IsLent, IsReadAs, IsText, IsTorn, ChangesFile, ClosesText, KeepsFile, MakesFile, OpensFile, ReadsFile};
 
 use crate::fault::OpenFault;
+use std::io::Read;
 use ub_store::{PageStore, Pages, StoreFault};
 
-/// Where the files that a command names are: texts are read whole, and of table files stores are lent.
+/// Where the files that a command names are: texts are read whole, or piece after piece through a reader that is lent, and of table
+/// files stores are lent.
 ///
 /// What a path holds, what a crash leaves it to hold, whether files are honest and can fail, how often a call failed and which paths were
 /// read is for contracts alone. One clock runs for all paths: it tells of each earlier moment what a crash from then on might have left to be
@@ -16,6 +18,8 @@ use ub_store::{PageStore, Pages, StoreFault};
 /// store's pages.
 pub trait Files {
     type Store: PageStore;
+
+    type Text: Read + Drop;
 
     ghost facts: { Self → FilesFacts };
 
@@ -32,6 +36,24 @@ pub trait Files {
         ensures faults { IfErr result (λ fault.
             (fault ≡ StoreFault.Device) ⊎ (fault ≡ StoreFault.Memory)) }
         ensures effect { ReadsFile path.now (facts self.old) (facts self.new) result }
+        ensures crash { Runs IsSameFolder (facts self.old) (clock self.old) (clock self.new) };
+
+    /// A reader of the bytes of a file, from the first one on. The faults are those of `read`, and so is what is left of standard input:
+    /// each call is one reading of the path.
+    fn open_text(&mut self, path: &str) -> Result<Self::Text, StoreFault>
+        ensures text { IfOk result (λ text.
+            IsReadAs ((facts self.old).holds path.now) (Self.Text.remaining text)) }
+        ensures faults { IfErr result (λ fault.
+            (fault ≡ StoreFault.Device) ⊎ (fault ≡ StoreFault.Memory)) }
+        ensures effect { ReadsFile path.now (facts self.old) (facts self.new) result }
+        ensures crash { Runs IsSameFolder (facts self.old) (clock self.old) (clock self.new) };
+
+    /// Takes back the reader of this path, and tells whether a read of it has failed: Device where the file couldn't be read to the end,
+    /// Memory where memory was refused.
+    fn close_text(&mut self, path: &str, text: Self::Text) -> Result<(), StoreFault>
+        ensures faults { IfErr result (λ fault.
+            (fault ≡ StoreFault.Device) ⊎ (fault ≡ StoreFault.Memory)) }
+        ensures effect { ClosesText (facts self.old) (facts self.new) result }
         ensures crash { Runs IsSameFolder (facts self.old) (clock self.old) (clock self.new) };
 
     /// A store of the pages of a table file, of which no call has failed yet, to ask it. The file isn't changed. Device comes where it

@@ -22,6 +22,11 @@ pub any_text : {A : Type 0} (items : A → List ℕ) (reads tables : ℕ) (path 
 any_text items reads tables path (Ok text) = tt
 any_text items reads tables path (Err fault) = tt
 
+-- nor of the bytes that a reader of one gives
+pub untold_bytes : {A E : Type 0} (result : Result A E) → IfOk result (λ text. Unit {0})
+untold_bytes (Ok text) = tt
+untold_bytes (Err fault) = tt
+
 pub reads_file : {A : Type 0} (path : List ℕ) (reads tables new_reads new_tables : ℕ) (result : Result A StoreFault) → new_reads ≡ counted result reads → new_tables ≡ tables
     → ReadsFile path (facts_of_host reads tables) (facts_of_host new_reads new_tables) result
 reads_file path reads tables new_reads new_tables (Ok text) e1 e2 = record {

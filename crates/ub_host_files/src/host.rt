@@ -6,8 +6,9 @@ use crate::lock::Lock;
 use crate::missed::{Deed, Missed};
 use crate::opening::{Purpose, open_locked};
 use crate::place::{HostPlace, Kept, Reasons, journal_beside};
+use crate::text::{HostText, MOST_KEPT};
 use std::alloc::Global;
-use std::fs::Metadata;
+use std::fs::{Metadata, OpenOptions};
 use std::io::Eprint;
 use std::os::fd::{AsFd, AsRawFd};
 use std::os::unix::fs::FileExt;
@@ -21,9 +22,6 @@ use ub_words::STANDARD_INPUT;
 
 // The system's number for memory that is refused.
 const NO_MEMORY: i32 = 12;
-
-// How many bytes of standard input are kept at most: 16 MiB.
-const MOST_KEPT: usize = 16_777_216;
 
 /// How many calls failed, and what was missed last.
 #[derive(Clone, Copy)]
@@ -104,6 +102,13 @@ impl Input {
             self.bytes = Vec::from_slice(alloc, bytes).ok();
         }
     }
+
+    // Keeps what was kept of a text that was read piece after piece, if something was.
+    fn put(&mut self, kept: Option<Vec<u8>>) {
+        if kept.is_some() {
+            self.bytes = kept;
+        }
+    }
 }
 
 /// The files of the system. What they hold is not told, and that they are honest is a premise. Standard input is read as the
@@ -178,6 +183,31 @@ fn name_of(path: &str) -> &str {
         "standard input"
     } else {
         path
+    }
+}
+
+// A reader of the file at a path, which keeps what it gives if it is of standard input, and that is to be kept.
+fn open_at<R: rt::Files + AllocGlobal>(
+    rt: &R,
+    path: &str,
+    is_kept: bool,
+) -> io::Result<HostText<R::File>> {
+    match OpenOptions::new().read(true).open(rt, file_of(path)) {
+        Ok(file) => HostText::new(rt.alloc(), file, is_kept && path == STANDARD_INPUT),
+        Err(why) => Err(why),
+    }
+}
+
+// What came of a reading, or that it was refused, which is counted.
+fn told<T>(path: &str, reading: io::Result<T>, failures: &mut Failures) -> Result<T, StoreFault>
+    ensures faults { IfErr result (λ fault.
+        (fault ≡ StoreFault.Device) ⊎ (fault ≡ StoreFault.Memory)) }
+    ensures reads { failures.new.reads ≡ counted result failures.old.reads }
+    ensures tables { failures.new.tables ≡ failures.old.tables }
+{
+    match reading {
+        Ok(found) => Ok(found),
+        Err(why) => Err(failures.note_read(path, why)),
     }
 }
 
@@ -419,6 +449,8 @@ where
 {
     type Store = Overlay<PlaceStore<HostPlace<'r, R>>>;
 
+    type Text = HostText<R::File>;
+
     ghost use Rattle.ub_host_files.specs.Host.{clock_of_host, no_host_clock};
 
     ghost facts = { λ files. facts_of_host files.failures.reads files.failures.tables };
@@ -436,6 +468,17 @@ where
             &mut self.input,
             &mut self.failures,
         )
+    }
+
+    fn open_text(&mut self, path: &str) -> Result<HostText<R::File>, StoreFault> {
+        let opened = open_at(self.rt, path, self.input.is_kept);
+        told(path, opened, &mut self.failures)
+    }
+
+    fn close_text(&mut self, path: &str, text: HostText<R::File>) -> Result<(), StoreFault> {
+        let (kept, ended) = text.end();
+        self.input.put(kept);
+        told(path, ended, &mut self.failures)
     }
 
     fn open(&mut self, path: &str) -> Result<Overlay<PlaceStore<HostPlace<'r, R>>>, StoreFault> {

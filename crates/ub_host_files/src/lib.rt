@@ -1,6 +1,6 @@
 //! The files of the system, as commands use them.
 //!
-//! Texts are read whole. A table file is opened and locked (`opening`, `lock`), and with what stands beside it it is a place
+//! Texts are read whole, or piece after piece (`text`). A table file is opened and locked (`opening`, `lock`), and with what stands beside it it is a place
 //! (`place`) at which `ub_keeping` reads it, changes it and makes it anew; `host` puts these together, and `missed` says for people
 //! what couldn't be done with which file.
 //!
@@ -13,7 +13,9 @@ mod lock;
 mod missed;
 mod opening;
 mod place;
+mod text;
 
 pub use host::HostFiles;
 pub use lock::Lock;
 pub use missed::Missed;
+pub use text::HostText;

@@ -6,6 +6,7 @@ ghost use Rattle.ub_memory_files.specs.Tables.{IsSeenAs};
 
 use crate::entries::{Entry, MemFile, put, read_text, table_at};
 use crate::tables::{MemTable, change_at, keep_at, make_at, open_at};
+use crate::texts::MemText;
 use std::alloc::{AllocError, Global};
 use ub_files::{Files, OpenFault};
 use ub_journal::{Place, TornPlace};
@@ -14,8 +15,8 @@ use ub_store::{MemStore, Pages, StoreFault};
 /// Files in memory, for a program that has no others, and for tests: texts and table files by their paths. What each path holds is
 /// told, but for a table file beside which a journal stands, and for one at which a call has failed. They are honest. A path that holds
 /// nothing is Device, and so is a text that is opened as a table file, or a table file that is read as a text; a table file is made
-/// anew in the place of a text. Standard input is the text at the path `-`, which is used up by reading. Which paths were read is told
-/// for as long as there was memory to keep them.
+/// anew in the place of a text. Standard input is the text at the path `-`, which is used up by reading, and by opening it to be read. Which
+/// paths were read is told for as long as there was memory to keep them. A text that is opened to be read is handed out as a copy.
 ///
 /// A table file that is opened is handed out as a copy of what is seen there, as another process would find it: so it can be opened as
 /// often as memory allows, and holds what it held until a store is kept. Where a call of the copy fails, then what was done up to
@@ -29,6 +30,7 @@ pub struct MemFiles {
     tables: u64,
     readings: Option<Vec<String>>,
     due: u64,
+    readable: usize,
 }
 
 impl MemFiles {
@@ -43,6 +45,7 @@ impl MemFiles {
             tables: 0,
             readings: Some(Vec::new(alloc)),
             due: 0,
+            readable: usize::MAX,
         }
     }
 
@@ -93,6 +96,13 @@ impl MemFiles {
     {
         self.due = k;
     }
+
+    /// Lets each reader of a text that is handed out from here on give so many bytes, and then fail.
+    pub fn fail_texts_after(&mut self, bytes: usize)
+        ensures { ⟦<MemFiles as Files>⟧.facts self.new ≡ ⟦<MemFiles as Files>⟧.facts self.old }
+    {
+        self.readable = bytes;
+    }
 }
 
 // The paths that were read, and then this one; none are told where memory for it is refused.
@@ -128,6 +138,8 @@ fn count_open<T>(count: u64, answer: &Result<T, OpenFault>) -> u64
 impl Files for MemFiles {
     type Store = MemTable;
 
+    type Text = MemText;
+
     ghost facts = { λ files. facts_in_memory files.entries.items files.reads
         files.tables (paths_told files.readings) };
 
@@ -159,6 +171,20 @@ impl Files for MemFiles {
         let read = read_text(self.alloc, self.entries.as_mut_slice(), path);
         self.reads = count_fault(self.reads, &read);
         read
+    }
+
+    fn open_text(&mut self, path: &str) -> Result<MemText, StoreFault> {
+        match self.read(path) {
+            Ok(bytes) => Ok(MemText::new(bytes, self.readable)),
+            Err(fault) => Err(fault),
+        }
+    }
+
+    fn close_text(&mut self, path: &str, text: MemText) -> Result<(), StoreFault> {
+        let _ = path;
+        let ended = text.end();
+        self.reads = count_fault(self.reads, &ended);
+        ended
     }
 
     fn open(&mut self, path: &str) -> Result<MemTable, StoreFault> {
