@@ -1,5 +1,6 @@
 pub mod EndFacts
 pub mod FileFacts
+pub mod TextFacts
 pub mod CrashFacts
 pub mod LastFacts
 pub mod LeftFacts

@@ -11,10 +11,10 @@ returns-in-Ok-clause-loads g c = inr (
   inr (
     not_so c.is_same.result _ c.is_same.ensures.1 c.if-is_same.false,
     inl (record {
-      text = c.as_slice.result.now;
-      mid = g.F.Files.facts c.read.new.self;
-      read = has_read _ c.as_slice.result.now _ _ _ (rw c.as_slice.ensures.value c.in-Ok.ensures.text) c.in-Ok.ensures.effect;
-      ended = c.keep_text.ensures.keeps;
+      text = c.in-Ok.ensures.read.0;
+      mid = g.F.Files.facts c.read_text.new.files;
+      read = has_read _ c.in-Ok.ensures.read.0 _ _ _ c.in-Ok.ensures.read.1 c.in-Ok.ensures.effect;
+      ended = c.keep_read.ensures.keeps c.in-Ok.ensures.read.0 c.in-Ok.ensures.read.2;
     }),
   ),
 )
@@ -37,19 +37,22 @@ returns-in-Err-clause-loads g c = inr (
   ),
 )
 
-pub keep_text-requires-clause-numbers : goal.keep_text-requires-clause-numbers
-keep_text-requires-clause-numbers g c = c.requires.numbers
+pub read_text-requires-clause-numbers : goal.read_text-requires-clause-numbers
+read_text-requires-clause-numbers g c = c.requires.numbers
 
-pub keep_text-requires-clause-mask : goal.keep_text-requires-clause-mask
-keep_text-requires-clause-mask g c = c.is_mask.ensures.0 c.if-not-is_mask.false
+pub read_text-requires-clause-mask : goal.read_text-requires-clause-mask
+read_text-requires-clause-mask g c = c.is_mask.ensures.0 c.if-not-is_mask.false
+
+pub keep_read-requires : goal.keep_read-requires
+keep_read-requires g c = (c.in-Ok.ensures.read.0, c.in-Ok.ensures.read.2)
 
 pub returns-in-Ok-clause-crash : goal.returns-in-Ok-clause-crash
 returns-in-Ok-clause-crash g c =
-    loaded_safely c.args.asked.source.path.now c.args.asked.table.now c.as_slice.result.now c.args.asked.source.name.now (axes_asked c.args.asked.source) c.args.asked.source.page_rows
-    (g.F.Files.facts c.args.files.now) (g.F.Files.facts c.read.new.self) _ _ _
+    loaded_safely c.args.asked.source.path.now c.args.asked.table.now c.in-Ok.ensures.read.0 c.args.asked.source.name.now (axes_asked c.args.asked.source) c.args.asked.source.page_rows
+    (g.F.Files.facts c.args.files.now) (g.F.Files.facts c.read_text.new.files) _ _ _
     (not_so c.is_same.result _ c.is_same.ensures.1 c.if-is_same.false)
-    (has_read _ c.as_slice.result.now _ _ _ (rw c.as_slice.ensures.value c.in-Ok.ensures.text) c.in-Ok.ensures.effect)
-    c.in-Ok.ensures.crash c.keep_text.ensures.crash
+    (has_read _ c.in-Ok.ensures.read.0 _ _ _ c.in-Ok.ensures.read.1 c.in-Ok.ensures.effect)
+    c.in-Ok.ensures.crash (c.keep_read.ensures.crash c.in-Ok.ensures.read.0 c.in-Ok.ensures.read.2)
 
 pub returns-then-not-is_mask-clause-crash : goal.returns-then-not-is_mask-clause-crash
 returns-then-not-is_mask-clause-crash g c = load_still c.args.asked.source.path.now c.args.asked.table.now c.args.asked.source.name.now (axes_asked c.args.asked.source) c.args.asked.source.page_rows (g.F.Files.facts c.args.files.now) _
@@ -62,9 +65,10 @@ returns-in-Err-clause-crash g c = load_same c.args.asked.source.path.now c.args.
 
 pub returns-in-Ok-clause-lasts : goal.returns-in-Ok-clause-lasts
 returns-in-Ok-clause-lasts g c = λ done.
-    let read = has_read _ c.as_slice.result.now _ _ _ (rw c.as_slice.ensures.value c.in-Ok.ensures.text) c.in-Ok.ensures.effect in
-    loaded_lasts c.args.asked.source.path.now c.args.asked.table.now c.as_slice.result.now c.args.asked.source.name.now (axes_asked c.args.asked.source) c.args.asked.source.page_rows
-    (g.F.Files.facts c.args.files.now) (g.F.Files.facts c.read.new.self) (g.F.Files.clock c.keep_text.new.files) read (read_honest _ _ _ _ read) (c.keep_text.ensures.lasts done)
+    let read = has_read _ c.in-Ok.ensures.read.0 _ _ _ c.in-Ok.ensures.read.1 c.in-Ok.ensures.effect in
+    loaded_lasts c.args.asked.source.path.now c.args.asked.table.now c.in-Ok.ensures.read.0 c.args.asked.source.name.now (axes_asked c.args.asked.source) c.args.asked.source.page_rows
+    (g.F.Files.facts c.args.files.now) (g.F.Files.facts c.read_text.new.files) (g.F.Files.clock c.keep_read.new.files) read (read_honest _ _ _ _ read)
+    (c.keep_read.ensures.lasts c.in-Ok.ensures.read.0 c.in-Ok.ensures.read.2 done)
 
 pub returns-then-not-is_mask-clause-lasts : goal.returns-then-not-is_mask-clause-lasts
 returns-then-not-is_mask-clause-lasts g c = λ done. absurd (never_done _ _ _ _ c.tell.result c.tell.ensures refl (inl done))
