@@ -62,8 +62,10 @@ impl Bench {
     /// Runs a command line.
     pub fn run(&mut self, asked: Asked<'_>) -> Ran {
         self.files.fail_at(asked.k);
+        self.files.fail_texts_after(asked.readable);
         let ran = run_over(self.alloc, &mut self.files, asked);
         self.files.fail_at(0);
+        self.files.fail_texts_after(usize::MAX);
         ran
     }
 

@@ -11,6 +11,8 @@
 //!     @crash K IMAGE WORDS
 //!                 the same, where it is stopped at that call: its table file is then what a crash leaves: all that is `seen`, with
 //!                 what wasn't synced `lost`, or with each page that wasn't synced `torn`
+//!     @text BYTES WORDS
+//!                 the same, where the data of a `load` give so many bytes, and then can't be read on
 //!     /ROOM WORDS the same, where the output has room for ROOM bytes alone
 //!     2/ROOM WORDS
 //!                 the same, where the second output has

@@ -18,6 +18,8 @@ pub struct Asked<'a> {
     pub k: u64,
     /// What is left of it where it is stopped at that call.
     pub left: Option<Left>,
+    /// After how many bytes a text fails that is read as it comes.
+    pub readable: usize,
     /// For how many bytes its output has room.
     pub room: usize,
     /// For how many its second output has.
@@ -38,6 +40,7 @@ impl<'a> Asked<'a> {
             words,
             k: 0,
             left: None,
+            readable: usize::MAX,
             room: usize::MAX,
             noted_room: usize::MAX,
             status: 0,
@@ -95,10 +98,13 @@ pub fn mark_of(line: &str) -> Option<Mark<'_>> {
     }
 }
 
-// A command line where a call of a store fails, or one of the outputs.
+// A command line where a call of a store fails, a text, or one of the outputs.
 fn failing<'a>(head: &str, words: &'a str) -> Option<Asked<'a>> {
     if head == "@crash" {
         return stopped(words);
+    }
+    if head == "@text" {
+        return cut_short(words);
     }
     let mut asked = Asked::new(words);
     if let Some(k) = head.strip_prefix('@') {
@@ -118,6 +124,14 @@ fn stopped(words: &str) -> Option<Asked<'_>> {
     let mut asked = Asked::new(words);
     asked.k = k.parse::<u64>().ok()?;
     asked.left = Some(left_by(left)?);
+    Some(asked)
+}
+
+// A command line whose text fails, by the word for the bytes that it gives, and its own.
+fn cut_short(words: &str) -> Option<Asked<'_>> {
+    let (bytes, words) = cut(words);
+    let mut asked = Asked::new(words);
+    asked.readable = bytes.parse::<usize>().ok()?;
     Some(asked)
 }
 
