@@ -70,8 +70,11 @@ def of_data(tried):
     write("new.csv", BAD)
     tells(tried, "a bad number", LOAD, 3, "ubq: new.csv: " + DATE)
     tells(tried, "of standard input", [word.replace("new.csv", "-") for word in LOAD], 3, "ubq: standard input: " + DATE, BAD)
-    long = BAD + b"3,4,5\n" * (MOST // 6)
-    tells(tried, "of one that is too long to be kept", [word.replace("new.csv", "-") for word in LOAD], 3, "", long)
+    # Nothing is read behind what is refused: so a text is too long to be kept only where it is as long before that.
+    read = [word.replace("new.csv", "-") for word in LOAD]
+    header, rows = BAD.split(b"\n", 1)
+    tells(tried, "of one that goes on behind it", read, 3, "ubq: standard input: " + DATE, BAD + b"3,4,5\n" * (MOST // 6))
+    tells(tried, "of one that is too long to be kept", read, 3, "", header + b"\n" + b"3,4,5\n" * (MOST // 6 + 1) + rows)
     write("new.csv", b"\xef\xbb\xbfzone,date,fare\r\n1,3,5\r\n\r\n-4,2,7\r\n")
     tells(tried, "out of range, with the mark of UTF-8", LOAD, 3,
           "ubq: new.csv: line 4, row 2, column 1 (zone): '-4' is not in 0 to 4294967295\n")
