@@ -1,1 +1,2 @@
+pub mod Extended
 pub mod Lookups

@@ -1,72 +1,76 @@
-ghost use Rattle.std.specs.Prelude.{◌≡◌, ℕ, [], Some, None, IfOk, IfSome, OnOk, OnErr, option_map};
+ghost use Rattle.std.specs.Prelude.{◌≡◌, ℕ, [], Some, None, IfOk, OnOk, OnErr, option_map};
 ghost use Rattle.std.specs.Option.{is_some, option_copied};
-ghost use Rattle.ub_store.specs.Cache.{page_at, SameBut, NoneMoreBut};
+ghost use Rattle.ub_store.specs.Cache.{page_at, passing_page, SameBut, NoneMoreBut};
 
-use crate::page::{Page, new_page};
-use lru::LruCache;
+use crate::kept::Kept;
+use crate::page::Page;
 use std::alloc::{AllocError, Global};
 use std::marker::Model;
 use std::num::NonZeroUsize;
 
-/// The pages last used, under their numbers. Each stands in a box of its own, so that no page moves where the order changes.
-/// The box of a page that is let go is the one that the next page is read into.
+/// A page that passes, and its number.
+#[derive(Drop)]
+pub struct Passing {
+    pub number: u32,
+    pub page: Box<Page>,
+}
+
+/// The pages that are held: those last used, and beside them one that passes. The pages of a long run, each of which is looked at once,
+/// pass one after the other: none of those that are kept is let go for them, and two boxes hold them in turn.
 #[derive(Drop)]
 pub struct Cache {
-    alloc: Global,
-    pages: LruCache<u32, Box<Page>>,
-    spare: Option<Box<Page>>,
+    kept: Kept,
+    passing: Option<Passing>,
 }
 
 impl Model for Cache {
     ghost use Rattle.std.specs.Prelude.{List, ℕ};
-    ghost use Rattle.ub_store.specs.Cache.{pages_of};
+    ghost use Rattle.ub_store.specs.Cache.{with_passing, IsApart};
 
     ghost Value = { List (ℕ × List ℕ) };
 
-    ghost view = { λ c. pages_of c.pages.entries };
+    ghost view = { λ c. with_passing c.passing c.kept };
+
+    ghost invariant = { λ c. IsApart c.passing c.kept };
+}
+
+// The page that passes, where it has this number.
+fn page_passing(passing: &Option<Passing>, n: u32) -> Option<&Page>
+    ensures { option_copied result ≡ passing_page passing.now n }
+{
+    match passing {
+        Some(passing) if passing.number == n => Some(&passing.page),
+        _ => None,
+    }
 }
 
 impl Cache {
-    /// A cache that holds no page yet, and this many at most.
+    /// A cache that holds no page yet, and keeps this many at most.
     pub fn new(alloc: Global, capacity: NonZeroUsize) -> Result<Cache, AllocError>
         ensures { IfOk result (λ cache. cache ≡ []) }
     {
-        let pages = LruCache::new(alloc, capacity)?;
+        let kept = Kept::new(alloc, capacity)?;
         Ok(Cache {
-            alloc,
-            pages,
-            spare: None,
+            kept,
+            passing: None,
         })
     }
 
-    /// Whether a page of this number is held, which is then the one used last.
+    /// Whether a page of this number is held. One that is kept is then the one used last.
     pub fn touch(&mut self, n: u32) -> bool
         ensures found { result ≡ is_some (page_at self.old n) }
         ensures same { (m : ℕ) → page_at self.new m ≡ page_at self.old m }
     {
-        self.pages.promote(&n)
+        page_passing(&self.passing, n).is_some() || self.kept.touch(n)
     }
 
-    // The page used last, where it has this number: no search is needed for it.
-    fn latest(&self, n: u32) -> Option<&Page>
-        ensures { IfSome result (λ page. page_at self.now n ≡ Some page.now) }
-    {
-        match self.pages.peek_mru() {
-            Some((number, page)) if *number == n => Some(page),
-            _ => None,
-        }
-    }
-
-    /// The page that is held under this number. The one used last is given without a search.
+    /// The page that is held under this number.
     pub fn get(&self, n: u32) -> Option<&Page>
         ensures { option_copied result ≡ page_at self.now n }
     {
-        if let Some(page) = self.latest(n) {
-            return Some(page);
-        }
-        match self.pages.peek(&n) {
+        match page_passing(&self.passing, n) {
             Some(page) => Some(page),
-            None => None,
+            None => self.kept.get(n),
         }
     }
 
@@ -74,56 +78,47 @@ impl Cache {
     pub fn take_spare(&mut self) -> Result<Box<Page>, AllocError>
         ensures { self.new ≡ self.old }
     {
-        match self.spare.take() {
-            Some(page) => Ok(page),
-            None => new_page(self.alloc),
-        }
+        self.kept.take_spare()
     }
 
     /// Keeps a page that isn't held, to be read into next.
     pub fn keep_spare(&mut self, page: Box<Page>)
         ensures { self.new ≡ self.old }
     {
-        self.spare = Some(page);
+        self.kept.keep_spare(page);
     }
 
-    /// Holds this page, in the place of the one used first where there are too many, which is then spare.
+    /// Holds this page, which isn't held, and keeps it, in the place of the one used first where there are too many.
     pub fn hold(&mut self, n: u32, page: Box<Page>) -> Result<(), AllocError>
+        requires { page_at self.old n ≡ None }
         ensures held { OnOk result (page_at self.new n ≡ Some page.value) }
         ensures others { NoneMoreBut n self.old self.new }
         ensures refused { OnErr result (self.new ≡ self.old) }
     {
-        self.spare = self.pages.push(n, page)?.map(|(_, let_go)| let_go);
-        Ok(())
+        self.kept.hold(n, page)
     }
 
-    /// Puts a page in the place of the one that is held under this number, if one is. It is the first that is let go then: who
-    /// puts a page has read it, and in a large table comes to it again later than to the pages on the way there.
+    /// Holds this page, which isn't held, until the next one passes.
+    pub fn pass(&mut self, n: u32, page: Box<Page>)
+        requires { page_at self.old n ≡ None }
+        ensures held { page_at self.new n ≡ Some page.value }
+        ensures others { NoneMoreBut n self.old self.new }
+    {
+        if let Some(before) = self.passing.take() {
+            self.kept.keep_spare(before.page);
+        }
+        self.passing = Some(Passing { number: n, page });
+    }
+
+    /// Puts a page in the place of the one that is held under this number, if one is. One that is kept is the first that is let go then.
     pub fn renew(&mut self, n: u32, page: &Page)
         ensures renewed { page_at self.new n ≡ option_map (λ _. page.now) (page_at self.old n) }
         ensures others { SameBut n self.old self.new }
     {
-        self.write(n, page);
-        self.demote(n);
-    }
-
-    // Writes over the page that is held under this number, if one is.
-    fn write(&mut self, n: u32, page: &Page)
-        ensures renewed { page_at self.new n ≡ option_map (λ _. page.now) (page_at self.old n) }
-        ensures others { SameBut n self.old self.new }
-    {
-        if let Some(held) = self.pages.peek_mut(&n) {
-            **held = *page;
+        match &mut self.passing {
+            Some(passing) if passing.number == n => *passing.page = *page,
+            _ => self.kept.renew(n, page),
         }
-    }
-
-    // Has the page of this number be the one used first, if it is held.
-    fn demote(&mut self, n: u32)
-        ensures { (m : ℕ) → page_at self.new m ≡ page_at self.old m }
-    {
-        // Its contract tells the proof that no number stands twice in the cache.
-        let _len = self.pages.len();
-        self.pages.demote(&n);
     }
 
     /// Forgets the page of this number.
@@ -131,8 +126,10 @@ impl Cache {
         ensures gone { page_at self.new n ≡ None }
         ensures others { SameBut n self.old self.new }
     {
-        // Its contract tells the proof that no number stands twice in the cache.
-        let _len = self.pages.len();
-        let _ = self.pages.pop(&n);
+        if page_passing(&self.passing, n).is_some() {
+            self.passing = None;
+        } else {
+            self.kept.forget(n);
+        }
     }
 }

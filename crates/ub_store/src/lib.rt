@@ -10,6 +10,7 @@
 mod cache;
 pub mod fault;
 pub mod faulty;
+mod kept;
 pub mod memory;
 pub mod page;
 pub mod pager;

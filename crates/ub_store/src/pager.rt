@@ -11,6 +11,29 @@ use std::alloc::Global;
 use std::marker::Model;
 use std::num::NonZeroUsize;
 
+// Pages that were announced and follow one another: from the first one on, before that of the other number.
+#[derive(Clone, Copy)]
+struct Run {
+    first: u32,
+    until: u32,
+}
+
+impl Run {
+    // This run and so many pages from a number on, where they stand behind it; else these alone.
+    fn with(self, n: u32, many: u32) -> Run {
+        let first = if n == self.until { self.first } else { n };
+        Run {
+            first,
+            until: n.saturating_add(many),
+        }
+    }
+
+    // Whether this page is one of the run, behind so many others of it at least.
+    fn has_behind(self, n: u32, many: usize) -> bool {
+        self.first <= n && n < self.until && (n - self.first) as usize >= many
+    }
+}
+
 /// A store behind a cache of the pages last used, with a trace of the region pages that were asked for.
 ///
 /// A page is brought into the cache, and then lent from there.
@@ -18,6 +41,10 @@ use std::num::NonZeroUsize;
 pub struct Pager<S: PageStore> {
     store: S,
     cache: Cache,
+    // How many pages the cache keeps.
+    most: usize,
+    // What was announced last.
+    run: Run,
     trace: Vec<u32>,
     fetches: u64,
 }
@@ -46,10 +73,13 @@ impl<S: PageStore> Pager<S> {
         ensures refused { IfErr result (λ refused.
             (refused.store ≡ store) × (refused.fault ≡ StoreFault.Memory)) }
     {
+        let most = cache.get();
         match Cache::new(alloc, cache) {
             Ok(cache) => Ok(Pager {
                 store,
                 cache,
+                most,
+                run: Run { first: 0, until: 0 },
                 trace: Vec::new(alloc),
                 fetches: 0,
             }),
@@ -60,11 +90,12 @@ impl<S: PageStore> Pager<S> {
         }
     }
 
-    /// Empties the trace. The number of fetches stays.
+    /// Empties the trace. The number of fetches stays. What was announced is no more.
     pub fn begin(&mut self)
         ensures { self.new ≡ record self.old { trace = emptied self.old.trace } }
     {
         self.trace.clear();
+        self.run = Run { first: 0, until: 0 };
     }
 
     /// The numbers of the region pages asked for since the trace began, in the order in which they were asked for.
@@ -98,13 +129,18 @@ impl<S: PageStore> Pager<S> {
         Ok(())
     }
 
-    /// Tells the store that so many pages from this number on are asked for next, up to the first that is held.
+    /// Tells the store that so many pages from this number on are asked for next, up to the first that is held. Where as many that follow
+    /// one another were announced as the cache keeps, the others pass: each is held until the next one is brought, and no page that is
+    /// kept is let go for it.
     pub fn announce(&mut self, n: u32, count: u32)
         ensures { self.new ≡ self.old }
     {
         let many = self.unheld(n, count);
         if many > 1 {
             self.store.announce(n, many);
+        }
+        if many > 0 {
+            self.run = self.run.with(n, many);
         }
     }
 
@@ -143,6 +179,10 @@ impl<S: PageStore> Pager<S> {
         if let Err(fault) = self.store.read_into(n, &mut page) {
             self.cache.keep_spare(page);
             return Err(fault);
+        }
+        if self.run.has_behind(n, self.most) {
+            self.cache.pass(n, page);
+            return Ok(true);
         }
         match self.cache.hold(n, page) {
             Ok(()) => Ok(true),

@@ -1,8 +1,8 @@
 use Rattle.std.proofs.Common.{refl, sym, ap, ◌∙◌}
 use Rattle.std.specs.Option.{option_copied_mut}
 use Rattle.ub_store.proofs.Lookups as facts
-use Rattle.ub_store.proofs.cache.Cache.write.Goals as goal
-use Rattle.ub_store.proofs.cache.Cache.write.Goals.{in-Some, in_default}
+use Rattle.ub_store.proofs.kept.Kept.write.Goals as goal
+use Rattle.ub_store.proofs.kept.Kept.write.Goals.{in-Some, in_default}
 
 pub returns-clause-renewed : goal.returns-clause-renewed
 returns-clause-renewed c = elim c.match-peek_mut.branch [

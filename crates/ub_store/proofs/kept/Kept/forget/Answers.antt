@@ -1,5 +1,5 @@
 use Rattle.ub_store.proofs.Lookups as facts
-use Rattle.ub_store.proofs.cache.Cache.forget.Goals as goal
+use Rattle.ub_store.proofs.kept.Kept.forget.Goals as goal
 
 pub returns-clause-gone : goal.returns-clause-gone
 returns-clause-gone c = rw c.pop.ensures.entries (facts.forget_gone c.args.n c.self.inside.pages.entries c.len-len.ensures.valid.0)

@@ -1,5 +1,5 @@
 use Rattle.ub_store.proofs.Lookups as facts
-use Rattle.ub_store.proofs.cache.Cache.latest.Goals as goal
+use Rattle.ub_store.proofs.kept.Kept.latest.Goals as goal
 
 pub returns-in-Some : goal.returns-in-Some
 returns-in-Some c = rw (c.deref.ensures, ← c.self.view_is)

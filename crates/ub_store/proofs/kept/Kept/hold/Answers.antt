@@ -1,5 +1,5 @@
 use Rattle.ub_store.proofs.Lookups as facts
-use Rattle.ub_store.proofs.cache.Cache.hold.Goals as goal
+use Rattle.ub_store.proofs.kept.Kept.hold.Goals as goal
 
 pub returns-clause-held : goal.returns-clause-held
 returns-clause-held c = rw c.in_ok-push.ensures.entries (facts.hold_held c.self.inside.pages c.args.n c.args.page)
