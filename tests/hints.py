@@ -70,17 +70,37 @@ def of_data(tried):
     write("new.csv", BAD)
     tells(tried, "a bad number", LOAD, 3, "ubq: new.csv: " + DATE)
     tells(tried, "of standard input", [word.replace("new.csv", "-") for word in LOAD], 3, "ubq: standard input: " + DATE, BAD)
-    # Nothing is read behind what is refused: so a text is too long to be kept only where it is as long before that.
-    read = [word.replace("new.csv", "-") for word in LOAD]
+    # A load keeps the record that it read last, however long the text is before or behind it; what is tried is kept whole, or not.
     header, rows = BAD.split(b"\n", 1)
-    tells(tried, "of one that goes on behind it", read, 3, "ubq: standard input: " + DATE, BAD + b"3,4,5\n" * (MOST // 6))
-    tells(tried, "of one that is too long to be kept", read, 3, "", header + b"\n" + b"3,4,5\n" * (MOST // 6 + 1) + rows)
+    many = MOST // 6 + 1
+    late = header + b"\n" + b"3,4,5\n" * many + rows
+    read = [word.replace("new.csv", "-") for word in LOAD]
+    tells(tried, "of one that goes on behind it", read, 3, "ubq: standard input: " + DATE, BAD + b"3,4,5\n" * many)
+    told = DATE.replace("line 3, row 2", f"line {many + 3}, row {many + 2}")
+    tells(tried, "of one that is too long to be kept", read, 3, "ubq: standard input: " + told, late)
+    write("new.csv", late)
+    tells(tried, "of a long file", LOAD, 3, "ubq: new.csv: " + told)
+    write("s.sql", b"SELECT COUNT(*) FROM trips")
+    tells(tried, "what is tried, and too long to be kept", ["try", "-", "s.sql", *LOAD[3:]], 3, "", late)
+    tells(tried, "what is tried, of standard input", ["try", "-", "s.sql", *LOAD[3:]], 3, "ubq: standard input: " + DATE, BAD)
     write("new.csv", b"\xef\xbb\xbfzone,date,fare\r\n1,3,5\r\n\r\n-4,2,7\r\n")
     tells(tried, "out of range, with the mark of UTF-8", LOAD, 3,
           "ubq: new.csv: line 4, row 2, column 1 (zone): '-4' is not in 0 to 4294967295\n")
     write("new.csv", b'zone,date,fare\n1,"3\n",5\n1,3\n')
     tells(tried, "a line end in a field", LOAD, 3,
           "ubq: new.csv: line 2, row 1, column 2 (date): '3 ' is no whole number\n")
+    write("new.csv", b'zone,date,fare\r\n"1\r\n",3,5\r\n')
+    tells(tried, "another one, of two bytes", LOAD, 3,
+          "ubq: new.csv: line 2, row 1, column 1 (zone): '1  ' is no whole number\n")
+    write("new.csv", b"zone,date,fare\n1,3,5\n\n\n2,x,7")
+    tells(tried, "a last line without an end, behind empty ones", LOAD, 3,
+          "ubq: new.csv: line 5, row 2, column 2 (date): 'x' is no whole number\n")
+    write("new.csv", b"\n\r\nzone,date,fare\r\n\r\n1,3,x\r\n")
+    tells(tried, "empty lines before the header", LOAD, 3,
+          "ubq: new.csv: line 5, row 1, column 3 (fare): 'x' is no whole number\n")
+    write("new.csv", b"zone,date,fare\r1,3,5\r1,3,x\r")
+    tells(tried, "lines that a carriage return ends", LOAD, 3,
+          "ubq: new.csv: line 1, row 2, column 3 (fare): 'x' is no whole number\n")
     write("new.csv", b"zone,date,fare\n1,3,5\n1,3\n")
     tells(tried, "a short record", LOAD, 3, "ubq: new.csv: line 3, row 2: the header has 3 fields, and this row 2\n")
     write("new.csv", b"zone\n1\n")

@@ -6,7 +6,7 @@ use std::alloc::{AllocError, Global};
 use ub_journal::{Journal, TornPlace, is_journal};
 use ub_journal_page::write_journal;
 use ub_memory_files::MemFiles;
-use ub_shell::{Files, Over, WordsFault, hint, run_program};
+use ub_shell::{Files, LastRead, Over, WordsFault, hint, run_program};
 use ub_store::Page;
 
 /// How a command line has ended: its status, and what it wrote to each of its outputs.
@@ -22,6 +22,8 @@ pub struct Ran {
 pub struct Bench {
     alloc: Global,
     files: MemFiles,
+    // What the last command line has read last of a text that it refused.
+    last: LastRead,
 }
 
 impl Bench {
@@ -30,6 +32,7 @@ impl Bench {
         Bench {
             alloc,
             files: MemFiles::new(alloc),
+            last: LastRead::new(alloc),
         }
     }
 
@@ -63,7 +66,8 @@ impl Bench {
     pub fn run(&mut self, asked: Asked<'_>) -> Ran {
         self.files.fail_at(asked.k);
         self.files.fail_texts_after(asked.readable);
-        let ran = run_over(self.alloc, &mut self.files, asked);
+        self.last = LastRead::new(self.alloc);
+        let ran = run_over(self.alloc, &mut self.files, asked, &mut self.last);
         self.files.fail_at(0);
         self.files.fail_texts_after(usize::MAX);
         ran
@@ -83,7 +87,7 @@ impl Bench {
         }
     }
 
-    /// What people at a terminal are told of a command line that has ended with its status.
+    /// What people at a terminal are told of a command line that has ended with its status; of a `load`, by what the last one has read.
     pub fn hint(&mut self, asked: Asked<'_>) -> Ran {
         let mut out = Over::new(Narrow::new(self.alloc, asked.room));
         if let Ok(words) = words_of(self.alloc, asked.words) {
@@ -92,6 +96,7 @@ impl Bench {
                 self.alloc,
                 &mut self.files,
                 words.as_slice(),
+                &self.last,
                 None,
                 status,
                 &mut out,
@@ -116,12 +121,17 @@ impl Bench {
     }
 }
 
-/// Runs a command line over files.
-pub fn run_over<F: Files>(alloc: Global, files: &mut F, asked: Asked<'_>) -> Ran {
+/// Runs a command line over files, and leaves what it has read last of a text that it refused.
+pub fn run_over<F: Files>(
+    alloc: Global,
+    files: &mut F,
+    asked: Asked<'_>,
+    last: &mut LastRead,
+) -> Ran {
     let words = words_of(alloc, asked.words);
     let out = Narrow::new(alloc, asked.room);
     let notes = Narrow::new(alloc, asked.noted_room);
-    let (status, out, notes) = run_program(alloc, files, words, out, notes);
+    let (status, out, notes) = run_program(alloc, files, words, out, notes, last);
     Ran { status, out, notes }
 }
 

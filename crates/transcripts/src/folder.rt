@@ -3,6 +3,7 @@ use crate::marks::Asked;
 use std::alloc::{AllocError, Global};
 use std::{fs, io};
 use ub_host_files::HostFiles;
+use ub_shell::LastRead;
 
 // A file of the system: its name, and the bytes that it had when it was looked at, if it was there.
 #[derive(Drop)]
@@ -40,7 +41,8 @@ impl<'a> Folder<'a> {
                 self.look_at_all(rt, part)?;
             }
         }
-        Ok(run_over(self.alloc, &mut HostFiles::new(rt), asked))
+        let mut last = LastRead::new(self.alloc);
+        Ok(run_over(self.alloc, &mut HostFiles::new(rt), asked, &mut last))
     }
 
     /// The names of the files that aren't as they were when they were looked at, with a space between them. They are looked at

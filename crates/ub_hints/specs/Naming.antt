@@ -1,11 +1,10 @@
 -- The files that a command line names, of which a refusal may tell: each as the bytes of its path.
 use Rattle.std.specs.Prelude.{ℕ, List, Option, Some, None}
 use Rattle.ub_words.specs.declared.words.Asked.{Asked}
-use Rattle.ub_words.specs.declared.words.Asked.TheVariants.{Try, Load, Run, Query, Append}
+use Rattle.ub_words.specs.declared.words.Asked.TheVariants.{Try, Run, Query, Append}
 
--- the CSV file, where one is loaded, tried or appended
+-- the CSV file, where one is tried or appended
 abbrev pub data_named : Asked → Option (List ℕ)
-data_named (Load words) = Some words.source.path.now
 data_named (Try words) = Some words.source.path.now
 data_named (Append words) = Some words.data.now
 data_named _ = None

@@ -2,11 +2,11 @@
 
 use crate::heading::{put_column, put_misfit, put_missing, schema_by};
 use crate::names::{has_column, in_other_case, put_columns, put_quoted_name};
-use crate::record::{Record, Sought, find_record};
+use crate::record::{Record, Sought, find_record, kept_record};
 use crate::shown::{MOST_SHOWN, put_path, put_quoted, put_shown};
 use crate::told::Told;
 use std::alloc::{AllocError, Global};
-use ub_load::{LoadFault, read_rows};
+use ub_load::{LastRead, LoadFault, read_rows};
 use ub_table::Schema;
 use ub_words::DataWords;
 
@@ -17,14 +17,53 @@ const SIGNED: &str = "-2147483648 to 2147483647";
 
 const WIDE: &str = "-9223372036854775808 to 9223372036854775807";
 
-/// The schema of the table that is loaded of a text, if there is one.
-pub(crate) fn loaded_schema(alloc: Global, source: &DataWords<'_>, text: &[u8]) -> Option<Schema> {
+/// The schema of the table of a text that is tried, if there is one.
+pub(crate) fn tried_schema(alloc: Global, source: &DataWords<'_>, text: &[u8]) -> Option<Schema> {
     let header = find_record(alloc, text, Sought::Row(0))?;
     schema_by(alloc, source, &header)
 }
 
-/// What is wrong with a text that is to be loaded; nothing where that isn't known.
+/// What is wrong with a text that was to be loaded, by what was read last of it; nothing where that isn't known.
 pub(crate) fn loaded_hint(
+    alloc: Global,
+    source: &DataWords<'_>,
+    last: &LastRead,
+) -> Result<String, AllocError> {
+    let Some(header) = kept_record(&last.header, last.line) else {
+        return Ok(String::new(alloc));
+    };
+    match schema_by(alloc, source, &header) {
+        Some(schema) => last_hint(alloc, source.path, &header, &schema, last),
+        None => heading_hint(alloc, source, &header),
+    }
+}
+
+// What is wrong with the record that was read last of a text whose rows were to be those of a table of this schema.
+fn last_hint(
+    alloc: Global,
+    path: &str,
+    header: &Record,
+    schema: &Schema,
+    last: &LastRead,
+) -> Result<String, AllocError> {
+    match (kept_record(&last.row, last.line), last.fault) {
+        (Some(record), Some(fault)) if is_of_record(fault) => {
+            record_hint(alloc, path, header, &record, schema, fault)
+        }
+        _ => Ok(String::new(alloc)),
+    }
+}
+
+// Whether a fault tells of a record after the header.
+fn is_of_record(fault: LoadFault) -> bool {
+    matches!(
+        fault,
+        LoadFault::Csv | LoadFault::BadNumber { .. } | LoadFault::OutOfRange { .. }
+    )
+}
+
+/// What is wrong with a text that is tried; nothing where that isn't known.
+pub(crate) fn tried_data_hint(
     alloc: Global,
     source: &DataWords<'_>,
     text: &[u8],

@@ -108,8 +108,8 @@ fn is_within(byte: u8) -> bool {
     byte & 0xc0 == 0x80
 }
 
-// How often a byte stands in a text.
-fn count_of(text: &[u8], wanted: u8) -> usize {
+/// How often a byte stands in a text.
+pub(crate) fn count_of(text: &[u8], wanted: u8) -> usize {
     let mut count = 0usize;
     for byte in text {
         if *byte == wanted {

@@ -1,6 +1,6 @@
 //! A record of a CSV text, and where it stands.
 
-use crate::excerpt::Spot;
+use crate::excerpt::{Spot, count_of};
 use csv::{ByteRecord, Reader, ReaderBuilder};
 use std::alloc::Global;
 
@@ -44,6 +44,23 @@ pub(crate) fn find_record(alloc: Global, text: &[u8], sought: Sought) -> Option<
     let row = read_up_to(&mut reader_of(alloc, text), &mut fields, sought)?;
     let line = line_of(text, &fields);
     Some(Record { row, fields, line })
+}
+
+/// A record that was kept when it was read, if it has fields and there is memory for it: it ends in this line.
+pub(crate) fn kept_record(fields: &ByteRecord, line: u64) -> Option<Record> {
+    if fields.is_empty() {
+        return None;
+    }
+    let row = match fields.position() {
+        Some(position) => u32::try_from(position.record()).ok()?,
+        None => 0,
+    };
+    let ends = usize::try_from(line).ok()?;
+    Some(Record {
+        row,
+        fields: fields.clone().ok()?,
+        line: ends.saturating_sub(count_of(fields.as_slice(), b'\n')),
+    })
 }
 
 // Reads records up to the one that is sought, and gives its number, if it is there and all could be read.

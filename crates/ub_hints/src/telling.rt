@@ -3,9 +3,10 @@
 ghost use Rattle.std.specs.Prelude.{◌≡◌, option_map};
 ghost use Rattle.ub_hints.specs.Naming.{data_named, script_named, table_named};
 
-use crate::data::{appended_hint, loaded_hint, loaded_schema};
+use crate::data::{appended_hint, loaded_hint, tried_data_hint, tried_schema};
 use crate::statements::statement_hints;
 use std::alloc::{AllocError, Global};
+use ub_load::LastRead;
 use ub_table::Schema;
 use ub_words::{Asked, DataWords};
 
@@ -20,9 +21,11 @@ pub struct Named<'a> {
     pub table: Option<&'a str>,
 }
 
-/// What was read of that, as far as it could be read.
+/// What was read of that, as far as it could be read, and what the command itself kept.
 #[derive(Drop)]
-pub struct Found {
+pub struct Found<'a> {
+    /// What was read last of the CSV file that was to be loaded.
+    pub last: &'a LastRead,
     /// The bytes of the CSV file.
     pub data: Option<Vec<u8>>,
     /// The bytes of the script.
@@ -31,16 +34,15 @@ pub struct Found {
     pub schema: Option<Schema>,
 }
 
-/// The paths that a command line names of what is read again where it was refused: the CSV file that it loads, tries or appends, the
-/// script that it runs or tries, and the table file that this runs over or that rows are appended to. A table file that it makes isn't
-/// read again, nor is what it only asks for, checks or upgrades.
+/// The paths that a command line names of what is read again where it was refused: the CSV file that it tries or appends, the
+/// script that it runs or tries, and the table file that this runs over or that rows are appended to. A CSV file that it loads isn't
+/// read again, nor a table file that it makes, nor what it only asks for, checks or upgrades.
 pub fn named_by<'a>(asked: &Asked<'a>) -> Named<'a>
     ensures csv { option_map (λ path. path.now) result.data ≡ data_named asked.now }
     ensures script { option_map (λ path. path.now) result.script ≡ script_named asked.now }
     ensures table { option_map (λ path. path.now) result.table ≡ table_named asked.now }
 {
     match asked {
-        Asked::Load(words) => naming(Some(words.source.path), None, None),
         Asked::Append(words) => naming(Some(words.data), None, Some(words.table)),
         Asked::Run(words) => naming(None, Some(words.script), Some(words.table)),
         Asked::Query(words) => naming(None, None, Some(words.table)),
@@ -61,12 +63,13 @@ fn naming<'a>(csv: Option<&'a str>, script: Option<&'a str>, table: Option<&'a s
 }
 
 /// What people are told of a command line that was refused, by what was read of the files that it names: of a CSV file the first thing
-/// that is wrong, of statements the first that were refused. Empty where there is nothing to tell; AllocError where memory is refused.
-pub fn text_on(alloc: Global, asked: &Asked<'_>, found: &Found) -> Result<String, AllocError> {
+/// that is wrong, which of one that was to be loaded is the record that was read last; of statements the first that were refused. Empty
+/// where there is nothing to tell; AllocError where memory is refused.
+pub fn text_on(alloc: Global, asked: &Asked<'_>, found: &Found<'_>) -> Result<String, AllocError> {
     let data = text_in(&found.data);
     let script = text_in(&found.script);
     match (asked, &found.schema) {
-        (Asked::Load(words), _) => loaded_hint(alloc, &words.source, data),
+        (Asked::Load(words), _) => loaded_hint(alloc, &words.source, found.last),
         (Asked::Try(words), _) => tried_hint(alloc, &words.source, data, words.script, script),
         (Asked::Append(words), Some(schema)) => appended_hint(alloc, words.data, data, schema),
         (Asked::Run(words), Some(schema)) => {
@@ -95,11 +98,11 @@ fn tried_hint(
     path: &str,
     script: &[u8],
 ) -> Result<String, AllocError> {
-    let told = loaded_hint(alloc, source, data)?;
+    let told = tried_data_hint(alloc, source, data)?;
     if !told.is_empty() {
         return Ok(told);
     }
-    match loaded_schema(alloc, source, data) {
+    match tried_schema(alloc, source, data) {
         Some(schema) => statement_hints(alloc, path, script, &schema),
         None => Ok(told),
     }

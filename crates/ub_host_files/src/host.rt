@@ -6,7 +6,7 @@ use crate::lock::Lock;
 use crate::missed::{Deed, Missed};
 use crate::opening::{Purpose, open_locked};
 use crate::place::{HostPlace, Kept, Reasons, journal_beside};
-use crate::text::{HostText, MOST_KEPT};
+use crate::text::HostText;
 use std::alloc::Global;
 use std::fs::{Metadata, OpenOptions};
 use std::io::Eprint;
@@ -19,6 +19,9 @@ use ub_keeping::PlaceStore;
 use ub_overlay::Overlay;
 use ub_store::{Pages, StoreFault};
 use ub_words::STANDARD_INPUT;
+
+// How many bytes of standard input are kept at most: 16 MiB.
+const MOST_KEPT: usize = 16_777_216;
 
 // The system's number for memory that is refused.
 const NO_MEMORY: i32 = 12;
@@ -102,13 +105,6 @@ impl Input {
             self.bytes = Vec::from_slice(alloc, bytes).ok();
         }
     }
-
-    // Keeps what was kept of a text that was read piece after piece, if something was.
-    fn put(&mut self, kept: Option<Vec<u8>>) {
-        if kept.is_some() {
-            self.bytes = kept;
-        }
-    }
 }
 
 /// The files of the system. What they hold is not told, and that they are honest is a premise. Standard input is read as the
@@ -145,8 +141,8 @@ where
         }
     }
 
-    /// Keeps from now on what is read of standard input, which can't be read twice, where it isn't longer than 16 MiB and there is memory
-    /// for it.
+    /// Keeps from now on a text that is read whole from standard input, which can't be read twice, where it isn't longer than 16 MiB and
+    /// there is memory for it.
     pub fn keep_input(&mut self)
         ensures { ⟦<HostFiles<'r, R> as Files>⟧.facts self.new
             ≡ ⟦<HostFiles<'r, R> as Files>⟧.facts self.old }
@@ -186,14 +182,10 @@ fn name_of(path: &str) -> &str {
     }
 }
 
-// A reader of the file at a path, which keeps what it gives if it is of standard input, and that is to be kept.
-fn open_at<R: rt::Files + AllocGlobal>(
-    rt: &R,
-    path: &str,
-    is_kept: bool,
-) -> io::Result<HostText<R::File>> {
+// A reader of the file at a path.
+fn open_at<R: rt::Files + AllocGlobal>(rt: &R, path: &str) -> io::Result<HostText<R::File>> {
     match OpenOptions::new().read(true).open(rt, file_of(path)) {
-        Ok(file) => HostText::new(rt.alloc(), file, is_kept && path == STANDARD_INPUT),
+        Ok(file) => HostText::new(rt.alloc(), file),
         Err(why) => Err(why),
     }
 }
@@ -211,7 +203,7 @@ fn told<T>(path: &str, reading: io::Result<T>, failures: &mut Failures) -> Resul
     }
 }
 
-// What is told of a text that was read so: it is kept, if it is to be, and a refusal is counted.
+// The same of a text, which is kept if it is to be.
 fn take_text(
     alloc: Global,
     path: &str,
@@ -224,13 +216,9 @@ fn take_text(
     ensures reads { failures.new.reads ≡ counted result failures.old.reads }
     ensures tables { failures.new.tables ≡ failures.old.tables }
 {
-    match text {
-        Ok(bytes) => {
-            input.keep(alloc, path, bytes.as_slice());
-            Ok(bytes)
-        }
-        Err(why) => Err(failures.note_read(path, why)),
-    }
+    let bytes = told(path, text, failures)?;
+    input.keep(alloc, path, bytes.as_slice());
+    Ok(bytes)
 }
 
 // The place of a table file, opened for this purpose.
@@ -471,14 +459,12 @@ where
     }
 
     fn open_text(&mut self, path: &str) -> Result<HostText<R::File>, StoreFault> {
-        let opened = open_at(self.rt, path, self.input.is_kept);
+        let opened = open_at(self.rt, path);
         told(path, opened, &mut self.failures)
     }
 
     fn close_text(&mut self, path: &str, text: HostText<R::File>) -> Result<(), StoreFault> {
-        let (kept, ended) = text.end();
-        self.input.put(kept);
-        told(path, ended, &mut self.failures)
+        told(path, text.end(), &mut self.failures)
     }
 
     fn open(&mut self, path: &str) -> Result<Overlay<PlaceStore<HostPlace<'r, R>>>, StoreFault> {

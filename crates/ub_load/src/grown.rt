@@ -9,6 +9,7 @@ ghost use Rattle.ub_load.specs.inner.Records.{IsAt};
 ghost use Rattle.ub_table.specs.Schema.{AreTableNumbers, IsMask};
 
 use crate::fault::LoadFault;
+use crate::last::{LastRead, Watched};
 use crate::reading::reader_of;
 use crate::table::{load_records, read_header};
 use csv::{ByteRecord, Reader};
@@ -31,7 +32,7 @@ pub struct GrownTable {
 /// one after the other. No store is asked for: it can be laid over one later. The text is read as it comes, and not held: record after
 /// record, and nothing after one that is refused. The error is the first thing that is wrong, as of `load` over a store that never fails.
 /// `Csv` is told where a read fails, too: the source knows whether one did. Where nothing is known of what the source gives, the answer is
-/// that for some text.
+/// that for some text. The header and the record that was read last are left in `last`, with why no more was read.
 pub fn read_table<R: Read + Drop>(
     alloc: Global,
     source: R,
@@ -39,28 +40,32 @@ pub fn read_table<R: Read + Drop>(
     page_rows: u32,
     name: &[u8],
     signed: u32,
+    last: &mut LastRead,
 ) -> Result<GrownTable, LoadFault>
     requires numbers { AreTableNumbers dims page_rows }
     requires mask { IsMask dims signed }
     ensures { ReadsFrom (R.remaining source) (axes_with dims signed) page_rows name.now result }
 {
-    let mut reader = reader_of(alloc, source);
-    // Each record is read into the place of the one before.
-    let mut fields = ByteRecord::new(alloc);
-    read_grown(
+    let mut reader = reader_of(alloc, Watched::over(alloc, source));
+    let read = read_grown(
         alloc,
         &mut reader,
-        &mut fields,
+        &mut last.header,
+        &mut last.row,
         Axes { dims, signed },
         page_rows,
         name,
-    )
+    );
+    last.note(&reader, &read);
+    read
 }
 
-// Reads the table of this name that a reader's text holds, from its header on.
+// Reads the table of this name that a reader's text holds, from its header on. Each record after that is read into the place of the one
+// before.
 fn read_grown<R: Read>(
     alloc: Global,
     reader: &mut Reader<R>,
+    header: &mut ByteRecord,
     fields: &mut ByteRecord,
     axes: Axes,
     page_rows: u32,
@@ -72,7 +77,7 @@ fn read_grown<R: Read>(
         → ((text : List ℕ) → known ≡ Some text → IsAt R.remaining text [] reader.old)
         → ReadsFrom known axes page_rows name.now result }
 {
-    let schema = read_header(reader, fields, axes, page_rows, name)?;
+    let schema = read_header(reader, header, axes, page_rows, name)?;
     let rows = load_records(alloc, reader, fields, &schema)?;
     grow_table(alloc, schema, rows)
 }

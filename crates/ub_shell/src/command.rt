@@ -11,6 +11,7 @@ use crate::trial::try_files;
 use crate::upgrading::upgrade_file;
 use std::alloc::Global;
 use ub_files::Files;
+use ub_load::LastRead;
 use ub_script::{Out, OutFault};
 use ub_table_file::appending::append_file;
 use ub_table_file::asking::ask_file;
@@ -32,17 +33,26 @@ pub fn command<F: Files, W: Out>(alloc: Global, files: &mut F, words: &[String],
     ensures short { KeepsShortPromise (map string_bytes words.now)
         (F.facts files.old) (F.facts files.new) (W.facts out.old) (W.facts out.new) result }
 {
-    command_apart(alloc, files, words, out, &mut Unheard {})
+    command_apart(
+        alloc,
+        files,
+        words,
+        out,
+        &mut Unheard {},
+        &mut LastRead::new(alloc),
+    )
 }
 
 /// Runs the program's command line as `command` does, with a second output. A query writes to `notes` all that tells of its answers, or
-/// of a fault, once its answers are written to `out`; no other command writes to `notes`.
+/// of a fault, once its answers are written to `out`; no other command writes to `notes`. What a `load` has read last of a text that it
+/// refused is left in `last`, for what people are told.
 pub fn command_apart<F: Files, W: Out, N: Out>(
     alloc: Global,
     files: &mut F,
     words: &[String],
     out: &mut W,
     notes: &mut N,
+    last: &mut LastRead,
 ) -> u8
     ensures ends { (status : Status) × (result ≡ status_code status)
         × EndsCommand (map string_bytes words.now) (F.facts files.old) (F.facts files.new)
@@ -51,7 +61,7 @@ pub fn command_apart<F: Files, W: Out, N: Out>(
     ensures short { KeepsShortPromise (map string_bytes words.now)
         (F.facts files.old) (F.facts files.new) (W.facts out.old) (W.facts out.new) result }
 {
-    run_words(alloc, files, words, out, notes).code()
+    run_words(alloc, files, words, out, notes, last).code()
 }
 
 // An output that nobody reads: it takes all that is written to it.
@@ -73,13 +83,14 @@ fn run_words<F: Files, W: Out, N: Out>(
     words: &[String],
     out: &mut W,
     notes: &mut N,
+    last: &mut LastRead,
 ) -> Status
     ensures { EndsCommand (map string_bytes words.now) (F.facts files.old) (F.facts files.new)
         (F.clock files.old) (F.clock files.new)
         (W.facts out.old) (W.facts out.new) (N.facts notes.old) (N.facts notes.new) result }
 {
     match read_words(alloc, words) {
-        Ok(Asked::Load(asked)) => load_file(alloc, files, asked, out),
+        Ok(Asked::Load(asked)) => load_file(alloc, files, asked, out, last),
         Ok(Asked::Run(asked)) => run_file(alloc, files, asked, out),
         Ok(Asked::Query(asked)) => query_file(alloc, files, asked, out, notes),
         Ok(Asked::Append(asked)) => append_file(alloc, files, asked, out),

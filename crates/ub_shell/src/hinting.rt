@@ -1,4 +1,5 @@
-//! What is told beside a refusal: the files that the command line named are read again, and left as they are.
+//! What is told beside a refusal: the files that the command line named are read again, but for a CSV file that was to be loaded, and
+//! left as they are.
 
 ghost use Rattle.ub_shell.specs.Unchanged.{AreLeft};
 
@@ -6,6 +7,7 @@ use crate::reading::{ask_schema, read_text};
 use std::alloc::Global;
 use ub_files::Files;
 use ub_hints::{Found, named_by, text_on};
+use ub_load::LastRead;
 use ub_script::{Out, put_all};
 use ub_words::{Asked, read_words};
 
@@ -15,13 +17,14 @@ const REFUSED: u8 = 1;
 const DATA: u8 = 3;
 
 /// Tells people of what was refused, after the command line of these words has ended with this status: of a CSV file the first thing
-/// that is wrong, of statements the first that were refused. What the words name is read again, but for standard input, of which `input`
-/// is what was kept. Where it can't be read, or memory is refused, nothing is told. Nothing is promised of the text; but no file is
-/// changed, and all that is told goes to `to`.
+/// that is wrong, of statements the first that were refused. `last` is what was read last of a CSV file that was to be loaded. What else
+/// the words name is read again, but for standard input, of which `input` is what was kept. Where it can't be read, or memory is
+/// refused, nothing is told. Nothing is promised of the text; but no file is changed, and all that is told goes to `to`.
 pub fn hint<F: Files, W: Out>(
     alloc: Global,
     files: &mut F,
     words: &[String],
+    last: &LastRead,
     input: Option<&[u8]>,
     status: u8,
     to: &mut W,
@@ -33,7 +36,7 @@ pub fn hint<F: Files, W: Out>(
         return;
     }
     if let Ok(asked) = read_words(alloc, words) {
-        hint_on(alloc, files, &asked, input, to);
+        hint_on(alloc, files, &asked, last, input, to);
     }
 }
 
@@ -47,6 +50,7 @@ fn hint_on<F: Files, W: Out>(
     alloc: Global,
     files: &mut F,
     asked: &Asked<'_>,
+    last: &LastRead,
     input: Option<&[u8]>,
     to: &mut W,
 )
@@ -58,6 +62,7 @@ fn hint_on<F: Files, W: Out>(
     let script = read_text(alloc, files, named.script, input);
     let schema = ask_schema(alloc, files, named.table);
     let found = Found {
+        last,
         data,
         script,
         schema,
@@ -66,7 +71,7 @@ fn hint_on<F: Files, W: Out>(
 }
 
 // Writes what is told of what was asked.
-fn tell_found<W: Out>(alloc: Global, asked: &Asked<'_>, found: &Found, to: &mut W) {
+fn tell_found<W: Out>(alloc: Global, asked: &Asked<'_>, found: &Found<'_>, to: &mut W) {
     if let Ok(text) = text_on(alloc, asked, found) {
         let _ = put_all(to, text.as_bytes());
     }

@@ -23,5 +23,6 @@ pub mod upgrading;
 pub use hinting::hint;
 pub use program::{WordsFault, program_words, run_program};
 pub use ub_files::Files;
+pub use ub_load::LastRead;
 pub use ub_script::{Out, OutFault, Over, RunFault, Summary, put_all, run, try_text};
 pub use ub_table_file::status::Status;

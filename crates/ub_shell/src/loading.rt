@@ -12,7 +12,7 @@ use std::alloc::Global;
 use std::io::Read;
 use ub_files::Files;
 use ub_laying::GrownStore;
-use ub_load::{GrownTable, LoadFault, lay_table, read_table};
+use ub_load::{GrownTable, LastRead, LoadFault, lay_table, read_table};
 use ub_script::Out;
 use ub_store::StoreFault;
 use ub_table::schema::is_mask;
@@ -33,12 +33,13 @@ struct Closed<'a> {
 /// are equal (also where both are `-`, though the first is standard input and the second a file), nor where the CSV file can't be read or
 /// holds no table; in the first two cases no file is. A load that is stopped at any moment, or whose table file fails, leaves a path that
 /// held a table with that table or the new one, and one that held none with none or the new one. Where the table file was made nothing
-/// is told but that, or nothing where the write fails.
+/// is told but that, or nothing where the write fails. What was read last of a text that is refused is left in `last`.
 pub fn load_file<F: Files, W: Out>(
     alloc: Global,
     files: &mut F,
     asked: LoadWords<'_>,
     out: &mut W,
+    last: &mut LastRead,
 ) -> Status
     requires numbers { AreTableNumbers asked.source.dims asked.source.page_rows }
     ensures loads { LoadsFile asked.entry.source.path.now asked.entry.table.now
@@ -58,7 +59,7 @@ pub fn load_file<F: Files, W: Out>(
     if is_same(asked.source.path, asked.table) {
         return tell(out, b"! SameFile\n", Status::CommandLine);
     }
-    match read_text(alloc, files, asked) {
+    match read_text(alloc, files, asked, last) {
         Ok(read) => keep_read(alloc, files, read, asked, out),
         Err(fault) => tell_store_fault(fault, out),
     }
@@ -70,6 +71,7 @@ fn read_text<F: Files>(
     alloc: Global,
     files: &mut F,
     asked: LoadWords<'_>,
+    last: &mut LastRead,
 ) -> Result<Result<GrownTable, LoadFault>, StoreFault>
     requires numbers { AreTableNumbers asked.source.dims asked.source.page_rows }
     requires mask { IsMask asked.source.dims asked.source.signed }
@@ -87,7 +89,7 @@ fn read_text<F: Files>(
         Ok(text) => text,
         Err(fault) => return Err(fault),
     };
-    let read = read_asked(alloc, &mut text, asked);
+    let read = read_asked(alloc, &mut text, asked, last);
     match files.close_text(asked.source.path, text) {
         Ok(()) => Ok(read),
         Err(fault) => Err(fault),
@@ -138,6 +140,7 @@ fn read_asked<R: Read>(
     alloc: Global,
     source: &mut R,
     asked: LoadWords<'_>,
+    last: &mut LastRead,
 ) -> Result<GrownTable, LoadFault>
     requires numbers { AreTableNumbers asked.source.dims asked.source.page_rows }
     requires mask { IsMask asked.source.dims asked.source.signed }
@@ -151,6 +154,7 @@ fn read_asked<R: Read>(
         asked.source.page_rows,
         asked.source.name.as_bytes(),
         asked.source.signed,
+        last,
     )
 }
 

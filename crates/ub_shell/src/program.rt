@@ -12,6 +12,7 @@ use std::io::Write;
 use std::rt::Env;
 use std::{env, io};
 use ub_files::Files;
+use ub_load::LastRead;
 use ub_script::{Out, Over};
 use ub_table_file::status::{Status, tell, tell_memory};
 
@@ -39,13 +40,15 @@ pub fn program_words<R: Env + AllocGlobal>(rt: &R) -> Result<Vec<String>, WordsF
 }
 
 /// The whole program but for what touches the process: runs the command line of these words as `command_apart` does, over these files
-/// and two writers with no buffer before them, and gives the status and the writers back. Words that were not read are told.
+/// and two writers with no buffer before them, and gives the status and the writers back. Words that were not read are told. What a
+/// `load` has read last of a text that it refused is left in `last`, for `hint`.
 pub fn run_program<F: Files, W: Write, N: Write>(
     alloc: Global,
     files: &mut F,
     words: Result<Vec<String>, WordsFault>,
     to: W,
     notes: N,
+    last: &mut LastRead,
 ) -> (u8, W, N)
     ensures ends { (status : Status) × (failures : ℕ) × (unnoted : ℕ)
         × (result.0 ≡ status_code status) × MatchResult words
@@ -65,7 +68,7 @@ pub fn run_program<F: Files, W: Write, N: Write>(
 {
     let mut out = Over::new(to);
     let mut noted = Over::new(notes);
-    let code = run_or_tell(alloc, files, words, &mut out, &mut noted);
+    let code = run_or_tell(alloc, files, words, &mut out, &mut noted, last);
     (code, out.into_inner(), noted.into_inner())
 }
 
@@ -76,6 +79,7 @@ fn run_or_tell<F: Files, W: Out, N: Out>(
     words: Result<Vec<String>, WordsFault>,
     out: &mut W,
     notes: &mut N,
+    last: &mut LastRead,
 ) -> u8
     ensures ends { (status : Status) × (result ≡ status_code status) × MatchResult words
         (λ all. EndsCommand (map string_bytes all.items) (F.facts files.old) (F.facts files.new)
@@ -90,7 +94,7 @@ fn run_or_tell<F: Files, W: Out, N: Out>(
         (λ fault. Unit {0}) }
 {
     match words {
-        Ok(words) => command_apart(alloc, files, words.as_slice(), out, notes),
+        Ok(words) => command_apart(alloc, files, words.as_slice(), out, notes, last),
         Err(fault) => tell_no_words(fault, out).code(),
     }
 }

@@ -6,7 +6,7 @@
 use std::io::{self, IsTerminal};
 use std::process::ExitCode;
 use ub_host_files::HostFiles;
-use ub_shell::{Over, hint, program_words, run_program};
+use ub_shell::{LastRead, Over, hint, program_words, run_program};
 
 // The status where a file or the output failed.
 const FAILED: u8 = 4;
@@ -18,20 +18,34 @@ fn main(rt: HostRuntime) -> ExitCode {
         files.keep_input();
     }
     let words = program_words(&rt);
-    let status = run_program(rt.alloc(), &mut files, words, io::writer(&rt), rt.stderr()).0;
+    let mut last = LastRead::new(rt.alloc());
+    let status = run_program(
+        rt.alloc(),
+        &mut files,
+        words,
+        io::writer(&rt),
+        rt.stderr(),
+        &mut last,
+    )
+    .0;
     if status == FAILED {
         if let Some(missed) = files.missed() {
             let _ = eprintln!(rt; "ubq: {missed}");
         }
     }
     if is_terminal {
-        tell_hints(&rt, &mut files, status);
+        tell_hints(&rt, &mut files, &last, status);
     }
     ExitCode::from(status)
 }
 
 // Tells on standard error what people want to know of what was refused.
-fn tell_hints(rt: &HostRuntime, files: &mut HostFiles<'_, HostRuntime>, status: u8) {
+fn tell_hints(
+    rt: &HostRuntime,
+    files: &mut HostFiles<'_, HostRuntime>,
+    last: &LastRead,
+    status: u8,
+) {
     let Ok(words) = program_words(rt) else {
         return;
     };
@@ -41,6 +55,7 @@ fn tell_hints(rt: &HostRuntime, files: &mut HostFiles<'_, HostRuntime>, status: 
         rt.alloc(),
         files,
         words.as_slice(),
+        last,
         input.as_deref(),
         status,
         &mut to,
