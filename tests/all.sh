@@ -27,6 +27,7 @@ completions.py $ubq
 damaged_index.py $ubq
 limits.py $ubq
 loads.py 400 1 $ubq
+full.py $ubq
 statements.sh 1000000 $ubq
 sweeps.py 500 1 $ubq
 signed.py 500 1 $ubq

@@ -18,7 +18,7 @@ LOAD = ["load", "-", "t.ub", "--dims", "1", "--name", "t"]
 
 def asks(tried, what, words, status, told, typed=b""):
     """Wants this status and this output."""
-    ended = subprocess.run([tried, *words], input=typed, stdout=subprocess.PIPE, check=False)
+    ended = subprocess.run([tried, *words], input=typed, stdout=subprocess.PIPE, stderr=subprocess.DEVNULL, check=False)
     judge(what, (ended.returncode, ended.stdout.decode()) == (status, told), (ended.returncode, ended.stdout[:200]))
 
 
@@ -31,8 +31,8 @@ def main():
         asks(tried, "one too many, which is no row", LOAD, 3, f"! BadNumber row {MOST + 1} column 1\n", ROWS + b"x\n")
         asks(tried, "one too many, which is longer", LOAD, 3, "! Csv\n", ROWS + b"1,2\n")
         judge("no table file is made", not os.path.exists("t.ub"), os.listdir("."))
-        # As rows of one point come, a region of 64 falls into halves: 32 rows in each but the last, which has 32 to 64.
-        asks(tried, "just as many", LOAD, 0, f"-- rows {MOST}, regions {(MOST - 1) // 32}\n", ROWS)
+        # The 65th row of a region splits it into 33 and 32. Rows of one point come last, so each split but the first takes 33 rows more.
+        asks(tried, "just as many", LOAD, 0, f"-- rows {MOST}, regions {2 + (MOST - 65) // 33}\n", ROWS)
         asks(tried, "all are there", ["query", "t.ub", "SELECT COUNT(*) FROM t"], 0, f"COUNT(*)\n{MOST}\n")
         asks(tried, "INSERT", ["query", "t.ub", "INSERT INTO t VALUES (1)"], 3, "")
         with open("one.csv", "wb") as file:
